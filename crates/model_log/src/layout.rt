@@ -1,0 +1,12 @@
+// The sizes of the parts of a log block and of a log device, in bytes.
+
+/// Bytes of a log block before its data.
+pub const BLOCK_HEADER: u64 = 12;
+/// Data bytes of a log block.
+pub const BLOCK_DATA: u64 = 496;
+/// The offset in a log block behind its data, at which its checksum stands.
+pub const BLOCK_DATA_END: u64 = 508;
+/// Bytes of the header blocks that stand before the log blocks on the device.
+pub const HEADER_BLOCKS: u64 = 2048;
+/// The log buffer size that a checkpoint block names, in bytes.
+pub const RING_SIZE: u64 = 65_536;

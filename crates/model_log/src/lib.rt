@@ -1,0 +1,10 @@
+//! What an lsn is, and what stands in a log block, in the file header and in a checkpoint block.
+#![tactic(auto)]
+
+mod block;
+mod head;
+mod layout;
+
+pub use block::BlockView;
+pub use head::Head;
+pub use layout::{BLOCK_DATA, BLOCK_DATA_END, BLOCK_HEADER, HEADER_BLOCKS, RING_SIZE};

@@ -1,0 +1,3 @@
+pub mod Crc32c
+pub mod Field
+pub mod Spelling

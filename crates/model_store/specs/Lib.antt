@@ -1,0 +1,4 @@
+pub mod Apply
+pub mod Fair
+pub mod Reading
+pub mod Scan

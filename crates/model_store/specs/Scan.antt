@@ -1,0 +1,103 @@
+-- What is read off the log from a checkpoint on: the blocks, then the groups in them, then where they end.
+use Rattle.std.specs.Prelude.{ℕ, suc, ◌≡◌, ◌≢◌, ◌≤◌, ◌<◌, ◌+◌, ◌-◌, ◌*◌, ◌==◌, ◌⊎◌, nat_lt, if◌then◌else◌, true, false, List, [], ◌∷◌, ◌++◌, length, drop, slice_get, Option, Some, None}
+use Rattle.std.specs.List.{AllByRecursion}
+use Rattle.model_base.specs.declared.shape.Shape.{Shape}
+use Rattle.model_base.specs.declared.limits.TheConstants.{BLOCK_SIZE, LSN_LIMIT, MAX_GROUP}
+use Rattle.model_record.specs.Group.{group_text, stream_of, groups_of, group_length, IsGroup, IsFront}
+use Rattle.model_record.specs.Fits.{GroupFits}
+use Rattle.model_record.specs.declared.rec.Rec.{Rec}
+use Rattle.model_record.specs.declared.group.Whole.{Whole}
+use Rattle.model_log.specs.Lsn.{sn_of, block_of}
+use Rattle.model_log.specs.Block.{read_block, is_full, data_of}
+use Rattle.model_log.specs.Boundary.{IsTiled}
+use Rattle.model_log.specs.Device.{log_block}
+use Rattle.model_log.specs.declared.layout.TheConstants.{BLOCK_HEADER}
+use Rattle.model_log.specs.declared.block.BlockView.{BlockView}
+
+-- the block of the lsn on the log device; none fits at 2^60 or above
+abbrev pub block_at : Shape → List ℕ → ℕ → Option BlockView
+block_at shape image lsn = if nat_lt lsn LSN_LIMIT then read_block lsn (log_block shape lsn image) else None
+
+-- the lsn of the i-th block from the checkpoint's on
+abbrev pub lsn_at : ℕ → ℕ → ℕ
+lsn_at ckpt i = ckpt + BLOCK_SIZE * i
+
+-- why no block is read behind these: there is no other place in the log, the last of them isn't full, or the next
+-- doesn't fit
+abbrev pub IsLastOf : Shape → List ℕ → ℕ → List BlockView → Type 0
+IsLastOf shape image ckpt views =
+    (length views ≡ shape.log_blocks)
+    ⊎ ((view : BlockView) × (i : ℕ) × (suc i ≡ length views) × (slice_get views i ≡ Some view) × (is_full view ≡ false))
+    ⊎ (block_at shape image (lsn_at ckpt (length views)) ≡ None)
+
+-- The blocks that are read: from the checkpoint's on, whose lsn goes up by 512, while they fit, up to and including
+-- the first that isn't full, at most as many as the log has.
+pub record AreBlocks (shape : Shape) (image : List ℕ) (ckpt : ℕ) (views : List BlockView) : Type 0 where
+  pub few : length views ≤ shape.log_blocks
+  pub each : (i : ℕ) (view : BlockView) → slice_get views i ≡ Some view → block_at shape image (lsn_at ckpt i) ≡ Some view
+  pub full : (i : ℕ) (view : BlockView) → suc i < length views → slice_get views i ≡ Some view → is_full view ≡ true
+  pub last : IsLastOf shape image ckpt views
+
+-- the data of blocks that were read, joined; the first of them is at the lsn
+abbrev pub joined : Shape → List ℕ → ℕ → List BlockView → List ℕ
+joined shape image lsn [] = []
+joined shape image lsn (view ∷ views) = data_of view (log_block shape lsn image) ++ joined shape image (lsn + BLOCK_SIZE) views
+
+-- where the groups start that are read: at the first offset that isn't 0, in the first block that has one
+abbrev pub groups_start : ℕ → List BlockView → Option ℕ
+groups_start lsn [] = None
+groups_start lsn (view ∷ views) = if view.first == 0 then groups_start (lsn + BLOCK_SIZE) views else Some (lsn + view.first)
+
+-- the bytes of the blocks' data from that lsn on
+abbrev pub data_from : Shape → List ℕ → ℕ → List BlockView → ℕ → List ℕ
+data_from shape image ckpt views start = drop (sn_of start - sn_of ckpt) (joined shape image ckpt views)
+
+-- where the last of the groups ends, or where they start if there is none
+abbrev pub end_of : ℕ → List Whole → ℕ
+end_of start [] = start
+end_of start (whole ∷ wholes) = end_of whole.end wholes
+
+-- a group with a text of at most 8,192 bytes that fits the store
+pub record IsGood (shape : Shape) (group : List Rec) : Type 0 where
+  pub has_text : IsGroup group
+  pub short : group_length group ≤ MAX_GROUP
+  pub fits : GroupFits shape group
+
+-- the bytes are these groups from the lsn on, one after another, and then the rest
+pub record AreGroups (shape : Shape) (bytes : List ℕ) (start : ℕ) (wholes : List Whole) (rest : List ℕ) : Type 0 where
+  pub bytes_are : bytes ≡ stream_of (groups_of wholes) ++ rest
+  pub tiled : IsTiled start wholes
+  pub each : AllByRecursion (IsGood shape) (groups_of wholes)
+
+-- no group that fits stands at the front of the bytes
+abbrev pub HasNoGood : Shape → List ℕ → Type 0
+HasNoGood shape bytes = (group : List Rec) (more : List ℕ) → IsGood shape group → bytes ≢ group_text group ++ more
+
+-- The groups of the log and its end, for the blocks that were read. Behind the last group stands less than a whole
+-- one, or nothing. Where no block has a first offset nothing is
+-- parsed, and the log ends at the first data byte of the block behind the last one.
+abbrev pub AreGroupsOf : Shape → List ℕ → ℕ → List BlockView → Option ℕ → List Whole → ℕ → Type 0
+AreGroupsOf shape image ckpt views None wholes end =
+    (wholes ≡ []) × (end ≡ lsn_at ckpt (length views) + BLOCK_HEADER)
+AreGroupsOf shape image ckpt views (Some start) wholes end =
+    (rest : List ℕ) × AreGroups shape (data_from shape image ckpt views start) start wholes rest
+    × IsFront rest × (end ≡ end_of start wholes)
+
+-- The scan of a log image from the checkpoint at the lsn `ckpt` on: the blocks, the whole groups, and the end.
+pub record IsScan (shape : Shape) (image : List ℕ) (ckpt : ℕ) (views : List BlockView) (wholes : List Whole) (end : ℕ) : Type 0 where
+  pub blocks : AreBlocks shape image ckpt views
+  pub groups : AreGroupsOf shape image ckpt views (groups_start ckpt views) wholes end
+
+-- The scan is refused for what stands at the lsn: behind groups that fit comes no group that does, nor less than a
+-- whole one.
+pub record IsBadRecord (shape : Shape) (image : List ℕ) (ckpt lsn : ℕ) : Type 0 where
+  pub views : List BlockView
+  pub blocks : AreBlocks shape image ckpt views
+  pub start : ℕ
+  pub starts : groups_start ckpt views ≡ Some start
+  pub wholes : List Whole
+  pub rest : List ℕ
+  pub groups : AreGroups shape (data_from shape image ckpt views start) start wholes rest
+  pub no_good : HasNoGood shape rest
+  pub no_rest : IsFront rest → ⊥
+  pub at : lsn ≡ end_of start wholes
