@@ -1,5 +1,6 @@
 -- Where pages stand on the data device: first the doublewrite slots and then the page places, each of page size. A
--- slot holds the bytes of a page and nothing else.
+-- slot holds the bytes of a page and nothing else. These definitions speak of pages below the shape's number, on a
+-- device that is as long as the shape asks.
 use Rattle.std.specs.Prelude.{ℕ, ◌≡◌, ◌<◌, ◌≤◌, ◌+◌, ◌*◌, ◌==◌, ◌&&◌, ◌⊎◌, if◌then◌else◌, List, take, drop, Option, Some, None}
 use Rattle.model_base.specs.declared.shape.Shape.{Shape}
 use Rattle.model_page.specs.Page.{page_check, user_part}
