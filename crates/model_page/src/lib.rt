@@ -2,6 +2,8 @@
 //! a copy in the doublewrite area counts.
 #![tactic(auto)]
 
+mod content;
 mod page;
 
+pub use content::Content;
 pub use page::PageState;

@@ -9,7 +9,7 @@ use Rattle.model_record.specs.Record.{page_of}
 use Rattle.model_record.specs.declared.rec.Rec.{Rec}
 use Rattle.model_record.specs.declared.rec.Rec.TheVariants.{Num, Text, Init}
 use Rattle.model_record.specs.declared.group.Whole.{Whole}
-use Rattle.model_page.specs.Copies.{Content}
+use Rattle.model_page.specs.declared.content.Content.{Content}
 
 -- the user bytes of a page after a record on it: the bytes that it writes, or zeros
 abbrev pub user_after_own : Rec → List ℕ → List ℕ
