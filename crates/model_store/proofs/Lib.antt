@@ -1,0 +1,4 @@
+pub mod Places
+pub mod OneScan
+pub mod OneKept
+pub mod OneReading
