@@ -2,3 +2,4 @@ pub mod Places
 pub mod OneScan
 pub mod OneKept
 pub mod OneReading
+pub mod OneAnswer

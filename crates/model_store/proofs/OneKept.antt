@@ -1,8 +1,8 @@
 -- What is kept of a page is determined.
-use Rattle.std.proofs.Common.{◌≡◌, ℕ, ◌<◌, ◌≤◌, ◌⊎◌, inl, inr, List, Option, Some, None, arith, refl, sym, ap, subst, ◌∙◌}
+use Rattle.std.proofs.Common.{◌≡◌, ℕ, ◌<◌, ◌≤◌, inl, inr, List, arith, sym, ap, ◌∙◌}
 use Rattle.model_base.specs.declared.shape.Shape.{Shape}
 use Rattle.model_page.specs.Page.{user_part}
-use Rattle.model_page.specs.Copies.{IsKept, IsInPlace, IsInSlot, IsBestCopy, IsLost, place_lsn, copy_lsn, slot_bytes}
+use Rattle.model_page.specs.Copies.{IsKept, IsBestCopy, IsLost, slot_bytes}
 use Rattle.model_page.specs.declared.content.Content.{Content}
 
 -- what a page holds is its lsn and its user bytes

@@ -1,5 +1,5 @@
 -- What is read off two devices is determined.
-use Rattle.std.proofs.Common.{◌≡◌, ℕ, ◌<◌, ◌≤◌, ◌⊎◌, inl, inr, List, length, Option, Some, None, arith, refl, sym, ap, ap₂, subst, ◌∙◌}
+use Rattle.std.proofs.Common.{◌≡◌, ℕ, List, length, Some, sym, ap, subst, ◌∙◌}
 use Rattle.std.specs.List.{slice_get}
 use Rattle.model_base.specs.declared.shape.Shape.{Shape}
 use Rattle.model_record.specs.declared.group.Whole.{Whole}
@@ -7,7 +7,7 @@ use Rattle.model_log.specs.declared.block.BlockView.{BlockView}
 use Rattle.model_log.specs.Device.{newest_checkpoint}
 use Rattle.model_page.specs.declared.content.Content.{Content}
 use Rattle.model_store.specs.Scan.{IsScan}
-use Rattle.model_store.specs.Reading.{Reading, Reads, HasScan, HasHead, HasDevices, IsReadPage, replayed}
+use Rattle.model_store.specs.Reading.{Reading, Reads, HasScan, HasHead, IsReadPage, replayed}
 use Rattle.model_store.proofs.Places.{same_places, same_some}
 use Rattle.model_store.proofs.OneScan.{OneGroup, same_scan}
 use Rattle.model_store.proofs.OneKept.{same_kept}

@@ -1,18 +1,16 @@
 -- What is scanned from a checkpoint on is determined: the blocks, the groups and the end.
-use Rattle.std.proofs.Common.{◌≡◌, ◌≢◌, ℕ, suc, ◌+◌, ◌<◌, ◌≤◌, ◌⊎◌, inl, inr, List, [], ◌∷◌, ◌++◌, length, Option, Some, None, Bool, true, false, arith, refl, sym, ap, ap₂, subst, ◌∙◌, append_assoc, length-append}
-use Rattle.std.specs.List.{slice_get, AllByRecursion, flat_map}
-use Rattle.std.proofs.lemmas.Option.{slice_get_within}
+use Rattle.std.proofs.Common.{◌≡◌, ℕ, ◌+◌, ◌<◌, ◌≤◌, inl, inr, List, [], ◌∷◌, ◌++◌, length, Option, Some, None, true, arith, refl, sym, ap, ap₂, subst, ◌∙◌, append_assoc, length-append}
+use Rattle.std.specs.List.{AllByRecursion}
 use Rattle.std.proofs.lemmas.List.{append-nil, nil_from_length}
-use Rattle.std.proofs.lemmas.Bool.{cases_lt}
 use Rattle.model_base.specs.declared.shape.Shape.{Shape}
 use Rattle.model_record.specs.declared.rec.Rec.{Rec}
 use Rattle.model_record.specs.declared.group.Whole.{Whole}
-use Rattle.model_record.specs.Group.{group_text, stream_of, groups_of, IsGroup, IsGroupText, IsUnfinished, IsFront, group_length}
+use Rattle.model_record.specs.Group.{group_text, stream_of, groups_of, IsGroup, IsUnfinished, IsFront, group_length}
 use Rattle.model_log.specs.Lsn.{lsn_of, sn_of}
 use Rattle.model_log.specs.declared.block.BlockView.{BlockView}
 use Rattle.model_log.specs.Block.{is_full}
 use Rattle.model_log.specs.Boundary.{IsTiled}
-use Rattle.model_store.specs.Scan.{AreBlocks, IsLastOf, IsGood, AreGroups, AreGroupsOf, IsScan, IsBadRecord, HasNoGood, block_at, lsn_at, end_of, groups_start, data_from}
+use Rattle.model_store.specs.Scan.{AreBlocks, IsGood, AreGroups, AreGroupsOf, IsScan, HasNoGood, end_of, groups_start, data_from}
 use Rattle.model_store.proofs.Places.{has_place, same_places}
 
 -- where blocks end, no longer row of blocks goes on
