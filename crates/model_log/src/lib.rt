@@ -4,7 +4,11 @@
 mod block;
 mod head;
 mod layout;
+mod lsn;
 
 pub use block::BlockView;
 pub use head::Head;
 pub use layout::{BLOCK_DATA, BLOCK_DATA_END, BLOCK_HEADER, HEADER_BLOCKS, RING_SIZE};
+pub use lsn::{
+    block_of, is_data_lsn, lsn_and_sn, lsn_of, number_of, offset_of, sn_of, start_after,
+};
