@@ -1,2 +1,5 @@
+pub mod BlockRound
 pub mod Blocks
+pub mod Checksums
+pub mod Sealed
 pub mod Seals

@@ -1,5 +1,5 @@
 // A log block, written and read.
-ghost use Rattle.std.specs.Prelude.{◌≡◌, ◌≤◌, ◌<◌, ◌^◌, length, vec_len, IfOk};
+ghost use Rattle.std.specs.Prelude.{◌≡◌, ◌≤◌, ◌<◌, ◌^◌, ℕ, List, length, vec_len, All, IfOk, IsTrue};
 ghost use Rattle.model_log.specs.Block.{length_of, block_text, view_of, fits_number, is_length, is_first, read_block, data_of};
 
 use crate::fields::{field_u16, field_u32};
@@ -117,4 +117,16 @@ pub fn block_data(view: BlockView, bytes: &[u8]) -> &[u8]
     ensures { result.now ≡ data_of view bytes.now }
 {
     &bytes[BLOCK_HEADER as usize..view.length.min(BLOCK_DATA_END as u32) as usize]
+}
+
+/// A block that was written is read back, and so is its data.
+pub fn block_reads_back()
+    ensures view { (lsn : ℕ) (content : List ℕ) (first ckpt : ℕ) → length content ≤ 496
+        → All (λ byte. byte < 256) content → ckpt < 2 ^ 32 → IsTrue (is_first (length_of (length content)) first)
+        → read_block lsn (block_text lsn content first ckpt)
+            ≡ Some (record { length = length_of (length content); first = first; ckpt = ckpt }) }
+    ensures content { (lsn : ℕ) (content : List ℕ) (first ckpt : ℕ) → length content ≤ 496
+        → data_of (record { length = length_of (length content); first = first; ckpt = ckpt })
+            (block_text lsn content first ckpt) ≡ content }
+{
 }

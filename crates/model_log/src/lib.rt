@@ -8,7 +8,7 @@ mod layout;
 mod lsn;
 mod seal;
 
-pub use block::{BlockView, block_bytes, block_data, read_block};
+pub use block::{BlockView, block_bytes, block_data, block_reads_back, read_block};
 pub use head::Head;
 pub use layout::{BLOCK_DATA, BLOCK_DATA_END, BLOCK_HEADER, HEADER_BLOCKS, RING_SIZE};
 pub use lsn::{
