@@ -2,6 +2,9 @@
 //! definitions. Beside them stand the plain slow programs that compute them.
 #![tactic(auto)]
 
+mod checksum;
 mod got;
+mod table;
 
+pub use checksum::crc32c;
 pub use got::Got;
