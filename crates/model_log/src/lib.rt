@@ -9,7 +9,7 @@ mod lsn;
 mod seal;
 
 pub use block::{BlockView, block_bytes, block_data, block_reads_back, read_block};
-pub use head::Head;
+pub use head::{Head, head_bytes, head_reads_back, read_head};
 pub use layout::{BLOCK_DATA, BLOCK_DATA_END, BLOCK_HEADER, HEADER_BLOCKS, RING_SIZE};
 pub use lsn::{
     block_of, is_data_lsn, lsn_and_sn, lsn_of, number_of, offset_of, sn_of, start_after,
