@@ -1,5 +1,6 @@
 // A checkpoint block, written and read.
-ghost use Rattle.std.specs.Prelude.{◌≡◌, ◌≤◌, ◌<◌, ◌^◌, length, vec_len, IfOk};
+ghost use Rattle.std.specs.Prelude.{◌≡◌, ◌≤◌, ◌<◌, ◌^◌, ◌%◌, ℕ, length, vec_len, IfOk};
+ghost use Rattle.model_base.specs.declared.shape.Shape.{Shape};
 ghost use Rattle.model_log.specs.Checkpoint.{place_of, checkpoint_text, is_checkpoint, read_checkpoint};
 ghost use Rattle.model_log.specs.Device.{newer, newest_checkpoint};
 
@@ -98,4 +99,11 @@ pub fn newest_checkpoint(image: &[u8], shape: &Shape) -> Option<(u64, u64)>
         read_checkpoint(&image[size..2 * size], 1, shape),
         read_checkpoint(&image[3 * size..HEADER_BLOCKS as usize], 3, shape),
     )
+}
+
+/// A checkpoint that was written is read in its place.
+pub fn checkpoint_reads_back()
+    ensures { (number lsn : ℕ) (shape : Shape) → number < 2 ^ 64 → START_LSN ≤ lsn → lsn < LSN_LIMIT → lsn % BLOCK_SIZE ≡ 0
+        → read_checkpoint (place_of number) shape (checkpoint_text number lsn shape) ≡ Some (number, lsn) }
+{
 }
