@@ -2,8 +2,12 @@
 //! fits a store.
 #![tactic(auto)]
 
+mod fitting;
 mod group;
 mod rec;
+mod spelled;
 
+pub use fitting::fits;
 pub use group::{Group, Whole};
 pub use rec::Rec;
+pub use spelled::has_text;
