@@ -6,8 +6,10 @@ mod fitting;
 mod group;
 mod rec;
 mod spelled;
+mod writing;
 
 pub use fitting::fits;
 pub use group::{Group, Whole};
 pub use rec::Rec;
 pub use spelled::has_text;
+pub use writing::{group_bytes, stream_bytes};
