@@ -1,10 +1,10 @@
 -- The bytes of a number, the highest first, and the number that bytes make.
-use Rattle.std.proofs.Common.{◌≡◌, ℕ, zero, suc, ◌+◌, ◌-◌, ◌*◌, ◌/◌, ◌%◌, ◌^◌, ◌<◌, ◌≤◌, List, [], ◌∷◌, ◌++◌, length, get_or, drop, fold, refl, sym, ap, ◌∙◌, arith, inl, inr, pow-suc, mul_comm, length-append}
-use Rattle.std.proofs.Math.Nat.{pow-succ', one-le-pow, mul-le-mul_right, mod-lt, mod-eq_of_lt}
+use Rattle.std.proofs.Common.{◌≡◌, ℕ, zero, suc, ◌+◌, ◌-◌, ◌*◌, ◌/◌, ◌%◌, ◌^◌, ◌<◌, ◌≤◌, List, [], ◌∷◌, ◌++◌, length, get_or, take, drop, fold, Fits, w8, refl, sym, ap, ◌∙◌, arith, inl, inr, pow-suc, mul_comm, length-append}
+use Rattle.std.proofs.Math.Nat.{pow-succ', pow-le-pow_right, one-le-pow, mul-le-mul_right, mod-lt, mod-eq_of_lt}
 use Rattle.std.proofs.Math.Arith.{mod-mul}
 use Rattle.std.proofs.lemmas.Bool.{cases_lt}
-use Rattle.std.proofs.lemmas.List.{get_or-append_right, get_or_append_left}
-use Rattle.std.proofs.lemmas.List.Sums.{fold-append}
+use Rattle.std.proofs.lemmas.List.{length-take-le, take-append-drop}
+use Rattle.std.proofs.lemmas.List.Sums.{fold-append, fold_more}
 use Rattle.std.proofs.lemmas.Nat.{pow-add, same_from_place}
 use Rattle.std.specs.Int.{byte_at, bytes_high_first}
 
@@ -146,3 +146,25 @@ drop-bytes_high_first (suc all) k n within = elim (cases_lt all k) [
       let more : suc all - k ≡ suc (all - k) = omega arith in
       rw more (drop-bytes_high_first all k n lower)
 ]
+
+pub AreBytes-take : (j : ℕ) (bytes : List ℕ) → AreBytes bytes → AreBytes (take j bytes)
+AreBytes-take j bytes all = AreBytes-front (take j bytes) (drop j bytes) (rw (take-append-drop j bytes) all)
+
+pub AreBytes-drop : (j : ℕ) (bytes : List ℕ) → AreBytes bytes → AreBytes (drop j bytes)
+AreBytes-drop j bytes all = AreBytes-back (take j bytes) (drop j bytes) (rw (take-append-drop j bytes) all)
+
+pub pow256_le : (j k : ℕ) → j ≤ k → 256 ^ j ≤ 256 ^ k
+pow256_le j k within = pow-le-pow_right {n = 256} (omega arith) {i = j} {j = k} within
+
+-- one byte more keeps the number of at most eight bytes within a word
+pub number_fits : (bytes : List ℕ) → AreBytes bytes → length bytes ≤ 8 → (i : ℕ) → i < length bytes
+    → number_onto 0 (take i bytes) * 256 + get_or bytes i 0 < 2 ^ 64
+number_fits bytes all few i within =
+    let more = fold_more (λ number byte. number * 256 + byte) 0 bytes i 0 within in
+    let below = number-lt (take (i + 1) bytes) (AreBytes-take (i + 1) bytes all) in
+    let size : length (take (i + 1) bytes) ≡ i + 1 = length-take-le (i + 1) bytes (omega arith) in
+    let top = pow256_le (length (take (i + 1) bytes)) 8 (omega arith) in
+    omega arith
+
+pub AreBytes-from_fits : (bytes : List ℕ) → ((i : ℕ) → Fits w8 (get_or bytes i 0)) → AreBytes bytes
+AreBytes-from_fits bytes fits = λ i. omega (arith, fits i)

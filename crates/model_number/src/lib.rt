@@ -4,7 +4,11 @@
 
 mod checksum;
 mod got;
+mod laws;
+mod spelling;
 mod table;
 
 pub use checksum::crc32c;
 pub use got::Got;
+pub use laws::{one_spelling, spelling_lengths};
+pub use spelling::{read32, read64, spell32, spell64};
