@@ -1,3 +1,4 @@
+pub mod Lending
 pub mod Limits
 pub mod Lines
 pub mod Overwrite
