@@ -2,15 +2,11 @@
 //! fits a store.
 #![tactic(auto)]
 
-mod bodies;
-mod fields;
 mod fitting;
 mod group;
 mod measuring;
-mod place;
 mod rec;
 mod spelled;
-mod stop;
 mod writing;
 
 pub use fitting::fits;

@@ -2,6 +2,7 @@
 //! a crash.
 #![tactic(auto)]
 
+mod apply;
 mod refusal;
 
 pub use refusal::Refusal;
