@@ -1,3 +1,5 @@
+pub mod Applying
+pub mod Numbers
 pub mod Places
 pub mod OneScan
 pub mod OneKept
