@@ -1,9 +1,7 @@
 -- What is left of a group while its records are applied to a page.
-use Rattle.std.proofs.Common.{◌≡◌, ℕ, suc, ◌+◌, ◌<◌, ◌≤◌, Bool, true, false, ◌||◌, List, [], ◌∷◌, ◌++◌, length, take, drop, get_or, set, arith, refl, sym, ap, ap₂, subst, ◌∙◌, eq-eqb, eqb, cond, append_assoc}
+use Rattle.std.proofs.Common.{◌≡◌, ℕ, suc, ◌+◌, ◌<◌, ◌≤◌, Bool, true, false, ◌||◌, List, [], ◌∷◌, ◌++◌, length, take, drop, get_or, set, arith, refl, sym, ap, ap₂, ◌∙◌, eqb, cond, append_assoc}
 use Rattle.std.specs.List.{AllByRecursion}
 use Rattle.std.proofs.lemmas.List.{drop_more, drop_all, append-nil, take_all, take_more, set_at, get_or_at, length-take-le}
-use Rattle.std.proofs.lemmas.Bool.{ne_eqb}
-use Rattle.std.proofs.Math.Bool.{or-false}
 use Rattle.model_base.specs.Lending.{written_over}
 use Rattle.model_base.specs.declared.shape.Shape.{Shape}
 use Rattle.model_record.specs.declared.rec.Rec.{Rec}
@@ -17,47 +15,6 @@ pub record AreApplied (p : ℕ) (shape : Shape) (recs : List Rec) (i : ℕ) (sta
   pub fits : AllByRecursion (RecordFits shape) (drop i recs)
   pub user : user_after p (drop i recs) now ≡ user_after p recs start
   pub touched : (found || touches p (drop i recs)) ≡ touches p recs
-
--- an element of a list is the first of what is left
-pub first_left : {X : Type 0} (xs : List X) (i : ℕ) (x : X) → i < length xs → x ≡ get_or xs i x → drop i xs ≡ x ∷ drop (i + 1) xs
-first_left xs i x h e = drop_more xs i x h ∙ ap (λ y. y ∷ drop (i + 1) xs) (sym e)
-
--- the next record fits
-pub fits-first : (p : ℕ) (shape : Shape) (recs : List Rec) (i : ℕ) (start now : List ℕ) (found : Bool) (rec : Rec)
-    → i < length recs → rec ≡ get_or recs i rec → AreApplied p shape recs i start now found → RecordFits shape rec
-fits-first p shape recs i start now found rec h e a =
-    let all : AllByRecursion (RecordFits shape) (rec ∷ drop (i + 1) recs) = subst (λ xs. AllByRecursion (RecordFits shape) xs) (first_left recs i rec h e) a.fits in
-    all.0
-
--- one record more, which is on the page or isn't
-pub AreApplied-own : (p : ℕ) (shape : Shape) (recs : List Rec) (i : ℕ) (start now next : List ℕ) (found : Bool) (rec : Rec)
-    → i < length recs → rec ≡ get_or recs i rec → page_of rec ≡ p → next ≡ user_after_own rec now
-    → AreApplied p shape recs i start now found → AreApplied p shape recs (i + 1) start next true
-AreApplied-own p shape recs i start now next found rec h e on is a =
-    let first = first_left recs i rec h e in
-    let all : AllByRecursion (RecordFits shape) (rec ∷ drop (i + 1) recs) = subst (λ xs. AllByRecursion (RecordFits shape) xs) first a.fits in
-    let test = eq-eqb (page_of rec) p on in
-    let user = ap (λ xs. user_after p xs now) (sym first) ∙ a.user in
-    let touched = ap (λ xs. found || touches p xs) (sym first) ∙ a.touched in
-    record { fits = all.1; user = cc; touched = grind (arith, touched, test) }
-
-pub AreApplied-other : (p : ℕ) (shape : Shape) (recs : List Rec) (i : ℕ) (start now : List ℕ) (found : Bool) (rec : Rec)
-    → i < length recs → rec ≡ get_or recs i rec → (page_of rec ≡ p → ⊥)
-    → AreApplied p shape recs i start now found → AreApplied p shape recs (i + 1) start now found
-AreApplied-other p shape recs i start now found rec h e on a =
-    let first = first_left recs i rec h e in
-    let all : AllByRecursion (RecordFits shape) (rec ∷ drop (i + 1) recs) = subst (λ xs. AllByRecursion (RecordFits shape) xs) first a.fits in
-    let test = ne_eqb (page_of rec) p on in
-    let user = ap (λ xs. user_after p xs now) (sym first) ∙ a.user in
-    let touched = ap (λ xs. found || touches p xs) (sym first) ∙ a.touched in
-    record { fits = all.1; user = cc; touched = grind (arith, touched, test) }
-
--- at the end all are applied
-pub AreApplied-all : (p : ℕ) (shape : Shape) (recs : List Rec) (i : ℕ) (start now : List ℕ) (found : Bool)
-    → length recs ≤ i → AreApplied p shape recs i start now found → (now ≡ user_after p recs start) × (found ≡ touches p recs)
-AreApplied-all p shape recs i start now found h a =
-    let none = drop_all i recs h in
-    (ap (λ xs. user_after p xs now) (sym none) ∙ a.user, sym (or-false found) ∙ ap (λ xs. found || touches p xs) (sym none) ∙ a.touched)
 
 neither_true : (a b : Bool) → (a || b) ≡ false → (a ≡ false) × (b ≡ false)
 neither_true true b h = cc
