@@ -1,5 +1,5 @@
 -- What the bytes at hand say of a number that begins with them.
-use Rattle.std.proofs.Common.{◌≡◌, ◌≢◌, ℕ, zero, suc, ◌+◌, ◌-◌, ◌*◌, ◌/◌, ◌%◌, ◌^◌, ◌<◌, ◌≤◌, ◌⊎◌, List, [], ◌∷◌, ◌++◌, length, take, drop, min, replicate, get_or, refl, sym, ap, ◌∙◌, arith, inl, inr, length-append, slice_index}
+use Rattle.std.proofs.Common.{◌≡◌, ◌≢◌, ℕ, zero, suc, ◌+◌, ◌-◌, ◌*◌, ◌/◌, ◌%◌, ◌^◌, ◌<◌, ◌≤◌, ◌⊎◌, List, [], ◌∷◌, ◌++◌, length, take, drop, min, refl, sym, ap, ◌∙◌, arith, inl, inr, length-append, slice_index}
 use Rattle.std.proofs.Math.Nat.{mul-le-mul_right}
 use Rattle.std.proofs.lemmas.Bool.{cases_lt}
 use Rattle.std.proofs.lemmas.List.{append-nil, append_assoc, take_all, take_at, take-take, length-take, length-take-le, length-drop, take-append-drop, take-append-le, drop-take}
@@ -9,7 +9,7 @@ use Rattle.model_number.specs.declared.got.Got.{Got}
 use Rattle.model_number.specs.declared.got.Got.TheVariants.{Value, Short, Bad}
 use Rattle.model_number.specs.declared.table.Row.{Row}
 use Rattle.model_number.specs.Spelling.{spelling32, spelling64, Spells32, Spells64, IsUnfinished, BeginsWith, Gives}
-use Rattle.model_number.specs.Table.{spelling_in, SpellsIn, IsRow, HasAllFrom, BeginsNone}
+use Rattle.model_number.specs.Table.{SpellsIn, IsRow, HasAllFrom, BeginsNone}
 use Rattle.model_number.proofs.ByteLemmas.{AreBytes, AreBytes-of_number, AreBytes-append, AreBytes-back, AreBytes-drop, AreBytes-take, bytes-number, bytes-parts, length-bytes_high_first, number_onto, number-append, number-bytes, number-lt, pow256_le, pow256_pos}
 use Rattle.model_number.proofs.SpellingLemmas.{length-spelling_in, length-spelling32, slice_index-append}
 
@@ -114,9 +114,12 @@ row_short row is_row bytes all short above below =
     let left = row.text - number_onto 0 bytes * 256 ^ missing in
     let text = number_onto 0 bytes * 256 ^ missing + left in
     let behind = bytes_high_first missing left in
-    let size = length-bytes_high_first missing left in
-    (behind, row.first + (text - row.text), not_nil behind (omega arith),
-     spells_on row is_row bytes all missing text left (omega arith) (omega arith) refl (omega arith) (omega arith))
+    let size = length-bytes_high_first missing left in (
+      behind,
+      row.first + (text - row.text),
+      not_nil behind (omega arith),
+      spells_on row is_row bytes all missing text left (omega arith) (omega arith) refl (omega arith) (omega arith),
+    )
 
 pub row_value : (row : Row) → IsRow row → (bytes : List ℕ) → AreBytes (take row.length bytes) → row.length ≤ length bytes
     → row.text < lowest row bytes + following row bytes → lowest row bytes ≤ row.text + (row.last - row.first)
@@ -164,25 +167,27 @@ read_row byte row has bytes some first (Value n len) gives =
     (gives.0, from_row row has.is_row (take len bytes) n gives.1)
 read_row byte row has bytes some first Short gives =
     (gives.0, gives.1, gives.2, from_row row has.is_row (bytes ++ gives.0) gives.1 gives.3)
-read_row byte row has bytes some first Bad gives =
-    (λ n len begins.
-       let spells = begins.1 in
-       let head = slice_index-take len bytes (some_bytes (take len bytes) n spells) ∙ first in
-       gives.0 n len (begins.0, to_row byte row has (take len bytes) n head spells),
-     λ unfinished.
-       let head = slice_index-append bytes unfinished.0 some ∙ first in
-       gives.1 (unfinished.0, unfinished.1, unfinished.2, to_row byte row has (bytes ++ unfinished.0) unfinished.1 head unfinished.3))
+read_row byte row has bytes some first Bad gives = (
+  λ n len begins.
+      let spells = begins.1 in
+      let head = slice_index-take len bytes (some_bytes (take len bytes) n spells) ∙ first in
+      gives.0 n len (begins.0, to_row byte row has (take len bytes) n head spells),
+  λ unfinished.
+      let head = slice_index-append bytes unfinished.0 some ∙ first in
+      gives.1 (unfinished.0, unfinished.1, unfinished.2, to_row byte row has (bytes ++ unfinished.0) unfinished.1 head unfinished.3),
+)
 
 pub read_none : (byte : ℕ) → BeginsNone byte → (bytes : List ℕ) → 1 ≤ length bytes → slice_index bytes 0 ≡ byte → Gives Spells32 bytes Bad
-read_none byte none bytes some first =
-    (λ n len begins.
-       let spells = begins.1 in
-       let head = slice_index-take len bytes (some_bytes (take len bytes) n spells) ∙ first in
-       none n spells.small (ap (λ (s : List ℕ). slice_index s 0) (sym spells.spelled) ∙ head),
-     λ unfinished.
-       let spells = unfinished.3 in
-       let head = slice_index-append bytes unfinished.0 some ∙ first in
-       none unfinished.1 spells.small (ap (λ (s : List ℕ). slice_index s 0) (sym spells.spelled) ∙ head))
+read_none byte none bytes some first = (
+  λ n len begins.
+      let spells = begins.1 in
+      let head = slice_index-take len bytes (some_bytes (take len bytes) n spells) ∙ first in
+      none n spells.small (ap (λ (s : List ℕ). slice_index s 0) (sym spells.spelled) ∙ head),
+  λ unfinished.
+      let spells = unfinished.3 in
+      let head = slice_index-append bytes unfinished.0 some ∙ first in
+      none unfinished.1 spells.small (ap (λ (s : List ℕ). slice_index s 0) (sym spells.spelled) ∙ head),
+)
 
 -- nothing at hand can become the spelling of 0
 pub read_empty : Gives Spells32 [] Short
@@ -234,7 +239,7 @@ read_half bytes all high len gives short =
     let four = four_bytes (behind ++ pad) bytes4 whole in
     let spells = spells_halves (take len bytes) (behind ++ pad) high (number_onto 0 (behind ++ pad)) gives.1 four.0 four.1 in
     let join : bytes ++ pad ≡ take len bytes ++ (behind ++ pad) =
-        ap (λ (s : List ℕ). s ++ pad) (sym (take-append-drop len bytes)) ∙ append_assoc (take len bytes) behind pad in
+    ap (λ (s : List ℕ). s ++ pad) (sym (take-append-drop len bytes)) ∙ append_assoc (take len bytes) behind pad in
     (pad, high * 2 ^ 32 + number_onto 0 (behind ++ pad), not_nil pad (omega arith), rw join spells)
 
 pub read_front : (bytes : List ℕ) → Gives Spells32 bytes Short → Gives Spells64 bytes Short
@@ -252,38 +257,39 @@ unfolding spelling64
 high_half bytes n spells = let small = spells.small in (spells.spelled, omega arith)
 
 pub read_bad : (bytes : List ℕ) → Gives Spells32 bytes Bad → Gives Spells64 bytes Bad
-read_bad bytes gives =
-    (λ n len begins.
-       let half = high_half (take len bytes) n begins.1 in
-       let high = n / 2 ^ 32 in
-       let s = spelling32 high in
-       let low = bytes_high_first 4 (n % 2 ^ 32) in
-       let size = length-take-le len bytes begins.0 in
-       let within = begins.0 in
-       let len_is : len ≡ length s + 4 = sym size ∙ ap length half.0 ∙ length-append s low in
-       let front : take (length s) bytes ≡ s =
-           sym (take-take (length s) len bytes (omega arith)) ∙ ap (take (length s)) half.0 ∙ take_at s low (length s) refl in
-       gives.0 high (length s) (omega arith, record { small = half.1; spelled = front }),
-     λ unfinished.
-       let rest = unfinished.0 in
-       let n = unfinished.1 in
-       let half = high_half (bytes ++ rest) n unfinished.3 in
-       let high = n / 2 ^ 32 in
-       let s = spelling32 high in
-       let low = bytes_high_first 4 (n % 2 ^ 32) in
-       elim (cases_lt (length bytes) (length s)) [
-         | inl short ↦
-             let front : bytes ≡ take (length bytes) s =
-                 sym (take_at bytes rest (length bytes) refl) ∙ ap (take (length bytes)) half.0 ∙ take-append-le (length bytes) s low (omega arith) in
-             let left = drop (length bytes) s in
-             let size = length-drop (length bytes) s in
-             let join : bytes ++ left ≡ s = ap (λ (x : List ℕ). x ++ left) front ∙ take-append-drop (length bytes) s in
-             gives.1 (left, high, not_nil left (omega arith), record { small = half.1; spelled = join })
-         | inr long ↦
-             let front : take (length s) bytes ≡ s =
-                 sym (take-append-le (length s) bytes rest long) ∙ ap (take (length s)) half.0 ∙ take_at s low (length s) refl in
-             gives.0 high (length s) (long, record { small = half.1; spelled = front })
-       ])
+read_bad bytes gives = (
+  λ n len begins.
+      let half = high_half (take len bytes) n begins.1 in
+      let high = n / 2 ^ 32 in
+      let s = spelling32 high in
+      let low = bytes_high_first 4 (n % 2 ^ 32) in
+      let size = length-take-le len bytes begins.0 in
+      let within = begins.0 in
+      let len_is : len ≡ length s + 4 = sym size ∙ ap length half.0 ∙ length-append s low in
+      let front : take (length s) bytes ≡ s =
+      sym (take-take (length s) len bytes (omega arith)) ∙ ap (take (length s)) half.0 ∙ take_at s low (length s) refl in
+      gives.0 high (length s) (omega arith, record { small = half.1; spelled = front }),
+  λ unfinished.
+      let rest = unfinished.0 in
+      let n = unfinished.1 in
+      let half = high_half (bytes ++ rest) n unfinished.3 in
+      let high = n / 2 ^ 32 in
+      let s = spelling32 high in
+      let low = bytes_high_first 4 (n % 2 ^ 32) in
+      elim (cases_lt (length bytes) (length s)) [
+        | inl short ↦
+            let front : bytes ≡ take (length bytes) s =
+            sym (take_at bytes rest (length bytes) refl) ∙ ap (take (length bytes)) half.0 ∙ take-append-le (length bytes) s low (omega arith) in
+            let left = drop (length bytes) s in
+            let size = length-drop (length bytes) s in
+            let join : bytes ++ left ≡ s = ap (λ (x : List ℕ). x ++ left) front ∙ take-append-drop (length bytes) s in
+            gives.1 (left, high, not_nil left (omega arith), record { small = half.1; spelled = join })
+        | inr long ↦
+            let front : take (length s) bytes ≡ s =
+            sym (take-append-le (length s) bytes rest long) ∙ ap (take (length s)) half.0 ∙ take_at s low (length s) refl in
+            gives.0 high (length s) (long, record { small = half.1; spelled = front })
+      ],
+)
 
 -- what is computed of a row fits a word
 pub following_fits : (row : Row) → IsRow row → (bytes : List ℕ) → following row bytes ≤ 256 ^ 5

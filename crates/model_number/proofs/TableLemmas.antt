@@ -1,8 +1,7 @@
 -- Each row of the table spells its numbers, and the rows' first bytes tell them apart.
-use Rattle.std.proofs.Common.{◌≡◌, ◌≢◌, ℕ, ◌+◌, ◌-◌, ◌*◌, ◌/◌, ◌%◌, ◌^◌, ◌<◌, ◌≤◌, List, [], ◌∷◌, ◌++◌, length, cond, get_or, refl, sym, ap, ◌∙◌, arith, lt-ltb, le-ltb, ltb, slice_index, inl, inr, ◌⊎◌}
+use Rattle.std.proofs.Common.{◌≡◌, ℕ, ◌+◌, ◌-◌, ◌*◌, ◌/◌, ◌%◌, ◌^◌, ◌<◌, ◌≤◌, cond, refl, sym, arith, lt-ltb, le-ltb, ltb, slice_index, inl, inr, ◌⊎◌}
 use Rattle.std.proofs.lemmas.Bool.Decides.{nat_tests}
 use Rattle.std.proofs.lemmas.Bool.{cases_lt}
-use Rattle.std.specs.Int.{byte_at, bytes_high_first}
 use Rattle.model_number.specs.declared.table.TheConstants.{SEVEN_BITS, FOURTEEN_BITS, TWENTY_ONE_BITS, TWENTY_EIGHT_BITS, WHOLE, LOW_24_BITS, LOW_17_BITS, LOW_10_BITS}
 use Rattle.model_number.specs.Spelling.{spelling32}
 use Rattle.model_number.specs.Table.{IsRow, IsRowOf, HasAllFrom, BeginsNone}

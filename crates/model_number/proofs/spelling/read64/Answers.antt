@@ -1,6 +1,6 @@
 -- The high half, and the four bytes behind it.
-use Rattle.std.proofs.Common.{◌≡◌, ◌+◌, ◌-◌, ◌*◌, ◌<◌, ◌≤◌, ◌^◌, ℕ, length, take, drop, arith}
-use Rattle.model_number.proofs.ByteLemmas.{AreBytes-from_fits, number_onto}
+use Rattle.std.proofs.Common.{◌≡◌, ◌+◌, ◌-◌, arith}
+use Rattle.model_number.proofs.ByteLemmas.{AreBytes-from_fits}
 use Rattle.model_number.proofs.ReadLemmas.{low_half_fits, read_both, read_half, read_front, read_bad}
 use Rattle.model_number.proofs.spelling.read64.Goals as goal
 
