@@ -1,17 +1,16 @@
 -- The parts of a record, one after another.
-use Rattle.std.proofs.Common.{◌≡◌, ℕ, zero, suc, ◌+◌, ◌/◌, ◌%◌, ◌<◌, ◌≤◌, ◌^◌, Bool, true, false, cond, eqb, List, [], ◌∷◌, ◌++◌, length, take, drop, replicate, All, ◌⊎◌, inl, inr, refl, sym, ap, subst, ◌∙◌, append_assoc, arith}
+use Rattle.std.proofs.Common.{◌≡◌, ℕ, ◌+◌, ◌/◌, ◌%◌, ◌<◌, ◌^◌, Bool, true, false, cond, eqb, List, [], ◌∷◌, ◌++◌, length, take, drop, replicate, ◌⊎◌, inl, inr, refl, sym, ap, subst, ◌∙◌, append_assoc, arith}
 use Rattle.std.specs.Int.{bytes_high_first}
-use Rattle.std.proofs.lemmas.List.{append-nil, length-replicate, take_at, drop_at, append_cancel_left}
+use Rattle.std.proofs.lemmas.List.{length-replicate, take_at, drop_at}
 use Rattle.std.proofs.lemmas.List.Elements.{All-replicate}
-use Rattle.model_number.specs.Spelling.{spelling32, spelling64, Spells32, Spells64}
-use Rattle.model_record.specs.Record.{type_of, after_type, IsWidth, HasText, IsByte, value_text}
-use Rattle.model_record.specs.Reading.{Begins, IsPartOf, IsNone, Stops}
+use Rattle.model_number.specs.Spelling.{spelling32, spelling64, Spells32}
+use Rattle.model_record.specs.Record.{IsWidth, IsByte, value_text}
+use Rattle.model_record.specs.Reading.{Begins, IsPartOf}
 use Rattle.model_record.specs.Bodies.{IsShort, IsLength, IsBody, IsValue, IsString, IsPlace, IsSpot, IsAfterType, IsRecord}
 use Rattle.model_record.specs.declared.place.Place.{Place}
 use Rattle.model_record.specs.declared.place.Spot.{Spot}
 use Rattle.model_record.specs.declared.rec.Rec.{Rec}
 use Rattle.model_record.specs.declared.rec.Rec.TheVariants.{Num, Text, Init}
-use Rattle.model_record.specs.declared.stop.Stop.{Stop}
 use Rattle.model_record.proofs.Sequence.{OneText, Parted, IsThen, both_one}
 
 -- no spelling of a number below the limit begins another
@@ -227,3 +226,18 @@ then_init = record {
   parted = init_parted;
   goes_on = λ front a p. ([], tt, record { empty = refl })
 }
+
+pub nothing_begins : (rest : List ℕ) → Begins IsNothing rest tt rest
+nothing_begins rest = record { text = []; is_text = record { empty = refl }; parts = refl }
+
+-- ---- a whole record
+
+-- nothing is the front of a record
+pub record_part : (flag : ℕ) (bytes : List ℕ) → length bytes < 1 → IsPartOf (IsRecord flag) bytes
+record_part flag [] below = record {
+  more = (flag + 59) ∷ (spelling32 0 ++ spelling32 0 ++ []);
+  value = Init 0 0;
+  some = λ e. absurd cc;
+  is_text = record { has_text = (omega arith, omega arith); spelled = refl }
+}
+record_part flag (byte ∷ bytes) below = absurd (omega arith)

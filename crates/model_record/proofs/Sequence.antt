@@ -3,7 +3,7 @@ use Rattle.std.proofs.Common.{◌≡◌, ◌≢◌, ℕ, List, [], ◌∷◌, �
 use Rattle.std.specs.Prelude.{IsErrAnd}
 use Rattle.model_record.specs.declared.stop.Stop.{Stop}
 use Rattle.model_record.specs.declared.stop.Stop.TheVariants.{Memory, Short, Bad}
-use Rattle.model_record.specs.Reading.{Begins, IsPartOf, IsNone, Stops, Reads}
+use Rattle.model_record.specs.Reading.{Begins, Stops, Reads}
 
 -- of two fronts of one list, one is a front of the other
 pub front_cases : (a b c d : List ℕ) → a ++ b ≡ c ++ d → ((z : List ℕ) × (c ≡ a ++ z)) ⊎ ((z : List ℕ) × (z ≢ []) × (a ≡ c ++ z))
@@ -91,3 +91,9 @@ module _ {A B C : Type 0} {IsFirst : List ℕ → A → Type 0} {IsSecond : A �
 pub passed_on : {X A : Type 0} (view : X → A × List ℕ) (IsText : List ℕ → A → Type 0) (bytes : List ℕ) (result : Result X Stop) (stop : Stop) → IsErrAnd result (λ given. given ≡ stop) → Stops IsText bytes stop → Reads view IsText bytes result
 passed_on view IsText bytes (Ok x) stop is h = absurd is
 passed_on view IsText bytes (Err given) stop is h = subst (Stops IsText bytes) (sym is) h
+
+-- where the second text alone makes the value, what reading it gives is what reading both gives
+pub last_reads : {X A B : Type 0} {IsFirst : List ℕ → A → Type 0} {IsSecond : A → List ℕ → B → Type 0} {IsWhole : List ℕ → B → Type 0} (then : IsThen IsFirst IsSecond IsWhole (λ _ value. value)) (one : OneText IsFirst) (view : X → B × List ℕ) (bytes rest : List ℕ) (a : A)
+    → Begins IsFirst bytes a rest → (result : Result X Stop) → Reads view (IsSecond a) rest result → Reads view IsWhole bytes result
+last_reads then one view bytes rest a first (Ok found) h = both_begin then bytes rest (view found).1 a (view found).0 first h
+last_reads then one view bytes rest a first (Err stop) h = second_stops then one bytes rest a first stop h

@@ -1,10 +1,6 @@
-use Rattle.model_number.specs.Spelling.{Spells32}
 use Rattle.model_record.proofs.Records.{one32, then_place}
 use Rattle.model_record.proofs.Sequence.{passed_on, first_stops, second_stops}
 use Rattle.model_record.proofs.bodies.read_place.Goals as goal
-
-pub one_spelling-requires : goal.one_spelling-requires
-one_spelling-requires c = ?
 
 pub returns-in_err-space : goal.returns-in_err-space
 returns-in_err-space c = passed_on _ _ _ _ _ c.from_residual.ensures.1 (first_stops then_place c.args.bytes.now _ c.in_err-space.ensures)

@@ -1,4 +1,4 @@
-use Rattle.std.proofs.Common.{arith, sym, ◌∙◌}
+use Rattle.std.proofs.Common.{arith, ◌∙◌}
 use Rattle.model_record.proofs.Leaves.{body_part, body_begins}
 use Rattle.model_record.proofs.fields.read_body.Goals as goal
 
