@@ -14,9 +14,9 @@ pub spelled_none : (Spells : List ℕ → ℕ → Type 0) (bytes : List ℕ) →
 spelled_none Spells bytes none whole = λ text rest more n is e.
     elim (front_cases text rest bytes more e) [
       | inl w ↦
-        let long : length text ≤ length bytes = omega (arith, ap length w.1, length-append text w.0) in
-        let front : text ≡ take (length text) bytes = sym (ap (take (length text)) w.1 ∙ take_at text w.0 (length text) refl) in
-        none n (length text) (long, subst (λ (t : List ℕ). Spells t n) front is)
+          let long : length text ≤ length bytes = omega (arith, ap length w.1, length-append text w.0) in
+          let front : text ≡ take (length text) bytes = sym (ap (take (length text)) w.1 ∙ take_at text w.0 (length text) refl) in
+          none n (length text) (long, subst (λ (t : List ℕ). Spells t n) front is)
       | inr w ↦ whole (w.0, n, w.1, subst (λ (t : List ℕ). Spells t n) w.2 is)
     ]
 
@@ -36,7 +36,7 @@ short_part (high ∷ []) fits below =
       more = 0 ∷ [];
       value = 256 * high + 0;
       some = λ e. absurd cc;
-      is_text = record { small = omega arith; spelled = two_bytes high 0 byte (omega arith) }
+      is_text = record { small = omega arith; spelled = two_bytes high 0 byte (omega arith) };
     }
 short_part (high ∷ low ∷ bytes) fits below = absurd (omega arith)
 
@@ -49,7 +49,7 @@ length_part (high ∷ []) fits below =
       more = 1 ∷ [];
       value = 256 * high + 1;
       some = λ e. absurd cc;
-      is_text = record { some = omega arith; short = record { small = omega arith; spelled = two_bytes high 1 byte (omega arith) } }
+      is_text = record { some = omega arith; short = record { small = omega arith; spelled = two_bytes high 1 byte (omega arith) } };
     }
 length_part (high ∷ low ∷ bytes) fits below = absurd (omega arith)
 
@@ -69,8 +69,8 @@ body_part number bytes fits below =
       is_text = record {
         long = omega (arith, length-append bytes zeros, count);
         each = All-append IsByte bytes zeros (are_bytes bytes fits) (All-replicate IsByte (number - length bytes) 0 (omega arith));
-        spelled = refl
-      }
+        spelled = refl;
+      };
     }
 
 -- enough bytes begin with a string
@@ -81,7 +81,7 @@ body_begins number bytes string fits long is =
       is_text = record {
         long = omega (arith, ap length is, length-take number bytes);
         each = subst (All IsByte) (sym is) (All-take IsByte number bytes (are_bytes bytes fits));
-        spelled = sym is
+        spelled = sym is;
       };
-      parts = sym (take-append-drop number bytes)
+      parts = sym (take-append-drop number bytes);
     }

@@ -37,9 +37,9 @@ then_place = record {
     is_first = record { small = h.space; spelled = refl };
     is_second = record { small = h.page; spelled = refl };
     spelled = h.spelled;
-    made = refl
+    made = refl;
   };
-  goes_on = λ front a p. (spelling32 0, 0, record { small = omega arith; spelled = refl })
+  goes_on = λ front a p. (spelling32 0, 0, record { small = omega arith; spelled = refl });
 }
 
 abbrev pub spot_at : Place → ℕ → Spot
@@ -56,9 +56,9 @@ then_spot = record {
     is_first = record { space = h.space; page = h.page; spelled = refl };
     is_second = record { small = h.offset; spelled = refl };
     spelled = h.spelled;
-    made = refl
+    made = refl;
   };
-  goes_on = λ front a p. (bytes_high_first 2 0, 0, record { small = omega arith; spelled = refl })
+  goes_on = λ front a p. (bytes_high_first 2 0, 0, record { small = omega arith; spelled = refl });
 }
 
 -- ---- numbers of fixed length, and strings
@@ -96,7 +96,7 @@ then_string = record {
     some = omega (arith, p.some, q.long);
     short = omega (arith, p.short.small, q.long);
     each = q.each;
-    spelled = ap (λ (x : List ℕ). x ++ back) p.short.spelled ∙ ap (λ (k : ℕ). bytes_high_first 2 k ++ back) (sym q.long) ∙ ap (λ (x : List ℕ). bytes_high_first 2 (length b) ++ x) q.spelled
+    spelled = ap (λ (x : List ℕ). x ++ back) p.short.spelled ∙ ap (λ (k : ℕ). bytes_high_first 2 k ++ back) (sym q.long) ∙ ap (λ (x : List ℕ). bytes_high_first 2 (length b) ++ x) q.spelled;
   };
   parted = λ text c h. record {
     front = bytes_high_first 2 (length c);
@@ -106,9 +106,9 @@ then_string = record {
     is_first = record { some = h.some; short = record { small = h.short; spelled = refl } };
     is_second = record { long = refl; each = h.each; spelled = refl };
     spelled = h.spelled;
-    made = refl
+    made = refl;
   };
-  goes_on = λ front a p. (replicate a 0, replicate a 0, record { long = length-replicate a 0; each = All-replicate IsByte a 0 (omega arith); spelled = refl })
+  goes_on = λ front a p. (replicate a 0, replicate a 0, record { long = length-replicate a 0; each = All-replicate IsByte a 0 (omega arith); spelled = refl });
 }
 
 pub one_string : OneText IsString
@@ -142,7 +142,7 @@ num_parted width text (Num own space page offset value) is h =
       is_first = record { space = h.has_text.1; page = h.has_text.2; offset = h.has_text.3; spelled = refl };
       is_second = record { has_spelling = h.has_text.4; spelled = refl };
       spelled = h.spelled ∙ sym (append_assoc (spelling32 space ++ spelling32 page) (bytes_high_first 2 offset) (value_text own value));
-      made = refl
+      made = refl;
     } in
     subst (λ (k : ℕ). Parted IsSpot (λ _. IsValue k) (num_at k) text (Num own space page offset value)) h.has_type here
 num_parted width text (Text space page offset bytes) is h = absurd (no_width width is (inl (sym h.has_type)))
@@ -154,10 +154,10 @@ then_num width is = record {
     has_type = refl;
     has_text = (is, p.space, p.page, p.offset, q.has_spelling);
     spelled = ap (λ (x : List ℕ). x ++ back) p.spelled ∙ append_assoc (spelling32 a.place.space ++ spelling32 a.place.page) (bytes_high_first 2 a.offset) back
-      ∙ ap (λ (x : List ℕ). spelling32 a.place.space ++ spelling32 a.place.page ++ (bytes_high_first 2 a.offset ++ x)) q.spelled
+        ∙ ap (λ (x : List ℕ). spelling32 a.place.space ++ spelling32 a.place.page ++ (bytes_high_first 2 a.offset ++ x)) q.spelled;
   };
   parted = λ text c h. num_parted width text c is h;
-  goes_on = λ front a p. (value_text width 0, 0, record { has_spelling = zero_spelled (eqb width 8); spelled = refl })
+  goes_on = λ front a p. (value_text width 0, 0, record { has_spelling = zero_spelled (eqb width 8); spelled = refl });
 }
 
 abbrev pub text_at : Spot → List ℕ → Rec
@@ -178,7 +178,7 @@ text_parted text (Text space page offset bytes) h = record {
   is_first = record { space = h.has_text.0; page = h.has_text.1; offset = h.has_text.2; spelled = refl };
   is_second = record { some = h.has_text.3; short = h.has_text.4; each = h.has_text.5; spelled = refl };
   spelled = h.spelled ∙ regrouped space page offset bytes;
-  made = refl
+  made = refl;
 }
 text_parted text (Init space page) h = absurd (omega (arith, h.has_type))
 
@@ -188,11 +188,11 @@ then_text = record {
     has_type = refl;
     has_text = (p.space, p.page, p.offset, q.some, q.short, q.each);
     spelled = ap (λ (x : List ℕ). x ++ back) p.spelled
-      ∙ ap (λ (x : List ℕ). spelling32 a.place.space ++ spelling32 a.place.page ++ bytes_high_first 2 a.offset ++ x) q.spelled
-      ∙ sym (regrouped a.place.space a.place.page a.offset b)
+        ∙ ap (λ (x : List ℕ). spelling32 a.place.space ++ spelling32 a.place.page ++ bytes_high_first 2 a.offset ++ x) q.spelled
+        ∙ sym (regrouped a.place.space a.place.page a.offset b);
   };
   parted = text_parted;
-  goes_on = λ front a p. (bytes_high_first 2 1 ++ 0 ∷ [], 0 ∷ [], record { some = omega arith; short = omega arith; each = All-replicate IsByte 1 0 (omega arith); spelled = refl })
+  goes_on = λ front a p. (bytes_high_first 2 1 ++ 0 ∷ [], 0 ∷ [], record { some = omega arith; short = omega arith; each = All-replicate IsByte 1 0 (omega arith); spelled = refl });
 }
 
 -- nothing
@@ -213,7 +213,7 @@ init_parted text (Init space page) h = record {
   is_first = record { space = h.has_text.0; page = h.has_text.1; spelled = refl };
   is_second = record { empty = refl };
   spelled = h.spelled;
-  made = refl
+  made = refl;
 }
 
 pub then_init : IsThen IsPlace (λ _. IsNothing) (IsAfterType 59) init_at
@@ -221,10 +221,10 @@ then_init = record {
   joined = λ front back a b p q. record {
     has_type = refl;
     has_text = (p.space, p.page);
-    spelled = ap (λ (x : List ℕ). x ++ back) p.spelled ∙ ap (λ (x : List ℕ). spelling32 a.space ++ spelling32 a.page ++ x) q.empty
+    spelled = ap (λ (x : List ℕ). x ++ back) p.spelled ∙ ap (λ (x : List ℕ). spelling32 a.space ++ spelling32 a.page ++ x) q.empty;
   };
   parted = init_parted;
-  goes_on = λ front a p. ([], tt, record { empty = refl })
+  goes_on = λ front a p. ([], tt, record { empty = refl });
 }
 
 pub nothing_begins : (rest : List ℕ) → Begins IsNothing rest tt rest
@@ -238,6 +238,6 @@ record_part flag [] below = record {
   more = (flag + 59) ∷ (spelling32 0 ++ spelling32 0 ++ []);
   value = Init 0 0;
   some = λ e. absurd cc;
-  is_text = record { has_text = (omega arith, omega arith); spelled = refl }
+  is_text = record { has_text = (omega arith, omega arith); spelled = refl };
 }
 record_part flag (byte ∷ bytes) below = absurd (omega arith)

@@ -4,11 +4,11 @@ ghost use Rattle.model_record.specs.Record.{IsWidth};
 ghost use Rattle.model_record.specs.Reading.{Reads};
 ghost use Rattle.model_record.specs.Bodies.{IsPlace, IsSpot, IsString, IsAfterType, IsRecord};
 
+use crate::Rec;
 use crate::fields::{read_body, read_length, read_number32, read_short, read_value};
 use crate::place::{Place, Spot};
 use crate::stop::Stop;
 use crate::writing::{INIT, STRING};
-use crate::Rec;
 use model_base::Bytes;
 use model_number::one_spelling;
 use std::alloc::Global;
@@ -97,11 +97,7 @@ fn read_after_type(alloc: Global, kind: u8, bytes: &[u8]) -> Result<(Rec, &[u8])
 }
 
 /// A record whose type has this flag added, and the bytes that are left.
-pub(crate) fn read_record(
-    alloc: Global,
-    flag: u8,
-    bytes: &[u8],
-) -> Result<(Rec, &[u8]), Stop>
+pub(crate) fn read_record(alloc: Global, flag: u8, bytes: &[u8]) -> Result<(Rec, &[u8]), Stop>
     ensures { Reads (λ x. (x.0, x.1.now)) (IsRecord flag) bytes.now result }
 {
     let [first, rest @ ..] = bytes else {

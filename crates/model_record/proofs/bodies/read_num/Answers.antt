@@ -8,7 +8,7 @@ returns-in_err-spot c = passed_on _ _ _ _ _ c.from_residual.ensures.1 (first_sto
 pub returns-in_err-value : goal.returns-in_err-value
 returns-in_err-value c =
     passed_on _ _ _ _ _ c.from_residual-in_err-value.ensures.1
-      (second_stops (then_num c.args.width c.requires) (one_spot c.one_spelling.ensures.thirty_two) c.args.bytes.now c.in_ok-spot.rest.now c.in_ok-spot.spot c.in_ok-spot.ensures _ c.in_err-value.ensures)
+    (second_stops (then_num c.args.width c.requires) (one_spot c.one_spelling.ensures.thirty_two) c.args.bytes.now c.in_ok-spot.rest.now c.in_ok-spot.spot c.in_ok-spot.ensures _ c.in_err-value.ensures)
 
 pub returns : goal.returns
 returns c = both_begin (then_num c.args.width c.requires) c.args.bytes.now c.in_ok-spot.rest.now c.in_ok-value.rest.now c.in_ok-spot.spot c.in_ok-value.value c.in_ok-spot.ensures c.in_ok-value.ensures

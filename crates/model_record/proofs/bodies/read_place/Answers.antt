@@ -8,4 +8,4 @@ returns-in_err-space c = passed_on _ _ _ _ _ c.from_residual.ensures.1 (first_st
 pub returns-in_err-page : goal.returns-in_err-page
 returns-in_err-page c =
     passed_on _ _ _ _ _ c.from_residual-in_err-page.ensures.1
-      (second_stops then_place (one32 c.one_spelling.ensures.thirty_two) c.args.bytes.now c.in_ok-space.rest.now c.in_ok-space.space c.in_ok-space.ensures _ c.in_err-page.ensures)
+    (second_stops then_place (one32 c.one_spelling.ensures.thirty_two) c.args.bytes.now c.in_ok-space.rest.now c.in_ok-space.space c.in_ok-space.ensures _ c.in_err-page.ensures)

@@ -8,4 +8,4 @@ returns-in_err-place c = passed_on _ _ _ _ _ c.from_residual.ensures.1 (first_st
 pub returns-in_err-offset : goal.returns-in_err-offset
 returns-in_err-offset c =
     passed_on _ _ _ _ _ c.from_residual-in_err-offset.ensures.1
-      (second_stops then_spot (one_place c.one_spelling.ensures.thirty_two) c.args.bytes.now c.in_ok-place.rest.now c.in_ok-place.place c.in_ok-place.ensures _ c.in_err-offset.ensures)
+    (second_stops then_spot (one_place c.one_spelling.ensures.thirty_two) c.args.bytes.now c.in_ok-place.rest.now c.in_ok-place.place c.in_ok-place.ensures _ c.in_err-offset.ensures)
