@@ -17,7 +17,7 @@ mod writing;
 pub use fitting::fits;
 pub use group::{Group, Whole};
 pub use measuring::group_length;
-pub use reading::one_group;
+pub use reading::{one_group, read_group};
 pub use rec::Rec;
 pub use spelled::has_text;
 pub use writing::{group_bytes, stream_bytes};

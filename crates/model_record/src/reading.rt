@@ -1,5 +1,5 @@
 // Reading the text of a group.
-ghost use Rattle.std.specs.Prelude.{ℕ, ◌≡◌, ◌↔◌, ◌≤◌, ◌<◌, List, ◌++◌, slice_index, IsTrue, Ok};
+ghost use Rattle.std.specs.Prelude.{ℕ, ◌≡◌, ◌↔◌, ◌≤◌, ◌<◌, List, ◌++◌, slice_index, IsTrue, IfOk, Ok};
 ghost use Rattle.std.specs.List.{flat_map};
 ghost use Rattle.model_record.specs.Record.{record_text};
 ghost use Rattle.model_record.specs.Group.{IsGroup, IsGroupText, GivesGroup, group_text};
@@ -10,8 +10,9 @@ use crate::Group;
 use crate::bodies::read_record;
 use crate::stop::Stop;
 use crate::writing::{END_MARK, SINGLE};
-use model_number::one_spelling;
-use std::alloc::Global;
+use model_base::MAX_GROUP;
+use model_number::{Got, one_spelling};
+use std::alloc::{AllocError, Global};
 
 /// No group's text begins another's, and none is the text of two groups.
 pub fn one_group()
@@ -19,6 +20,23 @@ pub fn one_group()
         → group_text g ++ x ≡ group_text h ++ y → (g ≡ h) × (x ≡ y) }
 {
     one_spelling();
+}
+
+/// Reads a group off the front of the bytes, of which it may take 8,192: the group and the length of its text, or that
+/// more bytes have to come, or that no group begins so. It fails only where memory runs out.
+pub fn read_group(alloc: Global, bytes: &[u8]) -> Result<Got<Group>, AllocError>
+    ensures { IfOk result (GivesGroup bytes.now) }
+{
+    one_group();
+    let limit = MAX_GROUP as usize;
+    let front = &bytes[..bytes.len().min(limit)];
+    match read_whole(alloc, front) {
+        Ok((group, rest)) => Ok(Got::Value(group, front.len() - rest.len())),
+        Err(Stop::Short) if bytes.len() < limit => Ok(Got::Short),
+        Err(Stop::Short) => Ok(Got::Bad),
+        Err(Stop::Bad) => Ok(Got::Bad),
+        Err(Stop::Memory) => Err(AllocError),
+    }
 }
 
 fn read_whole(alloc: Global, bytes: &[u8]) -> Result<(Group, &[u8]), Stop>
