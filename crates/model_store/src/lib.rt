@@ -3,6 +3,9 @@
 #![tactic(auto)]
 
 mod apply;
+mod laws;
 mod refusal;
 
+pub use apply::apply_group;
+pub use laws::{one_answer, one_reading};
 pub use refusal::Refusal;
