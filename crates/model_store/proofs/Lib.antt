@@ -1,6 +1,8 @@
 pub mod Applying
 pub mod Numbers
+pub mod Offsets
 pub mod Places
+pub mod Scanning
 pub mod OneScan
 pub mod OneKept
 pub mod OneReading

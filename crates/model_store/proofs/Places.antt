@@ -1,5 +1,5 @@
 -- Lists that hold the same at each place.
-use Rattle.std.proofs.Common.{◌≡◌, ℕ, zero, suc, ◌<◌, List, [], ◌∷◌, length, Option, Some, None, arith, refl}
+use Rattle.std.proofs.Common.{◌≡◌, ℕ, zero, suc, ◌<◌, ◌⊎◌, inl, inr, List, [], ◌∷◌, ◌++◌, length, Option, Some, None, arith, refl, ap, sym}
 use Rattle.std.specs.List.{slice_get}
 
 -- within its length a list has an element
@@ -26,3 +26,19 @@ same_some o x y p q = cc
 -- an option that holds a value isn't empty
 pub some-not_none : {X : Type 0} (o : Option X) (x : X) → o ≡ Some x → o ≡ None → ⊥
 some-not_none o x p q = cc
+
+-- a place of a list that is longer by one is an old one, or the last
+pub push_place : {X : Type 0} (xs : List X) (y : X) (i : ℕ) (x : X) → slice_get (xs ++ y ∷ []) i ≡ Some x
+    → (slice_get xs i ≡ Some x) ⊎ ((i ≡ length xs) × (x ≡ y))
+push_place [] y zero x e = inr (refl, cc)
+push_place [] y (suc i) x e = inl e
+push_place (z ∷ xs) y zero x e = inl e
+push_place (z ∷ xs) y (suc i) x e =
+    elim (push_place xs y i x e) [ inl old ↦ inl old | inr (last, is) ↦ inr (ap suc last, is) ]
+
+-- the last place has the last element
+pub place_push : {X : Type 0} (xs : List X) (y : X) (i : ℕ) → i ≡ length xs → slice_get (xs ++ y ∷ []) i ≡ Some y
+place_push [] y zero e = refl
+place_push [] y (suc i) e = absurd (omega arith)
+place_push (z ∷ xs) y zero e = absurd (omega arith)
+place_push (z ∷ xs) y (suc i) e = place_push xs y i (omega arith)

@@ -3,9 +3,11 @@
 #![tactic(auto)]
 
 mod apply;
+mod blocks;
 mod laws;
 mod refusal;
 
 pub use apply::apply_group;
+pub use blocks::scan_blocks;
 pub use laws::{one_answer, one_reading};
 pub use refusal::Refusal;
