@@ -1,4 +1,5 @@
 pub mod Applying
+pub mod Grouping
 pub mod Numbers
 pub mod Offsets
 pub mod Places

@@ -1,4 +1,5 @@
 pub mod Apply
 pub mod Fair
+pub mod Groups
 pub mod Reading
 pub mod Scan

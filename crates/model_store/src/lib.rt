@@ -4,10 +4,12 @@
 
 mod apply;
 mod blocks;
+mod groups;
 mod laws;
 mod refusal;
 
 pub use apply::apply_group;
 pub use blocks::scan_blocks;
+pub use groups::scan_groups;
 pub use laws::{one_answer, one_reading};
 pub use refusal::Refusal;
