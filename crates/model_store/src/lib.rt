@@ -7,6 +7,7 @@ mod blocks;
 mod groups;
 mod laws;
 mod refusal;
+mod scan;
 
 pub use apply::apply_group;
 pub use blocks::scan_blocks;
