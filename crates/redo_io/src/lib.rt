@@ -3,14 +3,23 @@
 #![tactic(auto)]
 
 mod fault;
+mod mem_sink;
+mod mem_source;
+mod plan;
 mod put;
 mod read;
+mod reader_source;
 mod sink;
 mod source;
+mod writer_sink;
 
 pub use fault::{IoFault, ReadFault};
+pub use mem_sink::MemSink;
+pub use mem_source::MemSource;
 pub use model_base::Bytes as Text;
 pub use put::put_all;
 pub use read::{PIECE, read_all};
+pub use reader_source::ReaderSource;
 pub use sink::Sink;
 pub use source::Source;
+pub use writer_sink::WriterSink;

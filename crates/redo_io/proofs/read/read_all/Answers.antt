@@ -1,4 +1,4 @@
-use Rattle.std.proofs.Common.{◌≡◌, ◌≤◌, ◌<◌, length, vec_len, arith, rules}
+use Rattle.std.proofs.Common.{◌≡◌, ◌≤◌, ◌<◌, length, drop, vec_len, arith, rules}
 use Rattle.std.proofs.lemmas.List.{take_at}
 use Rattle.redo_io.proofs.Progress.{TakesFront_more, TakesFront_all}
 use Rattle.redo_io.proofs.read.read_all.Goals as goal
@@ -15,7 +15,7 @@ loop-piece-preserved g c =
     record {
       piece = search rules;
       short = search rules;
-      taken = rw (c.in_ok-extend_from_slice.ensures.items, c.deref.ensures.value, take_at c.read.new.out)
+      taken = rw (c.in_ok-extend_from_slice.ensures.items, c.deref.ensures.value, take_at c.read.new.out (drop (length c.read.new.out) c.loop-piece.piece.items) (vec_len c.loop-piece.piece) whole)
           (TakesFront_more _ _ _ _ _ _ c.loop-piece.invariant.taken fits c.in_ok-count.ensures.bytes);
       counts = omega arith;
     }
