@@ -3,6 +3,7 @@
 #![tactic(auto)]
 
 mod fault;
+mod lines;
 mod mem_sink;
 mod mem_source;
 mod plan;
@@ -14,6 +15,7 @@ mod source;
 mod writer_sink;
 
 pub use fault::{IoFault, ReadFault};
+pub use lines::Lines;
 pub use mem_sink::MemSink;
 pub use mem_source::MemSource;
 pub use model_base::Bytes as Text;
