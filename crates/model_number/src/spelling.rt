@@ -47,11 +47,11 @@ pub fn read64(bytes: &[u8]) -> Got<u64>
     ensures { Gives Spells64 bytes.now result }
 {
     match read32(bytes) {
-        Got::Value(high, len) if bytes.len() - len < 4 => Got::Short,
-        Got::Value(high, len) => {
+        Got::Value(high, len) if bytes.len() - len >= 4 => {
             let low = number_of(&bytes[len..len + 4]);
             Got::Value(u64::from(high) * HALF + low, len + 4)
         }
+        Got::Value(..) => Got::Short,
         Got::Short => Got::Short,
         Got::Bad => Got::Bad,
     }
