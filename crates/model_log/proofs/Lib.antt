@@ -1,5 +1,6 @@
 pub mod BlockRound
 pub mod Blocks
+pub mod Boundaries
 pub mod CheckpointRound
 pub mod Checkpoints
 pub mod Checksums
