@@ -1,5 +1,5 @@
 -- Steps over the groups of a run, and over its blocks.
-use Rattle.std.proofs.Common.{◌≡◌, ℕ, zero, suc, ◌+◌, ◌-◌, ◌*◌, ◌^◌, ◌<◌, min, take, cond, true, false, Bool, List, [], ◌∷◌, ◌++◌, length, map, get_or, drop, Option, Some, None, refl, sym, ap, subst, ◌∙◌}
+use Rattle.std.proofs.Common.{◌≡◌, ℕ, zero, suc, ◌+◌, ◌-◌, ◌*◌, ◌^◌, ◌<◌, min, take, cond, true, false, List, [], ◌∷◌, ◌++◌, length, map, get_or, drop, Some, sym, ap, subst, ◌∙◌}
 use Rattle.std.specs.List.{slice_get}
 use Rattle.std.proofs.lemmas.List.{at_drop_more, length-map, length_push, map_push}
 use Rattle.model_record.specs.declared.group.Whole.{Whole}
@@ -44,7 +44,7 @@ boundary_block-from s wholes m b ckpt first stream content block small whole par
     record {
       ckpt = ckpt;
       ckpt_small = small;
-      block = text ∙ ap (λ bytes. block_text b bytes first ckpt) (part ∙ ap cut whole) ∙ ap (λ offset. block_text b (content_at s wholes m b) offset ckpt) start
+      block = text ∙ ap (λ bytes. block_text b bytes first ckpt) (part ∙ ap cut whole) ∙ ap (λ offset. block_text b (content_at s wholes m b) offset ckpt) start;
     }
 
 -- one more block at the end of the framed stream, whose blocks are seen by `items`
@@ -56,6 +56,7 @@ framed_push {V} items s wholes m i start old block new count each from last join
     let Here : ℕ → List ℕ → Type 0 = λ k bytes. IsBoundaryBlock s wholes m (block_of s + 512 * k) bytes in
     let at_start : IsBoundaryBlock s wholes m (block_of s + 512 * i) (items block) = subst (λ (x : ℕ). IsBoundaryBlock s wholes m (x + 512 * i) (items block)) from last in
     let seen : map items new ≡ map items old ++ items block ∷ [] = ap (map items) joined ∙ map_push items old block in
-    let count_seen : length (map items old) ≡ i = length-map old items ∙ count in
-    (ap length joined ∙ length_push old block ∙ ap (λ n. n + 1) count,
-      λ k bytes is. each_push Here (map items old) (items block) each (subst (λ (k : ℕ). Here k (items block)) (sym count_seen) at_start) k bytes (ap (λ (blocks : List (List ℕ)). slice_get blocks k) (sym seen) ∙ is))
+    let count_seen : length (map items old) ≡ i = length-map old items ∙ count in (
+      ap length joined ∙ length_push old block ∙ ap (λ n. n + 1) count,
+      λ k bytes is. each_push Here (map items old) (items block) each (subst (λ (k : ℕ). Here k (items block)) (sym count_seen) at_start) k bytes (ap (λ (blocks : List (List ℕ)). slice_get blocks k) (sym seen) ∙ is),
+    )

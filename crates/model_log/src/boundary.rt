@@ -130,5 +130,4 @@ pub fn boundary_length()
     ensures { (s m b : ℕ) (wholes : List Whole) → IsAtDataStart s → IsDataLsn m → b % BLOCK_SIZE ≡ 0 → block_of s ≤ b
         → b + BLOCK_HEADER < m → sn_of m - sn_of s ≤ length (stream_of (groups_of wholes))
         → length_of (length (content_at s wholes m b)) ≡ length_at m b }
-{
-}
+{}

@@ -9,6 +9,8 @@ mod head;
 mod layout;
 mod lsn;
 mod seal;
+#[cfg(test)]
+mod tests;
 
 pub use block::{BlockView, block_bytes, block_data, block_reads_back, read_block};
 pub use boundary::{boundary_block, boundary_length, frame_blocks};

@@ -1,4 +1,4 @@
-use Rattle.std.proofs.Common.{sym, ◌∙◌}
+use Rattle.std.proofs.Common.{sym}
 use Rattle.model_log.proofs.Boundaries.{crossing_end-found, crossing_end-passed}
 use Rattle.model_log.proofs.boundary.crossing_end.Goals as goal
 
