@@ -1,7 +1,8 @@
 -- The first line of a text, and the end of a line.
-use Rattle.std.proofs.Common.{◌≡◌, ℕ, suc, zero, ◌+◌, ◌<◌, ◌≤◌, Bool, true, false, not, cond, eqb, List, [], ◌∷◌, ◌++◌, length, map, take, drop, Option, None, Some, position, refl, sym, ap, subst, ◌∙◌, arith, add-one}
+use Rattle.std.proofs.Common.{◌≡◌, ℕ, suc, zero, ◌+◌, ◌<◌, ◌≤◌, Bool, true, false, not, cond, eqb, List, [], ◌∷◌, ◌++◌, length, map, take, drop, None, Some, position, refl, sym, ap, subst, ◌∙◌, arith, add-one}
 use Rattle.std.proofs.lemmas.Bool.{eq-eqb, ne_eqb, ltb-false}
-use Rattle.std.proofs.lemmas.List.{take_all, drop_all, nil_from_length}
+use Rattle.std.proofs.lemmas.List.{take_all, drop_all, nil_from_length, length-map}
+use Rattle.std.proofs.lemmas.List.FromFn.{length-enumerate_from}
 use Rattle.std.proofs.lemmas.Option.{none-some, cond_some}
 use Rattle.std.specs.List.{position_or_len, enumerate_from}
 use Rattle.model_base.specs.Lines.{fed_lines, onto_first, without_return, lines_of}
@@ -16,15 +17,15 @@ fed_lines_first : (byte : ℕ) (bytes : List ℕ) →
     fed_lines (byte ∷ bytes) ≡ take (end_of (byte ∷ bytes)) (byte ∷ bytes) ∷ fed_lines (drop (suc (end_of (byte ∷ bytes))) (byte ∷ bytes))
 fed_lines_first byte [] =
     elim (eqb byte 10) as (λ feed.
-        cond feed ([] ∷ []) ((byte ∷ []) ∷ [])
-        ≡ take (cond (not feed) (suc zero) zero) (byte ∷ []) ∷ fed_lines (drop (suc (cond (not feed) (suc zero) zero)) (byte ∷ [])))
+    cond feed ([] ∷ []) ((byte ∷ []) ∷ [])
+    ≡ take (cond (not feed) (suc zero) zero) (byte ∷ []) ∷ fed_lines (drop (suc (cond (not feed) (suc zero) zero)) (byte ∷ [])))
     [ true ↦ refl | false ↦ refl ]
 fed_lines_first byte (next ∷ bytes) =
     let text = next ∷ bytes in
     let one_on : 1 + end_of text ≡ suc (end_of text) = omega arith in
     elim (eqb byte 10) as (λ feed.
-        cond feed ([] ∷ fed_lines text) (onto_first byte (fed_lines text))
-        ≡ take (cond (not feed) (1 + end_of text) 0) (byte ∷ text) ∷ fed_lines (drop (suc (cond (not feed) (1 + end_of text) 0)) (byte ∷ text)))
+    cond feed ([] ∷ fed_lines text) (onto_first byte (fed_lines text))
+    ≡ take (cond (not feed) (1 + end_of text) 0) (byte ∷ text) ∷ fed_lines (drop (suc (cond (not feed) (1 + end_of text) 0)) (byte ∷ text)))
     [ true ↦ refl | false ↦ rw one_on (ap (onto_first byte) (fed_lines_first next bytes)) ]
 
 onto_either : (b : Bool) (x : ℕ) (xs ys : List ℕ) → x ∷ cond b xs ys ≡ cond b (x ∷ xs) (x ∷ ys)
@@ -52,7 +53,7 @@ first_line_at [] end found = absurd (none-some end found)
 first_line_at (byte ∷ bytes) end found =
     let text = byte ∷ bytes in
     let first : fed_lines text ≡ take end text ∷ fed_lines (drop (suc end) text) =
-        subst (λ k. fed_lines text ≡ take k text ∷ fed_lines (drop (suc k) text)) (cond_some _ _ _ found).1 (fed_lines_first byte bytes) in
+    subst (λ k. fed_lines text ≡ take k text ∷ fed_lines (drop (suc k) text)) (cond_some _ _ _ found).1 (fed_lines_first byte bytes) in
     rw add-one first
 
 false_from_cond_none : (b : Bool) (x : ℕ) → cond b (Some x) None ≡ None → b ≡ false
@@ -81,3 +82,19 @@ unfolding lines_of
 numbered_first number text line rest shown first is =
     ap (λ lines. enumerate_from number (map without_return lines)) first
     ∙ ap (λ bytes. (number, bytes) ∷ numbered_from (number + 1) rest) (sym is)
+
+few_onto_first : (byte : ℕ) (lines : List (List ℕ)) → length (onto_first byte lines) ≤ suc (length lines)
+few_onto_first byte [] = omega arith
+few_onto_first byte (line ∷ lines) = omega arith
+
+few_fed_lines : (text : List ℕ) → length (fed_lines text) ≤ length text
+few_fed_lines [] = omega arith
+few_fed_lines (byte ∷ bytes) =
+    elim (eqb byte 10) as (λ feed. length (cond feed ([] ∷ fed_lines bytes) (onto_first byte (fed_lines bytes))) ≤ suc (length bytes))
+    [ true ↦ omega (arith, few_fed_lines bytes) | false ↦ omega (arith, few_fed_lines bytes, few_onto_first byte (fed_lines bytes)) ]
+
+-- each line takes a byte at least
+pub few_lines : (number : ℕ) (text : List ℕ) → length (numbered_from number text) ≤ length text
+unfolding lines_of
+few_lines number text =
+    omega (arith, length-enumerate_from number (map without_return (fed_lines text)), length-map (fed_lines text) without_return, few_fed_lines text)

@@ -25,7 +25,7 @@ HasWritten_more old bytes rest now new n written few taken =
     let short = written.short in
     let step : length bytes - length (drop n rest) ≡ done + n = omega arith in
     let more : take done bytes ++ take n rest ≡ take (done + n) bytes =
-        ap (λ (xs : List ℕ). take done bytes ++ take n xs) written.rest_is ∙ sym (take-add done n bytes) in
+    ap (λ (xs : List ℕ). take done bytes ++ take n xs) written.rest_is ∙ sym (take-add done n bytes) in
     record {
       short = omega arith;
       rest_is = ap (drop n) written.rest_is ∙ drop-drop n done bytes ∙ ap (λ k. drop k bytes) (sym step);
@@ -45,14 +45,15 @@ TakesFront_more (Some bytes) (Some rest) new text out n first fits second =
     let left : length rest ≡ length bytes - done = ap length is ∙ length-drop done bytes in
     let text_is : text ≡ take done bytes = sym (take_all done text (omega arith)) ∙ first.1 in
     let all_is : text ++ take n out ≡ take (done + n) bytes =
-        ap (λ xs. xs ++ take n out) text_is ∙ ap (λ xs. take done bytes ++ xs) (second.1 ∙ ap (take n) is) ∙ sym (take-add done n bytes) in
+    ap (λ xs. xs ++ take n out) text_is ∙ ap (λ xs. take done bytes ++ xs) (second.1 ∙ ap (take n) is) ∙ sym (take-add done n bytes) in
     let long : length (text ++ take n out) ≡ done + n =
-        length-append text (take n out) ∙ ap (λ k. done + k) (length-take-le n out fits) in
+    length-append text (take n out) ∙ ap (λ k. done + k) (length-take-le n out fits) in
     let few = first.0 in
-    let few_more = second.0 in
-    (omega arith,
-     take_all _ (text ++ take n out) (omega arith) ∙ all_is ∙ ap (λ k. take k bytes) (sym long),
-     second.2 ∙ ap (λ xs. Some (drop n xs)) is ∙ ap Some (drop-drop n done bytes ∙ ap (λ k. drop k bytes) (sym long)))
+    let few_more = second.0 in (
+      omega arith,
+      take_all _ (text ++ take n out) (omega arith) ∙ all_is ∙ ap (λ k. take k bytes) (sym long),
+      second.2 ∙ ap (λ xs. Some (drop n xs)) is ∙ ap Some (drop-drop n done bytes ∙ ap (λ k. drop k bytes) (sym long)),
+    )
 
 -- a source that has nothing left gave all that it had
 pub TakesFront_all : (old now : Option (List ℕ)) (text : List ℕ) → TakesFront old now (length text) text → IfSome now (λ bytes. bytes ≡ []) → IfSome old (λ bytes. text ≡ bytes)

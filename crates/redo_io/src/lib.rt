@@ -12,6 +12,8 @@ mod read;
 mod reader_source;
 mod sink;
 mod source;
+#[cfg(test)]
+mod tests;
 mod writer_sink;
 
 pub use fault::{IoFault, ReadFault};

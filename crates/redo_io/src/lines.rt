@@ -1,5 +1,5 @@
 // The lines of a text with their numbers.
-ghost use Rattle.std.specs.Prelude.{◌≡◌, ◌<◌, ◌==◌, [], ◌∷◌, length, position, None};
+ghost use Rattle.std.specs.Prelude.{◌≡◌, ◌≤◌, ◌<◌, ◌==◌, [], ◌∷◌, length, position, None};
 ghost use Rattle.std.specs.Iterator.{YieldsFirstBy, item_count};
 ghost use Rattle.model_base.specs.Lines.{fed_lines, without_return};
 ghost use Rattle.redo_io.specs.Lines.{numbered_from};
@@ -28,8 +28,10 @@ impl<'a> Model for Lines<'a> {
 
 impl<'a> Lines<'a> {
     /// All lines of a text.
+    #[tactic(auto, using(crate::proofs::FirstLine::few_lines))]
     pub fn new(text: &'a [u8]) -> Self
-        ensures { result ≡ numbered_from 1 text.now }
+        ensures lines { result ≡ numbered_from 1 text.now }
+        ensures few { length result ≤ length text.now }
     {
         Lines {
             rest: text,

@@ -3,11 +3,10 @@ ghost use Rattle.std.specs.Prelude.{◌≡◌, ◌≤◌, ◌<◌, [], ◌++◌,
 ghost use Rattle.model_base.specs.Count.{HasRisen};
 ghost use Rattle.redo_io.specs.Memory.{next_count};
 
-use std::alloc::Global;
-use std::marker::Model;
-
 use crate::plan::Plan;
 use crate::{IoFault, Sink};
+use std::alloc::Global;
+use std::marker::Model;
 
 /// A sink that keeps the bytes in a vector, and fails where it was told to. Want of memory is a fault too.
 #[derive(Debug, Drop)]
@@ -22,10 +21,11 @@ impl Model for MemSink {
     ghost Value = { Store };
 
     ghost view = { λ sink. record {
-        taken = sink.bytes.items;
-        calls = sink.plan.calls;
-        failing = sink.plan.failing.items;
-        faults = sink.plan.faults } };
+      taken = sink.bytes.items;
+      calls = sink.plan.calls;
+      failing = sink.plan.failing.items;
+      faults = sink.plan.faults;
+    } };
 }
 
 impl MemSink {

@@ -4,10 +4,9 @@ ghost use Rattle.model_base.specs.Count.{HasRisen};
 ghost use Rattle.redo_io.specs.Source.{TakesFront};
 ghost use Rattle.redo_io.specs.Memory.{next_count};
 
-use std::marker::Model;
-
 use crate::plan::Plan;
 use crate::{IoFault, Source};
+use std::marker::Model;
 
 /// A source that gives the bytes of a vector, in pieces if it was made so, and fails where it was told to.
 #[derive(Debug, Drop)]
@@ -25,11 +24,12 @@ impl Model for MemSource {
     ghost Value = { Supply };
 
     ghost view = { λ source. record {
-        left = drop source.at source.bytes.items;
-        piece = source.piece;
-        calls = source.plan.calls;
-        failing = source.plan.failing.items;
-        faults = source.plan.faults } };
+      left = drop source.at source.bytes.items;
+      piece = source.piece;
+      calls = source.plan.calls;
+      failing = source.plan.failing.items;
+      faults = source.plan.faults;
+    } };
 
     ghost invariant = { λ source. (source.at ≤ length source.bytes.items) × (0 < source.piece) };
 }
@@ -38,7 +38,12 @@ impl MemSource {
     /// A source that gives as many bytes as a read has room for, and doesn't fail.
     pub fn new(bytes: Vec<u8>) -> Self
         ensures { result ≡ record {
-            left = bytes.items; piece = 2 ^ 64 - 1; calls = 0; failing = []; faults = 0 } }
+          left = bytes.items;
+          piece = 2 ^ 64 - 1;
+          calls = 0;
+          failing = [];
+          faults = 0;
+        } }
     {
         let none = Vec::new(*bytes.allocator());
         MemSource::failing(bytes, none)
@@ -47,7 +52,12 @@ impl MemSource {
     /// A source that fails at exactly these reads, which are numbered from 0. A read that fails takes no byte.
     pub fn failing(bytes: Vec<u8>, calls: Vec<u64>) -> Self
         ensures { result ≡ record {
-            left = bytes.items; piece = 2 ^ 64 - 1; calls = 0; failing = calls.items; faults = 0 } }
+          left = bytes.items;
+          piece = 2 ^ 64 - 1;
+          calls = 0;
+          failing = calls.items;
+          faults = 0;
+        } }
     {
         MemSource {
             bytes,
@@ -61,7 +71,12 @@ impl MemSource {
     pub fn in_pieces(bytes: Vec<u8>, piece: usize) -> Self
         requires { 0 < piece }
         ensures { result ≡ record {
-            left = bytes.items; piece = piece; calls = 0; failing = []; faults = 0 } }
+          left = bytes.items;
+          piece = piece;
+          calls = 0;
+          failing = [];
+          faults = 0;
+        } }
     {
         let none = Vec::new(*bytes.allocator());
         MemSource {

@@ -3,9 +3,8 @@ ghost use Rattle.std.specs.Prelude.{◌≡◌, ◌≤◌, ◌<◌, ◌+◌, ◌^
 ghost use Rattle.model_base.specs.Count.{HasRisen};
 ghost use Rattle.redo_io.specs.Source.{TakesAtMost};
 
-use std::alloc::{AllocError, Global};
-
 use crate::{ReadFault, Source, Text};
+use std::alloc::{AllocError, Global};
 
 /// Bytes that are read at once, at the most.
 pub const PIECE: usize = 65_536;

@@ -1,10 +1,9 @@
 // A source over a reader of std.
 ghost use Rattle.std.specs.Prelude.{◌≡◌, None};
 
+use crate::{IoFault, Source};
 use std::io::Read;
 use std::marker::Model;
-
-use crate::{IoFault, Source};
 
 /// A source over a reader: a file, a socket or the terminal. It tells nothing of what is left. Each error of the reader
 /// is a fault. Contracts see how often it has failed.

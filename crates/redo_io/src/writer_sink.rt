@@ -1,10 +1,9 @@
 // A sink over a writer of std.
 ghost use Rattle.std.specs.Prelude.{◌≡◌, None};
 
+use crate::{IoFault, Sink};
 use std::io::Write;
 use std::marker::Model;
-
-use crate::{IoFault, Sink};
 
 /// A sink over a writer: a file, a socket or the terminal. It tells nothing of what it has taken. Each error of the
 /// writer is a fault, and so is a write that takes nothing. Contracts see how often it has failed.

@@ -1,6 +1,6 @@
-use Rattle.std.proofs.Common.{ℕ, ◌-◌, List, length, take, drop, sym, subst, arith}
+use Rattle.std.proofs.Common.{arith}
 use Rattle.std.proofs.lemmas.List.{take_rest}
-use Rattle.redo_io.proofs.Progress.{HasWritten, HasWritten_more}
+use Rattle.redo_io.proofs.Progress.{HasWritten_more}
 use Rattle.redo_io.proofs.put.put_all.Goals as goal
 
 pub loop-rest-preserved : goal.loop-rest-preserved

@@ -1,6 +1,5 @@
-use Rattle.std.proofs.Common.{◌≡◌, ◌∷◌, ◌+◌, length, sym, ap, ◌∙◌, rules}
+use Rattle.std.proofs.Common.{length, sym, ap, ◌∙◌, rules}
 use Rattle.std.proofs.lemmas.Bool.{eqb-true}
-use Rattle.redo_io.specs.Lines.{numbered_from}
 use Rattle.redo_io.proofs.FirstLine.{numbered_none, numbered_first}
 use Rattle.redo_io.proofs.lines.LinesIterator.next.Goals as goal
 
