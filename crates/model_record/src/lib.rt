@@ -2,8 +2,16 @@
 //! fits a store.
 #![tactic(auto)]
 
+mod fitting;
 mod group;
+mod measuring;
 mod rec;
+mod spelled;
+mod writing;
 
+pub use fitting::fits;
 pub use group::{Group, Whole};
+pub use measuring::group_length;
 pub use rec::Rec;
+pub use spelled::has_text;
+pub use writing::{group_bytes, stream_bytes};

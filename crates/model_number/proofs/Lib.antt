@@ -1,0 +1,4 @@
+pub mod ByteLemmas
+pub mod ReadLemmas
+pub mod SpellingLemmas
+pub mod TableLemmas
