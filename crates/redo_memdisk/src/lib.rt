@@ -1,0 +1,7 @@
+//! Devices to run on: one in memory that crashes as it is told, and a fuse round a device that stops it at a planned
+//! call.
+#![tactic(auto)]
+
+mod fuse;
+
+pub use fuse::{Fuse, Stage};
