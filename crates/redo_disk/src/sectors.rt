@@ -1,7 +1,9 @@
 // The calls of a device, and what they say of it.
-ghost use Rattle.std.specs.Prelude.{◌≡◌, ◌≤◌, ℕ, length, Option, IfSome, OnOk, OnErr};
+ghost use Rattle.std.specs.Prelude.{◌≡◌, ◌≤◌, ℕ, length, Option, Result, IfSome, OnOk, OnErr};
 ghost use Rattle.model_device.specs.Disk.{Disk};
 ghost use Rattle.model_device.specs.Calls.{written, FailsWrite, synced, Crashes};
+ghost use Rattle.model_device.specs.declared.write.Write.{Write};
+ghost use Rattle.redo_disk.specs.declared.error.DevError.{DevError};
 ghost use Rattle.redo_disk.specs.Sectors.{IsRange, HasSize, HasCause, OnTold, part, write_at};
 
 use crate::DevError;
@@ -17,6 +19,10 @@ pub trait Sectors {
 
     /// How often it has failed. It never falls.
     ghost faults: { Self → ℕ };
+
+    /// All that the device's own contract says of a write: the device before, the write, the answer and the device
+    /// after. So a wrapper can say that it passed a write on.
+    ghost write_gives: { Self → Write → Result (Unit {0}) DevError → Self → Type 0 } = { λ _ _ _ _. Unit {0} };
 
     /// How many bytes it has.
     fn len(&self) -> u64
@@ -40,6 +46,7 @@ pub trait Sectors {
             (λ old new. new ≡ written old (write_at at bytes.now))) }
         ensures err { OnErr result (OnTold (tells self.old) (tells self.new)
             (FailsWrite (write_at at bytes.now))) }
+        ensures gives { write_gives self.old (write_at at bytes.now) result self.new }
         ensures size { size self.new ≡ size self.old }
         ensures cause { HasCause (faults self.old) (faults self.new) result };
 
