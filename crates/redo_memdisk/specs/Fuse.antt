@@ -1,5 +1,5 @@
 -- A fuse lets so many calls of a device through and fails those behind, from when it is armed to the crash.
-use Rattle.std.specs.Prelude.{ℕ, ◌≡◌, ◌+◌, min, nat_le, Bool, true, false, if◌then◌else◌, Option, Some, None, Result, Ok, Err}
+use Rattle.std.specs.Prelude.{ℕ, ◌≡◌, ◌+◌, nat_le, nat_lt, Bool, true, false, if◌then◌else◌, Option, Some, None, Result, Ok, Err}
 use Rattle.model_device.specs.Calls.{last_count}
 use Rattle.redo_disk.specs.declared.error.DevError.{DevError}
 use Rattle.redo_disk.specs.declared.error.DevError.TheVariants.{Failed, NoMemory}
@@ -9,7 +9,7 @@ use Rattle.redo_memdisk.specs.declared.fuse.Stage.TheVariants.{Before, Stopping,
 
 -- the count and one more, unless it stands at its last value
 abbrev pub counted : ℕ → ℕ
-counted count = min (count + 1) last_count
+counted count = if nat_lt count last_count then count + 1 else count
 
 -- the call answered that the device failed
 abbrev pub is_failed : {T : Type 0} → Result T DevError → Bool

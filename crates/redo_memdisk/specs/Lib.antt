@@ -1,1 +1,2 @@
 pub mod Fuse
+pub mod Fused

@@ -58,7 +58,7 @@ pub(crate) fn is_failed(answer: &Result<(), DevError>) -> bool
 
 impl Fuse {
     /// A fuse that is not armed.
-    pub fn new() -> Self
+    pub(crate) fn new() -> Self
         ensures { result ≡ fresh }
     {
         Fuse {
@@ -75,7 +75,7 @@ impl Fuse {
     }
 
     /// Whether it fails the next call itself.
-    pub fn fails_next(&self) -> bool
+    pub(crate) fn fails_next(&self) -> bool
         ensures { result ≡ fails_next self.now }
     {
         match (self.stage, self.limit) {
@@ -85,7 +85,7 @@ impl Fuse {
     }
 
     /// Begins the stop.
-    pub fn arm(&mut self, limit: Option<u64>)
+    pub(crate) fn arm(&mut self, limit: Option<u64>)
         requires { self.old.stage ≡ Stage.Before }
         ensures { self.new ≡ armed limit self.old }
     {
@@ -94,7 +94,7 @@ impl Fuse {
     }
 
     /// Counts a call by whether it answered that the device failed.
-    pub fn note_call(&mut self, failed: bool)
+    pub(crate) fn note_call(&mut self, failed: bool)
         ensures { self.new ≡ after_call self.old failed }
     {
         if self.fails_next() {
@@ -114,7 +114,7 @@ impl Fuse {
     }
 
     /// Ends the stop.
-    pub fn note_crash(&mut self, pick: u64)
+    pub(crate) fn note_crash(&mut self, pick: u64)
         ensures { self.new ≡ crashed_with pick self.old }
     {
         self.stage = Stage::Crashed;

@@ -2,6 +2,9 @@
 //! call.
 #![tactic(auto)]
 
+mod cut;
 mod fuse;
+mod fused;
 
 pub use fuse::{Fuse, Stage};
+pub use fused::Fused;
