@@ -6,7 +6,8 @@ use Rattle.model_device.specs.Calls.{HasRisen, last_count}
 use Rattle.redo_disk.specs.declared.error.DevError.{DevError}
 use Rattle.redo_disk.specs.Sectors.{HasCause}
 use Rattle.redo_memdisk.specs.declared.fuse.Fuse.{Fuse}
-use Rattle.redo_memdisk.specs.Fuse.{after_call, counted, fails_next}
+use Rattle.redo_memdisk.specs.Count.{counted}
+use Rattle.redo_memdisk.specs.Fuse.{after_call, fails_next}
 
 pub counted_later : (count : ℕ) → count ≤ counted count
 counted_later count = grind (arith, nat_tests)

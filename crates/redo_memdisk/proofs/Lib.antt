@@ -1,3 +1,5 @@
 pub mod Counts
 pub mod Writes
 pub mod Told
+pub mod Overlay
+pub mod Applied

@@ -1,15 +1,11 @@
 -- A fuse lets so many calls of a device through and fails those behind, from when it is armed to the crash.
-use Rattle.std.specs.Prelude.{ℕ, ◌≡◌, ◌+◌, nat_le, nat_lt, Bool, true, false, if◌then◌else◌, Option, Some, None, Result, Ok, Err}
-use Rattle.model_device.specs.Calls.{last_count}
+use Rattle.std.specs.Prelude.{ℕ, nat_le, Bool, true, false, if◌then◌else◌, Option, Some, None, Result, Ok, Err}
+use Rattle.redo_memdisk.specs.Count.{counted, counted_if}
 use Rattle.redo_disk.specs.declared.error.DevError.{DevError}
 use Rattle.redo_disk.specs.declared.error.DevError.TheVariants.{Failed, NoMemory}
 use Rattle.redo_memdisk.specs.declared.fuse.Fuse.{Fuse}
 use Rattle.redo_memdisk.specs.declared.fuse.Stage.{Stage}
 use Rattle.redo_memdisk.specs.declared.fuse.Stage.TheVariants.{Before, Stopping, Crashed}
-
--- the count and one more, unless it stands at its last value
-abbrev pub counted : ℕ → ℕ
-counted count = if nat_lt count last_count then count + 1 else count
 
 -- the call answered that the device failed
 abbrev pub is_failed : {T : Type 0} → Result T DevError → Bool
@@ -42,10 +38,6 @@ fails_next fuse = has_passed_all fuse.stage fuse.limit fuse.passed
 -- the fuse after it failed a call itself
 abbrev pub after_own : Fuse → Fuse
 after_own fuse = record fuse { tripped = true; mid = counted fuse.mid; own = counted fuse.own }
-
--- the count of the calls that answered Failed, after one more call
-abbrev pub counted_if : Bool → ℕ → ℕ
-counted_if failed count = if failed then counted count else count
 
 -- the fuse after it passed a call on
 abbrev pub after_passed : Stage → Fuse → Bool → Fuse

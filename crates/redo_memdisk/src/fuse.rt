@@ -1,7 +1,8 @@
 // The plan of a stop, and what came of it.
 ghost use Rattle.std.specs.Prelude.{◌≡◌};
-ghost use Rattle.redo_memdisk.specs.Fuse.{after_call, armed, counted, counted_if, crashed_with, fails_next, fresh, is_failed};
+ghost use Rattle.redo_memdisk.specs.Fuse.{after_call, armed, crashed_with, fails_next, fresh, is_failed};
 
+use crate::count::{counted, counted_if};
 use redo_disk::DevError;
 
 /// Where a fuse is in its run.
@@ -35,18 +36,6 @@ pub struct Fuse {
     pub late: u64,
     /// How many calls it has failed itself.
     pub own: u64,
-}
-
-fn counted(count: u64) -> u64
-    ensures { result ≡ counted count }
-{
-    count.saturating_add(1)
-}
-
-fn counted_if(failed: bool, count: u64) -> u64
-    ensures { result ≡ counted_if failed count }
-{
-    if failed { counted(count) } else { count }
 }
 
 /// Whether a call answered that the device failed.

@@ -90,7 +90,7 @@ impl<D: Sectors> Sectors for Fused<D> {
         ensures fuse { fuse_of self.new ≡ after_call (fuse_of self.old) (is_failed result) }
         ensures stopped { IsTrue (fails_next (fuse_of self.old)) → result ≡ Err DevError.Failed }
         ensures kept { IsTrue (fails_next (fuse_of self.old)) → inner_of self.new ≡ inner_of self.old }
-        ensures passed { fails_next (fuse_of self.old) ≡ false
+        ensures inner { fails_next (fuse_of self.old) ≡ false
             → HasCause (D.faults (inner_of self.old)) (D.faults (inner_of self.new)) result }
     {
         if self.fuse.fails_next() {
@@ -120,7 +120,7 @@ impl<D: Sectors> Sectors for Fused<D> {
             → (answer : _) × D.write_gives (inner_of self.old) (write_at at bytes.now) answer (inner_of self.new) }
         ensures kept { IsTrue (fails_next (fuse_of self.old)) → (fuse_of self.old).tripped ≡ true
             → inner_of self.new ≡ inner_of self.old }
-        ensures passed { fails_next (fuse_of self.old) ≡ false
+        ensures passed_on { fails_next (fuse_of self.old) ≡ false
             → D.write_gives (inner_of self.old) (write_at at bytes.now) result (inner_of self.new) }
         ensures later { D.faults (inner_of self.old) ≤ D.faults (inner_of self.new) }
         ensures inner { fails_next (fuse_of self.old) ≡ false
@@ -149,7 +149,7 @@ impl<D: Sectors> Sectors for Fused<D> {
         ensures fuse { fuse_of self.new ≡ after_call (fuse_of self.old) (is_failed result) }
         ensures stopped { IsTrue (fails_next (fuse_of self.old)) → result ≡ Err DevError.Failed }
         ensures kept { IsTrue (fails_next (fuse_of self.old)) → inner_of self.new ≡ inner_of self.old }
-        ensures passed { fails_next (fuse_of self.old) ≡ false
+        ensures inner { fails_next (fuse_of self.old) ≡ false
             → HasCause (D.faults (inner_of self.old)) (D.faults (inner_of self.new)) result }
     {
         if self.fuse.fails_next() {

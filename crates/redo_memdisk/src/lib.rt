@@ -2,9 +2,17 @@
 //! call.
 #![tactic(auto)]
 
+mod apply;
+mod count;
 mod cut;
 mod fuse;
 mod fused;
+mod memory;
+mod plan;
 
 pub use fuse::{Fuse, Stage};
 pub use fused::Fused;
+pub use memory::MemDisk;
+
+/// Bytes of a sector.
+const SECTOR: usize = model_base::BLOCK_SIZE as usize;
