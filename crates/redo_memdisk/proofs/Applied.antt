@@ -1,10 +1,11 @@
 -- A row of bytes after writes that lie within it.
-use Rattle.std.proofs.Common.{◌≡◌, ◌+◌, ◌<◌, ◌≤◌, ℕ, List, [], ◌∷◌, length, get_or, take, refl, sym, ap, subst, ◌∙◌}
-use Rattle.std.proofs.lemmas.List.Elements.{All-head, All-tail, All-take, All-get_or}
+use Rattle.std.proofs.Common.{◌≡◌, ◌+◌, ◌<◌, ℕ, List, [], ◌∷◌, length, get_or, take, refl, sym, ap, subst, ◌∙◌}
+use Rattle.std.proofs.lemmas.List.Elements.{All-head, All-tail, All-take, All-get_or, All-weaker}
 use Rattle.std.proofs.lemmas.List.Sums.{fold_more}
 use Rattle.model_device.specs.Disk.{after_write, after_writes}
-use Rattle.model_device.specs.Within.{AreWithin, IsWithin}
+use Rattle.model_device.specs.Within.{AreSectorWrites, AreWithin, IsSectorWrite, IsWithin}
 use Rattle.model_device.specs.declared.write.Write.{Write}
+use Rattle.redo_disk.specs.Sectors.{HasSize}
 use Rattle.model_device.proofs.Overwritten.{length-overwritten}
 
 pub length-after_writes : (row : List ℕ) (writes : List Write) → AreWithin (length row) writes → length (after_writes row writes) ≡ length row
@@ -31,3 +32,14 @@ pub IsWithin-item : (row : List ℕ) (writes : List Write) (i : ℕ) (write : Wr
 IsWithin-item row writes i write below is within =
     let here : IsWithin (length row) write = subst (λ (w : Write). IsWithin (length row) w) (sym is) (All-get_or (IsWithin (length row)) writes i write below within) in
     subst (λ size. IsWithin size write) (sym (length-after_first_writes row writes i within)) here
+
+AreWithin-sectors : (size : ℕ) (writes : List Write) → AreSectorWrites size writes → AreWithin size writes
+AreWithin-sectors size writes sectors = All-weaker (IsSectorWrite size) (IsWithin size) (λ write sector_write. sector_write.within) writes sectors
+
+-- what a device in memory means is as long as its bytes
+pub HasSize-sectors : (base : List ℕ) (writes : List Write) → AreSectorWrites (length base) writes
+    → HasSize (length base) (record { base = base; writes = writes; reads = after_writes base writes })
+HasSize-sectors base writes sectors = record {
+  base = refl;
+  reads = length-after_writes base writes (AreWithin-sectors (length base) writes sectors);
+}

@@ -1,5 +1,5 @@
 -- A count of faults that is made of two.
-use Rattle.std.proofs.Common.{Bool, true, refl, ap, sym, ◌∙◌, ◌≡◌, ◌+◌, ◌<◌, ◌≤◌, ◌⊎◌, ℕ, Result, IsErrOf, inl, inr, ⊎_elim, arith, rules}
+use Rattle.std.proofs.Common.{Bool, true, refl, ap, sym, ◌∙◌, ◌≡◌, ◌+◌, ◌<◌, ◌≤◌, ℕ, Result, inl, inr, ⊎_elim, arith}
 use Rattle.std.proofs.lemmas.Bool.{cases_lt}
 use Rattle.std.proofs.lemmas.Bool.Decides.{nat_tests}
 use Rattle.model_device.specs.Calls.{HasRisen, last_count}
@@ -31,7 +31,7 @@ pub HasCause-own : {T : Type 0} (before now own own' : ℕ) (result : Result T D
     → HasCause (before + own) (now + own') result
 HasCause-own before now own own' result later same = record {
   later = omega (arith, counted_later own);
-  failed = λ _. HasRisen-right before now own own' later (rw same (HasRisen-counted own))
+  failed = λ _. HasRisen-right before now own own' later (rw same (HasRisen-counted own));
 }
 
 -- a call that was passed on
@@ -39,7 +39,7 @@ pub HasCause-passed : {T : Type 0} (before now own : ℕ) (result : Result T Dev
     → HasCause (before + own) (now + own) result
 HasCause-passed before now own result cause = record {
   later = omega (arith, cause.later);
-  failed = λ failed. HasRisen-left before now own own (omega arith) (cause.failed failed)
+  failed = λ failed. HasRisen-left before now own own (omega arith) (cause.failed failed);
 }
 
 -- the fuse counts a failure of its own

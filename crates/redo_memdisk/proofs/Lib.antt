@@ -3,3 +3,4 @@ pub mod Writes
 pub mod Told
 pub mod Overlay
 pub mod Applied
+pub mod Crashed

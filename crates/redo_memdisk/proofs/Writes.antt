@@ -1,5 +1,5 @@
 -- A write that is done when the call says that it failed.
-use Rattle.std.proofs.Common.{◌≡◌, ◌+◌, ◌≤◌, ℕ, List, length, take, drop, refl, inr, arith, rules}
+use Rattle.std.proofs.Common.{◌+◌, ◌≤◌, ℕ, List, length, refl, inr, arith, rules}
 use Rattle.std.proofs.lemmas.List.{places, same_lists}
 use Rattle.model_base.specs.Overwrite.{overwritten}
 use Rattle.model_device.specs.Disk.{Disk}
@@ -11,7 +11,7 @@ SameOutside-overwritten : (at : ℕ) (bytes old : List ℕ) → at + length byte
 SameOutside-overwritten at bytes old within = record {
   same_length = search (rules, places);
   before = same_lists _ _ (search (rules, places)) (λ k d h. grind (arith, places));
-  behind = same_lists _ _ (search (rules, places)) (λ k d h. grind (arith, places))
+  behind = same_lists _ _ (search (rules, places)) (λ k d h. grind (arith, places));
 }
 
 pub FailsWrite-written : (size at : ℕ) (bytes : List ℕ) (disk : Disk) → IsRange size at (length bytes) → HasSize size disk
@@ -23,6 +23,6 @@ FailsWrite-written size at bytes disk range sized = record {
   image = λ is_image. written_reads disk (write_at at bytes) is_image (record {
     aligned = range.from_sector;
     whole = range.whole_sectors;
-    within = omega (arith, range.within, sized.base)
-  })
+    within = omega (arith, range.within, sized.base);
+  });
 }

@@ -16,8 +16,15 @@ is_failed (Err NoMemory) = false
 -- a fuse that was never armed, and saw no call
 abbrev pub fresh : Fuse
 fresh = record {
-  stage = Before; limit = None; passed = 0; tripped = false; pick = None;
-  early = 0; mid = 0; late = 0; own = 0
+  stage = Before;
+  limit = None;
+  passed = 0;
+  tripped = false;
+  pick = None;
+  early = 0;
+  mid = 0;
+  late = 0;
+  own = 0;
 }
 
 -- the fuse as it begins the stop

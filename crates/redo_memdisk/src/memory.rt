@@ -33,14 +33,14 @@ impl Model for MemDisk {
     ghost Value = { MemState };
 
     ghost view = { λ memory. record {
-        disk = record {
-            base = memory.base.items;
-            writes = memory.pending.items;
-            reads = after_writes memory.base.items memory.pending.items
-        };
-        failing = memory.plan.failing.items;
-        calls = memory.plan.calls;
-        faults = memory.plan.faults
+      disk = record {
+        base = memory.base.items;
+        writes = memory.pending.items;
+        reads = after_writes memory.base.items memory.pending.items;
+      };
+      failing = memory.plan.failing.items;
+      calls = memory.plan.calls;
+      faults = memory.plan.faults;
     } };
 
     ghost invariant = { λ memory. AreSectorWrites (length memory.base.items) memory.pending.items };

@@ -1,6 +1,5 @@
-use Rattle.std.proofs.Common.{◌≡◌, ◌<◌, ◌+◌, ◌*◌, ◌/◌, ◌^◌, ◌%◌, cond, eqb, length, ap, sym, ◌∙◌, arith, rules}
+use Rattle.std.proofs.Common.{◌≡◌, ◌<◌, ◌+◌, ◌/◌, ◌%◌, length, ap, ◌∙◌, arith}
 use Rattle.std.proofs.lemmas.List.{take_all}
-use Rattle.std.proofs.lemmas.Grind.{common_steps}
 use Rattle.model_base.specs.declared.limits.TheConstants.{BLOCK_SIZE}
 use Rattle.model_device.specs.Crash.{sector_writes, survivors}
 use Rattle.model_device.specs.Disk.{after_writes}
@@ -15,9 +14,9 @@ loop-k-preserved c =
     record {
       next = omega arith;
       kept = elim c.if-pick-next-eq1.branch [
-        then-pick-next-eq1 w ↦ w.row-is ∙ w.put.ensures ∙ after_writes-survivors_kept c.args.row.now c.args.pick c.args.bit c.loop-k.next c.loop-k.k c.args.write.now below c.loop-k.invariant.next w.if-pick-next-eq1.true c.loop-k.row c.as_slice-bytes.result.now c.loop-k.invariant.kept c.as_slice-bytes.ensures
-      | else-pick-next-eq1 w ↦ w.row-is ∙ c.loop-k.invariant.kept ∙ after_writes-survivors_lost c.args.row.now c.args.pick c.args.bit c.loop-k.next c.loop-k.k c.args.write.now below c.loop-k.invariant.next w.if-pick-next-eq1.false
-      ]
+        | then-pick-next-eq1 w ↦ w.row-is ∙ w.put.ensures ∙ after_writes-survivors_kept c.args.row.now c.args.pick c.args.bit c.loop-k.next c.loop-k.k c.args.write.now below c.loop-k.invariant.next w.if-pick-next-eq1.true c.loop-k.row c.as_slice-bytes.result.now c.loop-k.invariant.kept c.as_slice-bytes.ensures
+        | else-pick-next-eq1 w ↦ w.row-is ∙ c.loop-k.invariant.kept ∙ after_writes-survivors_lost c.args.row.now c.args.pick c.args.bit c.loop-k.next c.loop-k.k c.args.write.now below c.loop-k.invariant.next w.if-pick-next-eq1.false
+      ];
     }
 
 pub returns-clause-kept : goal.returns-clause-kept

@@ -8,5 +8,5 @@ abbrev pub invariant-loop-write : goal.invariant-loop-write
 invariant-loop-write l = record {
   same_length : length l.row ≡ length l.initial.row;
   bit : l.bit ≡ length (flat_map sector_writes (take l.write-index l.writes)) % 64;
-  kept : l.row ≡ after_writes l.initial.row (survivors l.pick 0 (flat_map sector_writes (take l.write-index l.writes)))
+  kept : l.row ≡ after_writes l.initial.row (survivors l.pick 0 (flat_map sector_writes (take l.write-index l.writes)));
 }

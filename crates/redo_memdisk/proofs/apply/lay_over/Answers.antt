@@ -1,4 +1,4 @@
-use Rattle.std.proofs.Common.{◌≡◌, ◌-◌, ◌+◌, length, max, min, ap, ◌∙◌, arith}
+use Rattle.std.proofs.Common.{◌≡◌, ◌-◌, ◌+◌, length, min, ap, ◌∙◌}
 use Rattle.redo_memdisk.proofs.Overlay.{part-overwritten, part-overwritten_apart}
 use Rattle.redo_memdisk.proofs.apply.lay_over.Goals as goal
 use borrow.Rule.Slice.PartMut.{put_mid}

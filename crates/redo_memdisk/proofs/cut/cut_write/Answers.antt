@@ -1,4 +1,4 @@
-use Rattle.std.proofs.Common.{◌≡◌, length}
+use Rattle.std.proofs.Common.{◌≡◌}
 use Rattle.model_device.specs.Calls.{written, FailsWrite}
 use Rattle.redo_disk.specs.Sectors.{HasSize, OnTold, write_at}
 use Rattle.redo_memdisk.proofs.Told.{OnTold-weaker, at_either}
@@ -13,6 +13,6 @@ returns-clause-told g c =
     (OnTold (g.D.Sectors.tells c.args.device.now) (g.D.Sectors.tells c.write.new.self) (λ old new. new ≡ written old write))
     (OnTold (g.D.Sectors.tells c.args.device.now) (g.D.Sectors.tells c.write.new.self) (FailsWrite write))
     (OnTold-weaker _ _ (HasSize size) (λ old new. new ≡ written old write) (FailsWrite write)
-        (λ old new sized is_written. rw is_written (FailsWrite-written size c.args.at c.args.bytes.now old c.requires sized))
-        c.len.ensures.told)
+    (λ old new sized is_written. rw is_written (FailsWrite-written size c.args.at c.args.bytes.now old c.requires sized))
+    c.len.ensures.told)
     c.write.ensures.ok c.write.ensures.err
