@@ -1,2 +1,2 @@
-pub mod Images
+pub mod Sizes
 pub mod Told

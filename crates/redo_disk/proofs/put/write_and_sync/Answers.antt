@@ -4,7 +4,7 @@ use Rattle.model_base.specs.Overwrite.{overwritten}
 use Rattle.model_device.specs.Disk.{Disk, HasOneImage, after_write}
 use Rattle.model_device.specs.Calls.{written, synced}
 use Rattle.redo_disk.specs.Sectors.{write_at}
-use Rattle.redo_disk.proofs.Images.{settled_has_one}
+use Rattle.model_device.proofs.Images.{settled_images}
 use Rattle.redo_disk.proofs.Told.{OnTold-then}
 use Rattle.redo_disk.proofs.put.write_and_sync.Goals as goal
 
@@ -16,6 +16,6 @@ returns-clause-ok g c =
     (λ old new. HasOneImage new (overwritten c.args.at c.args.bytes.now old.reads))
     (λ a b d first second.
     let same : d ≡ synced (written a write) = second ∙ ap synced first in
-    subst (λ (disk : Disk). HasOneImage disk (after_write a.reads write)) (sym same) (settled_has_one (after_write a.reads write)))
+    subst (λ (disk : Disk). HasOneImage disk (after_write a.reads write)) (sym same) (settled_images (after_write a.reads write)).1)
     c.in_ok-write.ensures.ok)
     c.sync.ensures.ok

@@ -1,7 +1,8 @@
 use Rattle.std.proofs.Common.{◌≡◌}
 use Rattle.model_device.specs.Calls.{written, FailsWrite}
 use Rattle.redo_disk.specs.Sectors.{HasSize, OnTold, write_at}
-use Rattle.redo_memdisk.proofs.Told.{OnTold-weaker, at_either}
+use Rattle.redo_disk.proofs.Told.{OnTold-weaker}
+use Rattle.redo_memdisk.proofs.Answered.{at_either}
 use Rattle.redo_memdisk.proofs.Writes.{FailsWrite-written}
 use Rattle.redo_memdisk.proofs.cut.cut_write.Goals as goal
 

@@ -3,7 +3,7 @@ use Rattle.std.proofs.lemmas.Grind.{common_steps}
 use Rattle.redo_disk.specs.Sectors.{IsRange, write_at}
 use Rattle.redo_memdisk.specs.Memory.{MemState}
 use Rattle.redo_memdisk.proofs.Crashed.{FailsWrite-pending, pending_disk}
-use Rattle.redo_memdisk.proofs.Told.{OnErr-always}
+use Rattle.redo_memdisk.proofs.Answered.{OnErr-always}
 use Rattle.redo_memdisk.proofs.memory.MemDiskSectors.write.Goals as goal
 
 pub returns-clause-err : goal.returns-clause-err
