@@ -1,0 +1,4 @@
+pub mod Count
+pub mod Fuse
+pub mod Fused
+pub mod Memory
