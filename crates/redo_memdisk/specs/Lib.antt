@@ -2,3 +2,4 @@ pub mod Count
 pub mod Fuse
 pub mod Fused
 pub mod Memory
+pub mod File

@@ -3,6 +3,7 @@ ghost use Rattle.std.specs.Prelude.{◌≡◌, ◌+◌, ◌*◌, ◌≤◌};
 
 use super::*;
 use redo_disk::{DevError, Sectors, write_and_sync};
+use std::fs;
 use std::test::Fail;
 
 const SECTORS: u64 = 4;
@@ -131,5 +132,27 @@ fn a_stopped_device_takes_no_second_write(rt: HostRuntime) -> Result<(), Fail> {
     assert_eq!(rt; first_byte(&mut device, 0)?, 1);
     assert_eq!(rt; first_byte(&mut device, 1)?, 2);
     assert_eq!(rt; first_byte(&mut device, 2)?, 0);
+    Ok(())
+}
+
+#[test]
+fn a_file_keeps_what_was_written(rt: HostRuntime) -> Result<(), Fail> {
+    let path = "file_disk_test.bin";
+    let mut device = FileDisk::new(rt.clone()?, String::from_str(rt.alloc(), path)?);
+    fill(&mut device, 3, 5)?;
+    device.sync()?;
+    device.crash(0);
+    let mut again = FileDisk::new(rt.clone()?, String::from_str(rt.alloc(), path)?);
+    // a hole, what was written, and behind the file's end
+    for (sector, want) in [(0, 0), (3, 5), (9, 0)] {
+        assert_eq!(rt;
+            first_byte(&mut again, sector)?,
+            want,
+            "at the sector {sector}"
+        );
+    }
+    let mut nowhere = FileDisk::new(rt.clone()?, String::from_str(rt.alloc(), "no/folder")?);
+    assert_eq!(rt; first_byte(&mut nowhere, 0), Err(DevError::Failed));
+    fs::remove_file(&rt, path)?;
     Ok(())
 }
