@@ -1,5 +1,5 @@
 -- Calls keep the length of what a device means.
-use Rattle.std.proofs.Common.{ℕ, List, length, sym, ap, subst, ◌∙◌, arith}
+use Rattle.std.proofs.Common.{ℕ, List, length, sym, ap, subst, ◌∙◌, arith, ⊎_elim}
 use Rattle.model_device.specs.Disk.{Disk}
 use Rattle.model_device.specs.Calls.{Crashes, FailsWrite, synced, written}
 use Rattle.model_device.proofs.Overwritten.{length-overwritten}
@@ -14,7 +14,7 @@ HasSize-written size at bytes disk range sized = record {
 pub HasSize-FailsWrite : (size at : ℕ) (bytes : List ℕ) (old new : Disk) → FailsWrite (write_at at bytes) old new → HasSize size old → HasSize size new
 HasSize-FailsWrite size at bytes old new fails sized = record {
   base = ap length fails.base ∙ sized.base;
-  reads = fails.reads.same_length ∙ sized.reads;
+  reads = ⊎_elim (λ same. ap length same.1 ∙ sized.reads) (λ pending. pending.1.same_length ∙ sized.reads) fails.pending;
 }
 
 pub HasSize-synced : (size : ℕ) (disk : Disk) → HasSize size disk → HasSize size (synced disk)

@@ -2,7 +2,7 @@
 use Rattle.std.proofs.Common.{Bool, true, refl, ap, sym, ◌∙◌, ◌≡◌, ◌+◌, ◌<◌, ◌≤◌, ℕ, Result, inl, inr, ⊎_elim, arith}
 use Rattle.std.proofs.lemmas.Bool.{cases_lt}
 use Rattle.std.proofs.lemmas.Bool.Decides.{nat_tests}
-use Rattle.model_device.specs.Calls.{HasRisen, last_count}
+use Rattle.model_base.specs.Count.{HasRisen, last_count}
 use Rattle.redo_disk.specs.declared.error.DevError.{DevError}
 use Rattle.redo_disk.specs.Sectors.{HasCause}
 use Rattle.redo_memdisk.specs.declared.fuse.Fuse.{Fuse}

@@ -1,6 +1,6 @@
 -- Counts that stand still at their last value.
 use Rattle.std.specs.Prelude.{ℕ, ◌+◌, nat_lt, Bool, if◌then◌else◌}
-use Rattle.model_device.specs.Calls.{last_count}
+use Rattle.model_base.specs.Count.{last_count}
 
 -- the count and one more, unless it stands at its last value
 abbrev pub counted : ℕ → ℕ

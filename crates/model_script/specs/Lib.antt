@@ -1,0 +1,3 @@
+pub mod FirstPath
+pub mod Grammar
+pub mod LineGroup

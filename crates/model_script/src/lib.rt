@@ -1,0 +1,8 @@
+//! The grammar of scripts: which text is a script, and what its lines say.
+#![tactic(auto)]
+
+mod item;
+mod script;
+
+pub use item::{Item, Items};
+pub use script::{Script, ScriptLine};
