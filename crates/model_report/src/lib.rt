@@ -2,5 +2,10 @@
 #![tactic(auto)]
 
 mod fault;
+mod lines;
+mod page;
+mod report;
 
 pub use fault::{Fault, Quantity};
+pub use page::{PageView, page_lines_bytes};
+pub use report::report_bytes;
