@@ -1,5 +1,5 @@
 -- The zeros at the end of bytes.
-use Rattle.std.proofs.Common.{ℕ, suc, ◌≡◌, ◌≢◌, ◌+◌, ◌-◌, ◌<◌, ◌≤◌, List, [], ◌∷◌, ◌++◌, length, take, get_or, refl, ap, sym, ◌∙◌, subst, arith, rules, tests}
+use Rattle.std.proofs.Common.{ℕ, ◌≡◌, ◌≢◌, ◌+◌, ◌<◌, List, [], ◌∷◌, ◌++◌, length, take, get_or, refl, ap, sym, ◌∙◌, rules, tests}
 use Rattle.std.proofs.lemmas.List.{take_more}
 use Rattle.model_report.specs.Report.{trimmed, onto_trimmed}
 

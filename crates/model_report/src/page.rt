@@ -1,7 +1,7 @@
 // The lines of pages.
-ghost use Rattle.std.specs.Prelude.{◌≡◌, ◌++◌, OnOk, IfOk, List, ℕ};
+ghost use Rattle.std.specs.Prelude.{◌≡◌, ◌++◌, OnOk, IfOk};
 ghost use Rattle.std.specs.String.{string_bytes};
-ghost use Rattle.model_report.specs.Report.{trimmed, hex_word, page_line, page_lines, page_lines_from};
+ghost use Rattle.model_report.specs.Report.{trimmed, hex_word, page_line, page_lines};
 ghost use Rattle.model_report.specs.PageView.{content_of, contents_of};
 
 use model_base::Bytes;
@@ -12,6 +12,7 @@ use std::alloc::{AllocError, Global};
 pub struct PageView {
     /// The lsn of the last group that changed it.
     pub lsn: u64,
+    /// Its user bytes, from offset 38 on.
     pub user: Bytes,
 }
 
