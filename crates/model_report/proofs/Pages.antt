@@ -30,3 +30,5 @@ page_lines_blank text pages p page below is blank =
 pub page_lines_end : (text : List ℕ) (pages : List PageView) (p : ℕ) → length pages ≤ p → text ++ page_lines_from p (contents_of (drop p pages)) ≡ text
 page_lines_end text pages p over =
     ap (λ lines. text ++ lines) (at_drop_all (λ pages. page_lines_from p (contents_of pages)) pages p over) ∙ append-nil text
+
+pub ruleset page_steps = (page_lines_written, page_lines_blank, page_lines_end)

@@ -52,8 +52,8 @@ fn push_page(
     writeln!(text, "p {number} {} {user}", page.lsn)
 }
 
-#[tactic(auto, using(crate::proofs::Pages::page_lines_written, crate::proofs::Pages::page_lines_blank, crate::proofs::Pages::page_lines_end), unfolding(crate::specs::Report::page_lines))]
 /// Writes the line of each page that a group has changed at the end of the text.
+#[tactic(auto, using(crate::proofs::Pages::page_steps), unfolding(crate::specs::Report::page_lines))]
 pub fn push_pages(alloc: Global, text: &mut String, pages: &[PageView]) -> Result<(), AllocError>
     ensures { OnOk result
         (string_bytes text.new ≡ string_bytes text.old ++ page_lines (contents_of pages.now)) }

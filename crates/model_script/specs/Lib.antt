@@ -1,3 +1,4 @@
+pub mod Cut
 pub mod FirstPath
 pub mod Grammar
 pub mod LineGroup

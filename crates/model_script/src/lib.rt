@@ -1,6 +1,7 @@
 //! The grammar of scripts: which text is a script, and what its lines say.
 #![tactic(auto)]
 
+mod cut;
 mod item;
 mod script;
 
