@@ -3,6 +3,7 @@
 
 mod cut;
 mod item;
+mod lines;
 mod script;
 
 pub use item::{Item, Items};
