@@ -4,6 +4,7 @@
 mod cut;
 mod item;
 mod lines;
+mod number;
 mod script;
 
 pub use item::{Item, Items};
