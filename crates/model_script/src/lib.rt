@@ -5,6 +5,7 @@ mod cut;
 mod item;
 mod lines;
 mod number;
+mod operation;
 mod script;
 
 pub use item::{Item, Items};

@@ -1,5 +1,5 @@
 // Decimal numbers.
-ghost use Rattle.std.specs.Prelude.{◌≡◌, ◌+◌, ◌-◌, ◌*◌, ◌<◌, ◌≤◌, ◌^◌};
+ghost use Rattle.std.specs.Prelude.{◌≡◌, ◌+◌, ◌-◌, ◌*◌, ◌<◌, ◌≤◌, ◌^◌, IfSome};
 ghost use Rattle.std.specs.List.{AllPass, list_all};
 ghost use Rattle.std.specs.Char.{is_ascii_digit};
 ghost use Rattle.std.specs.Option.{SomeIff};
@@ -48,11 +48,20 @@ fn value_of(digits: &[u8]) -> Option<u64>
 /// The number that the text is, if it is at most `max`.
 #[tactic(auto, using(crate::proofs::NumberLemmas::numbers), unfolding(crate::specs::Grammar::number_below))]
 pub fn number_up_to(text: &[u8], max: u64) -> Option<u64>
-    ensures { result ≡ number_below (max + 1) text.now }
+    ensures value { result ≡ number_below (max + 1) text.now }
+    ensures small { IfSome result (λ number. number ≤ max) }
 {
     if !is_number(text) {
         return None;
     }
     let value = value_of(text)?;
     (value <= max).then_some(value)
+}
+
+/// The number that the text is, if it is at most `max`, at 32 bits.
+pub fn small_number_up_to(text: &[u8], max: u32) -> Option<u32>
+    ensures { result ≡ number_below (max + 1) text.now }
+{
+    let number = number_up_to(text, u64::from(max))?;
+    Some(number as u32)
 }

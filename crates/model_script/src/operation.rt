@@ -1,0 +1,67 @@
+// The operations of a script line.
+ghost use Rattle.std.specs.Prelude.{◌≡◌, ◌+◌, ◌^◌, IfSome, IfOk};
+ghost use Rattle.model_record.specs.Record.{IsWidth};
+ghost use Rattle.model_script.specs.Grammar.{hex_bytes, width_of, number_item, text_item, item_of, words_of};
+
+use crate::Item;
+use crate::number::{number_up_to, small_number_up_to};
+use hex::FromHexError;
+use model_base::Bytes;
+use std::alloc::{AllocError, Global};
+
+// The bytes that hex digits name.
+#[tactic(auto, unfolding(crate::specs::Grammar::hex_bytes))]
+fn hex_bytes(alloc: Global, text: &[u8]) -> Result<Option<Bytes>, AllocError>
+    ensures { IfOk result (λ bytes. bytes ≡ hex_bytes text.now) }
+{
+    if text.is_empty() {
+        return Ok(None);
+    }
+    match hex::decode(alloc, text) {
+        Ok(bytes) => Ok(Some(Bytes::new(bytes))),
+        Err(FromHexError::OutOfMemory) => Err(AllocError),
+        Err(_) => Ok(None),
+    }
+}
+
+// The width that the name of an operation gives, in bytes.
+fn width_of(name: &[u8]) -> Option<u32>
+    ensures value { result ≡ width_of name.now }
+    ensures width { IfSome result IsWidth }
+{
+    match name {
+        b"b1" => Some(1),
+        b"b2" => Some(2),
+        b"b4" => Some(4),
+        b"b8" => Some(8),
+        _ => None,
+    }
+}
+
+// The greatest number of the width.
+fn max_of(width: u32) -> u64
+    requires { IsWidth width }
+    ensures { result + 1 ≡ 256 ^ width }
+{
+    match width {
+        1 => 0xff,
+        2 => 0xffff,
+        4 => 0xffff_ffff,
+        _ => u64::MAX,
+    }
+}
+
+fn number_item(width: u32, page: &[u8], offset: &[u8], value: &[u8]) -> Option<Item>
+    requires { IsWidth width }
+    ensures { result ≡ number_item width page.now offset.now value.now }
+{
+    let page = small_number_up_to(page, u32::MAX)?;
+    let offset = small_number_up_to(offset, 0xffff)?;
+    let value = number_up_to(value, max_of(width))?;
+    Some(Item::Num {
+        width,
+        page,
+        offset,
+        value,
+    })
+}
