@@ -1,5 +1,5 @@
 // The operations of a script line.
-ghost use Rattle.std.specs.Prelude.{◌≡◌, ◌+◌, ◌^◌, IfSome, IfOk};
+ghost use Rattle.std.specs.Prelude.{◌≡◌, ◌+◌, ◌^◌, ◌∷◌, [], IfSome, IfOk};
 ghost use Rattle.model_record.specs.Record.{IsWidth};
 ghost use Rattle.model_script.specs.Grammar.{hex_bytes, width_of, number_item, text_item, item_of, words_of};
 
@@ -64,4 +64,59 @@ fn number_item(width: u32, page: &[u8], offset: &[u8], value: &[u8]) -> Option<I
         offset,
         value,
     })
+}
+
+fn text_item(
+    alloc: Global,
+    page: &[u8],
+    offset: &[u8],
+    digits: &[u8],
+) -> Result<Option<Item>, AllocError>
+    ensures { IfOk result (λ item. item ≡ text_item page.now offset.now digits.now) }
+{
+    let Some(page) = small_number_up_to(page, u32::MAX) else {
+        return Ok(None);
+    };
+    let Some(offset) = small_number_up_to(offset, 0xffff) else {
+        return Ok(None);
+    };
+    let bytes = hex_bytes(alloc, digits)?;
+    Ok(bytes.map(|bytes| Item::Text {
+        page,
+        offset,
+        bytes,
+    }))
+}
+
+// The operation that sets a page's user bytes to 0.
+#[tactic(auto, unfolding(crate::specs::Grammar::item_of))]
+fn init_item(name: &[u8], page: &[u8]) -> Option<Item>
+    ensures { result ≡ item_of (name.now ∷ page.now ∷ []) }
+{
+    if name != b"i".as_slice() {
+        return None;
+    }
+    let page = small_number_up_to(page, u32::MAX)?;
+    Some(Item::Init { page })
+}
+
+// The operation that writes a number or a string.
+#[tactic(auto, unfolding(crate::specs::Grammar::item_of))]
+fn write_item(
+    alloc: Global,
+    name: &[u8],
+    page: &[u8],
+    offset: &[u8],
+    value: &[u8],
+) -> Result<Option<Item>, AllocError>
+    ensures { IfOk result
+        (λ item. item ≡ item_of (name.now ∷ page.now ∷ offset.now ∷ value.now ∷ [])) }
+{
+    if name == b"s".as_slice() {
+        return text_item(alloc, page, offset, value);
+    }
+    let Some(width) = width_of(name) else {
+        return Ok(None);
+    };
+    Ok(number_item(width, page, offset, value))
 }
