@@ -1,3 +1,4 @@
 pub mod Cutting
 pub mod LineLemmas
 pub mod NumberLemmas
+pub mod WordLemmas

@@ -17,3 +17,8 @@ IsCut byte text front (Some rest) = (text ≡ front ++ byte ∷ rest.now) × Lac
 pub record IsFirstLine (text line rest : List ℕ) : Type 0 where
   pub lines : lines_of text ≡ line ∷ lines_of rest
   pub shorter : length rest < length text
+
+-- the parts of what stands behind a cut
+abbrev pub parts_behind : ℕ → Option (Bor (List ℕ)) → List (List ℕ)
+parts_behind byte None = []
+parts_behind byte (Some rest) = slice_split (λ other. other == byte) rest.now

@@ -4,6 +4,7 @@ ghost use Rattle.model_record.specs.Record.{IsWidth};
 ghost use Rattle.model_script.specs.Grammar.{hex_bytes, width_of, number_item, text_item, item_of, words_of};
 
 use crate::Item;
+use crate::cut::cut;
 use crate::number::{number_up_to, small_number_up_to};
 use hex::FromHexError;
 use model_base::Bytes;
@@ -119,4 +120,40 @@ fn write_item(
         return Ok(None);
     };
     Ok(number_item(width, page, offset, value))
+}
+
+// The operation that writes, whose words behind the page these are.
+#[tactic(auto, using(crate::proofs::WordLemmas::other_words))]
+fn read_write(
+    alloc: Global,
+    name: &[u8],
+    page: &[u8],
+    words: &[u8],
+) -> Result<Option<Item>, AllocError>
+    ensures { IfOk result
+        (λ item. item ≡ item_of (name.now ∷ page.now ∷ words_of words.now)) }
+{
+    let (offset, rest) = cut(words, b' ');
+    let Some(rest) = rest else {
+        return Ok(None);
+    };
+    let (value, more) = cut(rest, b' ');
+    match more {
+        None => write_item(alloc, name, page, offset, value),
+        Some(_) => Ok(None),
+    }
+}
+
+/// The operation that the text is.
+#[tactic(auto, using(crate::proofs::WordLemmas::other_words))]
+pub fn read_item(alloc: Global, text: &[u8]) -> Result<Option<Item>, AllocError>
+    ensures { IfOk result (λ item. item ≡ item_of (words_of text.now)) }
+{
+    let (name, Some(rest)) = cut(text, b' ') else {
+        return Ok(None);
+    };
+    match cut(rest, b' ') {
+        (page, None) => Ok(init_item(name, page)),
+        (page, Some(rest)) => read_write(alloc, name, page, rest),
+    }
 }
