@@ -1,4 +1,5 @@
 pub mod Cutting
+pub mod ItemLemmas
 pub mod LineLemmas
 pub mod NumberLemmas
 pub mod WordLemmas

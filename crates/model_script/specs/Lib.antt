@@ -2,3 +2,4 @@ pub mod Cut
 pub mod FirstPath
 pub mod Grammar
 pub mod LineGroup
+pub mod Progress

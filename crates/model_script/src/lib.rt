@@ -3,6 +3,7 @@
 
 mod cut;
 mod item;
+mod line;
 mod lines;
 mod number;
 mod operation;
