@@ -1,4 +1,5 @@
 pub mod Cutting
+pub mod FrontLemmas
 pub mod ItemLemmas
 pub mod LineLemmas
 pub mod NumberLemmas

@@ -2,6 +2,7 @@
 #![tactic(auto)]
 
 mod cut;
+mod first_path;
 mod item;
 mod line;
 mod lines;
@@ -9,5 +10,6 @@ mod number;
 mod operation;
 mod script;
 
+pub use first_path::read_first_path;
 pub use item::{Item, Items};
 pub use script::{Script, ScriptLine};
