@@ -2,8 +2,22 @@
 //! fits a store.
 #![tactic(auto)]
 
+mod bodies;
+mod fields;
+mod fitting;
 mod group;
+mod measuring;
+mod place;
+mod reading;
 mod rec;
+mod spelled;
+mod stop;
+mod writing;
 
+pub use fitting::fits;
 pub use group::{Group, Whole};
+pub use measuring::group_length;
+pub use reading::{one_group, read_group};
 pub use rec::Rec;
+pub use spelled::has_text;
+pub use writing::{group_bytes, stream_bytes};

@@ -20,5 +20,8 @@ pub enum Rec {
         bytes: Bytes,
     },
     /// Sets all user bytes of the page to 0.
-    Init { space: u32, page: u32 },
+    Init {
+        space: u32,
+        page: u32,
+    },
 }

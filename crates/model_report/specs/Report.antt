@@ -4,7 +4,7 @@ use Rattle.std.specs.Prelude.{ℕ, ◌+◌, ◌==◌, nat_lt, if◌then◌else�
 use Rattle.std.specs.List.{flat_map, join_with_byte}
 use Rattle.std.specs.Fmt.{decimal}
 use Rattle.hex.specs.Hex.{encode_lower}
-use Rattle.model_page.specs.Copies.{Content}
+use Rattle.model_page.specs.declared.content.Content.{Content}
 use Rattle.model_history.specs.Legal.{count_up_to}
 use Rattle.model_history.specs.declared.entry.Entry.{Entry}
 use Rattle.model_history.specs.declared.entry.Marks.{Marks}

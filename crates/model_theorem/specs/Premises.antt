@@ -3,9 +3,10 @@ use Rattle.std.specs.Prelude.{ℕ, ◌≡◌, ◌<◌, ◌⊎◌, List, length, 
 use Rattle.model_base.specs.declared.shape.Shape.{Shape}
 use Rattle.model_base.specs.declared.limits.TheConstants.{BLOCK_SIZE}
 use Rattle.model_base.specs.Limits.{default_shape}
-use Rattle.model_device.specs.Disk.{Disk, HasOneImage}
-use Rattle.model_device.specs.Calls.{last_count}
-use Rattle.model_page.specs.Copies.{Content}
+use Rattle.model_device.specs.Disk.{HasOneImage}
+use Rattle.model_device.specs.Valid.{IsValid}
+use Rattle.model_base.specs.Count.{last_count}
+use Rattle.model_page.specs.declared.content.Content.{Content}
 use Rattle.model_store.specs.Apply.{blank_pages}
 use Rattle.model_store.specs.Fair.{IsFair}
 use Rattle.model_store.specs.Reading.{Reading, IsOrderly}
@@ -17,6 +18,7 @@ IsUnused log = take BLOCK_SIZE log ≡ replicate BLOCK_SIZE 0
 
 -- at entry a crash would leave what reads give, and the count of faults can still rise
 pub record IsFresh (device : Device) : Type 0 where
+  pub valid : IsValid device.at_entry
   pub one_image : HasOneImage device.at_entry device.at_entry.reads
   pub can_count : device.faults_at_entry < last_count
 

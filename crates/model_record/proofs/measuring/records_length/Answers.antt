@@ -1,0 +1,16 @@
+use Rattle.std.proofs.Common.{◌≡◌, ℕ, zero, suc, ◌+◌, ◌<◌, ◌≤◌, List, [], ◌∷◌, length, length-append, get_or, take, arith}
+use Rattle.std.specs.List.{flat_map}
+use Rattle.model_record.specs.Record.{record_text}
+use Rattle.model_record.specs.declared.rec.Rec.{Rec}
+use Rattle.model_record.proofs.measuring.records_length.Goals as goal
+
+-- a front of the records and the next one have no more bytes than all of them
+part : (recs : List Rec) (i : ℕ) (rec : Rec) → i < length recs → rec ≡ get_or recs i rec → length (flat_map record_text (take i recs)) + length (record_text rec) ≤ length (flat_map record_text recs)
+part [] i rec below is = absurd (omega arith)
+part (first ∷ recs) zero rec below is = rw is (omega (arith, length-append (record_text first) (flat_map record_text recs)))
+part (first ∷ recs) (suc i) rec below is =
+    let others = part recs i rec (omega arith) is in
+    omega (arith, others, length-append (record_text first) (flat_map record_text recs), length-append (record_text first) (flat_map record_text (take i recs)))
+
+pub overflow_add-total : goal.overflow_add-total
+overflow_add-total c = omega (arith, part c.args.recs.now c.loop-rec.rec-index c.rec-item.result c.loop-rec-test.true c.rec-item.is)
