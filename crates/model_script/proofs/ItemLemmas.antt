@@ -15,7 +15,7 @@ after_items-push done item (Some others) = ap (λ items. Some items) (sym (appen
 pub after_item : (done : List Item) (text : List ℕ) (texts : List (List ℕ)) (item : Item) → item_of (words_of text) ≡ Some item → after_items done (items_of (text ∷ texts)) ≡ after_items (done ++ item ∷ []) (items_of texts)
 after_item done text texts item is =
     ap (λ found. after_items done (option_and_then (λ item. option_and_then (λ items. Some (item ∷ items)) (items_of texts)) found)) is
-        ∙ after_items-push done item (items_of texts)
+    ∙ after_items-push done item (items_of texts)
 
 -- no operation
 pub after_none : (done : List Item) (text : List ℕ) (texts : List (List ℕ)) → item_of (words_of text) ≡ None → after_items done (items_of (text ∷ texts)) ≡ None
