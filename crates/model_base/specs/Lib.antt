@@ -1,3 +1,4 @@
+pub mod Count
 pub mod Lending
 pub mod Limits
 pub mod Lines

@@ -1,5 +1,5 @@
 -- What the calls of a device do to what it means: a relation between before and after for each answer.
-use Rattle.std.specs.Prelude.{ℕ, ◌≡◌, ◌≤◌, ◌<◌, ◌-◌, ◌^◌, ◌⊎◌, List, [], ◌∷◌, ◌++◌, length}
+use Rattle.std.specs.Prelude.{ℕ, ◌≡◌, ◌⊎◌, List, [], ◌∷◌, ◌++◌, length}
 use Rattle.model_device.specs.Disk.{Disk, IsImage, Covers, sector, written_sector, after_write, settled}
 use Rattle.model_device.specs.declared.write.Write.{Write}
 
@@ -28,11 +28,3 @@ pub record Crashes (old new : Disk) : Type 0 where
   pub image : List ℕ
   pub possible : IsImage old image
   pub left : new ≡ settled image
-
--- how many a 64-bit counter counts at the most: it stands still there
-abbrev pub last_count : ℕ
-last_count = 2 ^ 64 - 1
-
--- the count rose in the call, or stands at its last value and can't tell
-abbrev pub HasRisen : ℕ → ℕ → Type 0
-HasRisen before now = (before < now) ⊎ (last_count ≤ before)

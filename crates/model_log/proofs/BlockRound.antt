@@ -1,5 +1,5 @@
 -- A block that was written is read back.
-use Rattle.std.proofs.Common.{◌≡◌, ◌==◌, ◌&&◌, ◌||◌, ◌≤◌, ◌<◌, ◌+◌, ◌-◌, ◌*◌, ◌/◌, ◌%◌, ◌^◌, ℕ, min, List, [], ◌∷◌, ◌++◌, length, take, drop, replicate, refl, sym, ap, ◌∙◌, Bool, true, false, cond, eqb, ltb, IsTrue, Option, Some, None, append_assoc, length-append, take_at, arith}
+use Rattle.std.proofs.Common.{◌≡◌, ◌&&◌, ◌≤◌, ◌<◌, ◌+◌, ◌-◌, ◌%◌, ◌^◌, ℕ, min, List, [], ◌++◌, length, take, drop, replicate, refl, ap, ◌∙◌, Bool, true, cond, IsTrue, Some, None, length-append, take_at, arith}
 use Rattle.std.proofs.lemmas.List.{length-replicate}
 use Rattle.std.specs.List.{All}
 use Rattle.std.specs.Int.{bytes_high_first}
@@ -107,7 +107,7 @@ reads-sealed number count first ckpt rest number_small count_small first_small c
       reads_count = field-sealed 2 4 bytes (omega arith) ∙ count-headed number count first ckpt rest count_small;
       reads_first = field-sealed 2 6 bytes (omega arith) ∙ first-headed number count first ckpt rest first_small;
       reads_ckpt = field-sealed 4 8 bytes (omega arith) ∙ ckpt-headed number count first ckpt rest ckpt_small;
-      checksum = fits_checksum-sealed bytes long (bytes-headed number count first ckpt rest each)
+      checksum = fits_checksum-sealed bytes long (bytes-headed number count first ckpt rest each);
     }
 
 all_four : (a b c d : Bool) → a ≡ true → b ≡ true → c ≡ true → d ≡ true → (a && b && c && d) ≡ true

@@ -1,5 +1,5 @@
 -- A checkpoint that was written is read back.
-use Rattle.std.proofs.Common.{◌≡◌, ◌==◌, ◌&&◌, ◌≤◌, ◌<◌, ◌+◌, ◌-◌, ◌*◌, ◌/◌, ◌%◌, ◌^◌, ℕ, List, [], ◌++◌, length, refl, sym, ap, subst, ◌∙◌, Bool, true, cond, nat_lt, nat_le, Option, Some, None, le-leb, lt-ltb, arith}
+use Rattle.std.proofs.Common.{◌≡◌, ◌==◌, ◌&&◌, ◌≤◌, ◌<◌, ◌-◌, ◌*◌, ◌%◌, ◌^◌, ℕ, List, [], ◌++◌, length, refl, sym, ap, subst, ◌∙◌, Bool, true, cond, nat_lt, nat_le, Some, None, le-leb, lt-ltb, arith}
 use Rattle.std.specs.List.{All}
 use Rattle.std.specs.Int.{bytes_high_first}
 use Rattle.std.proofs.Math.Nat.{mod-le}
@@ -76,7 +76,7 @@ checkpoint-reads_back number lsn shape number_small low high aligned =
     = field-padded 8 16 fields (omega arith) (omega arith) ∙ offset-fields number lsn offset (offset_of-small lsn shape.log_blocks high) in
     ap (read_checkpoint (place_of number) shape) (sym (checkpoint_text-from number lsn shape fields refl))
     ∙ found_when (is_checkpoint (place_of number) shape bytes) (field 8 0 bytes, field 8 8 bytes) (number, lsn)
-      (passes (fits_checksum bytes) (field 8 0 bytes) (field 8 8 bytes) (field 8 16 bytes) (place_of number) shape.log_blocks
-        sound (ap place_of (sym number_is)) (ap (λ n. n % 512) lsn_is ∙ aligned) (subst (λ (n : ℕ). 8192 ≤ n) (sym lsn_is) low) (subst (λ (n : ℕ). n < 2 ^ 60) (sym lsn_is) high)
-        (offset_is ∙ ap (λ n. offset_of n shape.log_blocks) (sym lsn_is)))
-      (same_pair _ _ _ _ number_is lsn_is)
+    (passes (fits_checksum bytes) (field 8 0 bytes) (field 8 8 bytes) (field 8 16 bytes) (place_of number) shape.log_blocks
+    sound (ap place_of (sym number_is)) (ap (λ n. n % 512) lsn_is ∙ aligned) (subst (λ (n : ℕ). 8192 ≤ n) (sym lsn_is) low) (subst (λ (n : ℕ). n < 2 ^ 60) (sym lsn_is) high)
+    (offset_is ∙ ap (λ n. offset_of n shape.log_blocks) (sym lsn_is)))
+    (same_pair _ _ _ _ number_is lsn_is)

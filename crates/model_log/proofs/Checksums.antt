@@ -1,5 +1,5 @@
 -- A checksum of bytes has 32 bits.
-use Rattle.std.proofs.Common.{◌≡◌, ◌==◌, ◌<◌, ◌%◌, ◌/◌, ◌^◌, ℕ, zero, suc, Bool, true, false, cond, List, [], ◌∷◌, bit_xor, arith}
+use Rattle.std.proofs.Common.{◌==◌, ◌<◌, ◌%◌, ◌/◌, ◌^◌, ℕ, zero, suc, Bool, true, false, cond, List, [], ◌∷◌, bit_xor, arith}
 use Rattle.std.specs.List.{All}
 use Rattle.std.specs.Int.{byte_at, bytes_high_first}
 use Rattle.std.proofs.lemmas.List.Elements.{All-nil, All-cons, All-head, All-tail}

@@ -1,6 +1,6 @@
 -- A file header that was written is read back.
-use Rattle.std.proofs.Common.{◌≡◌, ◌==◌, ◌&&◌, ◌≤◌, ◌<◌, ◌^◌, ℕ, List, [], ◌++◌, length, refl, sym, ap, ◌∙◌, nat_lt, Bool, true, cond, codes, replicate, arith}
-use Rattle.std.specs.List.{All, list_all}
+use Rattle.std.proofs.Common.{◌≡◌, ◌==◌, ◌&&◌, ◌<◌, ◌^◌, ℕ, List, [], ◌++◌, length, refl, sym, ap, ◌∙◌, nat_lt, Bool, true, cond, arith}
+use Rattle.std.specs.List.{All}
 use Rattle.std.specs.Int.{bytes_high_first}
 use Rattle.std.proofs.lemmas.Bool.{eq-eqb, ltb-true}
 use Rattle.std.proofs.lemmas.List.Elements.{All-append, All-weaker}
@@ -10,7 +10,7 @@ use Rattle.model_base.specs.declared.shape.Shape.{Shape}
 use Rattle.model_base.specs.Limits.{IsWithinLimits}
 use Rattle.model_number.specs.Field.{field, padded_to}
 use Rattle.model_log.specs.Block.{with_checksum, fits_checksum}
-use Rattle.model_log.specs.Head.{format_number, creator, head_text, shape_of, is_within_limits, read_head}
+use Rattle.model_log.specs.Head.{creator, head_text, shape_of, is_within_limits, read_head}
 use Rattle.model_log.specs.declared.head.Head.{Head}
 use Rattle.model_log.specs.declared.head.Head.TheVariants.{Good, OtherFormat, Unformatted}
 use Rattle.model_log.proofs.Checksums.{IsByte, bytes-bytes_high_first}
@@ -100,11 +100,11 @@ head-reads_back shape within space_small =
     let start : field 8 8 bytes ≡ 8192 = field-padded 8 8 fields (omega arith) (omega arith) ∙ start-head_fields shape in
     let same : shape_of bytes ≡ shape
     = same_shape (field 4 48 bytes) (field 4 52 bytes) (field 4 56 bytes) (field 4 60 bytes) (field 4 64 bytes) shape
-      (field-padded 4 48 fields (omega arith) (omega arith) ∙ page_size-head_fields shape (omega (arith, within.page_size)))
-      (field-padded 4 52 fields (omega arith) (omega arith) ∙ pages-head_fields shape (omega (arith, within.few_pages)))
-      (field-padded 4 56 fields (omega arith) (omega arith) ∙ space-head_fields shape space_small)
-      (field-padded 4 60 fields (omega arith) (omega arith) ∙ log_blocks-head_fields shape (omega (arith, within.few_blocks)))
-      (field-padded 4 64 fields (omega arith) (omega arith) ∙ slots-head_fields shape (omega (arith, within.slots))) in
+    (field-padded 4 48 fields (omega arith) (omega arith) ∙ page_size-head_fields shape (omega (arith, within.page_size)))
+    (field-padded 4 52 fields (omega arith) (omega arith) ∙ pages-head_fields shape (omega (arith, within.few_pages)))
+    (field-padded 4 56 fields (omega arith) (omega arith) ∙ space-head_fields shape space_small)
+    (field-padded 4 60 fields (omega arith) (omega arith) ∙ log_blocks-head_fields shape (omega (arith, within.few_blocks)))
+    (field-padded 4 64 fields (omega arith) (omega arith) ∙ slots-head_fields shape (omega (arith, within.slots))) in
     ap read_head (sym (head_text-from shape fields refl))
     ∙ good_when (fits_checksum bytes) (field 4 0 bytes == 1) (field 8 8 bytes == 8192) (is_within_limits (shape_of bytes)) (shape_of bytes) shape (OtherFormat (field 4 0 bytes))
-      sound (eq-eqb _ _ format) (eq-eqb _ _ start) (ap is_within_limits same ∙ is_within_limits-true shape within) same
+    sound (eq-eqb _ _ format) (eq-eqb _ _ start) (ap is_within_limits same ∙ is_within_limits-true shape within) same

@@ -1,5 +1,7 @@
 pub mod BlockRound
 pub mod Blocks
+pub mod Boundaries
+pub mod BoundaryLengths
 pub mod CheckpointRound
 pub mod Checkpoints
 pub mod Checksums

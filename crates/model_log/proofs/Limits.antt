@@ -1,6 +1,6 @@
 -- The test of a shape's sizes against the statement of its limits.
-use Rattle.std.proofs.Common.{◌≡◌, ◌≤◌, Bool, true, false, IsTrue, arith, Decides}
-use Rattle.std.proofs.lemmas.Bool.Decides.{same_from_decides, Decides-eqb, Decides-and, Decides-like, nat_tests}
+use Rattle.std.proofs.Common.{◌≡◌, Bool, true, IsTrue, arith}
+use Rattle.std.proofs.lemmas.Bool.Decides.{same_from_decides, nat_tests}
 use Rattle.model_base.specs.declared.shape.Shape.{Shape}
 use Rattle.model_base.specs.Limits.{IsWithinLimits}
 use Rattle.model_log.specs.Head.{is_within_limits}
@@ -12,7 +12,8 @@ limits_hold shape good = record {
   few_pages = grind (arith, nat_tests);
   many_blocks = grind (arith, nat_tests);
   few_blocks = grind (arith, nat_tests);
-  slots = grind (arith, nat_tests) }
+  slots = grind (arith, nat_tests);
+}
 
 -- limits that hold pass the test
 pub is_within_limits-true : (shape : Shape) → IsWithinLimits shape → is_within_limits shape ≡ true

@@ -1,5 +1,5 @@
 -- What is read off bytes with their checksum behind them.
-use Rattle.std.proofs.Common.{◌≡◌, ◌≤◌, ◌<◌, ◌+◌, ◌-◌, ◌^◌, ℕ, List, [], ◌++◌, length, take, drop, replicate, length-append, refl, sym, ap, ◌∙◌, Bool, true, take_at, drop_at, length-drop, arith}
+use Rattle.std.proofs.Common.{◌≡◌, ◌≤◌, ◌+◌, ◌-◌, ℕ, List, [], ◌++◌, length, take, drop, replicate, length-append, sym, ap, ◌∙◌, true, take_at, drop_at, length-drop, arith}
 use Rattle.std.specs.List.{All}
 use Rattle.std.specs.Int.{bytes_high_first}
 use Rattle.std.proofs.lemmas.Bool.{eq-eqb}

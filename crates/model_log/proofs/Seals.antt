@@ -1,5 +1,5 @@
 -- Checksums behind a row of bytes.
-use Rattle.std.proofs.Common.{◌≡◌, ◌≤◌, ◌-◌, ℕ, List, ◌++◌, length, take, replicate, ap, ◌∙◌, take_all, arith}
+use Rattle.std.proofs.Common.{◌≡◌, ◌≤◌, ◌-◌, ℕ, List, ◌++◌, length, take, replicate, ap, ◌∙◌, take_all}
 use Rattle.std.specs.Int.{bytes_high_first}
 use Rattle.model_number.specs.Crc32c.{crc_of}
 use Rattle.model_number.specs.Field.{padded_to}

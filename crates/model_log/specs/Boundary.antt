@@ -1,6 +1,6 @@
 -- The stream of a run's groups cut into log blocks. A run starts at the lsn s, at the first data byte of a block; its
 -- groups follow one another without a gap. A boundary is s or the end of a group.
-use Rattle.std.specs.Prelude.{ℕ, ◌≡◌, ◌≤◌, ◌<◌, ◌+◌, ◌-◌, ◌*◌, ◌/◌, ◌^◌, ◌==◌, ◌&&◌, ◌⊎◌, min, nat_lt, nat_le, if◌then◌else◌, Bool, List, [], ◌∷◌, ◌++◌, length, take, drop, Option, Some, None, find, slice_index, slice_get, Contains, MatchOption}
+use Rattle.std.specs.Prelude.{ℕ, ◌≡◌, ◌<◌, ◌+◌, ◌-◌, ◌*◌, ◌/◌, ◌^◌, ◌==◌, ◌&&◌, ◌⊎◌, min, nat_lt, nat_le, if◌then◌else◌, Bool, List, [], ◌∷◌, ◌++◌, length, take, drop, Option, Some, None, slice_get}
 use Rattle.model_base.specs.declared.limits.TheConstants.{BLOCK_SIZE}
 use Rattle.model_record.specs.Group.{stream_of, groups_of, group_length}
 use Rattle.model_record.specs.declared.group.Whole.{Whole}

@@ -124,9 +124,8 @@ pub fn block_reads_back()
     ensures view { (lsn : ℕ) (content : List ℕ) (first ckpt : ℕ) → length content ≤ 496
         → All (λ byte. byte < 256) content → ckpt < 2 ^ 32 → IsTrue (is_first (length_of (length content)) first)
         → read_block lsn (block_text lsn content first ckpt)
-            ≡ Some (record { length = length_of (length content); first = first; ckpt = ckpt }) }
+        ≡ Some (record { length = length_of (length content); first = first; ckpt = ckpt }) }
     ensures content { (lsn : ℕ) (content : List ℕ) (first ckpt : ℕ) → length content ≤ 496
         → data_of (record { length = length_of (length content); first = first; ckpt = ckpt })
-            (block_text lsn content first ckpt) ≡ content }
-{
-}
+        (block_text lsn content first ckpt) ≡ content }
+{}

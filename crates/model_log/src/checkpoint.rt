@@ -105,5 +105,4 @@ pub fn newest_checkpoint(image: &[u8], shape: &Shape) -> Option<(u64, u64)>
 pub fn checkpoint_reads_back()
     ensures { (number lsn : ℕ) (shape : Shape) → number < 2 ^ 64 → START_LSN ≤ lsn → lsn < LSN_LIMIT → lsn % BLOCK_SIZE ≡ 0
         → read_checkpoint (place_of number) shape (checkpoint_text number lsn shape) ≡ Some (number, lsn) }
-{
-}
+{}

@@ -89,5 +89,4 @@ pub fn read_head(bytes: &[u8]) -> Head
 /// The header of a store is read as that.
 pub fn head_reads_back()
     ensures { (shape : Shape) → IsWithinLimits shape → shape.space < 2 ^ 32 → read_head (head_text shape) ≡ Good shape }
-{
-}
+{}

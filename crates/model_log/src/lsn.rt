@@ -80,5 +80,4 @@ pub fn lsn_and_sn()
     ensures data { (n : ℕ) → IsDataLsn (lsn_of n) }
     ensures forth { (lsn : ℕ) → IsDataLsn lsn → lsn_of (sn_of lsn) ≡ lsn }
     ensures rising { (m n : ℕ) → m < n → lsn_of m < lsn_of n }
-{
-}
+{}

@@ -164,6 +164,9 @@ row_fits n row of =
     let high = of.high in
     omega arith
 
+pub length-in_row : (n : ℕ) (row : Row) → IsRowOf n row → length (spelling32 n) ≡ row.length
+length-in_row n row of = ap length (spelling32-in n row of) ∙ length-spelling_in row n
+
 -- a spelling is the end of its text in a word
 pub word_end : (n : ℕ) (row : Row) → IsRowOf n row → drop (8 - row.length) (bytes_high_first 8 (row.text + (n - row.first))) ≡ spelling32 n
 word_end n row of =

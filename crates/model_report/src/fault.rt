@@ -47,3 +47,27 @@ pub enum Fault {
     /// A quantity doesn't fit.
     Fit(Quantity, u64),
 }
+
+impl Fault {
+    ghost use Rattle.std.specs.Prelude.{◌≡◌};
+    ghost use Rattle.model_report.specs.FaultLine.{status_of};
+
+    /// The exit status of the program that ends with the fault.
+    pub fn status(&self) -> u8
+        ensures { result ≡ status_of self.now }
+    {
+        match self {
+            Fault::Memory => 1,
+            Fault::Words => 2,
+            Fault::Script(_) => 3,
+            Fault::Source => 4,
+            Fault::Sink => 5,
+            Fault::LogDevice => 6,
+            Fault::DataDevice => 7,
+            Fault::Store(Refusal::SmallLog(_) | Refusal::SmallData(_)) => 10,
+            Fault::Store(_) => 8,
+            Fault::Turns(_, _) => 9,
+            Fault::Fit(_, _) => 10,
+        }
+    }
+}

@@ -2,5 +2,15 @@
 #![tactic(auto)]
 
 mod fault;
+mod fault_line;
+mod lines;
+mod page;
+mod report;
 
 pub use fault::{Fault, Quantity};
+pub use fault_line::{FAULT_ROOM, fault_bytes, fault_text};
+pub use page::{PageView, page_lines_bytes};
+pub use report::report_bytes;
+
+#[cfg(test)]
+mod tests;

@@ -16,13 +16,18 @@ front = codes "1 f b1 "
 -- the one operation writes a user byte of one of the first eight pages
 abbrev pub is_user_byte : List Item → Bool
 is_user_byte ((Num width page offset value) ∷ []) =
-    nat_lt page DEFAULT_PAGES && (nat_le USER_START offset && nat_lt offset (USER_START + USER_BYTES))
+    width == 1 && (nat_lt value 256 && (nat_lt page DEFAULT_PAGES
+    && (nat_le USER_START offset && nat_lt offset (USER_START + USER_BYTES))))
 is_user_byte items = false
+
+-- the line of user 1 that is answered once flushed
+abbrev pub is_flushed_line : ScriptLine → Bool
+is_flushed_line line = line.user == 1 && (line.mode == 1 && is_user_byte line.items)
 
 -- the line, where it is one of today's
 abbrev pub served : Option ScriptLine → Option ScriptLine
 served None = None
-served (Some line) = if is_user_byte line.items then Some line else None
+served (Some line) = if is_flushed_line line then Some line else None
 
 abbrev pub first_path_line : List ℕ → Option ScriptLine
 first_path_line text = if bytes_eq (take (length front) text) front then served (line_of text) else None

@@ -52,7 +52,7 @@ pages_after_from-append : (p : ℕ) (recs : List Rec) (end : ℕ) (xs ys : List 
 pages_after_from-append p recs end [] ys = ap (λ q. pages_after_from q recs end ys) (omega arith)
 pages_after_from-append p recs end (x ∷ xs) ys =
     ap (λ zs. page_after p recs end x ∷ zs) (pages_after_from-append (p + 1) recs end xs ys
-        ∙ ap (λ q. pages_after_from (p + 1) recs end xs ++ pages_after_from q recs end ys) (omega arith))
+    ∙ ap (λ q. pages_after_from (p + 1) recs end xs ++ pages_after_from q recs end ys) (omega arith))
 
 length-pages_after_from : (p : ℕ) (recs : List Rec) (end : ℕ) (xs : List Content) → length (pages_after_from p recs end xs) ≡ length xs
 length-pages_after_from p recs end [] = refl
@@ -74,10 +74,10 @@ pages_after-more recs end start now i page new h is a =
     let new_is : new ≡ page_after i recs end x = is ∙ ap (page_after i recs end) at in
     let own : page_after (0 + length (take i start)) recs end x ≡ new = ap (λ p. page_after p recs end x) (omega arith) ∙ sym new_is in
     let more : pages_after_from 0 recs end (take (i + 1) start) ≡ front ++ new ∷ [] =
-        ap (pages_after_from 0 recs end) (take_more start i page h) ∙ pages_after_from-append 0 recs end (take i start) (x ∷ [])
-            ∙ ap (λ p. front ++ p ∷ []) own in
+    ap (pages_after_from 0 recs end) (take_more start i page h) ∙ pages_after_from-append 0 recs end (take i start) (x ∷ [])
+    ∙ ap (λ p. front ++ p ∷ []) own in
     ap (λ xs. set xs i new) now_is ∙ set_at front x rest new i len
-        ∙ sym (ap (λ xs. xs ++ rest) more ∙ append_assoc front (new ∷ []) rest)
+    ∙ sym (ap (λ xs. xs ++ rest) more ∙ append_assoc front (new ∷ []) rest)
 
 pub pages_after-all : (recs : List Rec) (end : ℕ) (start now : List Content) (i : ℕ) → length start ≤ i
     → now ≡ pages_after_from 0 recs end (take i start) ++ drop i start → now ≡ pages_after_from 0 recs end start

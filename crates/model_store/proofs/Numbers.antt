@@ -20,12 +20,12 @@ quotient-more i n = div-div-eq-div-mul n (256 ^ i) 256 ∙ ap (λ p. n / p) (sym
 pub written-more : (place : List ℕ) (i left value : ℕ) → i < length place → left ≡ value / 256 ^ i
     → drop (length place - i) place ≡ bytes_high_first i value
     → drop (length (set place (length place - 1 - i) (left % 256)) - (i + 1)) (set place (length place - 1 - i) (left % 256))
-        ≡ bytes_high_first (i + 1) value
+    ≡ bytes_high_first (i + 1) value
 written-more place i left value h q d =
     let at : length (set place (length place - 1 - i) (left % 256)) - (i + 1) ≡ length place - 1 - i =
-        omega (arith, length-set place (length place - 1 - i) (left % 256)) in
+    omega (arith, length-set place (length place - 1 - i) (left % 256)) in
     let next : length place - 1 - i + 1 ≡ length place - i = omega arith in
     let step = drop-set place (length place - 1 - i) (left % 256) (omega arith) in
     ap (λ n. drop n (set place (length place - 1 - i) (left % 256))) at ∙ step
-        ∙ ap (λ rest. left % 256 ∷ rest) (ap (λ n. drop n place) next ∙ d)
-        ∙ ap (λ x. x % 256 ∷ bytes_high_first i value) q ∙ sym (bytes_high_first-more i value)
+    ∙ ap (λ rest. left % 256 ∷ rest) (ap (λ n. drop n place) next ∙ d)
+    ∙ ap (λ x. x % 256 ∷ bytes_high_first i value) q ∙ sym (bytes_high_first-more i value)

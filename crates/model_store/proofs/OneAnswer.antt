@@ -99,7 +99,7 @@ scan-not_bad one shape image ckpt views wholes end lsn scan bad =
     let groups = subst (λ xs. AreGroupsOf shape image ckpt xs (groups_start ckpt xs) wholes end) same scan.groups in
     let from = subst (λ o. AreGroupsOf shape image ckpt bad.views o wholes end) bad.starts groups in
     let parts = same_groups one shape (data_from shape image ckpt bad.views bad.start) bad.start wholes bad.wholes from.0 bad.rest
-        from.1 bad.groups (front-no_good one shape from.0 from.2) bad.no_good in
+    from.1 bad.groups (front-no_good one shape from.0 from.2) bad.no_good in
     bad.no_rest (subst (λ rest. IsFront rest) parts.1 from.2)
 
 same_bad : OneGroup → (shape : Shape) (image : List ℕ) (ckpt m n : ℕ) → IsBadRecord shape image ckpt m → IsBadRecord shape image ckpt n → m ≡ n
@@ -168,7 +168,7 @@ by_scan : (log store : List ℕ) (shape : Shape) (number ckpt : ℕ) (views : Li
 by_scan log store shape number ckpt views wholes end o scan rest =
     let found : ScanAnswer log store shape ckpt o = inr (views, wholes, end, scan.scan, rest) in
     by_devices log store shape o scan.devices
-        (subst (λ newest. CheckpointAnswer log store shape newest o) (sym scan.checkpoint) found)
+    (subst (λ newest. CheckpointAnswer log store shape newest o) (sym scan.checkpoint) found)
 
 by_scanned : (log store : List ℕ) (shape : Shape) (end : ℕ) (o : Option Refusal)
     → IsScanned log store shape end → LostAnswer store shape end o → Answer log store o
@@ -188,11 +188,11 @@ refusal_answers log store (SmallData n) (shape, head, long, short, is) =
     by_shape log store shape (Some (SmallData n)) head (inr (long, inl (short, ap (λ k. Some (SmallData k)) is)))
 refusal_answers log store NoCheckpoint (shape, devices, none) =
     by_devices log store shape (Some NoCheckpoint) devices
-        (subst (λ newest. CheckpointAnswer log store shape newest (Some NoCheckpoint)) (sym none) refl)
+    (subst (λ newest. CheckpointAnswer log store shape newest (Some NoCheckpoint)) (sym none) refl)
 refusal_answers log store (BadRecord lsn) (shape, number, ckpt, devices, newest, bad) =
     let found : ScanAnswer log store shape ckpt (Some (BadRecord lsn)) = inl (lsn, bad, refl) in
     by_devices log store shape (Some (BadRecord lsn)) devices
-        (subst (λ o. CheckpointAnswer log store shape o (Some (BadRecord lsn))) (sym newest) found)
+    (subst (λ o. CheckpointAnswer log store shape o (Some (BadRecord lsn))) (sym newest) found)
 refusal_answers log store (PageLost p) (shape, end, scan, within, lost, below) =
     by_scanned log store shape end (Some (PageLost p)) scan (inl (p, within, lost, below, refl))
 refusal_answers log store (PageAhead p lsn) (shape, end, scan, all, within, kept, ahead, below) =
@@ -219,7 +219,7 @@ read-not_ahead log store reading reads p lsn within kept =
 reading_answers : (log store : List ℕ) (reading : Reading) → Reads log store reading → Answer log store None
 reading_answers log store reading reads =
     by_scan log store reading.shape reading.number reading.ckpt reading.views reading.wholes reading.end None reads.scan
-        (inr (read-kept log store reading reads, inr (read-not_ahead log store reading reads, refl)))
+    (inr (read-kept log store reading reads, inr (read-not_ahead log store reading reads, refl)))
 
 -- at most one refusal holds
 pub same_refusal : OneGroup → (log store : List ℕ) (first second : Refusal) → Refuses log store first → Refuses log store second → first ≡ second

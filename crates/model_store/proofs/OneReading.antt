@@ -61,7 +61,7 @@ record AreReadPages (store : List ℕ) (found : Found) (pages : List Content) : 
 same_pages : (store : List ℕ) (found : Found) (xs ys : List Content) → AreReadPages store found xs → AreReadPages store found ys → xs ≡ ys
 same_pages store found xs ys a b =
     same_places xs ys (a.count ∙ sym b.count)
-        (λ p x y i j. same_page found.shape store found.wholes found.end p x y (a.each p x i) (b.each p y j))
+    (λ p x y i j. same_page found.shape store found.wholes found.end p x y (a.each p x i) (b.each p y j))
 
 -- what is read off two devices is determined
 pub same_reading : OneGroup → (log store : List ℕ) (first second : Reading) → Reads log store first → Reads log store second → first ≡ second
@@ -71,6 +71,13 @@ same_reading one log store first second a b =
     let left : AreReadPages store (found_of first) first.pages = record { count = a.count; each = a.each } in
     let right : AreReadPages store (found_of second) second.pages = record { count = b.count; each = b.each } in
     let pages = same_pages store (found_of first) first.pages second.pages left
-        (subst (λ (f : Found). AreReadPages store f second.pages) (sym found) right) in
-    λ i. record { shape = (found i).shape; number = (found i).number; ckpt = (found i).ckpt; views = (found i).views;
-        wholes = (found i).wholes; end = (found i).end; pages = pages i }
+    (subst (λ (f : Found). AreReadPages store f second.pages) (sym found) right) in
+    λ i. record {
+      shape = (found i).shape;
+      number = (found i).number;
+      ckpt = (found i).ckpt;
+      views = (found i).views;
+      wholes = (found i).wholes;
+      end = (found i).end;
+      pages = pages i;
+    }

@@ -19,15 +19,15 @@ no_longer : (shape : Shape) (image : List ℕ) (ckpt : ℕ) (xs ys : List BlockV
 no_longer shape image ckpt xs ys p q h =
     let next = has_place ys (length xs) h in
     elim p.last [
-      inl all ↦ (let few : length ys ≤ shape.log_blocks = q.few in omega arith)
-    | inr (inl (view, i, at, is, part)) ↦
-        (let within : i < length ys = omega arith in
-        let there = has_place ys i within in
-        let first = p.each i view is in
-        let second = q.each i there.0 there.1 in
-        let full : is_full there.0 ≡ true = q.full i there.0 (omega arith) there.1 in
-        cc)
-    | inr (inr none) ↦ (let there = q.each (length xs) next.0 next.1 in cc)
+      | inl all ↦ (let few : length ys ≤ shape.log_blocks = q.few in omega arith)
+      | inr (inl (view, i, at, is, part)) ↦
+          (let within : i < length ys = omega arith in
+          let there = has_place ys i within in
+          let first = p.each i view is in
+          let second = q.each i there.0 there.1 in
+          let full : is_full there.0 ≡ true = q.full i there.0 (omega arith) there.1 in
+          cc)
+      | inr (inr none) ↦ (let there = q.each (length xs) next.0 next.1 in cc)
     ]
 
 -- the blocks that are read are determined
@@ -47,7 +47,7 @@ pub unfinished-not_whole : OneGroup → (rest : List ℕ) → IsUnfinished rest 
     → IsGroup g → rest ≡ group_text g ++ more → ⊥
 unfinished-not_whole one rest (tail, group, some, text) g more is e =
     let both : group_text group ++ [] ≡ group_text g ++ (more ++ tail) =
-        append-nil (group_text group) ∙ sym text.spelled ∙ ap (λ bytes. bytes ++ tail) e ∙ append_assoc (group_text g) more tail in
+    append-nil (group_text group) ∙ sym text.spelled ∙ ap (λ bytes. bytes ++ tail) e ∙ append_assoc (group_text g) more tail in
     let none = one group g [] (more ++ tail) text.is_group is both in
     some (nil_from_length tail (omega (arith, ap length none.1, length-append more tail)))
 
@@ -68,13 +68,13 @@ unfolding stream_of
 same_wholes one shape start [] [] rest tail e t u a b p q = (refl, e)
 same_wholes one shape start [] (v ∷ vs) rest tail e t u a b p q =
     absurd (p v.group (stream_of (groups_of vs) ++ tail) b.0
-        (e ∙ append_assoc (group_text v.group) (stream_of (groups_of vs)) tail))
+    (e ∙ append_assoc (group_text v.group) (stream_of (groups_of vs)) tail))
 same_wholes one shape start (w ∷ ws) [] rest tail e t u a b p q =
     absurd (q w.group (stream_of (groups_of ws) ++ rest) a.0
-        (sym e ∙ append_assoc (group_text w.group) (stream_of (groups_of ws)) rest))
+    (sym e ∙ append_assoc (group_text w.group) (stream_of (groups_of ws)) rest))
 same_wholes one shape start (w ∷ ws) (v ∷ vs) rest tail e t u a b p q =
     let joined = sym (append_assoc (group_text w.group) (stream_of (groups_of ws)) rest) ∙ e
-        ∙ append_assoc (group_text v.group) (stream_of (groups_of vs)) tail in
+    ∙ append_assoc (group_text v.group) (stream_of (groups_of vs)) tail in
     let front = one w.group v.group (stream_of (groups_of ws) ++ rest) (stream_of (groups_of vs) ++ tail) a.0.has_text b.0.has_text joined in
     let from : w.start ≡ v.start = t.0 ∙ sym u.0 in
     let end : w.end ≡ v.end = t.1 ∙ ap lsn_of (ap₂ ◌+◌ (ap sn_of from) (ap group_length front.0)) ∙ sym u.1 in
@@ -94,7 +94,7 @@ pub same_groups_of : OneGroup → (shape : Shape) (image : List ℕ) (ckpt : ℕ
 same_groups_of one shape image ckpt views None ws vs m n a b = (a.0 ∙ sym b.0, a.1 ∙ sym b.1)
 same_groups_of one shape image ckpt views (Some start) ws vs m n (rest, a, front, m_is) (tail, b, back, n_is) =
     let same = same_groups one shape (data_from shape image ckpt views start) start ws vs rest tail a b
-        (front-no_good one shape rest front) (front-no_good one shape tail back) in
+    (front-no_good one shape rest front) (front-no_good one shape tail back) in
     (same.0, m_is ∙ ap (end_of start) same.0 ∙ sym n_is)
 
 -- the scan of a log image is determined

@@ -26,9 +26,9 @@ each-push : (shape : Shape) (image : List ℕ) (ckpt : ℕ) (views : List BlockV
     → (i : ℕ) (found : BlockView) → slice_get (views ++ view ∷ []) i ≡ Some found → block_at shape image (lsn_at ckpt i) ≡ Some found
 each-push shape image ckpt views count view a next i found at =
     elim (push_place views view i found at) [
-      inl there ↦ a.each i found there
-    | inr (last, is) ↦ (let here : i ≡ count = omega (arith, a.many) in
-        ap (λ k. block_at shape image (lsn_at ckpt k)) here ∙ next ∙ ap (λ x. Some x) (sym is))
+      | inl there ↦ a.each i found there
+      | inr (last, is) ↦ (let here : i ≡ count = omega (arith, a.many) in
+          ap (λ k. block_at shape image (lsn_at ckpt k)) here ∙ next ∙ ap (λ x. Some x) (sym is))
     ]
 
 pub AreFullBlocks-push : (shape : Shape) (image : List ℕ) (ckpt : ℕ) (views : List BlockView) (count : ℕ) (view : BlockView)
@@ -36,9 +36,9 @@ pub AreFullBlocks-push : (shape : Shape) (image : List ℕ) (ckpt : ℕ) (views 
     → AreFullBlocks shape image ckpt (views ++ view ∷ []) (count + 1)
 AreFullBlocks-push shape image ckpt views count view a next full =
     record {
-        many = omega (arith, length_push views view, a.many);
-        each = each-push shape image ckpt views count view a next;
-        full = λ i found at. elim (push_place views view i found at) [ inl there ↦ a.full i found there | inr (last, is) ↦ ap is_full is ∙ full ]
+      many = omega (arith, length_push views view, a.many);
+      each = each-push shape image ckpt views count view a next;
+      full = λ i found at. elim (push_place views view i found at) [ inl there ↦ a.full i found there | inr (last, is) ↦ ap is_full is ∙ full ];
     }
 
 -- behind full blocks none fits
@@ -47,10 +47,10 @@ pub AreBlocks-stopped : (shape : Shape) (image : List ℕ) (ckpt : ℕ) (views :
     → AreBlocks shape image ckpt views
 AreBlocks-stopped shape image ckpt views count a few none =
     record {
-        few = omega (arith, a.many);
-        each = a.each;
-        full = λ i view h at. a.full i view at;
-        last = inr (inr (ap (λ k. block_at shape image (lsn_at ckpt k)) a.many ∙ none))
+      few = omega (arith, a.many);
+      each = a.each;
+      full = λ i view h at. a.full i view at;
+      last = inr (inr (ap (λ k. block_at shape image (lsn_at ckpt k)) a.many ∙ none));
     }
 
 -- behind full blocks comes one that isn't
@@ -59,12 +59,13 @@ pub AreBlocks-part : (shape : Shape) (image : List ℕ) (ckpt : ℕ) (views : Li
     → AreBlocks shape image ckpt (views ++ view ∷ [])
 AreBlocks-part shape image ckpt views count view a few next part =
     record {
-        few = omega (arith, length_push views view, a.many);
-        each = each-push shape image ckpt views count view a next;
-        full = λ i found h at. elim (push_place views view i found at) [
-            inl there ↦ a.full i found there
-          | inr (last, is) ↦ absurd (omega (arith, length_push views view)) ];
-        last = inr (inl (view, count, omega (arith, length_push views view, a.many), place_push views view count (sym a.many), part))
+      few = omega (arith, length_push views view, a.many);
+      each = each-push shape image ckpt views count view a next;
+      full = λ i found h at. elim (push_place views view i found at) [
+        | inl there ↦ a.full i found there
+        | inr (last, is) ↦ absurd (omega (arith, length_push views view))
+      ];
+      last = inr (inl (view, count, omega (arith, length_push views view, a.many), place_push views view count (sym a.many), part));
     }
 
 -- the blocks fill the log
@@ -72,10 +73,10 @@ pub AreBlocks-all : (shape : Shape) (image : List ℕ) (ckpt : ℕ) (views : Lis
     → AreFullBlocks shape image ckpt views count → count ≡ shape.log_blocks → AreBlocks shape image ckpt views
 AreBlocks-all shape image ckpt views count a all =
     record {
-        few = omega (arith, a.many);
-        each = a.each;
-        full = λ i view h at. a.full i view at;
-        last = inl (a.many ∙ all)
+      few = omega (arith, a.many);
+      each = a.each;
+      full = λ i view h at. a.full i view at;
+      last = inl (a.many ∙ all);
     }
 
 -- a test that gives a value passed

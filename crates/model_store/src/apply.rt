@@ -89,13 +89,7 @@ fn put_records(user: &mut [u8], number: u32, recs: &[Rec], shape: &Shape) -> boo
 
 /// Applies a group that ends at this lsn to page `number`: where one of its records is on the page, the page changes
 /// and gets that lsn.
-pub(crate) fn apply_to_page(
-    page: &mut Content,
-    number: u32,
-    group: &Group,
-    end: u64,
-    shape: &Shape,
-)
+pub(crate) fn apply_to_page(page: &mut Content, number: u32, group: &Group, end: u64, shape: &Shape)
     requires fits { GroupFits shape.now group.now }
     requires size { length page.old.user + 46 ≡ shape.now.page_size }
     ensures after { page.new ≡ page_after number group.now end page.old }

@@ -5,7 +5,7 @@ use Rattle.model_base.specs.declared.limits.TheConstants.{BLOCK_SIZE}
 use Rattle.model_base.specs.Limits.{default_shape}
 use Rattle.model_device.specs.Disk.{HasOneImage}
 use Rattle.model_device.specs.Valid.{IsValid}
-use Rattle.model_device.specs.Calls.{last_count}
+use Rattle.model_base.specs.Count.{last_count}
 use Rattle.model_page.specs.declared.content.Content.{Content}
 use Rattle.model_store.specs.Apply.{blank_pages}
 use Rattle.model_store.specs.Fair.{IsFair}

@@ -1,5 +1,4 @@
 use Rattle.std.proofs.Common.{refl, ap, ◌∙◌, arith}
-use Rattle.std.specs.Int.{bytes_high_first}
 use Rattle.model_number.specs.Crc32c.{crc_of}
 use Rattle.model_log.proofs.Seals.{with_checksum-by_steps}
 use Rattle.model_log.proofs.seal.sealed.Goals as goal

@@ -6,7 +6,7 @@ use Rattle.model_store.proofs.apply.apply_group.Goals as goal
 pub loop-number-preserved : goal.loop-number-preserved
 loop-number-preserved c =
     pages_after-more c.args.group.now c.args.end c.args.pages.now c.loop-number.pages c.loop-number.number c.index-pages-number.result c.apply_to_page.new.page
-        (omega arith) c.apply_to_page.ensures.after c.loop-number.invariant
+    (omega arith) c.apply_to_page.ensures.after c.loop-number.invariant
 
 pub returns : goal.returns
 unfolding applied
