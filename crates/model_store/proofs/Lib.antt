@@ -2,6 +2,7 @@ pub mod Applying
 pub mod Grouping
 pub mod Numbers
 pub mod Offsets
+pub mod Paging
 pub mod Places
 pub mod Scanning
 pub mod OneScan

@@ -1,5 +1,6 @@
 pub mod Apply
 pub mod Fair
 pub mod Groups
+pub mod Pages
 pub mod Reading
 pub mod Scan

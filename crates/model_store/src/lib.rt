@@ -6,6 +6,7 @@ mod apply;
 mod blocks;
 mod groups;
 mod laws;
+mod pages;
 mod refusal;
 mod scan;
 
