@@ -4,7 +4,9 @@ use Rattle.model_base.specs.declared.shape.Shape.{Shape}
 use Rattle.model_record.specs.declared.group.Whole.{Whole}
 use Rattle.model_page.specs.Copies.{IsKept, IsLost}
 use Rattle.model_page.specs.declared.content.Content.{Content}
-use Rattle.model_store.specs.Reading.{AreKeptBelow, IsReadPage, replayed}
+use Rattle.model_store.specs.Reading.{AreKeptBelow, AreNotAheadBelow, IsKeptAt, IsReadPage, replayed}
+use Rattle.model_store.specs.declared.refusal.Refusal.{Refusal}
+use Rattle.model_store.specs.declared.refusal.Refusal.TheVariants.{PageLost, PageAhead}
 
 -- the pages of the store as they are kept
 pub record AreKept (shape : Shape) (store : List ℕ) (pages : List Content) : Type 0 where
@@ -39,3 +41,11 @@ pub record AreReplayed (wholes : List Whole) (old new : List Content) : Type 0 w
 pub record AreReadPages (shape : Shape) (store : List ℕ) (wholes : List Whole) (end : ℕ) (pages : List Content) : Type 0 where
   pub count : length pages ≡ shape.pages
   pub each : (p : ℕ) (page : Content) → slice_get pages p ≡ Some page → IsReadPage shape store wholes end p page
+
+-- why the pages of a store aren't read whose log ends there
+abbrev pub RefusesPages : Shape → List ℕ → ℕ → Refusal → Type 0
+RefusesPages shape store end (PageLost p) = IsFirstLost shape store p
+RefusesPages shape store end (PageAhead p lsn) =
+    AreKeptBelow shape store shape.pages
+    × (p < shape.pages) × IsKeptAt shape store p lsn × (end < lsn) × AreNotAheadBelow shape store end p
+RefusesPages shape store end _ = ⊥
