@@ -6,6 +6,7 @@
 mod apply;
 mod blocks;
 mod devices;
+mod fair;
 mod groups;
 mod laws;
 mod pages;
@@ -15,6 +16,7 @@ mod scan;
 
 pub use apply::apply_group;
 pub use blocks::scan_blocks;
+pub use fair::is_fair;
 pub use groups::scan_groups;
 pub use laws::{one_answer, one_reading};
 pub use reading::{Read, read_store};
