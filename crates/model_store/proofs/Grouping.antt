@@ -23,20 +23,22 @@ begins-split bytes text len e = sym (take-append-drop len bytes) ∙ ap (λ fron
 pub unfit-gives_bad : OneGroup → (shape : Shape) (bytes : List ℕ) (group : List Rec) (len : ℕ) → BeginsWithGroup bytes group len
     → (GroupFits shape group → ⊥) → GivesGood shape bytes Bad
 unfit-gives_bad one shape bytes group len begins unfit =
-    let split = begins-split bytes (group_text group) len begins.2.spelled in
-    (λ other more good e. (
-        let same = one group other (drop len bytes) more begins.2.is_group good.has_text (sym split ∙ e) in
-        unfit (subst (λ g. GroupFits shape g) (sym same.0) good.fits)),
-     λ front. unfinished-not_whole one bytes front.1 group (drop len bytes) begins.2.is_group split)
+    let split = begins-split bytes (group_text group) len begins.2.spelled in (
+      λ other more good e. (
+          let same = one group other (drop len bytes) more begins.2.is_group good.has_text (sym split ∙ e) in
+          unfit (subst (λ g. GroupFits shape g) (sym same.0) good.fits)),
+      λ front. unfinished-not_whole one bytes front.1 group (drop len bytes) begins.2.is_group split,
+    )
 
 -- nor where none begins at all
 pub bad-gives_bad : (shape : Shape) (bytes : List ℕ) → GivesGroup bytes Bad → GivesGood shape bytes Bad
-bad-gives_bad shape bytes bad =
-    (λ group more good e. (
-        let len : group_length group ≤ length bytes = omega (arith, ap length e, length-append (group_text group) more) in
-        let front = ap (take (group_length group)) e ∙ take_at (group_text group) more (group_length group) refl in
-        bad.0 group (group_length group) (len, good.short, record { is_group = good.has_text; spelled = front })),
-     bad.1)
+bad-gives_bad shape bytes bad = (
+  λ group more good e. (
+      let len : group_length group ≤ length bytes = omega (arith, ap length e, length-append (group_text group) more) in
+      let front = ap (take (group_length group)) e ∙ take_at (group_text group) more (group_length group) refl in
+      bad.0 group (group_length group) (len, good.short, record { is_group = good.has_text; spelled = front })),
+  bad.1,
+)
 
 groups_of-push : (ws : List Whole) (w : Whole) → groups_of (ws ++ w ∷ []) ≡ groups_of ws ++ w.group ∷ []
 groups_of-push [] w = refl
@@ -66,11 +68,11 @@ AreGroups-push : (shape : Shape) (bytes : List ℕ) (start : ℕ) (ws : List Who
     → w.end ≡ lsn_of (sn_of w.start + group_length w.group) → AreGroups shape bytes start (ws ++ w ∷ []) more
 AreGroups-push shape bytes start ws w rest more a split good from to =
     record {
-        bytes_are = a.bytes_are ∙ ap (λ t. stream_of (groups_of ws) ++ t) split
-            ∙ sym (append_assoc (stream_of (groups_of ws)) (group_text w.group) more)
-            ∙ ap (λ t. t ++ more) (sym (stream_of-push (groups_of ws) w.group) ∙ ap stream_of (sym (groups_of-push ws w)));
-        tiled = IsTiled-push start ws w a.tiled from to;
-        each = subst (λ gs. AllByRecursion (IsGood shape) gs) (sym (groups_of-push ws w)) (all-push (IsGood shape) (groups_of ws) w.group a.each good)
+      bytes_are = a.bytes_are ∙ ap (λ t. stream_of (groups_of ws) ++ t) split
+          ∙ sym (append_assoc (stream_of (groups_of ws)) (group_text w.group) more)
+          ∙ ap (λ t. t ++ more) (sym (stream_of-push (groups_of ws) w.group) ∙ ap stream_of (sym (groups_of-push ws w)));
+      tiled = IsTiled-push start ws w a.tiled from to;
+      each = subst (λ gs. AllByRecursion (IsGood shape) gs) (sym (groups_of-push ws w)) (all-push (IsGood shape) (groups_of ws) w.group a.each good);
     }
 
 -- groups that are read, where the last of them ends, and what is left, whose lsns have room
@@ -87,15 +89,15 @@ AreGroupsSoFar-none shape bytes start =
 one_more : ((n : ℕ) → sn_of (lsn_of n) ≡ n) → (shape : Shape) (bytes : List ℕ) (start : ℕ) (wholes : List Whole) (end : ℕ) (rest : List ℕ) (group : List Rec) (len : ℕ)
     → AreGroupsSoFar shape bytes start wholes end rest → IsGood shape group → len ≤ length rest → take len rest ≡ group_text group
     → AreGroupsSoFar shape bytes start (wholes ++ record { group = group; start = end; end = lsn_of (sn_of end + len) } ∷ [])
-        (lsn_of (sn_of end + len)) (drop len rest)
+    (lsn_of (sn_of end + len)) (drop len rest)
 one_more back shape bytes start wholes end rest group len a good fits text =
     let w : Whole = record { group = group; start = end; end = lsn_of (sn_of end + len) } in
     let len_is : len ≡ group_length group = sym (length-take-le len rest fits) ∙ ap length text in
     record {
-        groups = AreGroups-push shape bytes start wholes w rest (drop len rest) a.groups (begins-split rest (group_text group) len text) good a.at
-            (ap (λ n. lsn_of (sn_of end + n)) len_is);
-        at = sym (end_of-push start wholes w);
-        room = omega (arith, back (sn_of end + len), length-drop len rest, a.room)
+      groups = AreGroups-push shape bytes start wholes w rest (drop len rest) a.groups (begins-split rest (group_text group) len text) good a.at
+          (ap (λ n. lsn_of (sn_of end + n)) len_is);
+      at = sym (end_of-push start wholes w);
+      room = omega (arith, back (sn_of end + len), length-drop len rest, a.room);
     }
 
 pub AreGroupsSoFar-push : ((n : ℕ) → sn_of (lsn_of n) ≡ n) → (shape : Shape) (bytes : List ℕ) (start : ℕ) (wholes : List Whole) (end : ℕ) (rest : List ℕ) (group : List Rec) (len : ℕ)
@@ -105,10 +107,10 @@ pub AreGroupsSoFar-push : ((n : ℕ) → sn_of (lsn_of n) ≡ n) → (shape : Sh
 AreGroupsSoFar-push back shape bytes start wholes end rest group len a (good, fits, text) all next more all_is next_is more_is =
     let pushed = one_more back shape bytes start wholes end rest group len a good fits text in
     let all_are : all ≡ wholes ++ record { group = group; start = end; end = lsn_of (sn_of end + len) } ∷ [] =
-        all_is ∙ ap (λ n. wholes ++ record { group = group; start = end; end = n } ∷ []) next_is in
+    all_is ∙ ap (λ n. wholes ++ record { group = group; start = end; end = n } ∷ []) next_is in
     subst (λ ws. AreGroupsSoFar shape bytes start ws next more) (sym all_are)
-        (subst (λ n. AreGroupsSoFar shape bytes start (wholes ++ record { group = group; start = end; end = lsn_of (sn_of end + len) } ∷ []) n more) (sym next_is)
-            (subst (λ t. AreGroupsSoFar shape bytes start (wholes ++ record { group = group; start = end; end = lsn_of (sn_of end + len) } ∷ []) (lsn_of (sn_of end + len)) t) (sym more_is) pushed))
+    (subst (λ n. AreGroupsSoFar shape bytes start (wholes ++ record { group = group; start = end; end = lsn_of (sn_of end + len) } ∷ []) n more) (sym next_is)
+    (subst (λ t. AreGroupsSoFar shape bytes start (wholes ++ record { group = group; start = end; end = lsn_of (sn_of end + len) } ∷ []) (lsn_of (sn_of end + len)) t) (sym more_is) pushed))
 
 -- a group's text has a byte
 pub group_text-some : (group : List Rec) → group ≢ [] → 1 ≤ length (group_text group)

@@ -19,7 +19,8 @@ limits_hold shape good = record {
   few_pages = grind (arith, nat_tests);
   many_blocks = grind (arith, nat_tests);
   few_blocks = grind (arith, nat_tests);
-  slots = grind (arith, nat_tests) }
+  slots = grind (arith, nat_tests);
+}
 
 -- what is good passed every test
 good_parts : (sum format start limits : Bool) (n : ℕ) (found shape : Shape)
@@ -53,8 +54,8 @@ unfolding read_checkpoint
 read_checkpoint-bounds which shape bytes found e =
     let parts = tested (is_checkpoint which shape bytes) (field 8 0 bytes, field 8 8 bytes) found e in
     subst (λ (pair : ℕ × ℕ). (pair.1 % 512 ≡ 0) × (8192 ≤ pair.1) × (pair.1 < 2 ^ 60)) parts.1
-        (checkpoint_parts (fits_checksum bytes) (eqb (place_of (field 8 0 bytes)) which) (field 8 8 bytes)
-            (eqb (field 8 16 bytes) (offset_of (field 8 8 bytes) shape.log_blocks)) parts.0)
+    (checkpoint_parts (fits_checksum bytes) (eqb (place_of (field 8 0 bytes)) which) (field 8 8 bytes)
+    (eqb (field 8 16 bytes) (offset_of (field 8 8 bytes) shape.log_blocks)) parts.0)
 
 one_of_newer : (a b : Option (ℕ × ℕ)) (x : ℕ × ℕ) → newer a b ≡ Some x → (a ≡ Some x) ⊎ (b ≡ Some x)
 one_of_newer None b x e = inr e
@@ -70,6 +71,6 @@ pub checkpoint-bounds : (shape : Shape) (image : List ℕ) (number ckpt : ℕ) �
     → (ckpt % 512 ≡ 0) × (8192 ≤ ckpt) × (ckpt < 2 ^ 60)
 checkpoint-bounds shape image number ckpt e =
     elim (one_of_newer (read_checkpoint 1 shape (header_block 1 image)) (read_checkpoint 3 shape (header_block 3 image)) (number, ckpt) e) [
-      inl first ↦ read_checkpoint-bounds 1 shape (header_block 1 image) (number, ckpt) first
-    | inr second ↦ read_checkpoint-bounds 3 shape (header_block 3 image) (number, ckpt) second
+      | inl first ↦ read_checkpoint-bounds 1 shape (header_block 1 image) (number, ckpt) first
+      | inr second ↦ read_checkpoint-bounds 3 shape (header_block 3 image) (number, ckpt) second
     ]

@@ -42,9 +42,9 @@ pub first_lost : (shape : Shape) (store : List ℕ) (pages : List Content) (coun
     → count < shape.pages → IsLost shape store count → IsFirstLost shape store count
 first_lost shape store pages count a below lost =
     record {
-        below = below;
-        lost = lost;
-        kept = λ p h. (let page = has_place pages p (omega (arith, a.many)) in kept-at shape store p page.0 (a.each p page.0 page.1))
+      below = below;
+      lost = lost;
+      kept = λ p h. (let page = has_place pages p (omega (arith, a.many)) in kept-at shape store p page.0 (a.each p page.0 page.1));
     }
 
 -- or one more that is kept
@@ -52,11 +52,12 @@ pub AreKeptFirst-push : (shape : Shape) (store : List ℕ) (pages : List Content
     → IsKept shape store count page → AreKeptFirst shape store (pages ++ page ∷ []) (count + 1)
 AreKeptFirst-push shape store pages count page a kept =
     record {
-        many = omega (arith, length_push pages page, a.many);
-        each = λ p found at. elim (push_place pages page p found at) [
-            inl there ↦ a.each p found there
-          | inr (last, is) ↦ (let here : p ≡ count = last ∙ a.many in
-                subst (λ q. IsKept shape store q found) (sym here) (subst (λ (c : Content). IsKept shape store count c) (sym is) kept)) ]
+      many = omega (arith, length_push pages page, a.many);
+      each = λ p found at. elim (push_place pages page p found at) [
+        | inl there ↦ a.each p found there
+        | inr (last, is) ↦ (let here : p ≡ count = last ∙ a.many in
+            subst (λ q. IsKept shape store q found) (sym here) (subst (λ (c : Content). IsKept shape store count c) (sym is) kept))
+      ];
     }
 
 -- the user bytes of a stretch of the data device
@@ -82,31 +83,32 @@ pub kept-sizes : (shape : Shape) (store : List ℕ) (pages now : List Content) �
     → AreKept shape store pages → now ≡ pages → All (λ page. length page.user + 46 ≡ shape.page_size) now
 kept-sizes shape store pages now limits long a same =
     subst (λ xs. All (λ page. length page.user + 46 ≡ shape.page_size) xs) (sym same)
-        (λ k d h. kept-size shape store k (get_or pages k d) limits long (omega (arith, a.count)) (a.each k (get_or pages k d) (slice_get-get_or pages k d h)))
+    (λ k d h. kept-size shape store k (get_or pages k d) limits long (omega (arith, a.count)) (a.each k (get_or pages k d) (slice_get-get_or pages k d h)))
 
 -- kept pages of which one is ahead aren't read
 pub ahead-refused : (shape : Shape) (store : List ℕ) (pages now : List Content) (end p lsn : ℕ) → AreKept shape store pages → now ≡ pages
     → IsFirstAhead now end p lsn → RefusesPages shape store end (PageAhead p lsn)
 ahead-refused shape store pages now end p lsn a same ahead =
     let first : IsFirstAhead pages end p lsn = subst (λ xs. IsFirstAhead xs end p lsn) same ahead in
-    let within : p < length pages = slice_get_within pages p first.page first.at in
-    (all_kept shape store pages a,
-     omega (arith, a.count),
-     record { kept = first.page; is_kept = a.each p first.page first.at; same = first.same },
-     first.ahead,
-     λ q other h kept. (
-        let page = has_place pages q (omega arith) in
-        let fine : page.0.lsn ≤ end = first.first q page.0 h page.1 in
-        let one = same_kept shape store q kept.kept page.0 kept.is_kept (a.each q page.0 page.1) in
-        omega (arith, kept.same, ap (λ (c : Content). c.lsn) one)))
+    let within : p < length pages = slice_get_within pages p first.page first.at in (
+      all_kept shape store pages a,
+      omega (arith, a.count),
+      record { kept = first.page; is_kept = a.each p first.page first.at; same = first.same },
+      first.ahead,
+      λ q other h kept. (
+          let page = has_place pages q (omega arith) in
+          let fine : page.0.lsn ≤ end = first.first q page.0 h page.1 in
+          let one = same_kept shape store q kept.kept page.0 kept.is_kept (a.each q page.0 page.1) in
+          omega (arith, kept.same, ap (λ (c : Content). c.lsn) one)),
+    )
 
 -- those of which none is ahead are, once the groups are applied
 pub pages-read : (shape : Shape) (store : List ℕ) (wholes : List Whole) (end : ℕ) (pages : List Content) → AreKept shape store pages
     → AreNotAhead pages end → (new : List Content) → AreReplayed wholes pages new → AreReadPages shape store wholes end new
 pages-read shape store wholes end pages a fine new replay =
     record {
-        count = replay.count ∙ a.count;
-        each = λ p page at. (
-            let from = replay.each p page at in
-            record { kept = from.0; is_kept = a.each p from.0 from.1; not_ahead = fine p from.0 from.1; replay = from.2 })
+      count = replay.count ∙ a.count;
+      each = λ p page at. (
+          let from = replay.each p page at in
+          record { kept = from.0; is_kept = a.each p from.0 from.1; not_ahead = fine p from.0 from.1; replay = from.2 });
     }

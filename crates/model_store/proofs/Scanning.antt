@@ -97,7 +97,7 @@ view-bounds : (lsn : ℕ) (bytes : List ℕ) → is_block_at lsn bytes ≡ true 
 unfolding is_block_at
 view-bounds lsn bytes h =
     length_bounds (view_of bytes).length (second_true (fits_number lsn bytes) (is_length (view_of bytes).length)
-        (is_first (view_of bytes).length (view_of bytes).first) (fits_checksum bytes) h)
+    (is_first (view_of bytes).length (view_of bytes).first) (fits_checksum bytes) h)
 
 pub block_at-bounds : (shape : Shape) (image : List ℕ) (lsn : ℕ) (view : BlockView) → block_at shape image lsn ≡ Some view
     → (12 ≤ view.length) × (view.length ≤ 512)

@@ -21,3 +21,6 @@ pub use groups::scan_groups;
 pub use laws::{one_answer, one_reading};
 pub use reading::{Read, read_store};
 pub use refusal::Refusal;
+
+#[cfg(test)]
+mod tests;

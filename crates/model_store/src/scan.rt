@@ -51,7 +51,12 @@ pub(crate) fn scan_log(
         return Ok(Ok(Scanned { views, groups, end }));
     };
     let bytes = joined(alloc, image, shape, ckpt, views.as_slice())?;
-    match scan_groups(alloc, data_from(bytes.as_slice(), ckpt, start), start, shape)? {
+    match scan_groups(
+        alloc,
+        data_from(bytes.as_slice(), ckpt, start),
+        start,
+        shape,
+    )? {
         Ok((groups, end)) => Ok(Ok(Scanned { views, groups, end })),
         Err(lsn) => Ok(Err(lsn)),
     }

@@ -8,4 +8,4 @@ use Rattle.model_store.proofs.fair.is_fair.Given as goal
 abbrev pub invariant-loop-n : goal.invariant-loop-n
 invariant-loop-n l =
     (k : ℕ) → k < l.n → (page_check (stretch_at l.shape k l.image) ≡ Broken → ⊥)
-        → IsWholeContent l.shape (record { base = l.base; writes = l.writes; reads = l.base }) k (stretch_at l.shape k l.image)
+    → IsWholeContent l.shape (record { base = l.base; writes = l.writes; reads = l.base }) k (stretch_at l.shape k l.image)

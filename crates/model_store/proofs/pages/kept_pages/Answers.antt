@@ -17,4 +17,4 @@ loop-number-preserved c =
     let store = c.args.store.now in
     let found = subst (λ o. MatchOption o (IsLost shape store c.loop-number.number) (λ kept. IsKept shape store c.loop-number.number kept)) c.in-Some.is c.in_ok-page.ensures in
     subst (λ pages. AreKeptFirst shape store pages (c.loop-number.number + 1)) (sym c.in_ok-push-in-Some.ensures.items)
-        (AreKeptFirst-push shape store c.loop-number.pages.items c.loop-number.number c.in-Some.page c.loop-number.invariant found)
+    (AreKeptFirst-push shape store c.loop-number.pages.items c.loop-number.number c.in-Some.page c.loop-number.invariant found)

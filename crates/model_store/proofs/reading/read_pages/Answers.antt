@@ -8,7 +8,7 @@ pub returns-in-Some : goal.returns-in-Some
 returns-in-Some c =
     let kept = subst (λ r. MatchResult r (λ pages. AreKept c.args.shape.now c.args.store.now pages.items) (λ number. IsFirstLost c.args.shape.now c.args.store.now number)) c.in-Ok.is c.in_ok-pages.ensures in
     ahead-refused c.args.shape.now c.args.store.now c.in-Ok.pages.items c.as_slice.result.now c.args.end c.in-Some.number c.in-Some.lsn kept
-        c.as_slice.ensures.value c.in-Some.ensures
+    c.as_slice.ensures.value c.in-Some.ensures
 
 pub replay_pages-requires-clause-sizes : goal.replay_pages-requires-clause-sizes
 replay_pages-requires-clause-sizes c =
@@ -21,6 +21,6 @@ returns c =
     let fine = subst (λ pages. AreNotAhead pages c.args.end) c.as_slice.ensures.value c.in_default.ensures in
     let replay = subst (λ old. AreReplayed c.args.groups.now old c.replay_pages.new.pages) c.as_mut_slice.ensures.value c.replay_pages.ensures in
     let all = take_at c.replay_pages.new.pages (drop (length c.replay_pages.new.pages) c.in-Ok.pages.items) c.in-Ok.pages.len
-        (c.replay_pages.auto.pages ∙ c.as_mut_slice.ensures.len) in
+    (c.replay_pages.auto.pages ∙ c.as_mut_slice.ensures.len) in
     subst (λ pages. AreReadPages c.args.shape.now c.args.store.now c.args.groups.now c.args.end pages) (sym all)
-        (pages-read c.args.shape.now c.args.store.now c.args.groups.now c.args.end c.in-Ok.pages.items kept fine c.replay_pages.new.pages replay)
+    (pages-read c.args.shape.now c.args.store.now c.args.groups.now c.args.end c.in-Ok.pages.items kept fine c.replay_pages.new.pages replay)

@@ -20,22 +20,22 @@ scan_log-requires-clause-small c =
 pub returns-in-Err-2 : goal.returns-in-Err-2
 returns-in-Err-2 c =
     let bad = subst (λ r. MatchResult r (λ scanned. IsScan c.in-Ok.shape c.args.log.now c.in-Some.ckpt scanned.views.items scanned.groups.items scanned.end)
-        (λ lsn. IsBadRecord c.in-Ok.shape c.args.log.now c.in-Some.ckpt lsn)) c.in-Err-2.is c.in_ok-scanned.ensures in
+    (λ lsn. IsBadRecord c.in-Ok.shape c.args.log.now c.in-Some.ckpt lsn)) c.in-Err-2.is c.in_ok-scanned.ensures in
     (c.in-Ok.shape, c.in-Some.number, c.in-Some.ckpt, c.in-Ok.ensures.devices, sym c.newest_checkpoint.ensures ∙ c.in-Some.is, bad)
 
 pub read_pages-requires-clause-fit : goal.read_pages-requires-clause-fit
 read_pages-requires-clause-fit c =
     let scan = subst (λ r. MatchResult r (λ scanned. IsScan c.in-Ok.shape c.args.log.now c.in-Some.ckpt scanned.views.items scanned.groups.items scanned.end)
-        (λ lsn. IsBadRecord c.in-Ok.shape c.args.log.now c.in-Some.ckpt lsn)) c.in-Ok-2.is c.in_ok-scanned.ensures in
+    (λ lsn. IsBadRecord c.in-Ok.shape c.args.log.now c.in-Some.ckpt lsn)) c.in-Ok-2.is c.in_ok-scanned.ensures in
     scan-fit c.in-Ok.shape c.args.log.now c.in-Some.ckpt c.in-Ok-2.scanned.views.items c.in-Ok-2.scanned.groups.items c.as_slice.result.now
-        c.in-Ok-2.scanned.end scan c.as_slice.ensures.value
+    c.in-Ok-2.scanned.end scan c.as_slice.ensures.value
 
 pub returns-in-Err-3 : goal.returns-in-Err-3
 returns-in-Err-3 c =
     let scan = subst (λ r. MatchResult r (λ scanned. IsScan c.in-Ok.shape c.args.log.now c.in-Some.ckpt scanned.views.items scanned.groups.items scanned.end)
-        (λ lsn. IsBadRecord c.in-Ok.shape c.args.log.now c.in-Some.ckpt lsn)) c.in-Ok-2.is c.in_ok-scanned.ensures in
+    (λ lsn. IsBadRecord c.in-Ok.shape c.args.log.now c.in-Some.ckpt lsn)) c.in-Ok-2.is c.in_ok-scanned.ensures in
     let pages = subst (λ r. MatchResult r (λ pages. AreReadPages c.in-Ok.shape c.args.store.now c.as_slice.result.now c.in-Ok-2.scanned.end pages.items)
-        (λ refusal. RefusesPages c.in-Ok.shape c.args.store.now c.in-Ok-2.scanned.end refusal)) c.in-Err-3.is c.in_ok-pages.ensures in
+    (λ refusal. RefusesPages c.in-Ok.shape c.args.store.now c.in-Ok-2.scanned.end refusal)) c.in-Err-3.is c.in_ok-pages.ensures in
     pages-refused c.args.log.now c.args.store.now c.in-Ok.shape c.in-Some.number c.in-Some.ckpt c.in-Ok-2.scanned.views.items
-        c.in-Ok-2.scanned.groups.items c.in-Ok-2.scanned.end c.in-Err-3.refusal
-        (record { devices = c.in-Ok.ensures.devices; checkpoint = sym c.newest_checkpoint.ensures ∙ c.in-Some.is; scan = scan }) pages
+    c.in-Ok-2.scanned.groups.items c.in-Ok-2.scanned.end c.in-Err-3.refusal
+    (record { devices = c.in-Ok.ensures.devices; checkpoint = sym c.newest_checkpoint.ensures ∙ c.in-Some.is; scan = scan }) pages
