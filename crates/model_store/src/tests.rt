@@ -101,7 +101,7 @@ fn log_without_start(alloc: Global) -> Result<Vec<u8>, AllocError> {
 
 /// The bytes of page 5 with this lsn.
 fn page_at(alloc: Global, lsn: u64) -> Result<Vec<u8>, AllocError> {
-    let user = zeros(alloc, 4050)?;
+    let user = vec![in alloc; 3; 4050]?;
     page_bytes(alloc, 5, 1, lsn, &user)
 }
 
@@ -146,12 +146,36 @@ fn read_devices(alloc: Global, devices: Devices) -> Result<Outcome, AllocError> 
 #[test]
 fn reads_or_refuses(rt: HostRuntime) -> Result<(), Fail> {
     for (devices, want) in [
-        (Devices::OneGroup, Outcome::Read { groups: 1, end: 8210 }),
-        (Devices::WrongLength, Outcome::Read { groups: 0, end: 8204 }),
-        (Devices::WrongType, Outcome::Refused(Refusal::BadRecord(8204))),
-        (Devices::NoStart, Outcome::Read { groups: 0, end: 9228 }),
+        (
+            Devices::OneGroup,
+            Outcome::Read {
+                groups: 1,
+                end: 8210,
+            },
+        ),
+        (
+            Devices::WrongLength,
+            Outcome::Read {
+                groups: 0,
+                end: 8204,
+            },
+        ),
+        (
+            Devices::WrongType,
+            Outcome::Refused(Refusal::BadRecord(8204)),
+        ),
+        (
+            Devices::NoStart,
+            Outcome::Read {
+                groups: 0,
+                end: 9228,
+            },
+        ),
         (Devices::Zeros, Outcome::Refused(Refusal::NotFormatted)),
-        (Devices::Copies, Outcome::Refused(Refusal::PageAhead(5, 9000))),
+        (
+            Devices::Copies,
+            Outcome::Refused(Refusal::PageAhead(5, 9000)),
+        ),
     ] {
         assert_eq!(rt; read_devices(rt.alloc(), devices)?, want, "{devices:?}");
     }
@@ -168,7 +192,11 @@ fn reads_a_page(rt: HostRuntime) -> Result<(), Fail> {
     for (number, page) in read.pages.iter().enumerate() {
         let (lsn, byte) = if number == 3 { (8210, 7) } else { (0, 0) };
         assert_eq!(rt; page.lsn, lsn, "page {number}");
-        assert_eq!(rt; page.user.as_slice().get(62).copied(), Some(byte), "page {number}");
+        assert_eq!(rt;
+            page.user.as_slice().get(62).copied(),
+            Some(byte),
+            "page {number}"
+        );
     }
     Ok(())
 }
@@ -230,9 +258,26 @@ fn applies_a_group(rt: HostRuntime) -> Result<(), Fail> {
     let pages = two_pages_after(rt.alloc())?;
     assert_eq!(rt; pages.len(), 2);
     assert_eq!(rt; (pages[0].lsn, pages[1].lsn), (90, 9000));
-    for (at, byte) in [(0, 0), (1, 0), (2, 3), (3, 4), (4, 0), (4047, 0), (4048, 1), (4049, 2)] {
-        assert_eq!(rt; pages[0].user.as_slice().get(at).copied(), Some(5), "at {at}");
-        assert_eq!(rt; pages[1].user.as_slice().get(at).copied(), Some(byte), "at {at}");
+    for (at, byte) in [
+        (0, 0),
+        (1, 0),
+        (2, 3),
+        (3, 4),
+        (4, 0),
+        (4047, 0),
+        (4048, 1),
+        (4049, 2),
+    ] {
+        assert_eq!(rt;
+            pages[0].user.as_slice().get(at).copied(),
+            Some(5),
+            "at {at}"
+        );
+        assert_eq!(rt;
+            pages[1].user.as_slice().get(at).copied(),
+            Some(byte),
+            "at {at}"
+        );
     }
     Ok(())
 }
@@ -248,5 +293,52 @@ fn scans_a_log(rt: HostRuntime) -> Result<(), Fail> {
         .ok()
         .ok_or("a bad group")?;
     assert_eq!(rt; (groups.len(), end), (1, 8210));
+    Ok(())
+}
+
+/// Two writes to the place of page 5: the first half of a page, and then the second half behind zeros.
+fn torn_writes(alloc: Global) -> Result<Vec<Write>, AllocError>
+    ensures { IfOk result (λ writes. AreWithin STORE writes.items) }
+{
+    let mut first = page_at(alloc, 9000)?;
+    first.truncate(2048);
+    let mut second = page_at(alloc, 9000)?;
+    second.truncate(4096);
+    put(&mut second, 0, &zeros(alloc, 2048)?);
+    let mut writes = Vec::new(alloc);
+    writes.push(Write {
+        at: PLACE as u64,
+        bytes: Bytes::new(first),
+    })?;
+    writes.push(Write {
+        at: PLACE as u64,
+        bytes: Bytes::new(second),
+    })?;
+    Ok(writes)
+}
+
+/// Whether it is fair that those writes to a blank device leave so many bytes of the page in its place.
+fn may_leave(alloc: Global, count: usize) -> Result<bool, AllocError> {
+    let base = zeros(alloc, STORE)?;
+    let writes = torn_writes(alloc)?;
+    let mut page = page_at(alloc, 9000)?;
+    page.truncate(count);
+    let mut image = zeros(alloc, STORE)?;
+    put(&mut image, PLACE as u32, &page);
+    is_fair(alloc, &base, &writes, &image, &Shape::default_shape())
+}
+
+#[test]
+fn tells_a_fair_image(rt: HostRuntime) -> Result<(), Fail> {
+    // Nothing; a sector; less than one; the first write; and the whole page, which never stood there.
+    for (count, want) in [
+        (0, true),
+        (512, true),
+        (100, false),
+        (2048, true),
+        (4096, false),
+    ] {
+        assert_eq!(rt; may_leave(rt.alloc(), count)?, want, "{count} bytes");
+    }
     Ok(())
 }
