@@ -2,7 +2,6 @@ pub mod Applying
 pub mod Grouping
 pub mod Heads
 pub mod Numbers
-pub mod Offsets
 pub mod Paging
 pub mod Places
 pub mod Refusing

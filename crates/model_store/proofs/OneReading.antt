@@ -8,6 +8,7 @@ use Rattle.model_log.specs.Device.{newest_checkpoint}
 use Rattle.model_page.specs.declared.content.Content.{Content}
 use Rattle.model_store.specs.Scan.{IsScan}
 use Rattle.model_store.specs.Reading.{Reading, Reads, HasScan, HasHead, IsReadPage, replayed}
+use Rattle.model_store.specs.Pages.{AreReadPages}
 use Rattle.model_store.proofs.Places.{same_places, same_some}
 use Rattle.model_store.proofs.OneScan.{OneGroup, same_scan}
 use Rattle.model_store.proofs.OneKept.{same_kept}
@@ -48,17 +49,16 @@ same_found one log store a b x y =
     let same = same_scan one a.shape log a.ckpt a.views b.views a.wholes b.wholes a.end b.end x.scan scan in
     λ i. record { shape = shape i; number = number i; ckpt = ckpt i; views = same.0 i; wholes = same.1 i; end = same.2 i }
 
--- what a reading found, and its pages
+-- what a reading found
 abbrev found_of : Reading → Found
 found_of reading = record { shape = reading.shape; number = reading.number; ckpt = reading.ckpt; views = reading.views; wholes = reading.wholes; end = reading.end }
 
--- the pages that are read for what was found
-record AreReadPages (store : List ℕ) (found : Found) (pages : List Content) : Type 0 where
-  count : length pages ≡ found.shape.pages
-  each : (p : ℕ) (page : Content) → slice_get pages p ≡ Some page → IsReadPage found.shape store found.wholes found.end p page
+-- the pages that are read for it
+abbrev AreFoundPages : List ℕ → Found → List Content → Type 0
+AreFoundPages store found pages = AreReadPages found.shape store found.wholes found.end pages
 
 -- they are determined
-same_pages : (store : List ℕ) (found : Found) (xs ys : List Content) → AreReadPages store found xs → AreReadPages store found ys → xs ≡ ys
+same_pages : (store : List ℕ) (found : Found) (xs ys : List Content) → AreFoundPages store found xs → AreFoundPages store found ys → xs ≡ ys
 same_pages store found xs ys a b =
     same_places xs ys (a.count ∙ sym b.count)
     (λ p x y i j. same_page found.shape store found.wholes found.end p x y (a.each p x i) (b.each p y j))
@@ -68,10 +68,10 @@ pub same_reading : OneGroup → (log store : List ℕ) (first second : Reading) 
 unfolding HasFound
 same_reading one log store first second a b =
     let found : found_of first ≡ found_of second = same_found one log store (found_of first) (found_of second) a.scan b.scan in
-    let left : AreReadPages store (found_of first) first.pages = record { count = a.count; each = a.each } in
-    let right : AreReadPages store (found_of second) second.pages = record { count = b.count; each = b.each } in
+    let left : AreFoundPages store (found_of first) first.pages = record { count = a.count; each = a.each } in
+    let right : AreFoundPages store (found_of second) second.pages = record { count = b.count; each = b.each } in
     let pages = same_pages store (found_of first) first.pages second.pages left
-    (subst (λ (f : Found). AreReadPages store f second.pages) (sym found) right) in
+    (subst (λ (f : Found). AreFoundPages store f second.pages) (sym found) right) in
     λ i. record {
       shape = (found i).shape;
       number = (found i).number;

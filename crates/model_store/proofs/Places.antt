@@ -23,10 +23,6 @@ same_places (x ∷ xs) (y ∷ ys) e h =
 pub same_some : {X : Type 0} (o : Option X) (x y : X) → o ≡ Some x → o ≡ Some y → x ≡ y
 same_some o x y p q = cc
 
--- an option that holds a value isn't empty
-pub some-not_none : {X : Type 0} (o : Option X) (x : X) → o ≡ Some x → o ≡ None → ⊥
-some-not_none o x p q = cc
-
 -- a place of a list that is longer by one is an old one, or the last
 pub push_place : {X : Type 0} (xs : List X) (y : X) (i : ℕ) (x : X) → slice_get (xs ++ y ∷ []) i ≡ Some x
     → (slice_get xs i ≡ Some x) ⊎ ((i ≡ length xs) × (x ≡ y))
