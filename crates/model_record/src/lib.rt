@@ -21,3 +21,6 @@ pub use reading::{one_group, read_group};
 pub use rec::Rec;
 pub use spelled::has_text;
 pub use writing::{group_bytes, stream_bytes};
+
+#[cfg(test)]
+mod tests;
