@@ -1,5 +1,5 @@
 //! What the text of a redo record, of a mini-transaction's group and of a stream of groups is, and when a group
-//! fits a store.
+//! fits a store. Beside the definitions stand the plain programs that write, measure and read groups, and judge them.
 #![tactic(auto)]
 
 mod bodies;
