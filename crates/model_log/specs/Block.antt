@@ -1,6 +1,7 @@
--- The layout of a log block of 512 bytes, as InnoDB's log0log has it: number (4 bytes), data length (2), first group
--- (2), checkpoint number (4), data (496), checksum (4). Numbers have their highest byte first.
-use Rattle.std.specs.Prelude.{ℕ, ◌≡◌, ◌+◌, ◌-◌, ◌*◌, ◌%◌, ◌^◌, ◌==◌, ◌&&◌, ◌||◌, min, nat_lt, nat_le, if◌then◌else◌, Bool, List, ◌++◌, length, take, drop, replicate, Option, Some, None}
+-- The layout of a log block of 512 bytes: number (4 bytes), data length (2), first group (2), checkpoint number (4),
+-- data (496), checksum (4), the highest byte of a number first. The fields are those of InnoDB's log0log; that the fourth
+-- holds the checkpoint's number, and that the flush bit isn't read, is this project's own.
+use Rattle.std.specs.Prelude.{ℕ, ◌+◌, ◌-◌, ◌%◌, ◌^◌, ◌==◌, ◌&&◌, ◌||◌, min, nat_lt, nat_le, if◌then◌else◌, Bool, List, ◌++◌, length, take, drop, Option, Some, None}
 use Rattle.std.specs.Int.{bytes_high_first}
 use Rattle.model_base.specs.declared.limits.TheConstants.{BLOCK_SIZE}
 use Rattle.model_number.specs.Crc32c.{crc_of}
@@ -21,8 +22,8 @@ length_of count = if count == BLOCK_DATA then BLOCK_SIZE else BLOCK_HEADER + cou
 unfoldable pub block_text : ℕ → List ℕ → ℕ → ℕ → List ℕ
 block_text lsn content first ckpt =
     with_checksum (padded_to BLOCK_DATA_END (bytes_high_first 4 (number_of lsn)
-        ++ bytes_high_first 2 (length_of (length content)) ++ bytes_high_first 2 first ++ bytes_high_first 4 ckpt
-        ++ content))
+    ++ bytes_high_first 2 (length_of (length content)) ++ bytes_high_first 2 first ++ bytes_high_first 4 ckpt
+    ++ content))
 
 -- what the fields of 512 bytes say
 abbrev pub view_of : List ℕ → BlockView

@@ -17,14 +17,14 @@ place_of number = if number % 2 == 0 then 1 else 3
 unfoldable pub checkpoint_text : ℕ → ℕ → Shape → List ℕ
 checkpoint_text number lsn shape =
     with_checksum (padded_to BLOCK_DATA_END (bytes_high_first 8 number ++ bytes_high_first 8 lsn
-        ++ bytes_high_first 8 (offset_of lsn shape.log_blocks) ++ bytes_high_first 8 RING_SIZE))
+    ++ bytes_high_first 8 (offset_of lsn shape.log_blocks) ++ bytes_high_first 8 RING_SIZE))
 
 -- the fields of 512 bytes fit those of a checkpoint in header block `which`; the buffer's size isn't read
 abbrev pub is_checkpoint : ℕ → Shape → List ℕ → Bool
 is_checkpoint which shape bytes =
     fits_checksum bytes && place_of (field 8 0 bytes) == which
-        && field 8 8 bytes % BLOCK_SIZE == 0 && nat_le START_LSN (field 8 8 bytes) && nat_lt (field 8 8 bytes) LSN_LIMIT
-        && field 8 16 bytes == offset_of (field 8 8 bytes) shape.log_blocks
+    && field 8 8 bytes % BLOCK_SIZE == 0 && nat_le START_LSN (field 8 8 bytes) && nat_lt (field 8 8 bytes) LSN_LIMIT
+    && field 8 16 bytes == offset_of (field 8 8 bytes) shape.log_blocks
 
 -- the number and the lsn of the checkpoint in header block `which`; nothing where it doesn't pass
 unfoldable pub read_checkpoint : ℕ → Shape → List ℕ → Option (ℕ × ℕ)

@@ -4,9 +4,7 @@ use Rattle.std.specs.Prelude.{ℕ, ◌+◌, ◌*◌, nat_lt, if◌then◌else◌
 use Rattle.model_base.specs.declared.shape.Shape.{Shape}
 use Rattle.model_base.specs.declared.limits.TheConstants.{BLOCK_SIZE}
 use Rattle.model_log.specs.Lsn.{offset_of}
-use Rattle.model_log.specs.Head.{read_head}
 use Rattle.model_log.specs.Checkpoint.{read_checkpoint}
-use Rattle.model_log.specs.declared.head.Head.{Head}
 use Rattle.model_log.specs.declared.layout.TheConstants.{HEADER_BLOCKS}
 
 -- the 512 bytes at a device offset

@@ -1,7 +1,7 @@
 -- The first block of a log device, the file header: format (4 bytes), zero (4), start lsn (8), creator (32), then this
 -- project's own fields, page size (4), pages (4), space id (4), log blocks (4), doublewrite slots (4), zeros, and the
 -- checksum. The first three fields and the creator are InnoDB's.
-use Rattle.std.specs.Prelude.{ℕ, ◌≡◌, ◌==◌, ◌&&◌, nat_le, if◌then◌else◌, Bool, List, ◌++◌, replicate, codes}
+use Rattle.std.specs.Prelude.{ℕ, ◌==◌, ◌&&◌, nat_le, if◌then◌else◌, Bool, List, ◌++◌, codes}
 use Rattle.std.specs.Int.{bytes_high_first}
 use Rattle.model_base.specs.declared.shape.Shape.{Shape}
 use Rattle.model_base.specs.declared.limits.TheConstants.{START_LSN, PAGE_SIZE, MAX_PAGES, MIN_LOG_BLOCKS, MAX_LOG_BLOCKS, SLOTS}
@@ -23,21 +23,25 @@ creator = padded_to 32 (codes "redolab 1")
 unfoldable pub head_text : Shape → List ℕ
 head_text shape =
     with_checksum (padded_to BLOCK_DATA_END (bytes_high_first 4 format_number ++ bytes_high_first 4 0
-        ++ bytes_high_first 8 START_LSN ++ creator
-        ++ bytes_high_first 4 shape.page_size ++ bytes_high_first 4 shape.pages ++ bytes_high_first 4 shape.space
-        ++ bytes_high_first 4 shape.log_blocks ++ bytes_high_first 4 shape.slots))
+    ++ bytes_high_first 8 START_LSN ++ creator
+    ++ bytes_high_first 4 shape.page_size ++ bytes_high_first 4 shape.pages ++ bytes_high_first 4 shape.space
+    ++ bytes_high_first 4 shape.log_blocks ++ bytes_high_first 4 shape.slots))
 
 -- the sizes that the fields of a header name
 abbrev pub shape_of : List ℕ → Shape
 shape_of bytes = record {
-    page_size = field 4 48 bytes; pages = field 4 52 bytes; space = field 4 56 bytes;
-    log_blocks = field 4 60 bytes; slots = field 4 64 bytes }
+  page_size = field 4 48 bytes;
+  pages = field 4 52 bytes;
+  space = field 4 56 bytes;
+  log_blocks = field 4 60 bytes;
+  slots = field 4 64 bytes;
+}
 
 -- each size is one that a store may have
 abbrev pub is_within_limits : Shape → Bool
 is_within_limits shape =
     shape.page_size == PAGE_SIZE && nat_le 1 shape.pages && nat_le shape.pages MAX_PAGES
-        && nat_le MIN_LOG_BLOCKS shape.log_blocks && nat_le shape.log_blocks MAX_LOG_BLOCKS && shape.slots == SLOTS
+    && nat_le MIN_LOG_BLOCKS shape.log_blocks && nat_le shape.log_blocks MAX_LOG_BLOCKS && shape.slots == SLOTS
 
 -- What 512 bytes say as a file header: the checksum first, then the format, then the start lsn and the sizes. The
 -- creator and the zeros aren't read.
@@ -45,6 +49,6 @@ unfoldable pub read_head : List ℕ → Head
 read_head bytes =
     if fits_checksum bytes
     then (if field 4 0 bytes == format_number
-      then (if field 8 8 bytes == START_LSN && is_within_limits (shape_of bytes) then Good (shape_of bytes) else Unformatted)
-      else OtherFormat (field 4 0 bytes))
+    then (if field 8 8 bytes == START_LSN && is_within_limits (shape_of bytes) then Good (shape_of bytes) else Unformatted)
+    else OtherFormat (field 4 0 bytes))
     else Unformatted

@@ -1,0 +1,82 @@
+-- A checkpoint that was written is read back.
+use Rattle.std.proofs.Common.{◌≡◌, ◌==◌, ◌&&◌, ◌≤◌, ◌<◌, ◌-◌, ◌*◌, ◌%◌, ◌^◌, ℕ, List, [], ◌++◌, length, refl, sym, ap, subst, ◌∙◌, Bool, true, cond, nat_lt, nat_le, Some, None, le-leb, lt-ltb, arith}
+use Rattle.std.specs.List.{All}
+use Rattle.std.specs.Int.{bytes_high_first}
+use Rattle.std.proofs.Math.Nat.{mod-le}
+use Rattle.std.proofs.lemmas.Bool.{eq-eqb}
+use Rattle.std.proofs.lemmas.List.Elements.{All-append}
+use Rattle.byteorder.specs.Numbers.{big_number-reads_back}
+use Rattle.model_base.specs.declared.shape.Shape.{Shape}
+use Rattle.model_number.specs.Field.{field, padded_to}
+use Rattle.model_log.specs.Lsn.{block_of, offset_of}
+use Rattle.model_log.specs.Block.{with_checksum, fits_checksum}
+use Rattle.model_log.specs.Checkpoint.{place_of, checkpoint_text, is_checkpoint, read_checkpoint}
+use Rattle.model_log.proofs.Checksums.{IsByte, bytes-bytes_high_first}
+use Rattle.model_log.proofs.Checkpoints.{checkpoint_fields, checkpoint_text-from}
+use Rattle.model_log.proofs.Sealed.{field-padded, length-padded, bytes-padded, fits_checksum-sealed}
+
+length-fields : (number lsn offset : ℕ) → length (checkpoint_fields number lsn offset) ≡ 32
+unfolding checkpoint_fields
+length-fields number lsn offset = refl
+
+number-fields : (number lsn offset : ℕ) → number < 2 ^ 64 → field 8 0 (checkpoint_fields number lsn offset) ≡ number
+unfolding checkpoint_fields
+number-fields number lsn offset small = big_number-reads_back 8 number [] small
+
+lsn-fields : (number lsn offset : ℕ) → lsn < 2 ^ 64 → field 8 8 (checkpoint_fields number lsn offset) ≡ lsn
+unfolding checkpoint_fields
+lsn-fields number lsn offset small = big_number-reads_back 8 lsn [] small
+
+offset-fields : (number lsn offset : ℕ) → offset < 2 ^ 64 → field 8 16 (checkpoint_fields number lsn offset) ≡ offset
+unfolding checkpoint_fields
+offset-fields number lsn offset small = big_number-reads_back 8 offset [] small
+
+bytes-fields : (number lsn offset : ℕ) → All IsByte (checkpoint_fields number lsn offset)
+unfolding checkpoint_fields
+bytes-fields number lsn offset =
+    let be8 : (n : ℕ) → All IsByte (bytes_high_first 8 n) = bytes-bytes_high_first 8 in
+    let two : List ℕ = bytes_high_first 8 number ++ bytes_high_first 8 lsn in
+    let three : List ℕ = two ++ bytes_high_first 8 offset in
+    All-append IsByte three (bytes_high_first 8 65536)
+    (All-append IsByte two (bytes_high_first 8 offset)
+    (All-append IsByte (bytes_high_first 8 number) (bytes_high_first 8 lsn) (be8 number) (be8 lsn)) (be8 offset)) (be8 65536)
+
+offset_of-small : (lsn log_blocks : ℕ) → lsn < 2 ^ 60 → offset_of lsn log_blocks < 2 ^ 64
+offset_of-small lsn log_blocks small =
+    let round = mod-le (block_of lsn - 8192) (512 * log_blocks) in
+    let below : block_of lsn ≤ lsn = omega arith in
+    omega arith
+
+-- the tests of a checkpoint, at numbers
+passes : (sound : Bool) (number lsn offset which log_blocks : ℕ) → sound ≡ true → which ≡ place_of number → lsn % 512 ≡ 0 → 8192 ≤ lsn → lsn < 2 ^ 60 → offset ≡ offset_of lsn log_blocks
+    → (sound && place_of number == which && lsn % 512 == 0 && nat_le 8192 lsn && nat_lt lsn (2 ^ 60) && offset == offset_of lsn log_blocks) ≡ true
+passes sound number lsn offset which log_blocks is_sound place aligned low high fits =
+    rw (is_sound, eq-eqb _ _ (sym place), eq-eqb _ _ aligned, le-leb _ _ low, lt-ltb _ _ high, eq-eqb _ _ fits) refl
+
+found_when : (good : Bool) (found wanted : ℕ × ℕ) → good ≡ true → found ≡ wanted → cond good (Some found) None ≡ Some wanted
+found_when good found wanted is_good same = rw is_good (ap (λ pair. Some pair) same)
+
+same_pair : (a b c d : ℕ) → a ≡ c → b ≡ d → let pair : ℕ × ℕ = (a, b) in pair ≡ (c, d)
+same_pair a b c d first second = rw (first, second) refl
+
+-- the checkpoint that was written is read in its place
+pub checkpoint-reads_back : (number lsn : ℕ) (shape : Shape) → number < 2 ^ 64 → 8192 ≤ lsn → lsn < 2 ^ 60 → lsn % 512 ≡ 0
+    → read_checkpoint (place_of number) shape (checkpoint_text number lsn shape) ≡ Some (number, lsn)
+unfolding read_checkpoint
+checkpoint-reads_back number lsn shape number_small low high aligned =
+    let offset : ℕ = offset_of lsn shape.log_blocks in
+    let fields : List ℕ = checkpoint_fields number lsn offset in
+    let long : length fields ≡ 32 = length-fields number lsn offset in
+    let bytes : List ℕ = with_checksum (padded_to 508 fields) in
+    let sound : fits_checksum bytes ≡ true
+    = fits_checksum-sealed (padded_to 508 fields) (length-padded fields (omega arith)) (bytes-padded fields (bytes-fields number lsn offset)) in
+    let number_is : field 8 0 bytes ≡ number = field-padded 8 0 fields (omega arith) (omega arith) ∙ number-fields number lsn offset number_small in
+    let lsn_is : field 8 8 bytes ≡ lsn = field-padded 8 8 fields (omega arith) (omega arith) ∙ lsn-fields number lsn offset (omega arith) in
+    let offset_is : field 8 16 bytes ≡ offset
+    = field-padded 8 16 fields (omega arith) (omega arith) ∙ offset-fields number lsn offset (offset_of-small lsn shape.log_blocks high) in
+    ap (read_checkpoint (place_of number) shape) (sym (checkpoint_text-from number lsn shape fields refl))
+    ∙ found_when (is_checkpoint (place_of number) shape bytes) (field 8 0 bytes, field 8 8 bytes) (number, lsn)
+    (passes (fits_checksum bytes) (field 8 0 bytes) (field 8 8 bytes) (field 8 16 bytes) (place_of number) shape.log_blocks
+    sound (ap place_of (sym number_is)) (ap (λ n. n % 512) lsn_is ∙ aligned) (subst (λ (n : ℕ). 8192 ≤ n) (sym lsn_is) low) (subst (λ (n : ℕ). n < 2 ^ 60) (sym lsn_is) high)
+    (offset_is ∙ ap (λ n. offset_of n shape.log_blocks) (sym lsn_is)))
+    (same_pair _ _ _ _ number_is lsn_is)

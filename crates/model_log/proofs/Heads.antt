@@ -1,0 +1,19 @@
+-- The text of a file header, written field by field.
+use Rattle.std.proofs.Common.{◌≡◌, ℕ, List, ◌++◌, ap}
+use Rattle.std.specs.Int.{bytes_high_first}
+use Rattle.model_base.specs.declared.shape.Shape.{Shape}
+use Rattle.model_number.specs.Field.{padded_to}
+use Rattle.model_log.specs.Block.{with_checksum}
+use Rattle.model_log.specs.Head.{creator, head_text}
+
+-- the fields of a file header
+unfoldable pub head_fields : Shape → List ℕ
+head_fields shape =
+    bytes_high_first 4 1 ++ bytes_high_first 4 0 ++ bytes_high_first 8 8192 ++ creator
+    ++ bytes_high_first 4 shape.page_size ++ bytes_high_first 4 shape.pages ++ bytes_high_first 4 shape.space
+    ++ bytes_high_first 4 shape.log_blocks ++ bytes_high_first 4 shape.slots
+
+-- they make its text
+pub head_text-from : (shape : Shape) (bytes : List ℕ) → bytes ≡ head_fields shape → with_checksum (padded_to 508 bytes) ≡ head_text shape
+unfolding head_text head_fields
+head_text-from shape bytes e = ap (λ text. with_checksum (padded_to 508 text)) e

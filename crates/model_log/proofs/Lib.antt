@@ -1,0 +1,12 @@
+pub mod BlockRound
+pub mod Blocks
+pub mod Boundaries
+pub mod BoundaryLengths
+pub mod CheckpointRound
+pub mod Checkpoints
+pub mod Checksums
+pub mod HeadRound
+pub mod Heads
+pub mod Limits
+pub mod Sealed
+pub mod Seals

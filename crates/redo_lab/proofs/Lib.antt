@@ -1,0 +1,4 @@
+pub mod Contents
+pub mod Known
+pub mod Parts
+pub mod Started

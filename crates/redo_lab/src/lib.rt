@@ -1,0 +1,2 @@
+//! The top call.
+#![tactic(auto)]
