@@ -1,7 +1,11 @@
 pub mod Applying
+pub mod Grouping
+pub mod Heads
 pub mod Numbers
 pub mod Offsets
+pub mod Paging
 pub mod Places
+pub mod Refusing
 pub mod Scanning
 pub mod OneScan
 pub mod OneKept

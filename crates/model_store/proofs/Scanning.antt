@@ -1,11 +1,13 @@
 -- Blocks that are read one after another.
-use Rattle.std.proofs.Common.{◌≡◌, ℕ, zero, suc, ◌+◌, ◌<◌, ◌≤◌, ◌⊎◌, inl, inr, Bool, true, false, List, [], ◌∷◌, ◌++◌, length, Option, Some, None, arith, refl, sym, ap, subst, ◌∙◌}
+use Rattle.std.proofs.Common.{◌≡◌, ℕ, zero, suc, ◌+◌, ◌<◌, ◌≤◌, ◌⊎◌, inl, inr, Bool, true, false, cond, ltb, ◌&&◌, ◌^◌, List, [], ◌∷◌, ◌++◌, length, get_or, Option, Some, None, arith, refl, sym, ap, subst, ◌∙◌}
 use Rattle.std.specs.List.{slice_get}
+use Rattle.std.proofs.lemmas.Bool.Decides.{nat_tests}
 use Rattle.std.proofs.lemmas.List.{length_push}
-use Rattle.std.proofs.lemmas.Option.{slice_get_within}
+use Rattle.std.proofs.lemmas.Option.{slice_get-get_or}
 use Rattle.model_base.specs.declared.shape.Shape.{Shape}
 use Rattle.model_log.specs.declared.block.BlockView.{BlockView}
-use Rattle.model_log.specs.Block.{is_full}
+use Rattle.model_log.specs.Block.{is_full, is_length, is_first, fits_number, fits_checksum, view_of, is_block_at, read_block}
+use Rattle.model_log.specs.Device.{log_block}
 use Rattle.model_store.specs.Scan.{AreBlocks, block_at, lsn_at}
 use Rattle.model_store.proofs.Places.{push_place, place_push}
 
@@ -76,3 +78,39 @@ AreBlocks-all shape image ckpt views count a all =
       full = λ i view h at. a.full i view at;
       last = inl (a.many ∙ all);
     }
+
+-- a test that gives a value passed
+if_some : {X : Type 0} (test : Bool) (o : Option X) (x : X) → cond test o None ≡ Some x → (test ≡ true) × (o ≡ Some x)
+if_some true o x e = (refl, e)
+if_some false o x e = cc
+
+second_true : (a b c d : Bool) → (a && b && c && d) ≡ true → b ≡ true
+second_true a true c d h = refl
+second_true true false c d h = cc
+second_true false false c d h = cc
+
+length_bounds : (len : ℕ) → is_length len ≡ true → (12 ≤ len) × (len ≤ 512)
+length_bounds len h = grind (arith, nat_tests)
+
+-- the data of a block that was read ends within it
+view-bounds : (lsn : ℕ) (bytes : List ℕ) → is_block_at lsn bytes ≡ true → (12 ≤ (view_of bytes).length) × ((view_of bytes).length ≤ 512)
+unfolding is_block_at
+view-bounds lsn bytes h =
+    length_bounds (view_of bytes).length (second_true (fits_number lsn bytes) (is_length (view_of bytes).length)
+    (is_first (view_of bytes).length (view_of bytes).first) (fits_checksum bytes) h)
+
+pub block_at-bounds : (shape : Shape) (image : List ℕ) (lsn : ℕ) (view : BlockView) → block_at shape image lsn ≡ Some view
+    → (12 ≤ view.length) × (view.length ≤ 512)
+unfolding read_block
+block_at-bounds shape image lsn view e =
+    let bytes = log_block shape lsn image in
+    let read = if_some (ltb lsn (2 ^ 60)) (read_block lsn bytes) view e in
+    let found = if_some (is_block_at lsn bytes) (Some (view_of bytes)) view read.1 in
+    let same : view_of bytes ≡ view = cc in
+    subst (λ (v : BlockView). (12 ≤ v.length) × (v.length ≤ 512)) same (view-bounds lsn bytes found.0)
+
+-- the same of each block of a row
+pub place-bounds : (shape : Shape) (image : List ℕ) (ckpt : ℕ) (views : List BlockView) (i : ℕ) (d : BlockView)
+    → AreBlocks shape image ckpt views → i < length views → (12 ≤ (get_or views i d).length) × ((get_or views i d).length ≤ 512)
+place-bounds shape image ckpt views i d a h =
+    block_at-bounds shape image (lsn_at ckpt i) (get_or views i d) (a.each i (get_or views i d) (slice_get-get_or views i d h))

@@ -1,12 +1,12 @@
 // The blocks of a log from a checkpoint on, and the data in them.
-ghost use Rattle.std.specs.Prelude.{◌≡◌, ◌≤◌, ◌<◌, ◌^◌, ◌%◌, length, IfOk};
+ghost use Rattle.std.specs.Prelude.{◌≡◌, ◌≤◌, ◌<◌, ◌+◌, ◌*◌, ◌^◌, ◌%◌, length, vec_len, IfOk, IfSome};
 ghost use Rattle.model_base.specs.Limits.{IsWithinLimits};
 ghost use Rattle.model_log.specs.Block.{is_full};
 ghost use Rattle.model_log.specs.Device.{log_block, log_device_length};
 ghost use Rattle.model_store.specs.Scan.{block_at, AreBlocks, joined, groups_start};
 
 use model_base::{BLOCK_SIZE, LSN_LIMIT, Shape};
-use model_log::{BlockView, offset_of, read_block};
+use model_log::{BlockView, block_data, offset_of, read_block};
 use std::alloc::{AllocError, Global};
 
 /// The 512 bytes in which the block of the lsn stands.
@@ -69,4 +69,47 @@ pub fn scan_blocks(
         }
     }
     Ok(views)
+}
+
+/// The data of the blocks that were read from the checkpoint's on, joined.
+pub(crate) fn joined(
+    alloc: Global,
+    image: &[u8],
+    shape: &Shape,
+    ckpt: u64,
+    views: &[BlockView],
+) -> Result<Vec<u8>, AllocError>
+    requires limits { IsWithinLimits shape.now }
+    requires long { log_device_length shape.now ≤ length image.now }
+    requires started { 8192 ≤ ckpt }
+    requires small { ckpt < 2 ^ 60 }
+    requires blocks { AreBlocks shape.now image.now ckpt views.now }
+    ensures text { IfOk result (λ bytes. bytes.items ≡ joined shape.now image.now ckpt views.now) }
+    ensures short { IfOk result (λ bytes. vec_len bytes ≤ 496 * length views.now) }
+{
+    let mut bytes = Vec::new(alloc);
+    let mut lsn = ckpt;
+    for view in views {
+        bytes.extend_from_slice(block_data(*view, log_block(image, shape, lsn)))?;
+        lsn += BLOCK_SIZE;
+    }
+    Ok(bytes)
+}
+
+/// Where the groups start that are read: at the first offset that isn't 0, in the first block that has one. The first
+/// of the blocks is the checkpoint's.
+pub(crate) fn groups_start(ckpt: u64, views: &[BlockView]) -> Option<u64>
+    requires small { ckpt < 2 ^ 60 }
+    requires few { length views.now ≤ 1048576 }
+    ensures start { result ≡ groups_start ckpt views.now }
+    ensures small { IfSome result (λ start. start < 2 ^ 60 + 2 ^ 33) }
+{
+    let mut lsn = ckpt;
+    for view in views {
+        if view.first != 0 {
+            return Some(lsn + u64::from(view.first));
+        }
+        lsn += BLOCK_SIZE;
+    }
+    None
 }
