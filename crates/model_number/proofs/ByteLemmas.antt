@@ -1,6 +1,6 @@
 -- The bytes of a number, the highest first, and the number that bytes make.
-use Rattle.std.proofs.Common.{◌≡◌, ℕ, zero, suc, ◌+◌, ◌-◌, ◌*◌, ◌/◌, ◌%◌, ◌^◌, ◌<◌, ◌≤◌, List, [], ◌∷◌, ◌++◌, length, get_or, take, drop, fold, Fits, w8, refl, sym, ap, ◌∙◌, arith, inl, inr, pow-suc, mul_comm, length-append}
-use Rattle.std.proofs.Math.Nat.{pow-succ', pow-le-pow_right, one-le-pow, mul-le-mul_right, mod-lt, mod-eq_of_lt}
+use Rattle.std.proofs.Common.{◌≡◌, ℕ, zero, suc, ◌+◌, ◌-◌, ◌*◌, ◌%◌, ◌^◌, ◌<◌, ◌≤◌, List, [], ◌∷◌, ◌++◌, length, get_or, take, drop, fold, Fits, w8, refl, sym, ap, ◌∙◌, arith, inl, inr, pow-suc, mul_comm, length-append}
+use Rattle.std.proofs.Math.Nat.{pow-succ', pow-le-pow_right, one-le-pow, mul-le-mul_right, mod-eq_of_lt}
 use Rattle.std.proofs.Math.Arith.{mod-mul}
 use Rattle.std.proofs.lemmas.Bool.{cases_lt}
 use Rattle.std.proofs.lemmas.List.{length-take-le, take-append-drop}

@@ -1,11 +1,11 @@
 -- No spelling is the front of another, and each is of one to five bytes.
-use Rattle.std.proofs.Common.{◌≡◌, ◌≢◌, ℕ, zero, suc, ◌+◌, ◌-◌, ◌*◌, ◌/◌, ◌%◌, ◌^◌, ◌<◌, ◌≤◌, ◌⊎◌, List, [], ◌∷◌, ◌++◌, length, take, drop, get_or, refl, sym, ap, ◌∙◌, arith, inl, inr, length-append, slice_index}
+use Rattle.std.proofs.Common.{◌≡◌, ℕ, ◌+◌, ◌-◌, ◌/◌, ◌%◌, ◌^◌, ◌<◌, ◌≤◌, List, [], ◌∷◌, ◌++◌, length, take, drop, refl, sym, ap, ◌∙◌, arith, inl, inr, length-append, slice_index}
 use Rattle.std.proofs.lemmas.Bool.{cases_lt}
 use Rattle.std.proofs.lemmas.List.{take_at, append_cancel_left, append_assoc}
-use Rattle.std.specs.Int.{byte_at, bytes_high_first}
+use Rattle.std.specs.Int.{bytes_high_first}
 use Rattle.model_number.specs.declared.table.Row.{Row}
 use Rattle.model_number.specs.Spelling.{spelling32, spelling64}
-use Rattle.model_number.specs.Table.{spelling_in, IsRow, IsRowOf, HasAllFrom, BeginsNone}
+use Rattle.model_number.specs.Table.{spelling_in, IsRow, IsRowOf, HasAllFrom}
 use Rattle.model_number.proofs.ByteLemmas.{AreBytes, AreBytes-of_number, AreBytes-append, length-bytes_high_first, number_onto, number-bytes, pow256_le, drop-bytes_high_first}
 use Rattle.model_number.proofs.TableLemmas.{seven_bits_of, fourteen_bits_of, twenty_one_bits_of, twenty_eight_bits_of, whole_of, low_24_bits_of, low_17_bits_of, low_10_bits_of, seven_bits_from, fourteen_bits_from, twenty_one_bits_from, twenty_eight_bits_from, whole_from, low_24_bits_from, low_17_bits_from, low_10_bits_from, none_from}
 
@@ -123,7 +123,7 @@ one_spelling32 m n x y sm sn same =
     let lm = length-spelling32 m sm in
     let ln = length-spelling32 n sn in
     let first : slice_index (spelling32 m) 0 ≡ byte =
-        sym (slice_index-append (spelling32 m) x lm.0) ∙ ap (λ (s : List ℕ). slice_index s 0) same ∙ slice_index-append (spelling32 n) y ln.0 in
+    sym (slice_index-append (spelling32 m) x lm.0) ∙ ap (λ (s : List ℕ). slice_index s 0) same ∙ slice_index-append (spelling32 n) y ln.0 in
     let found = row_from n byte sn refl in
     let row = found.0 in
     let has : HasAllFrom byte row = found.1 in
@@ -163,6 +163,9 @@ row_fits n row of =
     let low = of.low in
     let high = of.high in
     omega arith
+
+pub length-in_row : (n : ℕ) (row : Row) → IsRowOf n row → length (spelling32 n) ≡ row.length
+length-in_row n row of = ap length (spelling32-in n row of) ∙ length-spelling_in row n
 
 -- a spelling is the end of its text in a word
 pub word_end : (n : ℕ) (row : Row) → IsRowOf n row → drop (8 - row.length) (bytes_high_first 8 (row.text + (n - row.first))) ≡ spelling32 n

@@ -1,8 +1,7 @@
 -- Each row of the table spells its numbers, and the rows' first bytes tell them apart.
-use Rattle.std.proofs.Common.{◌≡◌, ◌≢◌, ℕ, ◌+◌, ◌-◌, ◌*◌, ◌/◌, ◌%◌, ◌^◌, ◌<◌, ◌≤◌, List, [], ◌∷◌, ◌++◌, length, cond, get_or, refl, sym, ap, ◌∙◌, arith, lt-ltb, le-ltb, ltb, slice_index, inl, inr, ◌⊎◌}
+use Rattle.std.proofs.Common.{◌≡◌, ℕ, ◌+◌, ◌-◌, ◌*◌, ◌/◌, ◌%◌, ◌^◌, ◌<◌, ◌≤◌, cond, refl, sym, arith, lt-ltb, le-ltb, ltb, slice_index, inl, inr, ◌⊎◌}
 use Rattle.std.proofs.lemmas.Bool.Decides.{nat_tests}
 use Rattle.std.proofs.lemmas.Bool.{cases_lt}
-use Rattle.std.specs.Int.{byte_at, bytes_high_first}
 use Rattle.model_number.specs.declared.table.TheConstants.{SEVEN_BITS, FOURTEEN_BITS, TWENTY_ONE_BITS, TWENTY_EIGHT_BITS, WHOLE, LOW_24_BITS, LOW_17_BITS, LOW_10_BITS}
 use Rattle.model_number.specs.Spelling.{spelling32}
 use Rattle.model_number.specs.Table.{IsRow, IsRowOf, HasAllFrom, BeginsNone}
@@ -115,19 +114,47 @@ low_10_bits = record {
 -- the first byte of a number's spelling
 abbrev head_of : ℕ → ℕ
 head_of n =
-    cond (ltb n 0x80) (n)
+    cond (ltb n 0x80) n
     (cond (ltb n 0x4000) (0x80 + n / 2 ^ 8)
     (cond (ltb n 0x20_0000) (0xC0 + n / 2 ^ 16)
     (cond (ltb n 0x1000_0000) (0xE0 + n / 2 ^ 24)
-    (cond (ltb n 0xFF00_0000) (0xF0)
-    (cond (ltb n 0xFFFE_0000) (0xFE)
+    (cond (ltb n 0xFF00_0000) 0xF0
+    (cond (ltb n 0xFFFE_0000) 0xFE
     (cond (ltb n 0xFFFF_FC00) (0xFC + (n - 0xFFFE_0000) / 2 ^ 16)
     (0xF8 + (n - 0xFFFF_FC00) / 2 ^ 8)))))))
 
 head-spelling32 : (n : ℕ) → n < 2 ^ 32 → slice_index (spelling32 n) 0 ≡ head_of n
 unfolding spelling32
 head-spelling32 n small =
-    elim (cases_lt n 0x80) [ inl h0 ↦ rw (lt-ltb n 0x80 h0) (omega arith) | inr h0 ↦ rw (le-ltb n 0x80 h0) (elim (cases_lt n 0x4000) [ inl h1 ↦ rw (lt-ltb n 0x4000 h1) (omega arith) | inr h1 ↦ rw (le-ltb n 0x4000 h1) (elim (cases_lt n 0x20_0000) [ inl h2 ↦ rw (lt-ltb n 0x20_0000 h2) (omega arith) | inr h2 ↦ rw (le-ltb n 0x20_0000 h2) (elim (cases_lt n 0x1000_0000) [ inl h3 ↦ rw (lt-ltb n 0x1000_0000 h3) (omega arith) | inr h3 ↦ rw (le-ltb n 0x1000_0000 h3) (elim (cases_lt n 0xFF00_0000) [ inl h4 ↦ rw (lt-ltb n 0xFF00_0000 h4) (omega arith) | inr h4 ↦ rw (le-ltb n 0xFF00_0000 h4) (elim (cases_lt n 0xFFFE_0000) [ inl h5 ↦ rw (lt-ltb n 0xFFFE_0000 h5) (omega arith) | inr h5 ↦ rw (le-ltb n 0xFFFE_0000 h5) (elim (cases_lt n 0xFFFF_FC00) [ inl h6 ↦ rw (lt-ltb n 0xFFFF_FC00 h6) (omega arith) | inr h6 ↦ rw (le-ltb n 0xFFFF_FC00 h6) (omega arith) ]) ]) ]) ]) ]) ]) ]
+    elim (cases_lt n 0x80) [
+      | inl h0 ↦ rw (lt-ltb n 0x80 h0) (omega arith)
+      | inr h0 ↦ rw (le-ltb n 0x80 h0)
+          (elim (cases_lt n 0x4000) [
+            | inl h1 ↦ rw (lt-ltb n 0x4000 h1) (omega arith)
+            | inr h1 ↦ rw (le-ltb n 0x4000 h1)
+                (elim (cases_lt n 0x20_0000) [
+                  | inl h2 ↦ rw (lt-ltb n 0x20_0000 h2) (omega arith)
+                  | inr h2 ↦ rw (le-ltb n 0x20_0000 h2)
+                      (elim (cases_lt n 0x1000_0000) [
+                        | inl h3 ↦ rw (lt-ltb n 0x1000_0000 h3) (omega arith)
+                        | inr h3 ↦ rw (le-ltb n 0x1000_0000 h3)
+                            (elim (cases_lt n 0xFF00_0000) [
+                              | inl h4 ↦ rw (lt-ltb n 0xFF00_0000 h4) (omega arith)
+                              | inr h4 ↦ rw (le-ltb n 0xFF00_0000 h4)
+                                  (elim (cases_lt n 0xFFFE_0000) [
+                                    | inl h5 ↦ rw (lt-ltb n 0xFFFE_0000 h5) (omega arith)
+                                    | inr h5 ↦ rw (le-ltb n 0xFFFE_0000 h5)
+                                        (elim (cases_lt n 0xFFFF_FC00) [
+                                          | inl h6 ↦ rw (lt-ltb n 0xFFFF_FC00 h6) (omega arith)
+                                          | inr h6 ↦ rw (le-ltb n 0xFFFF_FC00 h6)
+                                              (omega arith)
+                                        ])
+                                  ])
+                            ])
+                      ])
+                ])
+          ])
+    ]
 
 pub seven_bits_from : (byte : ℕ) → 0x00 ≤ byte → byte ≤ 0x7F → HasAllFrom byte SEVEN_BITS
 seven_bits_from byte above below = record {

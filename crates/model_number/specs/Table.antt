@@ -1,5 +1,5 @@
 -- The rows of the table of spellings. In a row each spelling, read as a number, is one more than the one before it.
-use Rattle.std.specs.Prelude.{ℕ, ◌≡◌, ◌≢◌, ◌≤◌, ◌<◌, ◌+◌, ◌-◌, ◌^◌, List, slice_index, Option, Some, None}
+use Rattle.std.specs.Prelude.{ℕ, ◌≡◌, ◌≢◌, ◌≤◌, ◌<◌, ◌+◌, ◌-◌, ◌^◌, List, slice_index}
 use Rattle.std.specs.Int.{bytes_high_first}
 use Rattle.model_number.specs.declared.table.Row.{Row}
 use Rattle.model_number.specs.Spelling.{spelling32}

@@ -34,3 +34,21 @@ pub fn crc32c(bytes: &[u8]) -> u32
     }
     register ^ u32::MAX
 }
+
+#[cfg(test)]
+mod tests {
+    use super::*;
+
+    #[test]
+    fn known_checksums(rt: HostRuntime) {
+        let rows: [(&[u8], u32); 4] = [
+            (b"123456789", 0xE306_9283),
+            (&[0; 32], 0x8A91_36AA),
+            (&[0xFF; 32], 0x62A8_AB43),
+            (b"", 0),
+        ];
+        for (text, want) in rows {
+            assert_eq!(rt; crc32c(text), want, "{text:?}");
+        }
+    }
+}

@@ -8,8 +8,7 @@ pub fn one_spelling()
         → spelling32 m ++ x ≡ spelling32 n ++ y → (m ≡ n) × (x ≡ y) }
     ensures sixty_four { (m n : ℕ) (x y : List ℕ) → m < 2 ^ 64 → n < 2 ^ 64
         → spelling64 m ++ x ≡ spelling64 n ++ y → (m ≡ n) × (x ≡ y) }
-{
-}
+{}
 
 /// How long a spelling is, and that it is of bytes.
 pub fn spelling_lengths()
@@ -19,5 +18,4 @@ pub fn spelling_lengths()
     ensures most64 { (n : ℕ) → n < 2 ^ 64 → length (spelling64 n) ≤ 9 }
     ensures bytes32 { (n : ℕ) → n < 2 ^ 32 → (i : ℕ) → slice_index (spelling32 n) i < 256 }
     ensures bytes64 { (n : ℕ) → n < 2 ^ 64 → (i : ℕ) → slice_index (spelling64 n) i < 256 }
-{
-}
+{}

@@ -12,3 +12,4 @@ pub use checksum::crc32c;
 pub use got::Got;
 pub use laws::{one_spelling, spelling_lengths};
 pub use spelling::{read32, read64, spell32, spell64};
+pub use table::{Row, row_of};

@@ -8,7 +8,7 @@ use crate::Got;
 use crate::table::{Row, row_beginning_with, row_of};
 use std::alloc::{AllocError, Global};
 
-/// The number of low bits that stand uncompressed behind a number's high half.
+// A number of 64 bits is its high half times this, and its low half.
 const HALF: u64 = 1 << 32;
 
 /// The spelling of a number of 32 bits.
@@ -47,11 +47,11 @@ pub fn read64(bytes: &[u8]) -> Got<u64>
     ensures { Gives Spells64 bytes.now result }
 {
     match read32(bytes) {
-        Got::Value(high, len) if bytes.len() - len < 4 => Got::Short,
-        Got::Value(high, len) => {
+        Got::Value(high, len) if bytes.len() - len >= 4 => {
             let low = number_of(&bytes[len..len + 4]);
             Got::Value(u64::from(high) * HALF + low, len + 4)
         }
+        Got::Value(..) => Got::Short,
         Got::Short => Got::Short,
         Got::Bad => Got::Bad,
     }
@@ -86,4 +86,72 @@ fn number_of(bytes: &[u8]) -> u64
         number = number * 256 + u64::from(*byte);
     }
     number
+}
+
+#[cfg(test)]
+mod tests {
+    use super::*;
+    use std::test::Fail;
+
+    #[test]
+    fn numbers_of_32_bits(rt: HostRuntime) -> Result<(), Fail> {
+        let rows: [(u32, &[u8]); 14] = [
+            (0, b"\x00"),
+            (0x7F, b"\x7F"),
+            (0x80, b"\x80\x80"),
+            (0x3FFF, b"\xBF\xFF"),
+            (0x4000, b"\xC0\x40\x00"),
+            (0x0FFF_FFFF, b"\xEF\xFF\xFF\xFF"),
+            (0x1000_0000, b"\xF0\x10\x00\x00\x00"),
+            (0xFEFF_FFFF, b"\xF0\xFE\xFF\xFF\xFF"),
+            (0xFF00_0000, b"\xFE\x00\x00\x00"),
+            (0xFFFD_FFFF, b"\xFE\xFD\xFF\xFF"),
+            (0xFFFE_0000, b"\xFC\x00\x00"),
+            (0xFFFF_FBFF, b"\xFD\xFB\xFF"),
+            (0xFFFF_FC00, b"\xF8\x00"),
+            (0xFFFF_FFFF, b"\xFB\xFF"),
+        ];
+        for (n, text) in rows {
+            assert_eq!(rt; spell32(rt.alloc(), n)?.as_slice(), text, "spelling {n}");
+            assert_eq!(rt; read32(text), Got::Value(n, text.len()), "reading {n}");
+        }
+        Ok(())
+    }
+
+    #[test]
+    fn no_number(rt: HostRuntime) {
+        let rows: [(&[u8], Got<u32>); 12] = [
+            (b"", Got::Short),
+            (b"\x80", Got::Short),
+            (b"\x80\x7F", Got::Bad),
+            (b"\xC0\x3F", Got::Bad),
+            (b"\xC0\x40", Got::Short),
+            (b"\xF0\x10\x00\x00", Got::Short),
+            (b"\xF0\x00\x00\x00\x01", Got::Bad),
+            (b"\xF0\xFF", Got::Bad),
+            (b"\xF1", Got::Bad),
+            (b"\xFD\xFC", Got::Bad),
+            (b"\xFE\xFE", Got::Bad),
+            (b"\xFF\xFF\xFF\xFF\xFF", Got::Bad),
+        ];
+        for (text, want) in rows {
+            assert_eq!(rt; read32(text), want, "{text:?}");
+        }
+    }
+
+    #[test]
+    fn numbers_of_64_bits(rt: HostRuntime) -> Result<(), Fail> {
+        let rows: [(u64, &[u8]); 3] = [
+            (1, b"\x00\x00\x00\x00\x01"),
+            (0x80_0000_0002, b"\x80\x80\x00\x00\x00\x02"),
+            (u64::MAX, b"\xFB\xFF\xFF\xFF\xFF\xFF"),
+        ];
+        for (n, text) in rows {
+            assert_eq!(rt; spell64(rt.alloc(), n)?.as_slice(), text, "spelling {n}");
+            assert_eq!(rt; read64(text), Got::Value(n, text.len()), "reading {n}");
+        }
+        assert_eq!(rt; read64(b"\x00\x00\x00\x00"), Got::Short);
+        assert_eq!(rt; read64(b"\xF1\x00\x00\x00\x00"), Got::Bad);
+        Ok(())
+    }
 }

@@ -1,5 +1,5 @@
 -- The row at the first byte, if there is one.
-use Rattle.std.proofs.Common.{◌≡◌, ◌≤◌, List, [], ◌∷◌, ℕ, length, slice_index, Some, None, refl, arith}
+use Rattle.std.proofs.Common.{◌≡◌, ◌≤◌, List, [], ◌∷◌, ℕ, length, slice_index, Some, None, arith}
 use Rattle.std.specs.List.{slice_get}
 use Rattle.model_number.specs.Spelling.{Gives, Spells32}
 use Rattle.model_number.specs.declared.got.Got.TheVariants.{Short}

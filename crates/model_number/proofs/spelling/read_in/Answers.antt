@@ -1,7 +1,7 @@
 -- The ends of what the bytes at hand can become, against the ends of the row.
-use Rattle.std.proofs.Common.{◌≡◌, ◌+◌, ◌-◌, ◌*◌, ◌≤◌, ◌<◌, ◌^◌, length, take, min, arith, ap, sym, inl, inr}
-use Rattle.model_number.proofs.ByteLemmas.{number_onto, AreBytes-from_fits, AreBytes-take}
-use Rattle.model_number.proofs.ReadLemmas.{given, following, lowest, following_fits, lowest_fits, text_fits, row_bad, row_short, row_value}
+use Rattle.std.proofs.Common.{arith, inl, inr}
+use Rattle.model_number.proofs.ByteLemmas.{AreBytes-from_fits, AreBytes-take}
+use Rattle.model_number.proofs.ReadLemmas.{following_fits, lowest_fits, text_fits, row_bad, row_short, row_value}
 use Rattle.model_number.proofs.spelling.read_in.Goals as goal
 use Rattle.model_number.proofs.spelling.read_in.Goals.{then-lowest-following, else-lowest-following}
 

@@ -1,5 +1,5 @@
 -- The text of the number's row.
-use Rattle.std.proofs.Common.{◌≡◌, ◌+◌, ◌-◌, ◌<◌, ◌^◌, arith, ap, ◌∙◌}
+use Rattle.std.proofs.Common.{arith}
 use Rattle.model_number.proofs.SpellingLemmas.{row_fits, word_end}
 use Rattle.model_number.proofs.spelling.spell32.Goals as goal
 
