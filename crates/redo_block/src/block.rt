@@ -1,5 +1,5 @@
 // One block of the log, filled and read in place.
-ghost use Rattle.std.specs.Prelude.{◌≡◌, ◌≤◌, ◌<◌, ◌^◌, length, IsTrue};
+ghost use Rattle.std.specs.Prelude.{◌≡◌, ◌≤◌, ◌<◌, ◌^◌, length, IfSome, IsTrue};
 ghost use Rattle.model_log.specs.Block.{length_of, block_text, is_first, read_block};
 
 use crate::sector::{is_sealed, put, seal};
@@ -26,7 +26,8 @@ pub fn fill(out: &mut [u8; 512], lsn: u64, bytes: &[u8], first: u32, ckpt: u32)
 #[tactic(auto, unfolding(model_log::specs::Block::read_block, model_log::specs::Block::is_block_at))]
 pub fn read(bytes: &[u8; 512], lsn: u64) -> Option<BlockView>
     requires { lsn < 2 ^ 61 }
-    ensures { result ≡ read_block lsn bytes.now }
+    ensures value { result ≡ read_block lsn bytes.now }
+    ensures length { IfSome result (λ view. (12 ≤ view.length) × (view.length ≤ 512)) }
 {
     let view = view_of(bytes);
     if fits_number(bytes, lsn)

@@ -1,8 +1,11 @@
-//! The blocks of the log, without memory: one is filled and read in place.
+//! The blocks of the log. One is filled and read in place, without memory; a stream is cut into blocks and joined
+//! again.
 #![tactic(auto)]
 
 mod block;
+mod framing;
 pub mod sector;
 
 pub use block::{fill, read};
+pub use framing::{frame, unframe, unframe_of_frame};
 pub use model_log::BlockView;
