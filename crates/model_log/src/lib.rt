@@ -18,7 +18,7 @@ pub use block::{
 };
 pub use boundary::{boundary_block, boundary_length, frame_blocks};
 pub use checkpoint::{checkpoint_bytes, checkpoint_reads_back, newest_checkpoint, read_checkpoint};
-pub use head::{Head, head_bytes, head_reads_back, read_head};
+pub use head::{CREATOR, FORMAT, Head, head_bytes, head_reads_back, read_head};
 pub use layout::{BLOCK_DATA, BLOCK_DATA_END, BLOCK_HEADER, HEADER_BLOCKS, RING_SIZE};
 pub use lsn::{
     block_of, is_data_lsn, lsn_and_sn, lsn_of, number_of, offset_of, sn_of, start_after,

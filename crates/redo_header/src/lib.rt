@@ -1,2 +1,10 @@
-//! stub
+//! The header blocks of a log device, the file header and the checkpoints, filled and read in place. No memory is
+//! taken.
 #![tactic(auto)]
+
+mod checkpoint;
+mod head;
+
+pub use checkpoint::{fill_ckpt, read_ckpt};
+pub use head::{fill_head, read_head};
+pub use model_log::Head;
