@@ -1,6 +1,7 @@
 -- Steps over the blocks of a stream.
-use Rattle.std.proofs.Common.{◌≡◌, ◌≤◌, ◌<◌, ◌+◌, ◌-◌, ◌/◌, ℕ, suc, min, cond, true, false, List, [], ◌∷◌, ◌++◌, length, get_or, take, drop, Option, Some, None, IsTrue, refl, sym, ap, subst, ◌∙◌, append_assoc, length-drop, eq-eqb, arith}
+use Rattle.std.proofs.Common.{◌≡◌, ◌≤◌, ◌<◌, ◌+◌, ◌-◌, ◌/◌, ℕ, suc, min, cond, true, false, List, [], ◌∷◌, ◌++◌, length, get_or, take, drop, Option, Some, None, IsTrue, refl, sym, ap, subst, ◌∙◌, append_assoc, length-drop, length-take, eq-eqb, ◌↔◌, ◌≢◌, arith}
 use Rattle.std.proofs.lemmas.List.{drop_more, append-nil}
+use Rattle.std.proofs.lemmas.Bool.{false≢true}
 use Rattle.std.proofs.lemmas.Bool.Decides.{nat_tests}
 use Rattle.model_log.specs.declared.block.BlockView.{BlockView}
 use Rattle.model_log.specs.Block.{length_of, block_text, is_first, is_full, read_block, data_of}
@@ -89,3 +90,39 @@ unframed-more rest block others bytes stream new whole lsn view enough cut left 
     ∙ ap (λ xs. xs ++ tail) (joined ∙ ap (λ xs. stream ++ xs) part)
     ∙ append_assoc stream (data_of view block) tail
     ∙ ap (λ xs. stream ++ xs) (sym step) ∙ so_far
+
+-- the first offset that comes next fits the first block of the bytes
+IsNext : List ℕ → ℕ → Type 0
+IsNext stream first = (0 < length stream) × IsTrue (is_first (length_of (min 496 (length stream))) first)
+
+pos-length : (xs : List ℕ) → xs ≢ [] → 0 < length xs
+pos-length [] some = absurd (some refl)
+pos-length (x ∷ xs) some = omega arith
+
+some-length : (xs : List ℕ) → 0 < length xs → xs ≢ []
+some-length [] some none = omega arith
+some-length (x ∷ xs) some none = cc
+
+-- where the next one doesn't fit, they don't
+next-fits : (rest firsts : List ℕ) (i : ℕ) → i < length firsts → AreFirsts rest (drop i firsts) → IsNext rest (get_or firsts i 0)
+unfolding IsNext
+next-fits rest firsts i below each =
+    let here : AreFirsts rest (get_or firsts i 0 ∷ drop (i + 1) firsts) = subst (AreFirsts rest) (drop_more firsts i 0 below) each in
+    (pos-length rest here.0, subst (λ (n : ℕ). IsTrue (is_first (length_of n) (get_or firsts i 0))) (length-take 496 rest) here.1)
+
+pub firsts-none : (rest stream firsts : List ℕ) (i : ℕ) → i < length firsts
+    → ((0 < length rest) × IsTrue (is_first (length_of (min 496 (length rest))) (get_or firsts i 0)) → IsTrue false)
+    → (AreFirsts rest (drop i firsts) ↔ AreFirsts stream firsts) → (IsTrue false ↔ AreFirsts stream firsts)
+unfolding IsNext
+firsts-none rest stream firsts i below wrong so_far =
+    (λ never. absurd (false≢true never), λ all. wrong (next-fits rest firsts i below (so_far.1 all)))
+
+-- where it fits, they do if the others do
+pub firsts-more : (rest others stream firsts : List ℕ) (i : ℕ) → i < length firsts → others ≡ drop 496 rest
+    → (0 < length rest) × IsTrue (is_first (length_of (min 496 (length rest))) (get_or firsts i 0))
+    → (AreFirsts rest (drop i firsts) ↔ AreFirsts stream firsts) → (AreFirsts others (drop (i + 1) firsts) ↔ AreFirsts stream firsts)
+firsts-more rest others stream firsts i below left next so_far =
+    let first : ℕ = get_or firsts i 0 in
+    let fits : IsTrue (is_first (length_of (length (take 496 rest))) first) = subst (λ (n : ℕ). IsTrue (is_first (length_of n) first)) (sym (length-take 496 rest)) next.1 in
+    (λ each. so_far.0 (subst (AreFirsts rest) (sym (drop_more firsts i 0 below)) (some-length rest next.0, fits, subst (λ (xs : List ℕ). AreFirsts xs (drop (i + 1) firsts)) left each)),
+      λ all. firsts-drop rest others firsts i below left (so_far.1 all))

@@ -1,13 +1,37 @@
 // A stream cut into blocks, and joined again.
-ghost use Rattle.std.specs.Prelude.{◌≡◌, ◌≤◌, ◌<◌, ◌+◌, ◌*◌, ◌^◌, ℕ, List, length, All, IfOk};
+ghost use Rattle.std.specs.Prelude.{◌≡◌, ◌≤◌, ◌<◌, ◌+◌, ◌*◌, ◌^◌, ℕ, List, length, min, All, IfOk, IsTrue, ◌↔◌};
+ghost use Rattle.model_log.specs.Block.{length_of, is_first};
 ghost use Rattle.model_log.specs.Boundary.{framed};
 ghost use Rattle.redo_block.specs.Framing.{AreFirsts, unframed};
 
 use crate::{fill, read};
 use model_base::BLOCK_SIZE;
-use model_log::{BLOCK_DATA, block_data};
+use model_log::{BLOCK_DATA, block_data, is_first, length_of};
 use redo_lsn::{Bytes, NoMemory};
 use std::alloc::Global;
+
+/// Whether the stream has a byte, and the first offset fits the data that its first block holds.
+fn is_next_first(stream: &[u8], first: u32) -> bool
+    ensures { IsTrue result
+        ↔ ((0 < length stream.now) × IsTrue (is_first (length_of (min BLOCK_DATA (length stream.now))) first)) }
+{
+    let count = (BLOCK_DATA as usize).min(stream.len());
+    !stream.is_empty() && is_first(u32::from(length_of(count)), first)
+}
+
+/// Whether there is a first offset for each block of the stream, which fits the data that the block holds.
+pub fn are_firsts(stream: &[u8], firsts: &[u32]) -> bool
+    ensures { IsTrue result ↔ AreFirsts stream.now firsts.now }
+{
+    let mut rest = stream;
+    for first in firsts {
+        if !is_next_first(rest, *first) {
+            return false;
+        }
+        rest = rest.split_at((BLOCK_DATA as usize).min(rest.len())).1;
+    }
+    rest.is_empty()
+}
 
 /// Cuts a stream into blocks, the first of them at the lsn `from`. There is a first offset for each block. It fails
 /// only where memory runs out.

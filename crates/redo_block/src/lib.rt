@@ -7,5 +7,5 @@ mod framing;
 pub mod sector;
 
 pub use block::{fill, read};
-pub use framing::{frame, unframe, unframe_of_frame};
+pub use framing::{are_firsts, frame, unframe, unframe_of_frame};
 pub use model_log::BlockView;
