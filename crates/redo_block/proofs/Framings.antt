@@ -1,5 +1,5 @@
 -- Steps over the blocks of a stream.
-use Rattle.std.proofs.Common.{◌≡◌, ◌≤◌, ◌<◌, ◌+◌, ◌-◌, ◌/◌, ℕ, suc, min, cond, true, false, List, [], ◌∷◌, ◌++◌, length, get_or, take, drop, Option, Some, None, IsTrue, refl, sym, ap, subst, ◌∙◌, append_assoc, length-drop, length-take, eq-eqb, ◌↔◌, ◌≢◌, arith}
+use Rattle.std.proofs.Common.{◌≡◌, ◌≤◌, ◌<◌, ◌+◌, ◌/◌, ℕ, suc, min, cond, true, false, List, [], ◌∷◌, ◌++◌, length, get_or, take, drop, Some, None, IsTrue, refl, sym, ap, subst, ◌∙◌, append_assoc, length-drop, length-take, eq-eqb, ◌↔◌, ◌≢◌, arith}
 use Rattle.std.proofs.lemmas.List.{drop_more, append-nil}
 use Rattle.std.proofs.lemmas.Bool.{false≢true}
 use Rattle.std.proofs.lemmas.Bool.Decides.{nat_tests}
@@ -123,6 +123,7 @@ pub firsts-more : (rest others stream firsts : List ℕ) (i : ℕ) → i < lengt
     → (AreFirsts rest (drop i firsts) ↔ AreFirsts stream firsts) → (AreFirsts others (drop (i + 1) firsts) ↔ AreFirsts stream firsts)
 firsts-more rest others stream firsts i below left next so_far =
     let first : ℕ = get_or firsts i 0 in
-    let fits : IsTrue (is_first (length_of (length (take 496 rest))) first) = subst (λ (n : ℕ). IsTrue (is_first (length_of n) first)) (sym (length-take 496 rest)) next.1 in
-    (λ each. so_far.0 (subst (AreFirsts rest) (sym (drop_more firsts i 0 below)) (some-length rest next.0, fits, subst (λ (xs : List ℕ). AreFirsts xs (drop (i + 1) firsts)) left each)),
-      λ all. firsts-drop rest others firsts i below left (so_far.1 all))
+    let fits : IsTrue (is_first (length_of (length (take 496 rest))) first) = subst (λ (n : ℕ). IsTrue (is_first (length_of n) first)) (sym (length-take 496 rest)) next.1 in (
+      λ each. so_far.0 (subst (AreFirsts rest) (sym (drop_more firsts i 0 below)) (some-length rest next.0, fits, subst (λ (xs : List ℕ). AreFirsts xs (drop (i + 1) firsts)) left each)),
+      λ all. firsts-drop rest others firsts i below left (so_far.1 all),
+    )

@@ -1,5 +1,5 @@
 -- A sector that is filled up with zeros and gets its checksum.
-use Rattle.std.proofs.Common.{◌≡◌, ◌≤◌, ◌+◌, ◌-◌, ℕ, List, ◌++◌, length, take, drop, replicate, length-take, length-drop, refl, sym, ap, ◌∙◌, take_all, length-take-le, arith}
+use Rattle.std.proofs.Common.{◌≡◌, ◌≤◌, ◌+◌, ◌-◌, ℕ, List, ◌++◌, length, take, drop, replicate, length-take, length-drop, sym, ap, ◌∙◌, take_all, length-take-le, arith}
 use Rattle.std.specs.Int.{bytes_high_first}
 use Rattle.std.proofs.lemmas.Slice.{take-put_mid}
 use Rattle.std.proofs.lemmas.List.{length-replicate}

@@ -87,5 +87,4 @@ pub fn unframe(alloc: Global, blocks: &[u8], from: u64) -> Result<Bytes, NoMemor
 pub fn unframe_of_frame()
     ensures { (stream firsts : List ℕ) (from ckpt : ℕ) → AreFirsts stream firsts → All (λ byte. byte < 256) stream
         → ckpt < 2 ^ 32 → unframed (framed stream from firsts ckpt) from ≡ stream }
-{
-}
+{}

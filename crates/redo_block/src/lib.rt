@@ -5,6 +5,8 @@
 mod block;
 mod framing;
 pub mod sector;
+#[cfg(test)]
+mod tests;
 
 pub use block::{fill, read};
 pub use framing::{are_firsts, frame, unframe, unframe_of_frame};

@@ -4,6 +4,8 @@
 
 mod checkpoint;
 mod head;
+#[cfg(test)]
+mod tests;
 
 pub use checkpoint::{fill_ckpt, read_ckpt};
 pub use head::{fill_head, read_head};
