@@ -35,7 +35,8 @@ fn three_blocks(rt: HostRuntime) -> Result<(), Fail> {
     assert_eq!(rt; blocks.len(), 1536);
     let joined = unframe(rt.alloc(), blocks, 8204)?;
     assert_eq!(rt; joined.as_slice(), stream.as_slice());
-    let torn = unframe(rt.alloc(), &blocks[..1023], 8204)?;
+    let (front, _) = blocks.split_at(1023);
+    let torn = unframe(rt.alloc(), front, 8204)?;
     assert_eq!(rt; torn.as_slice(), &stream[..496], "half of the second block");
     let elsewhere = unframe(rt.alloc(), blocks, 8704)?;
     assert!(rt; elsewhere.is_empty());
