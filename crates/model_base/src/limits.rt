@@ -1,4 +1,4 @@
-// Every limit of the store and of its scripts, with its unit.
+// The limits of a store and of its scripts, with their units.
 
 /// Bytes of a sector, and of a log block.
 pub const BLOCK_SIZE: u64 = 512;

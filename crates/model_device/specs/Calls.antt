@@ -1,25 +1,23 @@
 -- What the calls of a device do to what it means: a relation between before and after for each answer.
-use Rattle.std.specs.Prelude.{ℕ, ◌≡◌, ◌≤◌, ◌<◌, ◌+◌, ◌-◌, ◌^◌, ◌⊎◌, List, [], ◌∷◌, ◌++◌, length, take, drop}
-use Rattle.model_device.specs.Disk.{Disk, IsImage, after_write, settled}
+use Rattle.std.specs.Prelude.{ℕ, ◌≡◌, ◌⊎◌, List, [], ◌∷◌, ◌++◌, length}
+use Rattle.model_device.specs.Disk.{Disk, IsImage, Covers, sector, written_sector, after_write, settled}
 use Rattle.model_device.specs.declared.write.Write.{Write}
 
 -- a write that answered Ok is pending, and reads give its bytes
 abbrev pub written : Disk → Write → Disk
 written old write = record { base = old.base; writes = old.writes ++ write ∷ []; reads = after_write old.reads write }
 
--- two rows of bytes differ at most from an offset on, for so many bytes
-pub record SameOutside (at count : ℕ) (old new : List ℕ) : Type 0 where
+-- Each sector is as it was, or as the write makes it.
+pub record IsMixed (write : Write) (old new : List ℕ) : Type 0 where
   pub same_length : length new ≡ length old
-  pub before : take at new ≡ take at old
-  pub behind : drop (at + count) new ≡ drop (at + count) old
+  pub each : (k : ℕ) → (sector k new ≡ sector k old) ⊎ (Covers write k × (sector k new ≡ written_sector write k))
 
--- A write that answered an error is pending or not. Reads give some image of the device, and outside of the write's
--- range what they gave.
+-- A write that answered an error: nothing came of it, or it is pending and reads give some of its sectors. So nothing
+-- changes outside of its range, and what earlier writes put there isn't undone.
 pub record FailsWrite (write : Write) (old new : Disk) : Type 0 where
   pub base : new.base ≡ old.base
-  pub pending : (new.writes ≡ old.writes) ⊎ (new.writes ≡ old.writes ++ write ∷ [])
-  pub reads : SameOutside write.at (length write.bytes) old.reads new.reads
-  pub image : IsImage old old.reads → IsImage new new.reads
+  pub pending : ((new.writes ≡ old.writes) × (new.reads ≡ old.reads))
+      ⊎ ((new.writes ≡ old.writes ++ write ∷ []) × IsMixed write old.reads new.reads)
 
 -- after a sync that answered Ok the device has one image, the one that reads give
 abbrev pub synced : Disk → Disk
@@ -30,11 +28,3 @@ pub record Crashes (old new : Disk) : Type 0 where
   pub image : List ℕ
   pub possible : IsImage old image
   pub left : new ≡ settled image
-
--- how many a 64-bit counter counts at the most: it stands still there
-abbrev pub last_count : ℕ
-last_count = 2 ^ 64 - 1
-
--- the count rose in the call, or stands at its last value and can't tell
-abbrev pub HasRisen : ℕ → ℕ → Type 0
-HasRisen before now = (before < now) ⊎ (last_count ≤ before)

@@ -1,3 +1,5 @@
 pub mod Calls
 pub mod Crash
 pub mod Disk
+pub mod Valid
+pub mod Within

@@ -1,10 +1,10 @@
 -- The stream of a run's groups cut into log blocks. A run starts at the lsn s, at the first data byte of a block; its
 -- groups follow one another without a gap. A boundary is s or the end of a group.
-use Rattle.std.specs.Prelude.{ℕ, ◌≡◌, ◌<◌, ◌+◌, ◌-◌, ◌*◌, ◌/◌, ◌^◌, ◌==◌, ◌&&◌, ◌⊎◌, min, nat_lt, nat_le, if◌then◌else◌, Bool, List, [], ◌∷◌, ◌++◌, length, take, drop, Option, Some, None, slice_get}
+use Rattle.std.specs.Prelude.{ℕ, ◌≡◌, ◌≤◌, ◌<◌, ◌+◌, ◌-◌, ◌*◌, ◌/◌, ◌^◌, ◌==◌, ◌&&◌, ◌⊎◌, min, nat_lt, nat_le, if◌then◌else◌, Bool, List, [], ◌∷◌, ◌++◌, length, take, drop, Option, Some, None, slice_get}
 use Rattle.model_base.specs.declared.limits.TheConstants.{BLOCK_SIZE}
 use Rattle.model_record.specs.Group.{stream_of, groups_of, group_length}
 use Rattle.model_record.specs.declared.group.Whole.{Whole}
-use Rattle.model_log.specs.Lsn.{lsn_of, sn_of, block_of}
+use Rattle.model_log.specs.Lsn.{lsn_of, sn_of, block_of, IsAtDataStart}
 use Rattle.model_log.specs.Block.{block_text}
 use Rattle.model_log.specs.declared.layout.TheConstants.{BLOCK_HEADER, BLOCK_DATA}
 
@@ -48,8 +48,17 @@ abbrev pub first_at : ℕ → List Whole → ℕ → ℕ
 first_at s wholes b =
     if b == block_of s then BLOCK_HEADER else elim (crossing_end b wholes) [ None ↦ 0 | Some end ↦ end - b ]
 
--- The 512 bytes are the block at b for the boundary m. Which checkpoint it names is free.
+-- a run starts at s with these groups, and m is one of its boundaries
+pub record IsRunTo (s : ℕ) (wholes : List Whole) (m : ℕ) : Type 0 where
+  pub starts : IsAtDataStart s
+  pub tiled : IsTiled s wholes
+  pub boundary : IsBoundary s wholes m
+
+-- For a run to m: the 512 bytes are the block at b for the boundary m, which reaches it. Which checkpoint it names is
+-- free.
 pub record IsBoundaryBlock (s : ℕ) (wholes : List Whole) (m b : ℕ) (bytes : List ℕ) : Type 0 where
+  pub from : block_of s ≤ b
+  pub reached : b + BLOCK_HEADER ≤ m
   pub ckpt : ℕ
   pub ckpt_small : ckpt < 2 ^ 32
   pub block : bytes ≡ block_text b (content_at s wholes m b) (first_at s wholes b) ckpt
@@ -58,13 +67,13 @@ pub record IsBoundaryBlock (s : ℕ) (wholes : List Whole) (m b : ℕ) (bytes : 
 abbrev pub blocks_below : ℕ → ℕ → ℕ
 blocks_below s m = (sn_of m - sn_of s + (BLOCK_DATA - 1)) / BLOCK_DATA
 
--- The framed stream below m: from the block of s on, each block that holds a byte below m.
+-- For a run to m: the framed stream below m, which is from the block of s on, each block that holds a byte below m.
 pub record IsFramed (s : ℕ) (wholes : List Whole) (m : ℕ) (blocks : List (List ℕ)) : Type 0 where
   pub count : length blocks ≡ blocks_below s m
   pub each : (i : ℕ) → (bytes : List ℕ) → slice_get blocks i ≡ Some bytes → IsBoundaryBlock s wholes m (block_of s + BLOCK_SIZE * i) bytes
 
--- The blocks of a stream from a data start on, with a first offset for each block: the form in which a writer makes
--- them.
+-- The blocks of a stream from a data start on, with a first offset for each block, of which there are as many as the
+-- stream fills: the form in which a writer makes them.
 abbrev pub framed : List ℕ → ℕ → List ℕ → ℕ → List ℕ
 framed stream from [] ckpt = []
 framed stream from (first ∷ firsts) ckpt =

@@ -1,8 +1,10 @@
 -- Where pages stand on the data device: first the doublewrite slots and then the page places, each of page size. A
--- slot holds the bytes of a page and nothing else.
+-- slot holds the bytes of a page and nothing else. These definitions speak of pages below the shape's number, on a
+-- device that is as long as the shape asks.
 use Rattle.std.specs.Prelude.{ℕ, ◌≡◌, ◌<◌, ◌≤◌, ◌+◌, ◌*◌, ◌==◌, ◌&&◌, ◌⊎◌, if◌then◌else◌, List, take, drop, Option, Some, None}
 use Rattle.model_base.specs.declared.shape.Shape.{Shape}
 use Rattle.model_page.specs.Page.{page_check, user_part}
+use Rattle.model_page.specs.declared.content.Content.{Content}
 use Rattle.model_page.specs.declared.page.PageState.{PageState}
 use Rattle.model_page.specs.declared.page.PageState.TheVariants.{Blank, Sound, Broken}
 
@@ -50,11 +52,6 @@ pub record IsBestCopy (shape : Shape) (image : List ℕ) (page slot lsn : ℕ) :
 -- no slot holds a copy of the page that passes
 abbrev pub HasNoCopy : Shape → List ℕ → ℕ → Type 0
 HasNoCopy shape image page = (slot : ℕ) → slot < shape.slots → copy_lsn shape image page slot ≡ None
-
--- what a page holds: the lsn of the last group that changed it, and its user bytes
-pub record Content : Type 0 where
-  pub lsn : ℕ
-  pub user : List ℕ
 
 -- the place passes, and this is what it holds
 pub record IsInPlace (shape : Shape) (image : List ℕ) (page : ℕ) (content : Content) : Type 0 where

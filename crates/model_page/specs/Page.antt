@@ -1,7 +1,7 @@
 -- The bytes of a page, as InnoDB's fil0fil has them: checksum (4 bytes), page number (4), neighbours (8), page lsn (8),
 -- type (2), flush lsn (8), space id (4), user bytes, checksum (4), the low half of the page lsn (4). Both checksums are
--- the CRC-32C of what stands between them but for the last four bytes before the second, which is this project's own.
-use Rattle.std.specs.Prelude.{ℕ, ◌+◌, ◌-◌, ◌%◌, ◌^◌, ◌==◌, ◌&&◌, if◌then◌else◌, Bool, List, ◌++◌, length, take, drop}
+-- the CRC-32C of all that stands between them, which is this project's own.
+use Rattle.std.specs.Prelude.{ℕ, ◌-◌, ◌%◌, ◌^◌, ◌==◌, ◌&&◌, if◌then◌else◌, Bool, List, ◌++◌, length, take, drop}
 use Rattle.std.specs.List.{list_all}
 use Rattle.std.specs.Int.{bytes_high_first}
 use Rattle.model_base.specs.declared.limits.TheConstants.{USER_START}
@@ -26,13 +26,13 @@ user_part bytes = take (length bytes - trailer_length - USER_START) (drop USER_S
 abbrev pub middle_text : ℕ → ℕ → ℕ → List ℕ → List ℕ
 middle_text number space lsn user =
     bytes_high_first 4 number ++ bytes_high_first 8 0 ++ bytes_high_first 8 lsn ++ bytes_high_first 2 0
-        ++ bytes_high_first 8 0 ++ bytes_high_first 4 space ++ user
+    ++ bytes_high_first 8 0 ++ bytes_high_first 4 space ++ user
 
 -- the bytes of the page with this number, space, lsn and user bytes
 unfoldable pub page_text : ℕ → ℕ → ℕ → List ℕ → List ℕ
 page_text number space lsn user =
     bytes_high_first 4 (crc_of (middle_text number space lsn user)) ++ middle_text number space lsn user
-        ++ bytes_high_first 4 (crc_of (middle_text number space lsn user)) ++ bytes_high_first 4 (lsn % 2 ^ 32)
+    ++ bytes_high_first 4 (crc_of (middle_text number space lsn user)) ++ bytes_high_first 4 (lsn % 2 ^ 32)
 
 abbrev pub is_blank : List ℕ → Bool
 is_blank bytes = list_all (λ byte. byte == 0) bytes
@@ -41,8 +41,8 @@ is_blank bytes = list_all (λ byte. byte == 0) bytes
 abbrev pub is_sound : List ℕ → Bool
 is_sound bytes =
     field 4 0 bytes == crc_of (checked_part bytes)
-        && field 4 (length bytes - trailer_length) bytes == crc_of (checked_part bytes)
-        && field 4 (length bytes - 4) bytes == field 8 16 bytes % 2 ^ 32
+    && field 4 (length bytes - trailer_length) bytes == crc_of (checked_part bytes)
+    && field 4 (length bytes - 4) bytes == field 8 16 bytes % 2 ^ 32
 
 -- what the check of a page's bytes finds
 unfoldable pub page_check : List ℕ → PageState

@@ -1,3 +1,5 @@
+pub mod Bodies
 pub mod Fits
 pub mod Group
+pub mod Reading
 pub mod Record

@@ -1,4 +1,4 @@
--- What a group does to the pages of a store.
+-- What a group that fits the store does to its pages.
 use Rattle.std.specs.Prelude.{ℕ, ◌+◌, ◌-◌, ◌==◌, ◌||◌, if◌then◌else◌, Bool, List, [], ◌∷◌, length, replicate}
 use Rattle.std.specs.List.{list_any}
 use Rattle.std.specs.Int.{bytes_high_first}
@@ -9,7 +9,7 @@ use Rattle.model_record.specs.Record.{page_of}
 use Rattle.model_record.specs.declared.rec.Rec.{Rec}
 use Rattle.model_record.specs.declared.rec.Rec.TheVariants.{Num, Text, Init}
 use Rattle.model_record.specs.declared.group.Whole.{Whole}
-use Rattle.model_page.specs.Copies.{Content}
+use Rattle.model_page.specs.declared.content.Content.{Content}
 
 -- the user bytes of a page after a record on it: the bytes that it writes, or zeros
 abbrev pub user_after_own : Rec → List ℕ → List ℕ

@@ -10,7 +10,8 @@ use Rattle.model_log.specs.declared.head.Head.TheVariants.{Good, OtherFormat, Un
 use Rattle.model_log.specs.declared.layout.TheConstants.{HEADER_BLOCKS}
 use Rattle.model_log.specs.declared.block.BlockView.{BlockView}
 use Rattle.model_page.specs.Page.{user_part}
-use Rattle.model_page.specs.Copies.{Content, IsKept, IsLost, copy_lsn, slot_bytes, data_device_length}
+use Rattle.model_page.specs.Copies.{IsKept, IsLost, copy_lsn, slot_bytes, data_device_length}
+use Rattle.model_page.specs.declared.content.Content.{Content}
 use Rattle.model_store.specs.Apply.{page_after}
 use Rattle.model_store.specs.Scan.{IsScan, IsBadRecord}
 use Rattle.model_store.specs.declared.refusal.Refusal.{Refusal}

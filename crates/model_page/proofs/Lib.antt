@@ -1,0 +1,4 @@
+pub mod BestCopy
+pub mod Checksum
+pub mod PageParts
+pub mod ReadBack

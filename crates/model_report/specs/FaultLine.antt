@@ -1,0 +1,72 @@
+-- The statuses and the fault lines. Status 0 has no fault.
+use Rattle.std.specs.Prelude.{ℕ, List, [], ◌∷◌, codes}
+use Rattle.std.specs.Fmt.{decimal}
+use Rattle.model_store.specs.declared.refusal.Refusal.{Refusal}
+use Rattle.model_store.specs.declared.refusal.Refusal.TheVariants.{SmallLog, NotFormatted, BadFormat, SmallData, NoCheckpoint, BadRecord, PageLost, PageAhead}
+use Rattle.model_report.specs.Report.{line_of}
+use Rattle.model_report.specs.declared.fault.Fault.{Fault}
+use Rattle.model_report.specs.declared.fault.Fault.TheVariants as fault
+use Rattle.model_report.specs.declared.fault.Quantity.{Quantity}
+use Rattle.model_report.specs.declared.fault.Quantity.TheVariants as quantity
+
+-- a store that is refused has status 8; a device that is too short is a quantity that doesn't fit, with status 10
+abbrev pub refusal_status : Refusal → ℕ
+refusal_status (SmallLog n) = 10
+refusal_status NotFormatted = 8
+refusal_status (BadFormat n) = 8
+refusal_status (SmallData n) = 10
+refusal_status NoCheckpoint = 8
+refusal_status (BadRecord lsn) = 8
+refusal_status (PageLost p) = 8
+refusal_status (PageAhead p lsn) = 8
+
+abbrev pub status_of : Fault → ℕ
+status_of fault.Memory = 1
+status_of fault.Words = 2
+status_of (fault.Script n) = 3
+status_of fault.Source = 4
+status_of fault.Sink = 5
+status_of fault.LogDevice = 6
+status_of fault.DataDevice = 7
+status_of (fault.Store refusal) = refusal_status refusal
+status_of (fault.Turns n user) = 9
+status_of (fault.Fit what n) = 10
+
+abbrev pub quantity_word : Quantity → List ℕ
+quantity_word quantity.Script = codes "script"
+quantity_word quantity.Used = codes "used"
+quantity_word quantity.User = codes "user"
+quantity_word quantity.Page = codes "page"
+quantity_word quantity.Offset = codes "offset"
+quantity_word quantity.Group = codes "group"
+quantity_word quantity.Lsn = codes "lsn"
+quantity_word quantity.Total = codes "total"
+
+-- the words of a refusal's line behind `fault`
+abbrev pub refusal_words : Refusal → List (List ℕ)
+refusal_words (SmallLog n) = codes "fit" ∷ codes "log" ∷ decimal n ∷ []
+refusal_words NotFormatted = codes "store" ∷ codes "unformatted" ∷ []
+refusal_words (BadFormat n) = codes "store" ∷ codes "format" ∷ decimal n ∷ []
+refusal_words (SmallData n) = codes "fit" ∷ codes "store" ∷ decimal n ∷ []
+refusal_words NoCheckpoint = codes "store" ∷ codes "checkpoint" ∷ []
+refusal_words (BadRecord lsn) = codes "store" ∷ codes "record" ∷ decimal lsn ∷ []
+refusal_words (PageLost p) = codes "store" ∷ codes "lost" ∷ decimal p ∷ []
+refusal_words (PageAhead p lsn) = codes "store" ∷ codes "ahead" ∷ decimal p ∷ decimal lsn ∷ []
+
+-- the words of a fault's line behind `fault`
+abbrev pub fault_words : Fault → List (List ℕ)
+fault_words fault.Memory = codes "memory" ∷ []
+fault_words fault.Words = codes "words" ∷ []
+fault_words (fault.Script n) = codes "script" ∷ codes "line" ∷ decimal n ∷ []
+fault_words fault.Source = codes "source" ∷ []
+fault_words fault.Sink = []
+fault_words fault.LogDevice = codes "log" ∷ codes "device" ∷ []
+fault_words fault.DataDevice = codes "data" ∷ codes "device" ∷ []
+fault_words (fault.Store refusal) = refusal_words refusal
+fault_words (fault.Turns n user) = codes "turns" ∷ decimal n ∷ codes "user" ∷ decimal user ∷ []
+fault_words (fault.Fit what n) = codes "fit" ∷ quantity_word what ∷ decimal n ∷ []
+
+-- the line that is printed for a fault; a sink that failed gets none
+unfoldable pub fault_line : Fault → List ℕ
+fault_line fault.Sink = []
+fault_line cause = line_of (codes "fault" ∷ fault_words cause)

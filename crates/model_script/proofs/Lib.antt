@@ -1,0 +1,6 @@
+pub mod Cutting
+pub mod FrontLemmas
+pub mod ItemLemmas
+pub mod LineLemmas
+pub mod NumberLemmas
+pub mod WordLemmas

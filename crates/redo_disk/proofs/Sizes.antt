@@ -1,0 +1,26 @@
+-- Calls keep the length of what a device means.
+use Rattle.std.proofs.Common.{ℕ, List, length, sym, ap, subst, ◌∙◌, arith, ⊎_elim}
+use Rattle.model_device.specs.Disk.{Disk}
+use Rattle.model_device.specs.Calls.{Crashes, FailsWrite, synced, written}
+use Rattle.model_device.proofs.Overwritten.{length-overwritten}
+use Rattle.redo_disk.specs.Sectors.{HasSize, IsRange, write_at}
+
+pub HasSize-written : (size at : ℕ) (bytes : List ℕ) (disk : Disk) → IsRange size at (length bytes) → HasSize size disk → HasSize size (written disk (write_at at bytes))
+HasSize-written size at bytes disk range sized = record {
+  base = sized.base;
+  reads = length-overwritten at bytes disk.reads (omega (arith, range.within, sized.reads)) ∙ sized.reads;
+}
+
+pub HasSize-FailsWrite : (size at : ℕ) (bytes : List ℕ) (old new : Disk) → FailsWrite (write_at at bytes) old new → HasSize size old → HasSize size new
+HasSize-FailsWrite size at bytes old new fails sized = record {
+  base = ap length fails.base ∙ sized.base;
+  reads = ⊎_elim (λ same. ap length same.1 ∙ sized.reads) (λ pending. pending.1.same_length ∙ sized.reads) fails.pending;
+}
+
+pub HasSize-synced : (size : ℕ) (disk : Disk) → HasSize size disk → HasSize size (synced disk)
+HasSize-synced size disk sized = record { base = sized.reads; reads = sized.reads }
+
+pub HasSize-Crashes : (size : ℕ) (old new : Disk) → Crashes old new → HasSize size old → HasSize size new
+HasSize-Crashes size old new crashes sized =
+    let same = crashes.possible.same_length ∙ sized.base in
+    subst (λ (disk : Disk). HasSize size disk) (sym crashes.left) (record { base = same; reads = same })

@@ -1,0 +1,21 @@
+use Rattle.std.proofs.Common.{◌≡◌, subst, sym, ap, ◌∙◌}
+use Rattle.std.proofs.lemmas.Result.{on_ok_weaker}
+use Rattle.model_base.specs.Overwrite.{overwritten}
+use Rattle.model_device.specs.Disk.{Disk, HasOneImage, after_write}
+use Rattle.model_device.specs.Calls.{written, synced}
+use Rattle.redo_disk.specs.Sectors.{write_at}
+use Rattle.model_device.proofs.Images.{settled_images}
+use Rattle.redo_disk.proofs.Told.{OnTold-then}
+use Rattle.redo_disk.proofs.put.write_and_sync.Goals as goal
+
+pub returns-clause-ok : goal.returns-clause-ok
+returns-clause-ok g c =
+    let write = write_at c.args.at c.args.bytes.now in
+    on_ok_weaker c.sync.result
+    (OnTold-then _ _ _ (λ old new. new ≡ written old write) (λ old new. new ≡ synced old)
+    (λ old new. HasOneImage new (overwritten c.args.at c.args.bytes.now old.reads))
+    (λ a b d first second.
+    let same : d ≡ synced (written a write) = second ∙ ap synced first in
+    subst (λ (disk : Disk). HasOneImage disk (after_write a.reads write)) (sym same) (settled_images (after_write a.reads write)).1)
+    c.in_ok-write.ensures.ok)
+    c.sync.ensures.ok

@@ -1,0 +1,10 @@
+//! A device of sectors of 512 bytes, as the program sees it, and what its calls say of its images.
+#![tactic(auto)]
+
+mod error;
+mod put;
+mod sectors;
+
+pub use error::DevError;
+pub use put::write_and_sync;
+pub use sectors::Sectors;

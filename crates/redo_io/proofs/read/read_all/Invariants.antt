@@ -1,0 +1,15 @@
+use Rattle.std.proofs.Common.{◌≡◌, ◌≤◌, ◌-◌, length, vec_len}
+use Rattle.redo_io.specs.Source.{TakesFront}
+use Rattle.redo_io.specs.declared.read.TheConstants.{PIECE}
+use Rattle.redo_io.proofs.read.read_all.Given as goal
+
+abbrev pub invariant-loop-piece : goal.invariant-loop-piece
+invariant-loop-piece g l = record {
+  piece : vec_len l.piece ≡ PIECE;
+  short : vec_len l.text ≤ l.limit;
+  taken : TakesFront (g.S.Source.left l.fn.src) (g.S.Source.left l.src) (length l.text.items) l.text.items;
+  counts : g.S.Source.faults l.fn.src ≤ g.S.Source.faults l.src;
+}
+
+abbrev pub decreases-loop-piece : goal.decreases-loop-piece
+decreases-loop-piece g l = l.limit - vec_len l.text

@@ -1,0 +1,4 @@
+pub mod Lines
+pub mod Memory
+pub mod Sink
+pub mod Source

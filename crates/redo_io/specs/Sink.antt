@@ -1,0 +1,11 @@
+-- What writes do to the bytes that a sink has taken. A sink that doesn't tell what it has taken never does.
+use Rattle.std.specs.Prelude.{ℕ, ◌≡◌, ◌<◌, List, ◌++◌, length, take, Option, None, Some}
+
+-- what a sink has taken once it takes these too
+abbrev pub with_taken : Option (List ℕ) → List ℕ → Option (List ℕ)
+with_taken None bytes = None
+with_taken (Some taken) bytes = Some (taken ++ bytes)
+
+-- the sink took some of these bytes off the front, and not all
+abbrev pub TakesPart : Option (List ℕ) → List ℕ → Option (List ℕ) → Type 0
+TakesPart old bytes new = (n : ℕ) × (n < length bytes) × (new ≡ with_taken old (take n bytes))

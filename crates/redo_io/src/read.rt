@@ -1,0 +1,42 @@
+// Reading a text whole.
+ghost use Rattle.std.specs.Prelude.{◌≡◌, ◌≤◌, ◌<◌, ◌+◌, ◌^◌, [], length, IfOk, OnOk, IfSome, IsErrOf, vec_len};
+ghost use Rattle.model_base.specs.Count.{HasRisen};
+ghost use Rattle.redo_io.specs.Source.{TakesAtMost};
+
+use crate::{ReadFault, Source, Text};
+use std::alloc::{AllocError, Global};
+
+/// Bytes that are read at once, at the most.
+pub const PIECE: usize = 65_536;
+
+fn empty_piece(alloc: Global) -> Result<Vec<u8>, AllocError>
+    ensures { IfOk result (λ piece. vec_len piece ≡ PIECE) }
+{
+    Ok(vec![in alloc; 0; PIECE]?)
+}
+
+/// Reads all that is left, if that is at most `limit` bytes. After an error some bytes are gone from the source.
+pub fn read_all<S: Source>(alloc: Global, src: &mut S, limit: usize) -> Result<Text, ReadFault>
+    requires { limit ≤ 2 ^ 32 }
+    ensures all { IfOk result (λ text. IfSome (S.left src.old) (λ bytes. text ≡ bytes)) }
+    ensures none_left { OnOk result (IfSome (S.left src.new) (λ bytes. bytes ≡ [])) }
+    ensures short { IfOk result (λ text. length text ≤ limit) }
+    ensures fault { IsErrOf result ReadFault.Fault → HasRisen (S.faults src.old) (S.faults src.new) }
+    ensures too_long { IsErrOf result ReadFault.TooLong →
+        IfSome (S.left src.old) (λ bytes. limit < length bytes) }
+    ensures taken { TakesAtMost (limit + PIECE) (S.left src.old) (S.left src.new) }
+    ensures counts { S.faults src.old ≤ S.faults src.new }
+{
+    let mut text = Vec::new(alloc);
+    let mut piece = empty_piece(alloc)?;
+    loop {
+        let count = src.read(piece.as_mut_slice())?;
+        if count == 0 {
+            return Ok(Text::new(text));
+        }
+        if count > limit - text.len() {
+            return Err(ReadFault::TooLong);
+        }
+        text.extend_from_slice(&piece[..count])?;
+    }
+}

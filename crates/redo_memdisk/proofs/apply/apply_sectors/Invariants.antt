@@ -1,0 +1,10 @@
+use Rattle.std.proofs.Common.{◌≡◌, ◌+◌, ◌%◌, take}
+use Rattle.model_device.specs.Crash.{sector_writes, survivors}
+use Rattle.model_device.specs.Disk.{after_writes}
+use Rattle.redo_memdisk.proofs.apply.apply_sectors.Given as goal
+
+abbrev pub invariant-loop-k : goal.invariant-loop-k
+invariant-loop-k l = record {
+  next : l.next ≡ (l.bit + l.k) % 64;
+  kept : l.row ≡ after_writes l.initial.row (survivors l.pick l.bit (take l.k (sector_writes l.write)));
+}

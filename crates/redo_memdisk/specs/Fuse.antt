@@ -1,0 +1,61 @@
+-- A fuse lets so many calls of a device through and fails those behind, from when it is armed to the crash.
+use Rattle.std.specs.Prelude.{ℕ, nat_le, Bool, true, false, if◌then◌else◌, Option, Some, None, Result, Ok, Err}
+use Rattle.redo_memdisk.specs.Count.{counted, counted_if}
+use Rattle.redo_disk.specs.declared.error.DevError.{DevError}
+use Rattle.redo_disk.specs.declared.error.DevError.TheVariants.{Failed, NoMemory}
+use Rattle.redo_memdisk.specs.declared.fuse.Fuse.{Fuse}
+use Rattle.redo_memdisk.specs.declared.fuse.Stage.{Stage}
+use Rattle.redo_memdisk.specs.declared.fuse.Stage.TheVariants.{Before, Stopping, Crashed}
+
+-- the call answered that the device failed
+abbrev pub is_failed : {T : Type 0} → Result T DevError → Bool
+is_failed (Ok value) = false
+is_failed (Err Failed) = true
+is_failed (Err NoMemory) = false
+
+-- a fuse that was never armed, and saw no call
+abbrev pub fresh : Fuse
+fresh = record {
+  stage = Before;
+  limit = None;
+  passed = 0;
+  tripped = false;
+  pick = None;
+  early = 0;
+  mid = 0;
+  late = 0;
+  own = 0;
+}
+
+-- the fuse as it begins the stop
+abbrev pub armed : Option ℕ → Fuse → Fuse
+armed limit fuse = record fuse { stage = Stopping; limit = limit }
+
+-- a stop at this point has passed as many calls as it is to
+abbrev pub has_passed_all : Stage → Option ℕ → ℕ → Bool
+has_passed_all Before limit passed = false
+has_passed_all Stopping None passed = false
+has_passed_all Stopping (Some limit) passed = nat_le limit passed
+has_passed_all Crashed limit passed = false
+
+-- the fuse fails the next call itself
+abbrev pub fails_next : Fuse → Bool
+fails_next fuse = has_passed_all fuse.stage fuse.limit fuse.passed
+
+-- the fuse after it failed a call itself
+abbrev pub after_own : Fuse → Fuse
+after_own fuse = record fuse { tripped = true; mid = counted fuse.mid; own = counted fuse.own }
+
+-- the fuse after it passed a call on
+abbrev pub after_passed : Stage → Fuse → Bool → Fuse
+after_passed Before fuse failed = record fuse { early = counted_if failed fuse.early }
+after_passed Stopping fuse failed = record fuse { passed = counted fuse.passed; mid = counted_if failed fuse.mid }
+after_passed Crashed fuse failed = record fuse { late = counted_if failed fuse.late }
+
+-- the fuse after a call, by whether it answered Failed
+abbrev pub after_call : Fuse → Bool → Fuse
+after_call fuse failed = if fails_next fuse then after_own fuse else after_passed fuse.stage fuse failed
+
+-- the fuse after a crash with this pick
+abbrev pub crashed_with : ℕ → Fuse → Fuse
+crashed_with pick fuse = record fuse { stage = Crashed; pick = Some pick }

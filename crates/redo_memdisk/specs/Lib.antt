@@ -1,0 +1,5 @@
+pub mod Count
+pub mod Fuse
+pub mod Fused
+pub mod Memory
+pub mod File

@@ -1,0 +1,89 @@
+// Writes that are put into a row of bytes, and a crash that keeps some of their sectors.
+ghost use Rattle.std.specs.Prelude.{ℕ, List, ◌≡◌, ◌+◌, ◌≤◌, ◌<◌, ◌^◌, ◌%◌, length};
+ghost use Rattle.std.specs.List.{flat_map};
+ghost use Rattle.model_base.specs.Overwrite.{overwritten};
+ghost use Rattle.model_device.specs.Crash.{sector_writes, survivors};
+ghost use Rattle.model_device.specs.Disk.{after_write, after_writes};
+ghost use Rattle.model_device.specs.Within.{AreWithin, IsWithin};
+ghost use Rattle.redo_disk.specs.Sectors.{part};
+
+use crate::SECTOR;
+use model_device::Write;
+
+fn put(row: &mut [u8], at: usize, bytes: &[u8])
+    requires { at + length bytes.now ≤ length row.old }
+    ensures { row.new ≡ overwritten at bytes.now row.old }
+{
+    row[at..at + bytes.len()].copy_from_slice(bytes);
+}
+
+/// Puts the writes into the row whole, in order.
+pub(crate) fn apply_all(row: &mut [u8], writes: &[Write])
+    requires { AreWithin (length row.old) writes.now }
+    ensures { row.new ≡ after_writes row.old writes.now }
+{
+    for write in writes {
+        put(row, write.at as usize, write.bytes.as_slice());
+    }
+}
+
+/// Puts into a part of a row, from the offset on, what a write into the row puts there.
+fn lay_over(out: &mut [u8], at: usize, write: &Write)
+    requires here { at + length out.old < 2 ^ 64 }
+    requires there { write.now.at + length write.now.bytes < 2 ^ 64 }
+    ensures { (row : List ℕ) → at + length out.old ≤ length row → IsWithin (length row) write.now
+        → out.old ≡ part row at (length out.old) → out.new ≡ part (after_write row write.now) at (length out.old) }
+{
+    let bytes = write.bytes.as_slice();
+    let start = write.at as usize;
+    let from = start.max(at);
+    let to = (start + bytes.len()).min(at + out.len());
+    if from < to {
+        out[from - at..to - at].copy_from_slice(&bytes[from - start..to - start]);
+    }
+}
+
+/// Fills `out` with what stands in the row from the offset on once the writes are done.
+pub(crate) fn read_through(row: &[u8], writes: &[Write], at: usize, out: &mut [u8])
+    requires range { at + length out.old ≤ length row.now }
+    requires within { AreWithin (length row.now) writes.now }
+    ensures { out.new ≡ part (after_writes row.now writes.now) at (length out.old) }
+{
+    out.copy_from_slice(&row[at..at + out.len()]);
+    for write in writes {
+        lay_over(out, at, write);
+    }
+}
+
+/// Puts those sectors of a write into the row that survive. `bit` is the bit of the pick that says it of the first
+/// sector, and the result is the bit for the sector behind the last.
+fn apply_sectors(row: &mut [u8], write: &Write, pick: u64, bit: u32) -> u32
+    requires within { IsWithin (length row.old) write.now }
+    requires bit { bit < 64 }
+    ensures kept { row.new ≡ after_writes row.old (survivors pick bit (sector_writes write.now)) }
+    ensures next { result ≡ (bit + length (sector_writes write.now)) % 64 }
+{
+    let bytes = write.bytes.as_slice();
+    let at = write.at as usize;
+    let mut next = bit;
+    for k in 0..bytes.len() / SECTOR {
+        let from = k * SECTOR;
+        if (pick >> next) % 2 == 1 {
+            put(row, at + from, &bytes[from..from + SECTOR]);
+        }
+        next = (next + 1) % 64;
+    }
+    next
+}
+
+/// Puts those sectors of the writes into the row whose bits of the pick are 1, counted from the lowest bit and again
+/// from there after 64.
+pub(crate) fn apply_survivors(row: &mut [u8], writes: &[Write], pick: u64)
+    requires { AreWithin (length row.old) writes.now }
+    ensures { row.new ≡ after_writes row.old (survivors pick 0 (flat_map sector_writes writes.now)) }
+{
+    let mut bit = 0;
+    for write in writes {
+        bit = apply_sectors(row, write, pick, bit);
+    }
+}

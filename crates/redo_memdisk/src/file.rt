@@ -1,0 +1,131 @@
+// A device in a file.
+ghost use Rattle.std.specs.Prelude.{◌≡◌, ◌^◌, None, List, ℕ};
+ghost use Rattle.redo_disk.specs.Sectors.{HasCause};
+ghost use Rattle.redo_memdisk.specs.File.{file_faults};
+
+use crate::count::counted;
+use redo_disk::{DevError, Sectors};
+use std::fs::{OpenFile, OpenOptions};
+use std::io;
+use std::io::{ErrorKind, Read, Seek, SeekFrom, Write};
+use std::rt::Files;
+
+/// A device in a file of its own, which its first call opens or makes. What stands behind the file's end reads as zeros.
+/// It doesn't tell what it means, and its crash does nothing: a real one is the machine's.
+#[derive(Drop)]
+pub struct FileDisk<R: Files> {
+    files: R,
+    path: String,
+    file: Option<R::File>,
+    faults: u64,
+}
+
+/// Bytes of every device in a file, of which the file holds those up to the last that was written.
+pub const FILE_DISK_LEN: u64 = 1 << 40;
+
+impl<R: Files> FileDisk<R> {
+    /// The device in the file at this path.
+    pub fn new(files: R, path: String) -> Self
+        ensures { file_faults result ≡ 0 }
+    {
+        FileDisk {
+            files,
+            path,
+            file: None,
+            faults: 0,
+        }
+    }
+
+    fn opened(&mut self) -> io::Result<R::File>
+        ensures { file_faults self.new ≡ file_faults self.old }
+    {
+        match self.file.take() {
+            Some(file) => Ok(file),
+            None => OpenOptions::new()
+                .read(true)
+                .write(true)
+                .create(true)
+                .open(&self.files, self.path.as_str()),
+        }
+    }
+
+    fn with_file<F: FnOnce(&mut R::File) -> io::Result<()> + Drop>(
+        &mut self,
+        act: F,
+    ) -> Result<(), DevError>
+        requires { F.IsAlwaysCallable act }
+        ensures { HasCause (file_faults self.old) (file_faults self.new) result }
+    {
+        if self.try_with_file(act).is_ok() {
+            return Ok(());
+        }
+        self.faults = counted(self.faults);
+        Err(DevError::Failed)
+    }
+
+    fn try_with_file<F: FnOnce(&mut R::File) -> io::Result<()> + Drop>(
+        &mut self,
+        act: F,
+    ) -> io::Result<()>
+        requires { F.IsAlwaysCallable act }
+        ensures { file_faults self.new ≡ file_faults self.old }
+    {
+        let mut file = self.opened()?;
+        let done = act(&mut file);
+        self.file = Some(file);
+        done
+    }
+}
+
+fn fill_from<F: Read>(file: &mut F, out: &mut [u8]) -> io::Result<()> {
+    let mut filled = 0;
+    for _ in 0..u64::MAX {
+        if filled >= out.len() {
+            break;
+        }
+        match file.read(&mut out[filled..]) {
+            Ok(0) => break,
+            Ok(count) => filled += count,
+            Err(error) if error.kind() == ErrorKind::Interrupted => {}
+            Err(error) => return Err(error),
+        }
+    }
+    out[filled..].fill(0);
+    Ok(())
+}
+
+fn read_at<F: Read + Seek>(file: &mut F, at: u64, out: &mut [u8]) -> io::Result<()> {
+    file.seek(SeekFrom::Start(at))?;
+    fill_from(file, out)
+}
+
+fn write_at<F: Write + Seek>(file: &mut F, at: u64, bytes: &[u8]) -> io::Result<()> {
+    file.seek(SeekFrom::Start(at))?;
+    file.write_all(bytes)
+}
+
+impl<R: Files> Sectors for FileDisk<R> {
+    ghost size = { λ _. 2 ^ 40 };
+
+    ghost tells = { λ _. None };
+
+    ghost faults = { λ device. file_faults device };
+
+    fn len(&self) -> u64 {
+        FILE_DISK_LEN
+    }
+
+    fn read(&mut self, at: u64, out: &mut [u8]) -> Result<(), DevError> {
+        self.with_file(|file| read_at(file, at, out))
+    }
+
+    fn write(&mut self, at: u64, bytes: &[u8]) -> Result<(), DevError> {
+        self.with_file(|file| write_at(file, at, bytes))
+    }
+
+    fn sync(&mut self) -> Result<(), DevError> {
+        self.with_file(|file| file.sync_all())
+    }
+
+    fn crash(&mut self, _pick: u64) {}
+}
