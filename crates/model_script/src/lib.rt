@@ -9,6 +9,7 @@ mod lines;
 mod number;
 mod operation;
 mod parsing;
+mod records;
 mod script;
 mod today;
 
