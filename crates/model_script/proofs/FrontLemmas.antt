@@ -1,5 +1,5 @@
 -- How a text begins.
-use Rattle.std.proofs.Common.{ℕ, ◌≡◌, true, List, Option, Some, None, length, take, refl, sym, ◌∙◌}
+use Rattle.std.proofs.Common.{ℕ, ◌≡◌, true, List, Some, length, take, refl, sym, ◌∙◌}
 use Rattle.std.specs.Str.{bytes_eq}
 use Rattle.std.proofs.lemmas.Bool.Decides.{same_from_decides, Decides-like}
 use Rattle.std.proofs.lemmas.Slice.Eq.{bytes_eq-Decides}

@@ -1,5 +1,5 @@
 -- The operations of a line, one on.
-use Rattle.std.proofs.Common.{ℕ, suc, ◌≡◌, ◌==◌, ◌+◌, ◌^◌, ◌<◌, List, [], ◌∷◌, ◌++◌, Option, Some, None, Bor, length, refl, ap, sym, ◌∙◌, subst, append_assoc, append-nil, length-append, arith, rules}
+use Rattle.std.proofs.Common.{ℕ, ◌≡◌, ◌+◌, ◌^◌, ◌<◌, List, [], ◌∷◌, ◌++◌, Option, Some, None, Bor, length, refl, ap, sym, ◌∙◌, append_assoc, append-nil, length-append, arith}
 use Rattle.std.specs.Option.{option_and_then}
 use Rattle.model_script.specs.Cut.{IsCut}
 use Rattle.model_script.specs.Grammar.{item_of, items_of, words_of, line_from, number_below, mode_of}
@@ -15,7 +15,7 @@ after_items-push done item (Some others) = ap (λ items. Some items) (sym (appen
 pub after_item : (done : List Item) (text : List ℕ) (texts : List (List ℕ)) (item : Item) → item_of (words_of text) ≡ Some item → after_items done (items_of (text ∷ texts)) ≡ after_items (done ++ item ∷ []) (items_of texts)
 after_item done text texts item is =
     ap (λ found. after_items done (option_and_then (λ item. option_and_then (λ items. Some (item ∷ items)) (items_of texts)) found)) is
-        ∙ after_items-push done item (items_of texts)
+    ∙ after_items-push done item (items_of texts)
 
 -- no operation
 pub after_none : (done : List Item) (text : List ℕ) (texts : List (List ℕ)) → item_of (words_of text) ≡ None → after_items done (items_of (text ∷ texts)) ≡ None

@@ -1,6 +1,5 @@
 -- The first line of a text.
-use Rattle.std.proofs.Common.{ℕ, ◌≡◌, ◌==◌, ◌+◌, ◌-◌, ◌<◌, ◌≤◌, Bool, true, false, cond, List, [], ◌∷◌, ◌++◌, map, length, take, get_or, ◌≢◌, Option, Some, None, Bor, subst, refl, ap, sym, ◌∙◌, length-append, arith, rules, tests}
-use Rattle.std.specs.List.{All}
+use Rattle.std.proofs.Common.{ℕ, ◌≡◌, ◌==◌, ◌+◌, ◌-◌, ◌<◌, Bool, true, false, cond, List, [], ◌∷◌, ◌++◌, map, length, take, get_or, ◌≢◌, Option, Some, None, Bor, subst, refl, ap, sym, ◌∙◌, length-append, arith, rules, tests}
 use Rattle.std.proofs.lemmas.List.{take_all, take_more, nil_from_length}
 use Rattle.std.proofs.lemmas.List.Elements.{All-head, All-tail}
 use Rattle.model_base.specs.Lines.{onto_first, fed_lines, without_return, lines_of}
@@ -14,14 +13,14 @@ fed_lines-append : (line rest : List ℕ) → Lacks 10 line → fed_lines (line 
 fed_lines-append [] rest lacks = refl
 fed_lines-append (byte ∷ line) rest lacks =
     fed_byte byte (line ++ 10 ∷ rest) (All-head (λ other. (other == 10) ≡ false) byte line lacks)
-        ∙ ap (onto_first byte) (fed_lines-append line rest (All-tail (λ other. (other == 10) ≡ false) byte line lacks))
+    ∙ ap (onto_first byte) (fed_lines-append line rest (All-tail (λ other. (other == 10) ≡ false) byte line lacks))
 
 -- with no line feed
 fed_lines-whole : (byte : ℕ) (line : List ℕ) → Lacks 10 (byte ∷ line) → fed_lines (byte ∷ line) ≡ (byte ∷ line) ∷ []
 fed_lines-whole byte [] lacks = fed_byte byte [] (All-head (λ other. (other == 10) ≡ false) byte [] lacks)
 fed_lines-whole byte (second ∷ line) lacks =
     fed_byte byte (second ∷ line) (All-head (λ other. (other == 10) ≡ false) byte (second ∷ line) lacks)
-        ∙ ap (onto_first byte) (fed_lines-whole second line (All-tail (λ other. (other == 10) ≡ false) byte (second ∷ line) lacks))
+    ∙ ap (onto_first byte) (fed_lines-whole second line (All-tail (λ other. (other == 10) ≡ false) byte (second ∷ line) lacks))
 
 cond-cons : (b : Bool) (byte : ℕ) (xs ys : List ℕ) → byte ∷ cond b xs ys ≡ cond b (byte ∷ xs) (byte ∷ ys)
 cond-cons true byte xs ys = refl
@@ -37,7 +36,7 @@ without_return-push [] last = refl
 without_return-push (byte ∷ []) last = cond-cons (last == 13) byte [] (last ∷ [])
 without_return-push (byte ∷ second ∷ front) last =
     ap (λ line. byte ∷ line) (without_return-push (second ∷ front) last)
-        ∙ cond-cons (last == 13) byte (second ∷ front) (second ∷ front ++ last ∷ [])
+    ∙ cond-cons (last == 13) byte (second ∷ front) (second ∷ front ++ last ∷ [])
 
 -- one carriage return at the end is left out
 pub without_return_yes : (line : List ℕ) → 0 < length line → get_or line (length line - 1) 0 ≡ 13 → without_return line ≡ take (length line - 1) line
@@ -64,7 +63,7 @@ unfolding lines_of
 whole_line text [] line some same lacks returned = absurd (omega (arith, ap length same))
 whole_line text (byte ∷ bytes) line some same lacks returned = record {
   lines = rw (same, fed_lines-whole byte bytes lacks, returned) refl;
-  shorter = some
+  shorter = some;
 }
 
 -- the first line ends at a line feed
@@ -74,7 +73,7 @@ first_line_fed text front line cut rest is some returned =
     let parts = subst (IsCut 10 text front) some is in
     record {
       lines = rw (parts.0, fed_lines-append front rest.now parts.1, returned) refl;
-      shorter = omega (arith, ap length parts.0, length-append front (10 ∷ rest.now))
+      shorter = omega (arith, ap length parts.0, length-append front (10 ∷ rest.now));
     }
 
 -- the first line is the last, and has no line feed

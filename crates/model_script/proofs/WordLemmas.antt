@@ -14,7 +14,7 @@ unfolding item_of
 item_of_five name page offset value separates [] = refl
 item_of_five name page offset value separates (byte ∷ bytes) =
     elim (separates byte) as (λ cuts. item_of (name ∷ page ∷ offset ∷ value ∷ cond cuts ([] ∷ slice_split separates bytes) (onto_first byte (slice_split separates bytes))) ≡ None)
-      [ true ↦ refl | false ↦ item_of-more name page offset value (slice_split separates bytes) byte ]
+    [ true ↦ refl | false ↦ item_of-more name page offset value (slice_split separates bytes) byte ]
 
 -- three
 pub item_of_three : (name page offset : List ℕ) → item_of (name ∷ page ∷ offset ∷ []) ≡ None

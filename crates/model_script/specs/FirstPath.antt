@@ -17,7 +17,7 @@ front = codes "1 f b1 "
 abbrev pub is_user_byte : List Item → Bool
 is_user_byte ((Num width page offset value) ∷ []) =
     width == 1 && (nat_lt value 256 && (nat_lt page DEFAULT_PAGES
-        && (nat_le USER_START offset && nat_lt offset (USER_START + USER_BYTES))))
+    && (nat_le USER_START offset && nat_lt offset (USER_START + USER_BYTES))))
 is_user_byte items = false
 
 -- the line of user 1 that is answered once flushed

@@ -48,14 +48,14 @@ width_of name =
 abbrev pub number_item : ℕ → List ℕ → List ℕ → List ℕ → Option Item
 number_item width page offset value =
     option_and_then (λ page. option_and_then (λ offset. option_and_then (λ value.
-        Some (Num width page offset value))
-        (number_below (256 ^ width) value)) (number_below (2 ^ 16) offset)) (number_below (2 ^ 32) page)
+    Some (Num width page offset value))
+    (number_below (256 ^ width) value)) (number_below (2 ^ 16) offset)) (number_below (2 ^ 32) page)
 
 -- the operation that writes a string
 abbrev pub text_item : List ℕ → List ℕ → List ℕ → Option Item
 text_item page offset digits =
     option_and_then (λ page. option_and_then (λ offset. option_and_then (λ bytes. Some (Text page offset bytes))
-        (hex_bytes digits)) (number_below (2 ^ 16) offset)) (number_below (2 ^ 32) page)
+    (hex_bytes digits)) (number_below (2 ^ 16) offset)) (number_below (2 ^ 32) page)
 
 -- the operation of these words
 unfoldable pub item_of : List (List ℕ) → Option Item
@@ -82,8 +82,8 @@ mode_of name =
 abbrev pub line_from : List ℕ → List ℕ → List (List ℕ) → List (List ℕ) → Option ScriptLine
 line_from user mode words texts =
     option_and_then (λ user. option_and_then (λ mode. option_and_then (λ item. option_and_then (λ items.
-        Some (record { user = user; mode = mode; items = item ∷ items }))
-        (items_of texts)) (item_of words)) (mode_of mode)) (number_below (2 ^ 32) user)
+    Some (record { user = user; mode = mode; items = item ∷ items }))
+    (items_of texts)) (item_of words)) (mode_of mode)) (number_below (2 ^ 32) user)
 
 -- the line whose parts between semicolons these are; user and mode stand before the first operation
 abbrev pub line_of_parts : List (List ℕ) → List (List ℕ) → Option ScriptLine

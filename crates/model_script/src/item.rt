@@ -19,7 +19,9 @@ pub enum Item {
         bytes: Bytes,
     },
     /// Sets all user bytes of the page to 0.
-    Init { page: u32 },
+    Init {
+        page: u32,
+    },
 }
 
 /// The operations of a line, in order. Contracts see it as the list of them.

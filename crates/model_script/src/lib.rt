@@ -17,3 +17,6 @@ pub use item::{Item, Items};
 pub use parsing::parse;
 pub use script::{Script, ScriptLine};
 pub use today::first_path;
+
+#[cfg(test)]
+mod tests;
