@@ -1,4 +1,5 @@
 pub mod Count
+pub mod Lending
 pub mod Limits
 pub mod Lines
 pub mod Overwrite

@@ -1,5 +1,7 @@
 // A text of bytes that a contract sees as a list.
 ghost use Rattle.std.specs.Prelude.{◌≡◌, ◌==◌, length};
+ghost use Rattle.std.specs.Borrow.{sem};
+ghost use Rattle.model_base.specs.Lending.{LendsBytes};
 
 use std::marker::Model;
 
@@ -31,6 +33,14 @@ impl Bytes {
         ensures { result.now ≡ self.now }
     {
         self.vec.as_slice()
+    }
+
+    /// All the bytes, to be written in place.
+    pub fn as_mut_slice(&mut self) -> &mut [u8]
+        ensures* writes_back { sem 𝓛 (LendsBytes self.entry result) }
+        ensures value { result.now ≡ self.old }
+    {
+        self.vec.as_mut_slice()
     }
 
     /// How many bytes there are.

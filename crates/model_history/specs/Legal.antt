@@ -81,8 +81,10 @@ group_of_line space (Some line) = group_of space line
 
 abbrev pub whole_of : List ScriptLine → ℕ → Entry → Whole
 whole_of script space entry = record {
-    group = group_of_line space (slice_get (lines_of_user entry.user script) entry.k);
-    start = entry.start; end = entry.end }
+  group = group_of_line space (slice_get (lines_of_user entry.user script) entry.k);
+  start = entry.start;
+  end = entry.end;
+}
 
 -- the groups of the entries, in lsn order
 abbrev pub wholes_of : List ScriptLine → ℕ → List Entry → List Whole

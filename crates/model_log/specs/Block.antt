@@ -1,5 +1,6 @@
--- The layout of a log block of 512 bytes, as InnoDB's log0log has it: number (4 bytes), data length (2), first group
--- (2), checkpoint number (4), data (496), checksum (4). Numbers have their highest byte first.
+-- The layout of a log block of 512 bytes: number (4 bytes), data length (2), first group (2), checkpoint number (4),
+-- data (496), checksum (4), the highest byte of a number first. The fields are those of InnoDB's log0log; that the fourth
+-- holds the checkpoint's number, and that the flush bit isn't read, is this project's own.
 use Rattle.std.specs.Prelude.{ℕ, ◌+◌, ◌-◌, ◌%◌, ◌^◌, ◌==◌, ◌&&◌, ◌||◌, min, nat_lt, nat_le, if◌then◌else◌, Bool, List, ◌++◌, length, take, drop, Option, Some, None}
 use Rattle.std.specs.Int.{bytes_high_first}
 use Rattle.model_base.specs.declared.limits.TheConstants.{BLOCK_SIZE}

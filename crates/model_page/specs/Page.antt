@@ -1,6 +1,6 @@
 -- The bytes of a page, as InnoDB's fil0fil has them: checksum (4 bytes), page number (4), neighbours (8), page lsn (8),
 -- type (2), flush lsn (8), space id (4), user bytes, checksum (4), the low half of the page lsn (4). Both checksums are
--- the CRC-32C of what stands between them but for the last four bytes before the second, which is this project's own.
+-- the CRC-32C of all that stands between them, which is this project's own.
 use Rattle.std.specs.Prelude.{ℕ, ◌-◌, ◌%◌, ◌^◌, ◌==◌, ◌&&◌, if◌then◌else◌, Bool, List, ◌++◌, length, take, drop}
 use Rattle.std.specs.List.{list_all}
 use Rattle.std.specs.Int.{bytes_high_first}

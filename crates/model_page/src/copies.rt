@@ -5,16 +5,10 @@ ghost use Rattle.model_page.specs.Copies.{data_device_length, stretch_at, place_
 ghost use Rattle.model_page.specs.Copies.{IsKept, IsLost};
 ghost use Rattle.model_page.specs.Page.{user_part};
 
+use crate::Content;
 use crate::page::{PageState, TRAILER_LENGTH, page_check};
 use model_base::{Bytes, Shape, USER_START};
 use std::alloc::{AllocError, Global};
-
-/// What a page holds: the lsn of the last group that changed it, and its user bytes.
-#[derive(Debug, Drop)]
-pub struct Kept {
-    pub lsn: u64,
-    pub user: Bytes,
-}
 
 /// The n-th stretch of page size on the device: the slots come first, and then the places.
 fn stretch_at<'a>(image: &'a [u8], shape: &Shape, n: u32) -> &'a [u8]
@@ -93,12 +87,12 @@ pub fn kept_page(
     image: &[u8],
     shape: &Shape,
     page: u32,
-) -> Result<Option<Kept>, AllocError>
+) -> Result<Option<Content>, AllocError>
     requires limits { IsWithinLimits shape.now }
     requires device { data_device_length shape.now ≤ length image.now }
     requires page { page < shape.now.pages }
     ensures { IfOk result (λ found. MatchOption found (IsLost shape.now image.now page)
-        (λ kept. IsKept shape.now image.now page (record { lsn = kept.lsn; user = kept.user }))) }
+        (λ kept. IsKept shape.now image.now page kept)) }
 {
     let (n, lsn) = match place_lsn(image, shape, page) {
         Some(lsn) => (shape.slots + page, lsn),
@@ -108,5 +102,5 @@ pub fn kept_page(
         },
     };
     let user = user_bytes(alloc, stretch_at(image, shape, n))?;
-    Ok(Some(Kept { lsn, user }))
+    Ok(Some(Content { lsn, user }))
 }

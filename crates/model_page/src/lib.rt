@@ -2,11 +2,13 @@
 //! a copy in the doublewrite area counts. Beside these definitions stand the plain slow programs that compute them.
 #![tactic(auto)]
 
+mod content;
 mod copies;
 mod laws;
 mod page;
 
-pub use copies::{Kept, best_copy, copy_lsn, kept_page, place_lsn};
+pub use content::Content;
+pub use copies::{best_copy, copy_lsn, kept_page, place_lsn};
 pub use laws::page_reads_back;
 pub use page::{PageState, page_bytes, page_check};
 

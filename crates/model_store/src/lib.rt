@@ -2,6 +2,12 @@
 //! a crash.
 #![tactic(auto)]
 
+mod apply;
+mod blocks;
+mod laws;
 mod refusal;
 
+pub use apply::apply_group;
+pub use blocks::scan_blocks;
+pub use laws::{one_answer, one_reading};
 pub use refusal::Refusal;

@@ -75,7 +75,7 @@ first_count crash = count_up_to crash.reading.end (entries_of crash.run)
 abbrev pub IsPrefixWhole : Crash → Type 0
 IsPrefixWhole crash =
     crash.reading.pages ≡ folded crash.opened
-        (take (first_count crash) (wholes_of crash.script crash.shape.space (entries_of crash.run)))
+    (take (first_count crash) (wholes_of crash.script crash.shape.space (entries_of crash.run)))
 
 -- N reaching every group printed flushed.
 abbrev pub ReachesFlushed : Crash → Type 0

@@ -47,7 +47,8 @@ formatted old fill long =
     record {
       same_length = length-overwritten 0 head third (omega arith) ∙ third_length;
       head = part_of_write 0 512 head third (omega arith) (sym fill.head);
-      even = ap (take 512) (part_behind_write 512 0 head third (omega arith) (omega arith)) ∙ part_of_write 512 512 even second (omega arith) (sym fill.even) }
+      even = ap (take 512) (part_behind_write 512 0 head third (omega arith) (omega arith)) ∙ part_of_write 512 512 even second (omega arith) (sym fill.even);
+    }
 
 -- what opening leaves in the header blocks, and in the first log block
 record IsOpenedFrom (log : List ℕ) (old : List ℕ) : Type 0 where
@@ -70,8 +71,9 @@ opened_by odd zeros old odd_length is_odd zeros_long fits front =
       even = part_below_write 512 512 1536 odd wiped (lit≤ tt) (omega arith) ∙ part_below_write 512 512 2048 zeros old (lit≤ tt) (omega arith);
       odd = part_of_write 1536 512 odd wiped (omega arith) (sym odd_length) ∙ is_odd;
       first = ap (take 512) (part_behind_write 2048 1536 odd wiped (omega arith) (omega arith))
-        ∙ part_in_write 2048 512 2048 zeros old (lit≤ tt) (omega arith) (omega arith)
-        ∙ front }
+          ∙ part_in_write 2048 512 2048 zeros old (lit≤ tt) (omega arith) (omega arith)
+          ∙ front;
+    }
 
 -- the zeros that opening writes, up to the device's end
 opened_up_to : (end : ℕ) (old : List ℕ) → FillBlocks → 2560 ≤ end → end ≤ length old
@@ -79,8 +81,8 @@ opened_up_to : (end : ℕ) (old : List ℕ) → FillBlocks → 2560 ≤ end → 
 unfolding zeroed
 opened_up_to end old fill long fits =
     opened_by (checkpoint_text first_number START_LSN default_shape) (replicate (end - 2048) 0) old fill.odd refl
-      (omega (arith, length-zeros (end - 2048))) (omega (arith, length-zeros (end - 2048)))
-      (part_of_zeros (2048 - 2048) 512 (end - 2048) (omega arith))
+    (omega (arith, length-zeros (end - 2048))) (omega (arith, length-zeros (end - 2048)))
+    (part_of_zeros (2048 - 2048) 512 (end - 2048) (omega arith))
 
 opened : (old : List ℕ) → FillBlocks → log_device_length default_shape ≤ length old → IsOpenedFrom (opened_log default_shape old) old
 unfolding opened_log with_checkpoint
@@ -107,7 +109,8 @@ with_block log old block filled started =
       head = part_below_write 0 512 2048 block log (lit≤ tt) (omega arith) ∙ started.head;
       even = part_below_write 512 512 2048 block log (lit≤ tt) (omega arith) ∙ started.even;
       odd = part_below_write 1536 512 2048 block log (lit≤ tt) (omega arith) ∙ started.odd;
-      first = part_of_write 2048 512 block log (omega arith) (sym filled) }
+      first = part_of_write 2048 512 block log (omega arith) (sym filled);
+    }
 
 -- places of zeros, up to the device's end
 blank_up_to : (end : ℕ) (old : List ℕ) → 65536 ≤ end → end ≤ length old → IsBlankStore (zeroed 0 end old)
@@ -119,8 +122,9 @@ blank_up_to end old long fits =
     record {
       long = omega arith;
       blank = λ p below.
-        part_in_write ((8 + p) * 4096) 4096 0 zeros old (omega arith) (omega arith) (omega arith)
-        ∙ part_of_zeros ((8 + p) * 4096 - 0) 4096 (end - 0) (omega arith) }
+          part_in_write ((8 + p) * 4096) 4096 0 zeros old (omega arith) (omega arith) (omega arith)
+          ∙ part_of_zeros ((8 + p) * 4096 - 0) 4096 (end - 0) (omega arith);
+    }
 
 -- a formatted data device
 pub formatted_blank : (old : List ℕ) → data_device_length default_shape ≤ length old → IsBlankStore (formatted_store default_shape old)

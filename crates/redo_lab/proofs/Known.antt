@@ -56,7 +56,7 @@ page-folded p (whole ∷ wholes) pages =
     ∙ ap (option_map (replayed p 0 wholes)) (page-after_from 0 p whole.group whole.end pages)
     ∙ ap (λ k. option_map (replayed p 0 wholes) (option_map (page_after k whole.group whole.end) (slice_get pages p))) (zero-add p)
     ∙ option_map_twice (replayed p 0 wholes) (page_after p whole.group whole.end) (replayed p 0 (whole ∷ wholes))
-        (λ page. ap (λ (b : Bool). replayed p 0 wholes (cond b (page_after p whole.group whole.end page) page)) (sym (from_zero whole.start)) ) (slice_get pages p)
+    (λ page. ap (λ (b : Bool). replayed p 0 wholes (cond b (page_after p whole.group whole.end page) page)) (sym (from_zero whole.start))) (slice_get pages p)
 
 -- a page of zeros is blank
 zeros_blank : (n : ℕ) → is_blank (replicate n 0) ≡ true

@@ -31,7 +31,7 @@ part_below_write at n to bytes xs h e =
     ∙ take-append-le n (drop at (take to xs)) rest room
     ∙ ap (λ l. take n (drop at l)) refl
     ∙ (let k : to ≡ at + (to - at) = omega arith in
-       ap (λ j. take n (drop at (take j xs))) k ∙ ap (take n) (drop-take at (to - at) xs) ∙ grind (arith, common_steps))
+    ap (λ j. take n (drop at (take j xs))) k ∙ ap (take n) (drop-take at (to - at) xs) ∙ grind (arith, common_steps))
 
 -- a write before the part
 pub part_behind_write : (at to : ℕ) (bytes xs : List ℕ) → to + length bytes ≤ at → to ≤ length xs → drop at (overwritten to bytes xs) ≡ drop at xs

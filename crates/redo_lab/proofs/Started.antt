@@ -59,7 +59,8 @@ read_page store wholes end blank p page e =
       kept = blank_page;
       is_kept = kept_blank store p blank first.0;
       not_ahead = omega arith;
-      replay = found.2 ∙ ap (replayed p 0 wholes) first.1 }
+      replay = found.2 ∙ ap (replayed p 0 wholes) first.1;
+    }
 
 -- the newest checkpoint is the odd one
 newest : (log block : List ℕ) → ReadsBack → IsStartedLog log block → newest_checkpoint default_shape log ≡ Some (first_number, START_LSN)
@@ -74,7 +75,9 @@ devices log store block formats started blank =
     let long = started.long in
     record {
       head = record { long = omega arith; head = ap read_head started.head ∙ formats.head };
-      log_long = started.long; data_long = blank.long }
+      log_long = started.long;
+      data_long = blank.long;
+    }
 
 -- the block at the log's start is what stands first
 first_block : (log block : List ℕ) → IsStartedLog log block → block_at default_shape log START_LSN ≡ read_block START_LSN block
@@ -93,10 +96,14 @@ reads_empty log store formats started blank =
             few = lit≤ tt;
             each = λ i view e. cc;
             full = λ i view below e. cc;
-            last = inr (inr none) };
-          groups = (refl, refl) } };
+            last = inr (inr none);
+          };
+          groups = (refl, refl);
+        };
+      };
       count = refl;
-      each = λ p page e. read_page store [] FIRST_DATA_LSN blank p page e }
+      each = λ p page e. read_page store [] FIRST_DATA_LSN blank p page e;
+    }
 
 -- a record that sets the user bytes of page 0 of space 0: some group
 some_front : IsFront []
@@ -129,7 +136,7 @@ reads_group group log store formats block good small started blank =
     let view : BlockView = view_of_group group in
     let found : block_at default_shape log (lsn_at START_LSN 0) ≡ Some view = first_block log (block_of_group group) started ∙ block.view in
     let bytes : data_from default_shape log START_LSN (view ∷ []) FIRST_DATA_LSN ≡ stream_of (group ∷ []) ++ [] =
-      ap (λ (b : List ℕ). data_of view b ++ []) started.first ∙ ap (λ (t : List ℕ). t ++ []) block.content ∙ sym (append-nil (group_text group ++ [])) ∙ ap (λ (t : List ℕ). t ++ []) (sym (stream_of_one group)) in
+    ap (λ (b : List ℕ). data_of view b ++ []) started.first ∙ ap (λ (t : List ℕ). t ++ []) block.content ∙ sym (append-nil (group_text group ++ [])) ∙ ap (λ (t : List ℕ). t ++ []) (sym (stream_of_one group)) in
     record {
       scan = record {
         devices = devices log store (block_of_group group) formats started blank;
@@ -139,7 +146,11 @@ reads_group group log store formats block good small started blank =
             few = lit≤ tt;
             each = λ i other e. one_view log view found i other e;
             full = λ i view below e. absurd (omega arith);
-            last = inr (inl (view, 0, refl, refl, not_full (group_length group) small)) };
-          groups = ([], record { bytes_are = bytes; tiled = (refl, refl, tt); each = (good, tt) }, some_front, refl) } };
+            last = inr (inl (view, 0, refl, refl, not_full (group_length group) small));
+          };
+          groups = ([], record { bytes_are = bytes; tiled = (refl, refl, tt); each = (good, tt) }, some_front, refl);
+        };
+      };
       count = length-folded (whole_of_group group ∷ []) (blank_pages default_shape);
-      each = λ p page e. read_page store (whole_of_group group ∷ []) (whole_of_group group).end blank p page e }
+      each = λ p page e. read_page store (whole_of_group group ∷ []) (whole_of_group group).end blank p page e;
+    }

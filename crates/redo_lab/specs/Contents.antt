@@ -23,7 +23,7 @@ with_checkpoint shape number lsn bytes = overwritten (BLOCK_SIZE * place_of numb
 unfoldable pub formatted_log : Shape → List ℕ → List ℕ
 formatted_log shape bytes =
     overwritten 0 (head_text shape) (with_checkpoint shape 0 START_LSN
-        (zeroed (2 * BLOCK_SIZE) (log_device_length shape) (zeroed 0 BLOCK_SIZE bytes)))
+    (zeroed (2 * BLOCK_SIZE) (log_device_length shape) (zeroed 0 BLOCK_SIZE bytes)))
 
 -- a formatted data device: slots and places are zeros
 unfoldable pub formatted_store : Shape → List ℕ → List ℕ

@@ -44,17 +44,31 @@ view_of_group group = record { length = length_of (group_length group); first = 
 -- the place of the one group: it starts at the log's first data byte
 abbrev pub whole_of_group : List Rec → Whole
 whole_of_group group = record {
-    group = group; start = FIRST_DATA_LSN; end = lsn_of (sn_of FIRST_DATA_LSN + group_length group) }
+  group = group;
+  start = FIRST_DATA_LSN;
+  end = lsn_of (sn_of FIRST_DATA_LSN + group_length group);
+}
 
 -- what is read where nothing was logged
 abbrev pub empty_reading : Reading
 empty_reading = record {
-    shape = default_shape; number = first_number; ckpt = START_LSN; views = []; wholes = []; end = FIRST_DATA_LSN;
-    pages = blank_pages default_shape }
+  shape = default_shape;
+  number = first_number;
+  ckpt = START_LSN;
+  views = [];
+  wholes = [];
+  end = FIRST_DATA_LSN;
+  pages = blank_pages default_shape;
+}
 
 -- what is read where the one group was logged
 abbrev pub group_reading : List Rec → Reading
 group_reading group = record {
-    shape = default_shape; number = first_number; ckpt = START_LSN;
-    views = view_of_group group ∷ []; wholes = whole_of_group group ∷ []; end = (whole_of_group group).end;
-    pages = folded (blank_pages default_shape) (whole_of_group group ∷ []) }
+  shape = default_shape;
+  number = first_number;
+  ckpt = START_LSN;
+  views = view_of_group group ∷ [];
+  wholes = whole_of_group group ∷ [];
+  end = (whole_of_group group).end;
+  pages = folded (blank_pages default_shape) (whole_of_group group ∷ []);
+}

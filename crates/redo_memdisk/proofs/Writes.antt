@@ -19,9 +19,12 @@ pub FailsWrite-written : (size at : ℕ) (bytes : List ℕ) (disk : Disk) → Is
     → FailsWrite (write_at at bytes) disk (written disk (write_at at bytes))
 FailsWrite-written size at bytes disk range sized = record {
   base = refl;
-  pending = inr (refl, IsMixed-after_write (write_at at bytes) disk.reads (record {
-    aligned = range.from_sector;
-    whole = range.whole_sectors;
-    within = omega (arith, range.within, sized.reads);
-  }));
+  pending = inr (
+    refl,
+    IsMixed-after_write (write_at at bytes) disk.reads (record {
+      aligned = range.from_sector;
+      whole = range.whole_sectors;
+      within = omega (arith, range.within, sized.reads);
+    }),
+  );
 }

@@ -1,0 +1,9 @@
+pub mod Applying
+pub mod Numbers
+pub mod Offsets
+pub mod Places
+pub mod Scanning
+pub mod OneScan
+pub mod OneKept
+pub mod OneReading
+pub mod OneAnswer

@@ -1,0 +1,83 @@
+-- What is read off two devices is determined.
+use Rattle.std.proofs.Common.{◌≡◌, ℕ, List, length, Some, sym, ap, subst, ◌∙◌}
+use Rattle.std.specs.List.{slice_get}
+use Rattle.model_base.specs.declared.shape.Shape.{Shape}
+use Rattle.model_record.specs.declared.group.Whole.{Whole}
+use Rattle.model_log.specs.declared.block.BlockView.{BlockView}
+use Rattle.model_log.specs.Device.{newest_checkpoint}
+use Rattle.model_page.specs.declared.content.Content.{Content}
+use Rattle.model_store.specs.Scan.{IsScan}
+use Rattle.model_store.specs.Reading.{Reading, Reads, HasScan, HasHead, IsReadPage, replayed}
+use Rattle.model_store.proofs.Places.{same_places, same_some}
+use Rattle.model_store.proofs.OneScan.{OneGroup, same_scan}
+use Rattle.model_store.proofs.OneKept.{same_kept}
+
+-- a header names one shape
+pub same_shape : (log : List ℕ) (s t : Shape) → HasHead log s → HasHead log t → s ≡ t
+same_shape log s t a b = cc (a.head, b.head)
+
+-- a page is read in one way
+pub same_page : (shape : Shape) (store : List ℕ) (wholes : List Whole) (end p : ℕ) (x y : Content)
+    → IsReadPage shape store wholes end p x → IsReadPage shape store wholes end p y → x ≡ y
+same_page shape store wholes end p x y a b =
+    let kept : a.kept ≡ b.kept = same_kept shape store p a.kept b.kept a.is_kept b.is_kept in
+    a.replay ∙ ap (λ (c : Content). replayed p c.lsn wholes c) kept ∙ sym b.replay
+
+-- what is found on two devices before the pages are read
+pub record Found : Type 0 where
+  pub shape : Shape
+  pub number : ℕ
+  pub ckpt : ℕ
+  pub views : List BlockView
+  pub wholes : List Whole
+  pub end : ℕ
+
+pub HasFound : List ℕ → List ℕ → Found → Type 0
+HasFound log store found = HasScan log store found.shape found.number found.ckpt found.views found.wholes found.end
+
+-- it is determined
+pub same_found : OneGroup → (log store : List ℕ) (a b : Found) → HasFound log store a → HasFound log store b → a ≡ b
+unfolding HasFound
+same_found one log store a b x y =
+    let shape = same_shape log a.shape b.shape x.devices.head y.devices.head in
+    let again = subst (λ (s : Shape). HasScan log store s b.number b.ckpt b.views b.wholes b.end) (sym shape) y in
+    let newest = same_some (newest_checkpoint a.shape log) (a.number, a.ckpt) (b.number, b.ckpt) x.checkpoint again.checkpoint in
+    let number : a.number ≡ b.number = ap (λ pair. pair.0) newest in
+    let ckpt : a.ckpt ≡ b.ckpt = ap (λ pair. pair.1) newest in
+    let scan = subst (λ from. IsScan a.shape log from b.views b.wholes b.end) (sym ckpt) again.scan in
+    let same = same_scan one a.shape log a.ckpt a.views b.views a.wholes b.wholes a.end b.end x.scan scan in
+    λ i. record { shape = shape i; number = number i; ckpt = ckpt i; views = same.0 i; wholes = same.1 i; end = same.2 i }
+
+-- what a reading found, and its pages
+abbrev found_of : Reading → Found
+found_of reading = record { shape = reading.shape; number = reading.number; ckpt = reading.ckpt; views = reading.views; wholes = reading.wholes; end = reading.end }
+
+-- the pages that are read for what was found
+record AreReadPages (store : List ℕ) (found : Found) (pages : List Content) : Type 0 where
+  count : length pages ≡ found.shape.pages
+  each : (p : ℕ) (page : Content) → slice_get pages p ≡ Some page → IsReadPage found.shape store found.wholes found.end p page
+
+-- they are determined
+same_pages : (store : List ℕ) (found : Found) (xs ys : List Content) → AreReadPages store found xs → AreReadPages store found ys → xs ≡ ys
+same_pages store found xs ys a b =
+    same_places xs ys (a.count ∙ sym b.count)
+    (λ p x y i j. same_page found.shape store found.wholes found.end p x y (a.each p x i) (b.each p y j))
+
+-- what is read off two devices is determined
+pub same_reading : OneGroup → (log store : List ℕ) (first second : Reading) → Reads log store first → Reads log store second → first ≡ second
+unfolding HasFound
+same_reading one log store first second a b =
+    let found : found_of first ≡ found_of second = same_found one log store (found_of first) (found_of second) a.scan b.scan in
+    let left : AreReadPages store (found_of first) first.pages = record { count = a.count; each = a.each } in
+    let right : AreReadPages store (found_of second) second.pages = record { count = b.count; each = b.each } in
+    let pages = same_pages store (found_of first) first.pages second.pages left
+    (subst (λ (f : Found). AreReadPages store f second.pages) (sym found) right) in
+    λ i. record {
+      shape = (found i).shape;
+      number = (found i).number;
+      ckpt = (found i).ckpt;
+      views = (found i).views;
+      wholes = (found i).wholes;
+      end = (found i).end;
+      pages = pages i;
+    }
