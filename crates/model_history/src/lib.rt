@@ -3,5 +3,9 @@
 #![tactic(auto)]
 
 mod entry;
+mod lines;
+mod measuring;
+mod place;
+mod states;
 
 pub use entry::{Entry, History, Marks, State};
