@@ -3,6 +3,7 @@
 #![tactic(auto)]
 
 mod entry;
+mod legal;
 mod lines;
 mod measuring;
 mod place;
