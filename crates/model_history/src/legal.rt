@@ -1,11 +1,12 @@
 // Whether a history is legal.
-ghost use Rattle.std.specs.Prelude.{◌↔◌, IsTrue, IfOk};
-ghost use Rattle.model_history.specs.Legal.{IsLegalEntry};
+ghost use Rattle.std.specs.Prelude.{◌↔◌, ◌<◌, length, IsTrue, IfOk};
+ghost use Rattle.model_history.specs.Legal.{IsGapless, IsLegalEntry};
+ghost use Rattle.model_history.specs.Step.{IsInOrder};
 
-use crate::lines::line_of_user;
+use crate::lines::{count_of_user, line_of_user};
 use crate::place::ends_at;
 use crate::states::{fits_marks, fits_mode};
-use crate::{Entry, Marks};
+use crate::{Entry, Marks, State};
 use model_script::ScriptLine;
 use std::alloc::{AllocError, Global};
 
@@ -31,4 +32,33 @@ fn is_legal_entry(
         return Ok(false);
     }
     Ok(fits_mode(line.mode, entry.state))
+}
+
+// Whether the entries follow one another from the lsn on, without a gap.
+#[tactic(auto, using(crate::proofs::Gaps::gaps))]
+fn is_gapless(start: u64, entries: &[Entry]) -> bool
+    ensures { IsTrue result ↔ IsGapless start entries.now }
+{
+    let mut end = start;
+    for entry in entries {
+        if entry.start != end {
+            return false;
+        }
+        end = entry.end;
+    }
+    true
+}
+
+// Whether as many entries of its user stand before the entry as it says, and none behind it if it is lost.
+fn is_in_order(entries: &[Entry], i: usize, entry: Entry) -> bool
+    requires { i < length entries.now }
+    ensures { IsTrue result ↔ IsInOrder entries.now i entry }
+{
+    if entry.k != count_of_user(&entries[..i], entry.user) {
+        return false;
+    }
+    match entry.state {
+        State::Lost => count_of_user(&entries[i + 1..], entry.user) == 0,
+        State::Flushed | State::Written | State::Copied => true,
+    }
 }
