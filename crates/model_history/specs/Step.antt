@@ -1,5 +1,5 @@
 -- A legal history, entry by entry.
-use Rattle.std.specs.Prelude.{ℕ, ◌≡◌, ◌+◌, List, length, take, drop, slice_get, Some}
+use Rattle.std.specs.Prelude.{ℕ, ◌≡◌, ◌<◌, ◌+◌, List, length, take, drop, slice_get, Some}
 use Rattle.model_script.specs.declared.script.ScriptLine.{ScriptLine}
 use Rattle.model_history.specs.Legal.{entries_of_user, IsLegalEntry}
 use Rattle.model_history.specs.declared.entry.Entry.{Entry}
@@ -17,7 +17,12 @@ pub record IsLegalAt (script : List ScriptLine) (space : ℕ) (marks : Marks) (e
   pub order : IsInOrder entries i entry
   pub legal : IsLegalEntry script space marks entry
 
+-- if there is an entry at the index, it is one of a legal history
+abbrev pub IsLegalIndex : List ScriptLine → ℕ → Marks → List Entry → ℕ → Type 0
+IsLegalIndex script space marks entries i =
+    (entry : Entry) → slice_get entries i ≡ Some entry → IsLegalAt script space marks entries i entry
+
 -- each entry is one of a legal history
 abbrev pub AreLegal : List ScriptLine → ℕ → Marks → List Entry → Type 0
 AreLegal script space marks entries =
-    (i : ℕ) (entry : Entry) → slice_get entries i ≡ Some entry → IsLegalAt script space marks entries i entry
+    (i : ℕ) → i < length entries → IsLegalIndex script space marks entries i

@@ -1,7 +1,7 @@
 // Whether a history is legal.
-ghost use Rattle.std.specs.Prelude.{◌↔◌, ◌<◌, length, IsTrue, IfOk};
-ghost use Rattle.model_history.specs.Legal.{IsGapless, IsLegalEntry};
-ghost use Rattle.model_history.specs.Step.{IsInOrder};
+ghost use Rattle.std.specs.Prelude.{◌≡◌, ◌↔◌, ◌<◌, length, slice_get, IsTrue, IfOk};
+ghost use Rattle.model_history.specs.Legal.{IsGapless, IsLegal, IsLegalEntry};
+ghost use Rattle.model_history.specs.Step.{AreLegal, IsInOrder, IsLegalIndex};
 
 use crate::lines::{count_of_user, line_of_user};
 use crate::place::ends_at;
@@ -61,4 +61,64 @@ fn is_in_order(entries: &[Entry], i: usize, entry: Entry) -> bool
         State::Lost => count_of_user(&entries[i + 1..], entry.user) == 0,
         State::Flushed | State::Written | State::Copied => true,
     }
+}
+
+// Whether the entry, which stands at the index, is one of a legal history.
+#[tactic(auto, using(crate::proofs::Indices::indices))]
+fn is_legal_at(
+    alloc: Global,
+    script: &[ScriptLine],
+    space: u32,
+    marks: &Marks,
+    entries: &[Entry],
+    i: usize,
+    entry: Entry,
+) -> Result<bool, AllocError>
+    requires below { i < length entries.now }
+    requires stands { slice_get entries.now i ≡ Some entry }
+    ensures { IfOk result
+        (λ legal. IsTrue legal ↔ IsLegalIndex script.now space marks.now entries.now i) }
+{
+    if !is_in_order(entries, i, entry) {
+        return Ok(false);
+    }
+    is_legal_entry(alloc, script, space, marks, entry)
+}
+
+// Whether each entry is one of a legal history.
+fn are_legal(
+    alloc: Global,
+    script: &[ScriptLine],
+    space: u32,
+    marks: &Marks,
+    entries: &[Entry],
+) -> Result<bool, AllocError>
+    ensures { IfOk result
+        (λ legal. IsTrue legal ↔ AreLegal script.now space marks.now entries.now) }
+{
+    for (i, entry) in entries.iter().enumerate() {
+        if !is_legal_at(alloc, script, space, marks, entries, i, *entry)? {
+            return Ok(false);
+        }
+    }
+    Ok(true)
+}
+
+/// Whether the entries are a legal history of the script on a store with this space id, whose run starts at the lsn
+/// and ends with these marks.
+pub fn is_legal(
+    alloc: Global,
+    script: &[ScriptLine],
+    space: u32,
+    start: u64,
+    marks: &Marks,
+    entries: &[Entry],
+) -> Result<bool, AllocError>
+    ensures { IfOk result
+        (λ legal. IsTrue legal ↔ IsLegal script.now space start marks.now entries.now) }
+{
+    if !is_gapless(start, entries) {
+        return Ok(false);
+    }
+    are_legal(alloc, script, space, marks, entries)
 }
