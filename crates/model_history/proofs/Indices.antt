@@ -1,5 +1,5 @@
 -- The entry at an index of a legal history.
-use Rattle.std.proofs.Common.{ℕ, ◌≡◌, ◌↔◌, Bool, List, Some, slice_get, IsTrue, sym, ◌∙◌, subst}
+use Rattle.std.proofs.Common.{ℕ, ◌≡◌, List, Some, slice_get, subst}
 use Rattle.model_script.specs.declared.script.ScriptLine.{ScriptLine}
 use Rattle.model_history.specs.Legal.{IsLegalEntry}
 use Rattle.model_history.specs.Step.{IsInOrder, IsLegalAt, IsLegalIndex}

@@ -1,7 +1,7 @@
 -- A group that doesn't fit 64 bits ends at no lsn that does.
-use Rattle.std.proofs.Common.{ℕ, ◌≡◌, ◌+◌, ◌<◌, ◌≤◌, ◌^◌, ◌↔◌, false, IsTrue, arith}
+use Rattle.std.proofs.Common.{ℕ, ◌≡◌, ◌<◌, ◌≤◌, ◌^◌, ◌↔◌, false, IsTrue, arith}
 use Rattle.std.proofs.lemmas.Bool.{false≢true}
-use Rattle.model_log.specs.Lsn.{lsn_of, sn_of}
+use Rattle.model_log.specs.Lsn.{lsn_of}
 
 lsn_of-ge : (sn : ℕ) → sn ≤ lsn_of sn
 lsn_of-ge sn = omega arith

@@ -4,7 +4,6 @@ use Rattle.model_script.specs.declared.script.ScriptLine.{ScriptLine}
 use Rattle.model_history.specs.Legal.{entries_of_user, IsLegalEntry}
 use Rattle.model_history.specs.declared.entry.Entry.{Entry}
 use Rattle.model_history.specs.declared.entry.Marks.{Marks}
-use Rattle.model_history.specs.declared.entry.State.{State}
 use Rattle.model_history.specs.declared.entry.State.TheVariants.{Lost}
 
 -- As many entries of its user stand before the entry at the index as it says, and none behind it if it is lost.

@@ -10,7 +10,10 @@ use model_script::ScriptLine;
 pub fn line_of_user(script: &[ScriptLine], user: u32, k: u64) -> Option<&ScriptLine>
     ensures { option_copied result ≡ slice_get (lines_of_user user script.now) k }
 {
-    script.iter().filter(|line| line.user == user).nth(k as usize)
+    script
+        .iter()
+        .filter(|line| line.user == user)
+        .nth(k as usize)
 }
 
 /// How many of the entries are of the user.

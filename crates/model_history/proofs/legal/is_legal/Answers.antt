@@ -12,8 +12,8 @@ returns c =
     let entries = c.args.entries.now in
     let gapless = c.is_gapless.ensures.0 c.if-not-is_gapless.false in
     IfOk-weaker c.are_legal.result (λ legal. IsTrue legal ↔ AreLegal script c.args.space marks entries) (λ legal. IsTrue legal ↔ IsLegal script c.args.space c.args.start marks entries)
-      (λ legal says. (
-        λ yes. IsLegal-from script c.args.space c.args.start marks entries gapless (says.0 yes),
-        λ is. says.1 (AreLegal-from script c.args.space c.args.start marks entries is),
-      ))
-      c.are_legal.ensures
+    (λ legal says. (
+      λ yes. IsLegal-from script c.args.space c.args.start marks entries gapless (says.0 yes),
+      λ is. says.1 (AreLegal-from script c.args.space c.args.start marks entries is),
+    ))
+    c.are_legal.ensures
