@@ -1,6 +1,6 @@
 // The scripts that are run today.
 ghost use Rattle.std.specs.Prelude.{◌≡◌, ◌+◌, ◌&&◌, ◌∷◌, [], nat_le, nat_lt, IfOk};
-ghost use Rattle.model_script.specs.FirstPath.{is_user_byte, first_path_line, first_path_script};
+ghost use Rattle.model_script.specs.FirstPath.{is_user_byte, is_flushed_line, first_path_line, first_path_script};
 
 use crate::line::read_line;
 use crate::lines::next_line;
@@ -24,7 +24,12 @@ fn is_user_write(item: &Item) -> bool
     ensures { result ≡ is_user_byte (item.now ∷ []) }
 {
     match item {
-        Item::Num { page, offset, .. } => is_user_place(*page, *offset),
+        Item::Num {
+            width,
+            page,
+            offset,
+            value,
+        } => *width == 1 && *value < 256 && is_user_place(*page, *offset),
         Item::Text { .. } | Item::Init { .. } => false,
     }
 }
@@ -39,6 +44,13 @@ fn is_user_byte(items: &Items) -> bool
     }
 }
 
+// Whether it is the line of user 1 that is answered once flushed.
+fn is_flushed_line(line: &ScriptLine) -> bool
+    ensures { result ≡ is_flushed_line line.now }
+{
+    line.user == 1 && line.mode == 1 && is_user_byte(&line.items)
+}
+
 // The line that the text is, if it is one of today's.
 #[tactic(auto, using(crate::proofs::FrontLemmas::fronts))]
 fn first_path_line(alloc: Global, text: &[u8]) -> Result<Option<ScriptLine>, AllocError>
@@ -50,7 +62,7 @@ fn first_path_line(alloc: Global, text: &[u8]) -> Result<Option<ScriptLine>, All
     let Some(line) = read_line(alloc, text)? else {
         return Ok(None);
     };
-    if is_user_byte(&line.items) {
+    if is_flushed_line(&line) {
         Ok(Some(line))
     } else {
         Ok(None)
@@ -60,7 +72,7 @@ fn first_path_line(alloc: Global, text: &[u8]) -> Result<Option<ScriptLine>, All
 /// The script of today that the text is, or the number of its first line that is no part of one: there is no line, or
 /// one that writes a user byte of one of the first eight pages.
 #[tactic(auto, unfolding(crate::specs::FirstPath::first_path_script))]
-pub fn read_first_path(alloc: Global, text: &[u8]) -> Result<Result<Script, u64>, AllocError>
+pub fn first_path(alloc: Global, text: &[u8]) -> Result<Result<Script, u64>, AllocError>
     ensures { IfOk result (λ script. script ≡ first_path_script text.now) }
 {
     let Some((line, rest)) = next_line(text) else {
