@@ -146,12 +146,36 @@ fn read_devices(alloc: Global, devices: Devices) -> Result<Outcome, AllocError> 
 #[test]
 fn reads_or_refuses(rt: HostRuntime) -> Result<(), Fail> {
     for (devices, want) in [
-        (Devices::OneGroup, Outcome::Read { groups: 1, end: 8210 }),
-        (Devices::WrongLength, Outcome::Read { groups: 0, end: 8204 }),
-        (Devices::WrongType, Outcome::Refused(Refusal::BadRecord(8204))),
-        (Devices::NoStart, Outcome::Read { groups: 0, end: 9228 }),
+        (
+            Devices::OneGroup,
+            Outcome::Read {
+                groups: 1,
+                end: 8210,
+            },
+        ),
+        (
+            Devices::WrongLength,
+            Outcome::Read {
+                groups: 0,
+                end: 8204,
+            },
+        ),
+        (
+            Devices::WrongType,
+            Outcome::Refused(Refusal::BadRecord(8204)),
+        ),
+        (
+            Devices::NoStart,
+            Outcome::Read {
+                groups: 0,
+                end: 9228,
+            },
+        ),
         (Devices::Zeros, Outcome::Refused(Refusal::NotFormatted)),
-        (Devices::Copies, Outcome::Refused(Refusal::PageAhead(5, 9000))),
+        (
+            Devices::Copies,
+            Outcome::Refused(Refusal::PageAhead(5, 9000)),
+        ),
     ] {
         assert_eq!(rt; read_devices(rt.alloc(), devices)?, want, "{devices:?}");
     }
@@ -168,7 +192,11 @@ fn reads_a_page(rt: HostRuntime) -> Result<(), Fail> {
     for (number, page) in read.pages.iter().enumerate() {
         let (lsn, byte) = if number == 3 { (8210, 7) } else { (0, 0) };
         assert_eq!(rt; page.lsn, lsn, "page {number}");
-        assert_eq!(rt; page.user.as_slice().get(62).copied(), Some(byte), "page {number}");
+        assert_eq!(rt;
+            page.user.as_slice().get(62).copied(),
+            Some(byte),
+            "page {number}"
+        );
     }
     Ok(())
 }

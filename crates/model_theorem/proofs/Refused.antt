@@ -32,7 +32,7 @@ refuses_gap grammar crash safe has =
 pub refuses_change : (grammar : List ℕ → Result (List ScriptLine) ℕ) (crash : Crash) → CrashSafe grammar crash → ChangesPages crash → ⊥
 refuses_change grammar crash safe changes =
     let Same : Option Ran → Type 0 = λ run. crash.reading.pages
-      ≡ folded crash.opened (take (count_up_to crash.reading.end (entries_of run)) (wholes_of crash.script crash.shape.space (entries_of run))) in
+    ≡ folded crash.opened (take (count_up_to crash.reading.end (entries_of run)) (wholes_of crash.script crash.shape.space (entries_of run))) in
     changes.changed (subst Same changes.stopped safe.first_groups_whole)
 
 -- a settled device has what it holds as an image
@@ -45,22 +45,32 @@ newest_below found number ckpt is = subst (λ (found : Option (ℕ × ℕ)). IfS
 pub admits_empty : (grammar : List ℕ → Result (List ScriptLine) ℕ) (log store : List ℕ) (reading : Reading)
     → grammar [] ≡ Ok [] → Reads log store reading → CrashSafe grammar (empty_call log store reading)
 admits_empty grammar log store reading is_script reads = record {
-    every_script = record { all_read = refl; is_script = is_script; fits = tt };
-    prints = record {
-      text = refl;
-      left = record {
-        ascending = λ i first second is next. cc;
-        some = λ i pair is. cc;
-        counts = λ i pair is. cc;
-        no_other = λ user count more has. absurd (omega arith) };
-      marks = record {
-        wtail = refl; write = refl; flushed = refl; written_below = omega arith; flushed_below = omega arith;
-        checkpoint = newest_below _ reading.number reading.ckpt reads.scan.checkpoint } };
-    in_lsn_order = record { gapless = tt; each = λ i entry is. cc; in_order = λ user i entry is. cc; lost_last = λ user i entry is lost. cc };
-    read_from_devices = record {
-      log = record { pick_is = refl; possible = settled_image log; one_image = refl };
-      store = record { pick_is = refl; possible = settled_image store; one_image = refl };
-      shape = refl; reads = reads };
-    first_groups_whole = refl;
-    reaching_flushed = λ i entry is flushed. cc;
-    lost_only_by_failure = record { lost = λ i entry is lost. cc; left = λ some. absurd (some refl); stopped = λ none. cc } }
+  every_script = record { all_read = refl; is_script = is_script; fits = tt };
+  prints = record {
+    text = refl;
+    left = record {
+      ascending = λ i first second is next. cc;
+      some = λ i pair is. cc;
+      counts = λ i pair is. cc;
+      no_other = λ user count more has. absurd (omega arith);
+    };
+    marks = record {
+      wtail = refl;
+      write = refl;
+      flushed = refl;
+      written_below = omega arith;
+      flushed_below = omega arith;
+      checkpoint = newest_below _ reading.number reading.ckpt reads.scan.checkpoint;
+    };
+  };
+  in_lsn_order = record { gapless = tt; each = λ i entry is. cc; in_order = λ user i entry is. cc; lost_last = λ user i entry is lost. cc };
+  read_from_devices = record {
+    log = record { pick_is = refl; possible = settled_image log; one_image = refl };
+    store = record { pick_is = refl; possible = settled_image store; one_image = refl };
+    shape = refl;
+    reads = reads;
+  };
+  first_groups_whole = refl;
+  reaching_flushed = λ i entry is flushed. cc;
+  lost_only_by_failure = record { lost = λ i entry is lost. cc; left = λ some. absurd (some refl); stopped = λ none. cc };
+}

@@ -36,7 +36,13 @@ pub record ChangesPages (crash : Crash) : Type 0 where
 -- a device that was crashed when all of its writes were synced
 abbrev pub quiet_device : List ℕ → ℕ → Device
 quiet_device bytes pick = record {
-    at_entry = settled bytes; faults_at_entry = 0; before_crash = settled bytes; left = settled bytes; pick = Some pick; failures = 0 }
+  at_entry = settled bytes;
+  faults_at_entry = 0;
+  before_crash = settled bytes;
+  left = settled bytes;
+  pick = Some pick;
+  failures = 0;
+}
 
 -- the marks of a run that logged nothing
 abbrev pub empty_marks : Reading → Marks
@@ -47,7 +53,16 @@ abbrev pub empty_call : List ℕ → List ℕ → Reading → Crash
 empty_call log store reading =
     let run : Ran = record { start = reading.end; entries = []; marks = empty_marks reading } in
     record {
-      source = []; source_left = []; script = []; pick = 0;
-      log = quiet_device log 0; store = quiet_device store 0;
-      shape = reading.shape; opened = reading.pages; run = Some run; left = []; reading = reading;
-      printed = report_text (Some reading.end) [] [] (Some (empty_marks reading)) (Some (reading.end, reading.pages)) }
+      source = [];
+      source_left = [];
+      script = [];
+      pick = 0;
+      log = quiet_device log 0;
+      store = quiet_device store 0;
+      shape = reading.shape;
+      opened = reading.pages;
+      run = Some run;
+      left = [];
+      reading = reading;
+      printed = report_text (Some reading.end) [] [] (Some (empty_marks reading)) (Some (reading.end, reading.pages));
+    }

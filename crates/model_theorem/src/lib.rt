@@ -5,5 +5,6 @@
 mod examples;
 
 pub use examples::{
-    changed_pages_are_refused, empty_run_is_admitted, gap_is_refused, missing_flushed_group_is_refused,
+    changed_pages_are_refused, empty_run_is_admitted, gap_is_refused,
+    missing_flushed_group_is_refused,
 };
