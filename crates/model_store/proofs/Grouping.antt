@@ -1,18 +1,18 @@
 -- Groups that are read one after another.
-use Rattle.std.proofs.Common.{◌≡◌, ◌≢◌, ℕ, suc, ◌+◌, ◌-◌, ◌<◌, ◌≤◌, List, [], ◌∷◌, ◌++◌, length, take, drop, arith, refl, sym, ap, ap₂, subst, ◌∙◌, append_assoc, length-append, length-drop}
+use Rattle.std.proofs.Common.{◌≡◌, ◌≢◌, ℕ, ◌+◌, ◌-◌, ◌<◌, ◌≤◌, List, [], ◌∷◌, ◌++◌, length, take, drop, arith, refl, sym, ap, subst, ◌∙◌, append_assoc, length-append, length-drop}
 use Rattle.std.specs.List.{AllByRecursion, flat_map}
 use Rattle.std.proofs.lemmas.List.{take-append-drop, take_at, append-nil, length-take-le, take_rest}
 use Rattle.model_base.specs.declared.shape.Shape.{Shape}
-use Rattle.model_number.specs.declared.got.Got.TheVariants.{Value, Short, Bad}
+use Rattle.model_number.specs.declared.got.Got.TheVariants.{Value, Bad}
 use Rattle.model_record.specs.declared.rec.Rec.{Rec}
 use Rattle.model_record.specs.declared.group.Whole.{Whole}
 use Rattle.model_record.specs.Record.{single_text, record_text}
 use Rattle.model_record.specs.Fits.{GroupFits}
-use Rattle.model_record.specs.Group.{end_mark, group_text, group_length, stream_of, groups_of, IsGroup, IsGroupText, IsUnfinished, IsFront, BeginsWithGroup, GivesGroup}
+use Rattle.model_record.specs.Group.{end_mark, group_text, group_length, stream_of, groups_of, BeginsWithGroup, GivesGroup}
 use Rattle.model_log.specs.Lsn.{lsn_of, sn_of}
 use Rattle.model_log.specs.Boundary.{IsTiled}
-use Rattle.model_store.specs.Scan.{IsGood, AreGroups, HasNoGood, end_of}
-use Rattle.model_store.specs.Groups.{GivesGood, EndAt, BreakAt}
+use Rattle.model_store.specs.Scan.{IsGood, AreGroups, end_of}
+use Rattle.model_store.specs.Groups.{GivesGood}
 use Rattle.model_store.proofs.OneScan.{OneGroup, unfinished-not_whole}
 
 -- a group's text, and what is left behind it

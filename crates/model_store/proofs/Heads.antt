@@ -1,12 +1,11 @@
 -- What follows from a header or a checkpoint that was read.
-use Rattle.std.proofs.Common.{◌≡◌, ℕ, ◌+◌, ◌*◌, ◌-◌, ◌%◌, ◌^◌, ◌<◌, ◌≤◌, ◌⊎◌, inl, inr, Bool, true, false, cond, ◌&&◌, ltb, leb, eqb, List, Option, Some, None, arith, refl, sym, ap, subst, ◌∙◌}
+use Rattle.std.proofs.Common.{◌≡◌, ℕ, ◌%◌, ◌^◌, ◌<◌, ◌≤◌, ◌⊎◌, inl, inr, Bool, true, false, cond, ◌&&◌, ltb, leb, eqb, List, Option, Some, None, arith, refl, subst}
 use Rattle.std.proofs.lemmas.Bool.Decides.{nat_tests}
 use Rattle.model_base.specs.declared.shape.Shape.{Shape}
 use Rattle.model_base.specs.Limits.{IsWithinLimits}
 use Rattle.model_number.specs.Field.{field}
 use Rattle.model_log.specs.Block.{fits_checksum}
 use Rattle.model_log.specs.Head.{read_head, shape_of, is_within_limits}
-use Rattle.model_log.specs.declared.head.Head.{Head}
 use Rattle.model_log.specs.declared.head.Head.TheVariants.{Good, OtherFormat, Unformatted}
 use Rattle.model_log.specs.Checkpoint.{place_of, read_checkpoint, is_checkpoint}
 use Rattle.model_log.specs.Lsn.{offset_of}

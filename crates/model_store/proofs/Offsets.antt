@@ -1,5 +1,5 @@
 -- Where the block of an lsn stands on a log device.
-use Rattle.std.proofs.Common.{◌≡◌, ℕ, ◌+◌, ◌-◌, ◌*◌, ◌/◌, ◌%◌, ◌<◌, ◌≤◌, arith, ap, sym, ◌∙◌}
+use Rattle.std.proofs.Common.{◌≡◌, ℕ, ◌+◌, ◌-◌, ◌*◌, ◌/◌, ◌%◌, ◌<◌, ◌≤◌, arith, ap, ◌∙◌}
 use Rattle.std.proofs.lemmas.Nat.{mod-mul-add}
 use Rattle.model_log.specs.Lsn.{offset_of}
 

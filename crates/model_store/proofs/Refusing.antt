@@ -1,5 +1,5 @@
 -- Causes for which a store is refused once its log was scanned.
-use Rattle.std.proofs.Common.{◌≡◌, ℕ, suc, ◌<◌, List, [], ◌∷◌, length, get_or, Option, Some, None, arith, subst, sym}
+use Rattle.std.proofs.Common.{◌≡◌, ℕ, List, [], ◌∷◌, Option, Some, None, subst, sym}
 use Rattle.std.specs.List.{All, AllByRecursion}
 use Rattle.std.proofs.lemmas.List.Elements.{All-nil, All-cons}
 use Rattle.model_base.specs.declared.shape.Shape.{Shape}
@@ -10,7 +10,7 @@ use Rattle.model_log.specs.declared.block.BlockView.{BlockView}
 use Rattle.model_store.specs.declared.refusal.Refusal.{Refusal}
 use Rattle.model_store.specs.declared.refusal.Refusal.TheVariants.{SmallLog, NotFormatted, BadFormat, SmallData, NoCheckpoint, BadRecord, PageLost, PageAhead}
 use Rattle.model_store.specs.Pages.{RefusesPages}
-use Rattle.model_store.specs.Reading.{HasScan, IsScanned, Refuses}
+use Rattle.model_store.specs.Reading.{HasScan, Refuses}
 use Rattle.model_store.specs.Scan.{IsGood, IsScan, AreGroupsOf, groups_start}
 
 -- pages that aren't read refuse the store

@@ -1,5 +1,5 @@
 -- The pages of a store while it is read: as they are kept, judged, and with the scanned groups applied.
-use Rattle.std.specs.Prelude.{ℕ, ◌≡◌, ◌≤◌, ◌<◌, ◌+◌, List, length, slice_get, Some}
+use Rattle.std.specs.Prelude.{ℕ, ◌≡◌, ◌≤◌, ◌<◌, List, length, slice_get, Some}
 use Rattle.model_base.specs.declared.shape.Shape.{Shape}
 use Rattle.model_record.specs.declared.group.Whole.{Whole}
 use Rattle.model_page.specs.Copies.{IsKept, IsLost}

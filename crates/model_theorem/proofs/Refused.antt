@@ -1,17 +1,16 @@
 -- What the promise refuses and what it admits.
-use Rattle.std.proofs.Common.{◌≡◌, ◌≢◌, ℕ, ◌≤◌, ◌<◌, List, [], ◌∷◌, Option, Some, None, Result, Ok, sym, ap, ◌∙◌, refl, subst, arith, inl, inr}
+use Rattle.std.proofs.Common.{◌≡◌, ℕ, ◌≤◌, ◌<◌, List, [], ◌∷◌, Option, Some, Result, Ok, sym, ap, ◌∙◌, refl, subst, arith, inl}
 use Rattle.std.specs.Prelude.{IfSome, slice_get, take}
 use Rattle.std.proofs.lemmas.Bool.Decides.{nat_tests}
-use Rattle.model_log.specs.Device.{newest_checkpoint}
-use Rattle.model_device.specs.Disk.{Disk, IsImage, settled}
+use Rattle.model_device.specs.Disk.{IsImage, settled}
 use Rattle.model_store.specs.Apply.{folded}
 use Rattle.model_store.specs.Reading.{Reading, Reads}
 use Rattle.model_script.specs.declared.script.ScriptLine.{ScriptLine}
-use Rattle.model_history.specs.Legal.{IsLegal, IsGapless, IsLeft, count_up_to, HasLeft, wholes_of}
+use Rattle.model_history.specs.Legal.{IsLegal, IsGapless, count_up_to, wholes_of}
 use Rattle.model_history.specs.declared.entry.Entry.{Entry}
 use Rattle.model_theorem.specs.Values.{Ran, Crash, entries_of}
-use Rattle.model_theorem.specs.Crash.{CrashSafe, ReachesFlushed, first_count}
-use Rattle.model_theorem.specs.Examples.{LacksFlushedGroup, HasGap, ChangesPages, empty_call, empty_marks}
+use Rattle.model_theorem.specs.Crash.{CrashSafe, first_count}
+use Rattle.model_theorem.specs.Examples.{LacksFlushedGroup, HasGap, ChangesPages, empty_call}
 
 none_up_to : (end : ℕ) (entry : Entry) → end < entry.end → count_up_to end (entry ∷ []) ≡ 0
 none_up_to end entry below = grind (arith, nat_tests)

@@ -1,10 +1,8 @@
 -- Calls that the promise is tried on.
-use Rattle.std.specs.Prelude.{ℕ, ◌≡◌, ◌≢◌, ◌<◌, List, [], ◌∷◌, Option, Some, None, Result, Ok}
-use Rattle.model_device.specs.Disk.{Disk, IsImage, settled}
-use Rattle.model_log.specs.Device.{newest_checkpoint}
+use Rattle.std.specs.Prelude.{ℕ, ◌≡◌, ◌≢◌, ◌<◌, List, [], ◌∷◌, Some, None}
+use Rattle.model_device.specs.Disk.{settled}
 use Rattle.model_report.specs.Report.{report_text}
-use Rattle.model_store.specs.Reading.{Reading, Reads}
-use Rattle.model_script.specs.declared.script.ScriptLine.{ScriptLine}
+use Rattle.model_store.specs.Reading.{Reading}
 use Rattle.model_history.specs.declared.entry.Entry.{Entry}
 use Rattle.model_history.specs.declared.entry.Marks.{Marks}
 use Rattle.model_history.specs.declared.entry.State.TheVariants.{Flushed}

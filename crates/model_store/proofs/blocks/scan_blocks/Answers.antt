@@ -1,4 +1,4 @@
-use Rattle.std.proofs.Common.{◌≡◌, ◌+◌, ◌*◌, ◌++◌, ◌∷◌, [], Some, None, false, arith, sym, ap, subst, ◌∙◌}
+use Rattle.std.proofs.Common.{◌+◌, arith, sym, ap, subst, ◌∙◌}
 use Rattle.model_store.specs.Scan.{AreBlocks, block_at, lsn_at}
 use Rattle.model_store.proofs.Scanning.{AreFullBlocks, AreFullBlocks-none, AreFullBlocks-push, AreBlocks-stopped, AreBlocks-part, AreBlocks-all}
 use Rattle.model_store.proofs.blocks.scan_blocks.Goals as goal

@@ -1,4 +1,4 @@
-use Rattle.std.proofs.Common.{◌≡◌, subst, rules}
+use Rattle.std.proofs.Common.{subst, rules}
 use Rattle.model_record.specs.Group.{GivesGroup}
 use Rattle.model_store.proofs.Grouping.{unfit-gives_bad, bad-gives_bad}
 use Rattle.model_store.proofs.groups.read_good.Goals as goal

@@ -1,4 +1,4 @@
-use Rattle.std.proofs.Common.{◌≡◌, ◌+◌, ◌-◌, ◌<◌, length, arith, ap, ap₂, subst, sym, ◌∙◌, length-drop}
+use Rattle.std.proofs.Common.{◌+◌, ap, subst, sym, ◌∙◌}
 use Rattle.std.proofs.lemmas.List.{take_rest}
 use Rattle.model_log.specs.Lsn.{lsn_of}
 use Rattle.model_store.specs.Groups.{GivesGood}

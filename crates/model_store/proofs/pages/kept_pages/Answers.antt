@@ -1,5 +1,4 @@
 use Rattle.std.proofs.Common.{◌+◌, MatchOption, arith, subst, sym}
-use Rattle.model_page.specs.declared.content.Content.{Content}
 use Rattle.model_page.specs.Copies.{IsKept, IsLost}
 use Rattle.model_store.proofs.Paging.{AreKeptFirst, AreKeptFirst-push, first_lost}
 use Rattle.model_store.proofs.pages.kept_pages.Goals as goal

@@ -1,4 +1,4 @@
-use Rattle.std.proofs.Common.{◌≡◌, length, take, drop, MatchResult, arith, subst, sym, ◌∙◌}
+use Rattle.std.proofs.Common.{length, drop, MatchResult, subst, sym, ◌∙◌}
 use Rattle.std.proofs.lemmas.List.{take_at}
 use Rattle.model_store.specs.Pages.{AreKept, AreNotAhead, AreReplayed, AreReadPages, IsFirstLost}
 use Rattle.model_store.proofs.Paging.{ahead-refused, kept-sizes, pages-read}

@@ -1,4 +1,4 @@
-use Rattle.std.proofs.Common.{MatchResult, arith, subst, sym, ◌∙◌}
+use Rattle.std.proofs.Common.{MatchResult, subst, sym, ◌∙◌}
 use Rattle.model_store.specs.Pages.{AreReadPages, RefusesPages}
 use Rattle.model_store.specs.Scan.{IsScan, IsBadRecord}
 use Rattle.model_store.proofs.Heads.{checkpoint-bounds}
