@@ -1,7 +1,5 @@
 // Reports and fault lines as they are printed.
-use crate::{
-    Content, FAULT_ROOM, Fault, Quantity, fault_bytes, fault_text, page_lines_bytes, report_bytes,
-};
+use crate::{FAULT_ROOM, Fault, Quantity, fault_bytes, fault_text, page_lines_bytes, report_bytes};
 use model_base::Bytes;
 use model_history::{Entry, Marks, State};
 use model_page::Content;
