@@ -8,7 +8,7 @@ use model_device::Write;
 use model_log::{block_bytes, checkpoint_bytes, head_bytes};
 use model_number::crc32c;
 use model_page::{Content, page_bytes};
-use model_record::{Group, Rec};
+use model_record::{Group, Rec, fits};
 use std::alloc::{AllocError, Global};
 use std::test::Fail;
 
@@ -101,7 +101,7 @@ fn log_without_start(alloc: Global) -> Result<Vec<u8>, AllocError> {
 
 /// The bytes of page 5 with this lsn.
 fn page_at(alloc: Global, lsn: u64) -> Result<Vec<u8>, AllocError> {
-    let user = zeros(alloc, 4050)?;
+    let user = vec![in alloc; 3; 4050]?;
     page_bytes(alloc, 5, 1, lsn, &user)
 }
 
@@ -197,6 +197,148 @@ fn reads_a_page(rt: HostRuntime) -> Result<(), Fail> {
             Some(byte),
             "page {number}"
         );
+    }
+    Ok(())
+}
+
+/// A page at the lsn 90 whose user bytes are fives.
+fn page_of_fives(alloc: Global) -> Result<Content, AllocError>
+    ensures { IfOk result (λ page. length page.user ≡ 4050) }
+{
+    let user = Bytes::new(vec![in alloc; 5; 4050]?);
+    Ok(Content { lsn: 90, user })
+}
+
+fn two_pages(alloc: Global) -> Result<Vec<Content>, AllocError>
+    ensures count { IfOk result (λ pages. vec_len pages ≡ 2) }
+    ensures sizes { IfOk result (λ pages. All (λ page. length page.user + 46 ≡ 4096) pages.items) }
+{
+    let mut pages = Vec::new(alloc);
+    pages.push(page_of_fives(alloc)?)?;
+    pages.push(page_of_fives(alloc)?)?;
+    Ok(pages)
+}
+
+/// Three records on page 1.
+fn three_records(alloc: Global) -> Result<Group, AllocError> {
+    let mut recs = Vec::new(alloc);
+    recs.push(Rec::Init { space: 1, page: 1 })?;
+    recs.push(Rec::Num {
+        width: 2,
+        space: 1,
+        page: 1,
+        offset: 40,
+        value: 0x0304,
+    })?;
+    recs.push(Rec::Text {
+        space: 1,
+        page: 1,
+        offset: 4086,
+        bytes: Bytes::new(vec![in alloc; 1, 2]?),
+    })?;
+    Ok(Group(recs))
+}
+
+/// Two pages after those records, in a group that ends at the lsn 9,000.
+fn two_pages_after(alloc: Global) -> Result<Vec<Content>, AllocError> {
+    let shape = Shape {
+        pages: 2,
+        ..Shape::default_shape()
+    };
+    let mut pages = two_pages(alloc)?;
+    let group = three_records(alloc)?;
+    if fits(&group, &shape) {
+        apply_group(pages.as_mut_slice(), &group, 9000, &shape);
+    }
+    Ok(pages)
+}
+
+#[test]
+fn applies_a_group(rt: HostRuntime) -> Result<(), Fail> {
+    let pages = two_pages_after(rt.alloc())?;
+    assert_eq!(rt; pages.len(), 2);
+    assert_eq!(rt; (pages[0].lsn, pages[1].lsn), (90, 9000));
+    for (at, byte) in [
+        (0, 0),
+        (1, 0),
+        (2, 3),
+        (3, 4),
+        (4, 0),
+        (4047, 0),
+        (4048, 1),
+        (4049, 2),
+    ] {
+        assert_eq!(rt;
+            pages[0].user.as_slice().get(at).copied(),
+            Some(5),
+            "at {at}"
+        );
+        assert_eq!(rt;
+            pages[1].user.as_slice().get(at).copied(),
+            Some(byte),
+            "at {at}"
+        );
+    }
+    Ok(())
+}
+
+#[test]
+fn scans_a_log(rt: HostRuntime) -> Result<(), Fail> {
+    let shape = Shape::default_shape();
+    let log = log_of(rt.alloc(), &GROUP)?;
+    let views = scan_blocks(rt.alloc(), &log, &shape, 8192)?;
+    assert_eq!(rt; views.len(), 1);
+    assert_eq!(rt; (views[0].length, views[0].first), (18, 12));
+    let (groups, end) = scan_groups(rt.alloc(), &GROUP, 8204, &shape)?
+        .ok()
+        .ok_or("a bad group")?;
+    assert_eq!(rt; (groups.len(), end), (1, 8210));
+    Ok(())
+}
+
+/// Two writes to the place of page 5: the first half of a page, and then the second half behind zeros.
+fn torn_writes(alloc: Global) -> Result<Vec<Write>, AllocError>
+    ensures { IfOk result (λ writes. AreWithin STORE writes.items) }
+{
+    let mut first = page_at(alloc, 9000)?;
+    first.truncate(2048);
+    let mut second = page_at(alloc, 9000)?;
+    second.truncate(4096);
+    put(&mut second, 0, &zeros(alloc, 2048)?);
+    let mut writes = Vec::new(alloc);
+    writes.push(Write {
+        at: PLACE as u64,
+        bytes: Bytes::new(first),
+    })?;
+    writes.push(Write {
+        at: PLACE as u64,
+        bytes: Bytes::new(second),
+    })?;
+    Ok(writes)
+}
+
+/// Whether it is fair that those writes to a blank device leave so many bytes of the page in its place.
+fn may_leave(alloc: Global, count: usize) -> Result<bool, AllocError> {
+    let base = zeros(alloc, STORE)?;
+    let writes = torn_writes(alloc)?;
+    let mut page = page_at(alloc, 9000)?;
+    page.truncate(count);
+    let mut image = zeros(alloc, STORE)?;
+    put(&mut image, PLACE as u32, &page);
+    is_fair(alloc, &base, &writes, &image, &Shape::default_shape())
+}
+
+#[test]
+fn tells_a_fair_image(rt: HostRuntime) -> Result<(), Fail> {
+    // Nothing; a sector; less than one; the first write; and the whole page, which never stood there.
+    for (count, want) in [
+        (0, true),
+        (512, true),
+        (100, false),
+        (2048, true),
+        (4096, false),
+    ] {
+        assert_eq!(rt; may_leave(rt.alloc(), count)?, want, "{count} bytes");
     }
     Ok(())
 }
