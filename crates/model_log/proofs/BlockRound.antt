@@ -13,7 +13,7 @@ use Rattle.model_log.specs.Lsn.{number_of}
 use Rattle.model_log.specs.Block.{with_checksum, length_of, block_text, view_of, fits_number, is_length, is_first, fits_checksum, is_block_at, read_block, data_of}
 use Rattle.model_log.specs.declared.block.BlockView.{BlockView}
 use Rattle.model_log.proofs.Checksums.{IsByte, bytes-bytes_high_first}
-use Rattle.model_log.proofs.Sealed.{field-sealed, part-sealed, fits_checksum-sealed}
+use Rattle.model_log.proofs.Sealed.{field-sealed, part-sealed, fits_checksum-sealed, length-sealed}
 
 -- a block's header, and then the rest of it up to the checksum
 unfoldable headed : ℕ → ℕ → ℕ → ℕ → List ℕ → List ℕ
@@ -158,3 +158,10 @@ data-reads_back lsn content first ckpt room =
     ∙ part-sealed (length content) 12 bytes (omega arith)
     ∙ ap (take (length content)) (drop-headed (number_of lsn) count first ckpt (filled content))
     ∙ take_at content (replicate (496 - length content) 0) (length content) refl
+
+-- a block has 512 bytes
+pub length-block_text : (lsn : ℕ) (content : List ℕ) (first ckpt : ℕ) → length content ≤ 496 → length (block_text lsn content first ckpt) ≡ 512
+length-block_text lsn content first ckpt room =
+    let bytes : List ℕ = headed (number_of lsn) (length_of (length content)) first ckpt (filled content) in
+    ap length (block_text-headed lsn content first ckpt)
+    ∙ omega (arith, length-sealed bytes, length-headed (number_of lsn) (length_of (length content)) first ckpt (filled content), length-filled content room)

@@ -1,5 +1,5 @@
 -- Steps over the groups of a run, and over its blocks.
-use Rattle.std.proofs.Common.{◌≡◌, ℕ, zero, suc, ◌+◌, ◌-◌, ◌*◌, ◌^◌, ◌<◌, min, take, cond, true, false, List, [], ◌∷◌, ◌++◌, length, map, get_or, drop, Some, sym, ap, subst, ◌∙◌}
+use Rattle.std.proofs.Common.{◌≡◌, ℕ, zero, suc, ◌+◌, ◌-◌, ◌*◌, ◌^◌, ◌≤◌, ◌<◌, min, take, cond, true, false, List, [], ◌∷◌, ◌++◌, length, map, get_or, drop, Some, sym, ap, subst, ◌∙◌}
 use Rattle.std.specs.List.{slice_get}
 use Rattle.std.proofs.lemmas.List.{at_drop_more, length-map, length_push, map_push}
 use Rattle.model_record.specs.declared.group.Whole.{Whole}
@@ -7,6 +7,7 @@ use Rattle.model_record.specs.Group.{stream_of, groups_of}
 use Rattle.model_log.specs.Lsn.{sn_of, block_of}
 use Rattle.model_log.specs.Block.{block_text}
 use Rattle.model_log.specs.Boundary.{ends_in, crossing_end, content_at, first_at, IsBoundaryBlock}
+use Rattle.model_log.specs.declared.layout.TheConstants.{BLOCK_HEADER}
 
 -- the search for the group that crosses into a block, one group on
 crossing_end-drop : (b : ℕ) (wholes : List Whole) (i : ℕ) (whole : Whole) → i < length wholes → whole ≡ get_or wholes i whole
@@ -37,11 +38,13 @@ each_push P (z ∷ zs) x each last (suc k) y is = each_push (λ n. P (suc n)) zs
 
 -- the block of these data bytes with this first offset is the boundary's
 pub boundary_block-from : (s : ℕ) (wholes : List Whole) (m b ckpt first : ℕ) (stream content block : List ℕ)
-    → ckpt < 2 ^ 32 → stream ≡ stream_of (groups_of wholes) → content ≡ take (sn_of (min m (b + 512)) - sn_of b) (drop (sn_of b - sn_of s) stream)
+    → block_of s ≤ b → b + BLOCK_HEADER ≤ m → ckpt < 2 ^ 32 → stream ≡ stream_of (groups_of wholes) → content ≡ take (sn_of (min m (b + 512)) - sn_of b) (drop (sn_of b - sn_of s) stream)
     → first ≡ first_at s wholes b → block ≡ block_text b content first ckpt → IsBoundaryBlock s wholes m b block
-boundary_block-from s wholes m b ckpt first stream content block small whole part start text =
+boundary_block-from s wholes m b ckpt first stream content block from reached small whole part start text =
     let cut : List ℕ → List ℕ = λ bytes. take (sn_of (min m (b + 512)) - sn_of b) (drop (sn_of b - sn_of s) bytes) in
     record {
+      from = from;
+      reached = reached;
       ckpt = ckpt;
       ckpt_small = small;
       block = text ∙ ap (λ bytes. block_text b bytes first ckpt) (part ∙ ap cut whole) ∙ ap (λ offset. block_text b (content_at s wholes m b) offset ckpt) start;

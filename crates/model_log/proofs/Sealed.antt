@@ -53,3 +53,8 @@ pub field-padded : (n at : ℕ) (bytes : List ℕ) → at + n ≤ length bytes �
 field-padded n at bytes within short =
     field-sealed n at (padded_to 508 bytes) (omega (arith, length-padded bytes short))
     ∙ field-append n at bytes (replicate (508 - length bytes) 0) within
+
+-- the checksum has four bytes
+pub length-sealed : (bytes : List ℕ) → length (with_checksum bytes) ≡ length bytes + 4
+unfolding with_checksum
+length-sealed bytes = length-append bytes (bytes_high_first 4 (crc_of bytes))

@@ -1,6 +1,6 @@
 -- The stream of a run's groups cut into log blocks. A run starts at the lsn s, at the first data byte of a block; its
 -- groups follow one another without a gap. A boundary is s or the end of a group.
-use Rattle.std.specs.Prelude.{ℕ, ◌≡◌, ◌<◌, ◌+◌, ◌-◌, ◌*◌, ◌/◌, ◌^◌, ◌==◌, ◌&&◌, ◌⊎◌, min, nat_lt, nat_le, if◌then◌else◌, Bool, List, [], ◌∷◌, ◌++◌, length, take, drop, Option, Some, None, slice_get}
+use Rattle.std.specs.Prelude.{ℕ, ◌≡◌, ◌≤◌, ◌<◌, ◌+◌, ◌-◌, ◌*◌, ◌/◌, ◌^◌, ◌==◌, ◌&&◌, ◌⊎◌, min, nat_lt, nat_le, if◌then◌else◌, Bool, List, [], ◌∷◌, ◌++◌, length, take, drop, Option, Some, None, slice_get}
 use Rattle.model_base.specs.declared.limits.TheConstants.{BLOCK_SIZE}
 use Rattle.model_record.specs.Group.{stream_of, groups_of, group_length}
 use Rattle.model_record.specs.declared.group.Whole.{Whole}
@@ -54,9 +54,9 @@ pub record IsRunTo (s : ℕ) (wholes : List Whole) (m : ℕ) : Type 0 where
   pub tiled : IsTiled s wholes
   pub boundary : IsBoundary s wholes m
 
--- The 512 bytes are the block at b for the boundary m, which reaches it. Which checkpoint it names is free.
+-- For a run to m: the 512 bytes are the block at b for the boundary m, which reaches it. Which checkpoint it names is
+-- free.
 pub record IsBoundaryBlock (s : ℕ) (wholes : List Whole) (m b : ℕ) (bytes : List ℕ) : Type 0 where
-  pub run : IsRunTo s wholes m
   pub from : block_of s ≤ b
   pub reached : b + BLOCK_HEADER ≤ m
   pub ckpt : ℕ
@@ -67,9 +67,8 @@ pub record IsBoundaryBlock (s : ℕ) (wholes : List Whole) (m b : ℕ) (bytes : 
 abbrev pub blocks_below : ℕ → ℕ → ℕ
 blocks_below s m = (sn_of m - sn_of s + (BLOCK_DATA - 1)) / BLOCK_DATA
 
--- The framed stream below m: from the block of s on, each block that holds a byte below m.
+-- For a run to m: the framed stream below m, which is from the block of s on, each block that holds a byte below m.
 pub record IsFramed (s : ℕ) (wholes : List Whole) (m : ℕ) (blocks : List (List ℕ)) : Type 0 where
-  pub run : IsRunTo s wholes m
   pub count : length blocks ≡ blocks_below s m
   pub each : (i : ℕ) → (bytes : List ℕ) → slice_get blocks i ≡ Some bytes → IsBoundaryBlock s wholes m (block_of s + BLOCK_SIZE * i) bytes
 

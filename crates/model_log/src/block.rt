@@ -20,7 +20,7 @@ pub struct BlockView {
 }
 
 /// The data length of a block that holds so many data bytes: a block with all its data counts as 512 bytes.
-fn length_of(count: usize) -> u16
+pub fn length_of(count: usize) -> u16
     requires { count ≤ BLOCK_DATA }
     ensures { result ≡ length_of count }
 {
@@ -57,7 +57,7 @@ pub fn block_bytes(
 }
 
 /// What the fields of 512 bytes say.
-fn view_of(bytes: &[u8]) -> BlockView
+pub fn view_of(bytes: &[u8]) -> BlockView
     requires { length bytes.now ≡ 512 }
     ensures { result ≡ view_of bytes.now }
 {
@@ -69,7 +69,7 @@ fn view_of(bytes: &[u8]) -> BlockView
 }
 
 /// Whether the number, without the flush bit, is that of the lsn.
-fn fits_number(bytes: &[u8], lsn: u64) -> bool
+pub fn fits_number(bytes: &[u8], lsn: u64) -> bool
     requires { length bytes.now ≡ 512 }
     ensures { result ≡ fits_number lsn bytes.now }
 {
@@ -77,14 +77,14 @@ fn fits_number(bytes: &[u8], lsn: u64) -> bool
 }
 
 /// Whether a block's data ends within its data bytes, or the block is full.
-fn is_length(length: u32) -> bool
+pub fn is_length(length: u32) -> bool
     ensures { result ≡ is_length length }
 {
     BLOCK_HEADER as u32 <= length && length < BLOCK_DATA_END as u32 || length == BLOCK_SIZE as u32
 }
 
 /// Whether there is no first group, or it begins among the data that is in use.
-fn is_first(length: u32, first: u32) -> bool
+pub fn is_first(length: u32, first: u32) -> bool
     ensures { result ≡ is_first length first }
 {
     first == 0 || BLOCK_HEADER as u32 <= first && first <= length.min(BLOCK_DATA_END as u32 - 1)

@@ -70,6 +70,8 @@ fn block_from(
 ) -> Result<Vec<u8>, AllocError>
     requires small { b < 2 ^ 61 }
     requires whole { stream.now ≡ stream_of (groups_of wholes.now) }
+    requires from { block_of s ≤ b }
+    requires reached { b + BLOCK_HEADER ≤ m }
     ensures { IfOk result (λ block. IsBoundaryBlock s wholes.now m b block.items) }
 {
     let content = content_at(s, stream, m, b);
@@ -88,6 +90,8 @@ pub fn boundary_block(
 ) -> Result<Vec<u8>, AllocError>
     requires groups { AllByRecursion IsGroup (groups_of wholes.now) }
     requires small { b < 2 ^ 61 }
+    requires from { block_of s ≤ b }
+    requires reached { b + BLOCK_HEADER ≤ m }
     ensures { IfOk result (λ block. IsBoundaryBlock s wholes.now m b block.items) }
 {
     let stream = stream_bytes(alloc, wholes)?;
@@ -96,8 +100,9 @@ pub fn boundary_block(
 
 /// How many blocks of a run that starts at s hold a byte below m.
 fn blocks_below(s: u64, m: u64) -> u64
+    requires { IsAtDataStart s }
     ensures value { result ≡ blocks_below s m }
-    ensures below { (i : ℕ) → i < result → block_of s + 512 * i ≤ m }
+    ensures below { (i : ℕ) → i < result → block_of s + 512 * i + BLOCK_HEADER ≤ m }
 {
     (sn_of(m).saturating_sub(sn_of(s)) + (BLOCK_DATA - 1)) / BLOCK_DATA
 }
@@ -112,6 +117,7 @@ pub fn frame_blocks(
 ) -> Result<Vec<Vec<u8>>, AllocError>
     requires groups { AllByRecursion IsGroup (groups_of wholes.now) }
     requires small { m < 2 ^ 61 }
+    requires starts { IsAtDataStart s }
     ensures { IfOk result (λ blocks. IsFramed s wholes.now m (map (λ block. block.items) blocks.items)) }
 {
     let stream = stream_bytes(alloc, wholes)?;

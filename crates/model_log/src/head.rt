@@ -11,9 +11,9 @@ use model_base::{BLOCK_SIZE, START_LSN, Shape};
 use std::alloc::{AllocError, Global};
 
 /// The number of the format that is written and read.
-const FORMAT: u32 = 1;
+pub const FORMAT: u32 = 1;
 /// Who made the store.
-const CREATOR: &[u8; 32] = b"redolab 1\0\0\0\0\0\0\0\0\0\0\0\0\0\0\0\0\0\0\0\0\0\0\0";
+pub const CREATOR: &[u8; 32] = b"redolab 1\0\0\0\0\0\0\0\0\0\0\0\0\0\0\0\0\0\0\0\0\0\0\0";
 
 /// What the first block of a log device says.
 #[derive(Clone, Copy, Debug, PartialEq, Eq)]

@@ -26,5 +26,6 @@ pub(crate) fn fits_checksum(bytes: &[u8]) -> bool
     requires { length bytes.now ≡ 512 }
     ensures { result ≡ fits_checksum bytes.now }
 {
-    field_u32(bytes, BLOCK_DATA_END as usize) == crc32c(&bytes[..BLOCK_DATA_END as usize])
+    let (body, checksum) = bytes.split_at(BLOCK_DATA_END as usize);
+    field_u32(checksum, 0) == crc32c(body)
 }

@@ -1,17 +1,11 @@
 -- What the bytes at hand say of a number of two halves that begins with them.
-use Rattle.std.proofs.Common.{◌≡◌, ◌≢◌, ℕ, zero, suc, ◌+◌, ◌-◌, ◌*◌, ◌/◌, ◌%◌, ◌^◌, ◌<◌, ◌≤◌, ◌⊎◌, List, [], ◌∷◌, ◌++◌, length, take, drop, min, refl, sym, ap, ◌∙◌, arith, inl, inr, length-append, slice_index}
-use Rattle.std.proofs.Math.Nat.{mul-le-mul_right}
+use Rattle.std.proofs.Common.{◌≡◌, ℕ, ◌+◌, ◌-◌, ◌*◌, ◌/◌, ◌%◌, ◌^◌, ◌<◌, ◌≤◌, List, ◌++◌, length, take, drop, refl, sym, ap, ◌∙◌, arith, inl, inr, length-append}
 use Rattle.std.proofs.lemmas.Bool.{cases_lt}
-use Rattle.std.proofs.lemmas.List.{append-nil, append_assoc, take_all, take_at, take-take, length-take, length-take-le, length-drop, take-append-drop, take-append-le, drop-take}
-use Rattle.std.proofs.lemmas.Nat.{pow-add}
+use Rattle.std.proofs.lemmas.List.{append_assoc, take_at, take-take, length-take, length-take-le, length-drop, take-append-drop, take-append-le, drop-take}
 use Rattle.std.specs.Int.{bytes_high_first}
-use Rattle.model_number.specs.declared.got.Got.{Got}
 use Rattle.model_number.specs.declared.got.Got.TheVariants.{Value, Short, Bad}
-use Rattle.model_number.specs.declared.table.Row.{Row}
-use Rattle.model_number.specs.Spelling.{spelling32, spelling64, Spells32, Spells64, IsUnfinished, BeginsWith, Gives}
-use Rattle.model_number.specs.Table.{SpellsIn, IsRow, HasAllFrom, BeginsNone}
-use Rattle.model_number.proofs.ByteLemmas.{AreBytes, AreBytes-of_number, AreBytes-append, AreBytes-back, AreBytes-drop, AreBytes-take, bytes-number, bytes-parts, length-bytes_high_first, number_onto, number-append, number-bytes, number-lt, pow256_le, pow256_pos}
-use Rattle.model_number.proofs.SpellingLemmas.{length-spelling_in, length-spelling32, slice_index-append}
+use Rattle.model_number.specs.Spelling.{spelling32, spelling64, Spells32, Spells64, Gives}
+use Rattle.model_number.proofs.ByteLemmas.{AreBytes, AreBytes-of_number, AreBytes-append, AreBytes-drop, AreBytes-take, bytes-number, length-bytes_high_first, number_onto, number-lt, pow256_le}
 use Rattle.model_number.proofs.ReadLemmas.{not_nil}
 
 -- the spelling of a number by its halves

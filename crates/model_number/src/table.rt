@@ -50,7 +50,7 @@ const WHOLE: Row = Row {
     length: 5,
     text: 0xF0_1000_0000,
 };
-// The numbers just below 2^32 are short again, since small negative numbers are stored as these.
+// The numbers just below 2^32 are short again.
 const LOW_24_BITS: Row = Row {
     first: 0xFF00_0000,
     last: 0xFFFD_FFFF,

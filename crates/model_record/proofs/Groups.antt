@@ -86,10 +86,6 @@ goes_on bytes rest left recs rec so_far h =
 pub each_push : (rest left : List ℕ) (recs : List Rec) (rec : Rec) → AllByRecursion HasText recs → Begins (IsRecord 0) rest rec left → AllByRecursion HasText (recs ++ rec ∷ [])
 each_push rest left recs rec each h = each_append recs (rec ∷ []) each (h.is_text.has_text, tt)
 
--- each record takes a byte
-pub shorter : (rest left : List ℕ) (rec : Rec) → Begins (IsRecord 0) rest rec left → length left < length rest
-shorter rest left rec h = omega (arith, ap length h.parts, length-append h.text left, ap length h.is_text.spelled)
-
 some_init : Rec
 some_init = Init 0 0
 
@@ -115,7 +111,8 @@ several_part bytes rest recs so_far each h =
       is_text = record { is_group = many_are_group (recs ++ two) many (each_append recs two each (h.is_text.has_text, ((omega arith, omega arith), tt))); spelled = left ∙ sym right };
     }
 
-back_nil : (xs ys : List ℕ) → xs ++ ys ≡ [] → ys ≡ []
+-- nothing is joined of nothing
+pub back_nil : (xs ys : List ℕ) → xs ++ ys ≡ [] → ys ≡ []
 back_nil [] ys e = e
 back_nil (x ∷ xs) ys e = absurd cc
 

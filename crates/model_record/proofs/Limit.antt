@@ -1,9 +1,10 @@
 -- A group is read off the front of at most 8,192 bytes.
-use Rattle.std.proofs.Common.{◌≡◌, ℕ, ◌+◌, ◌-◌, ◌<◌, ◌≤◌, min, List, [], ◌∷◌, ◌++◌, length, take, drop, length-append, refl, sym, ap, subst, ◌∙◌, append_assoc, arith}
-use Rattle.std.proofs.lemmas.List.{append-nil, length-take, take_at, take_all, take-take, take-append-drop}
+use Rattle.std.proofs.Common.{◌≡◌, ℕ, ◌<◌, ◌≤◌, min, List, [], ◌++◌, length, take, drop, sym, ap, ◌∙◌, append_assoc, arith}
+use Rattle.std.proofs.lemmas.List.{append-nil, take_all, take-take, take-append-drop}
 use Rattle.model_record.specs.Group.{group_text, IsGroup, IsGroupText, BeginsWithGroup, IsFront}
-use Rattle.model_record.specs.Reading.{Begins, IsPartOf, IsNone}
+use Rattle.model_record.specs.Reading.{IsPartOf, IsNone}
 use Rattle.model_record.specs.declared.rec.Rec.{Rec}
+use Rattle.model_record.proofs.Groups.{back_nil}
 
 -- no group's text begins another's
 abbrev pub OneGroup : Type 0
@@ -13,26 +14,9 @@ OneGroup = (g h : List Rec) (x y : List ℕ) → IsGroup g → IsGroup h → gro
 abbrev IsBad : List ℕ → Type 0
 IsBad bytes = ((group : List Rec) (len : ℕ) → BeginsWithGroup bytes group len → ⊥) × (IsFront bytes → ⊥)
 
-back_nil : (xs ys : List ℕ) → xs ++ ys ≡ [] → ys ≡ []
-back_nil [] ys e = e
-back_nil (x ∷ xs) ys e = absurd cc
-
 module _ (bytes front : List ℕ) (n : ℕ) (is : front ≡ take n bytes) (len : n ≡ min (length bytes) 8192) where
-  pub group_begins : (rest : List ℕ) (group : List Rec) → Begins IsGroupText front group rest → BeginsWithGroup bytes group (length front - length rest)
-  group_begins rest group h =
-      let long : length front ≡ n = omega (arith, ap length is, length-take n bytes) in
-      let parts : length front ≡ length h.text + length rest = ap length h.parts ∙ length-append h.text rest in
-      let size : length front - length rest ≡ length h.text = omega arith in
-      let within : length h.text ≤ n = omega arith in
-      let text : take (length front - length rest) bytes ≡ h.text =
-      ap (λ (k : ℕ). take k bytes) size ∙ sym (take-take (length h.text) n bytes within) ∙ ap (take (length h.text)) (sym is ∙ h.parts) ∙ take_at h.text rest (length h.text) refl in
-      (omega arith, omega arith, subst (λ (t : List ℕ). IsGroupText t group) (sym text) h.is_text)
-
   whole_front : length bytes < 8192 → front ≡ bytes
   whole_front small = is ∙ take_all n bytes (omega arith)
-
-  pub front_part : length bytes < 8192 → IsPartOf IsGroupText front → IsFront bytes
-  front_part small h = (small, (h.more, h.value, h.some, subst (λ (t : List ℕ). IsGroupText (t ++ h.more) h.value) (whole_front small) h.is_text))
 
   -- the front, up to a length and from there on
   cut : (k : ℕ) → k ≤ length bytes → k ≤ 8192 → take k bytes ++ drop k front ≡ front

@@ -1,4 +1,5 @@
 // The parts of a record's text. Each reader takes one off the front, and gives the bytes that are left.
+// `one_spelling` computes nothing: it brings a law into a proof.
 ghost use Rattle.std.specs.Prelude.{◌≡◌, ◌≤◌, Ok};
 ghost use Rattle.model_record.specs.Record.{IsWidth};
 ghost use Rattle.model_record.specs.Reading.{Reads};

@@ -1,5 +1,5 @@
 //! What the text of a redo record, of a mini-transaction's group and of a stream of groups is, and when a group
-//! fits a store.
+//! fits a store. Beside the definitions stand the plain programs that write, measure and read groups, and judge them.
 #![tactic(auto)]
 
 mod bodies;
@@ -21,3 +21,6 @@ pub use reading::{one_group, read_group};
 pub use rec::Rec;
 pub use spelled::has_text;
 pub use writing::{group_bytes, stream_bytes};
+
+#[cfg(test)]
+mod tests;

@@ -1,4 +1,4 @@
-// Reading the text of a group.
+// Reading the text of a group. `one_spelling` computes nothing: it brings a law into a proof.
 ghost use Rattle.std.specs.Prelude.{ℕ, ◌≡◌, ◌↔◌, ◌≤◌, ◌<◌, List, ◌++◌, slice_index, IsTrue, IfOk, Ok};
 ghost use Rattle.std.specs.List.{flat_map};
 ghost use Rattle.model_record.specs.Record.{record_text};

@@ -72,7 +72,8 @@ fn put_several(alloc: Global, out: &mut Vec<u8>, recs: &[Rec]) -> Result<(), All
 fn put_record(alloc: Global, out: &mut Vec<u8>, flag: u8, rec: &Rec) -> Result<(), AllocError>
     requires has_text { HasText rec.now }
     requires flag { flag ≤ 128 }
-    ensures { OnOk result (out.new.items ≡ out.old.items ++ (flag + type_of rec.now) ∷ after_type rec.now) }
+    ensures { OnOk result
+        (out.new.items ≡ out.old.items ++ (flag + type_of rec.now) ∷ after_type rec.now) }
 {
     out.push(flag + type_byte(rec))?;
     match rec {
@@ -140,7 +141,8 @@ fn put_value(alloc: Global, out: &mut Vec<u8>, width: u32, value: u64) -> Result
 
 fn put_string(out: &mut Vec<u8>, text: &[u8]) -> Result<(), AllocError>
     requires { length text.now < 2 ^ 16 }
-    ensures { OnOk result (out.new.items ≡ out.old.items ++ (bytes_high_first 2 (length text.now) ++ text.now)) }
+    ensures { OnOk result
+        (out.new.items ≡ out.old.items ++ (bytes_high_first 2 (length text.now) ++ text.now)) }
 {
     put_short(out, text.len() as u32)?;
     out.extend_from_slice(text)

@@ -1,3 +1,3 @@
 pub mod FaultLine
-pub mod PageView
+pub mod Read
 pub mod Report

@@ -9,7 +9,7 @@ mod report;
 
 pub use fault::{Fault, Quantity};
 pub use fault_line::{FAULT_ROOM, fault_bytes, fault_text};
-pub use page::{PageView, page_lines_bytes};
+pub use page::page_lines_bytes;
 pub use report::report_bytes;
 
 #[cfg(test)]

@@ -2,19 +2,9 @@
 ghost use Rattle.std.specs.Prelude.{◌≡◌, ◌++◌, OnOk, IfOk};
 ghost use Rattle.std.specs.String.{string_bytes};
 ghost use Rattle.model_report.specs.Report.{trimmed, hex_word, page_line, page_lines};
-ghost use Rattle.model_report.specs.PageView.{content_of, contents_of};
 
-use model_base::Bytes;
+use model_page::Content;
 use std::alloc::{AllocError, Global};
-
-/// What a page holds.
-#[derive(Debug, Drop)]
-pub struct PageView {
-    /// The lsn of the last group that changed it.
-    pub lsn: u64,
-    /// Its user bytes, from offset 38 on.
-    pub user: Bytes,
-}
 
 // The bytes without the zeros at their end.
 #[tactic(auto, using(crate::proofs::Trim::trimmed_zero, crate::proofs::Trim::trimmed_some))]
@@ -43,10 +33,10 @@ fn push_page(
     alloc: Global,
     text: &mut String,
     number: usize,
-    page: &PageView,
+    page: &Content,
 ) -> Result<(), AllocError>
     ensures { OnOk result
-        (string_bytes text.new ≡ string_bytes text.old ++ page_line number (content_of page.now)) }
+        (string_bytes text.new ≡ string_bytes text.old ++ page_line number page.now) }
 {
     let user = hex_word(alloc, trimmed(page.user.as_slice()))?;
     writeln!(text, "p {number} {} {user}", page.lsn)
@@ -54,9 +44,9 @@ fn push_page(
 
 /// Writes the line of each page that a group has changed at the end of the text.
 #[tactic(auto, using(crate::proofs::Pages::page_steps), unfolding(crate::specs::Report::page_lines))]
-pub fn push_pages(alloc: Global, text: &mut String, pages: &[PageView]) -> Result<(), AllocError>
+pub fn push_pages(alloc: Global, text: &mut String, pages: &[Content]) -> Result<(), AllocError>
     ensures { OnOk result
-        (string_bytes text.new ≡ string_bytes text.old ++ page_lines (contents_of pages.now)) }
+        (string_bytes text.new ≡ string_bytes text.old ++ page_lines pages.now) }
 {
     for (number, page) in pages.iter().enumerate() {
         if page.lsn > 0 {
@@ -67,8 +57,8 @@ pub fn push_pages(alloc: Global, text: &mut String, pages: &[PageView]) -> Resul
 }
 
 /// The line of each page that a group has changed: its number, its lsn and its user bytes.
-pub fn page_lines_bytes(alloc: Global, pages: &[PageView]) -> Result<Vec<u8>, AllocError>
-    ensures { IfOk result (λ text. text.items ≡ page_lines (contents_of pages.now)) }
+pub fn page_lines_bytes(alloc: Global, pages: &[Content]) -> Result<Vec<u8>, AllocError>
+    ensures { IfOk result (λ text. text.items ≡ page_lines pages.now) }
 {
     let mut text = String::new(alloc);
     push_pages(alloc, &mut text, pages)?;

@@ -3,12 +3,12 @@ ghost use Rattle.std.specs.Prelude.{◌≡◌, ◌++◌, OnOk, IfOk};
 ghost use Rattle.std.specs.List.{flat_map};
 ghost use Rattle.std.specs.String.{string_bytes};
 ghost use Rattle.model_report.specs.Report.{group_line, left_line, recovered_line, report_text};
-ghost use Rattle.model_report.specs.PageView.{read_of};
+ghost use Rattle.model_report.specs.Read.{read_of};
 
-use crate::PageView;
 use crate::lines::{push_group, push_left, push_marks, push_open};
 use crate::page::push_pages;
 use model_history::{Entry, Marks};
+use model_page::Content;
 use std::alloc::{AllocError, Global};
 
 fn push_groups(text: &mut String, history: &[Entry]) -> Result<(), AllocError>
@@ -49,7 +49,7 @@ pub fn report_bytes(
     history: &[Entry],
     left: &[(u32, u64)],
     marks: Option<Marks>,
-    read: Option<(u64, &[PageView])>,
+    read: Option<(u64, &[Content])>,
 ) -> Result<Vec<u8>, AllocError>
     ensures { IfOk result
         (λ text. text.items ≡ report_text start history.now left.now marks (read_of read.entry)) }

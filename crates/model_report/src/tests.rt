@@ -1,18 +1,17 @@
 // Reports and fault lines as they are printed.
-use crate::{
-    FAULT_ROOM, Fault, PageView, Quantity, fault_bytes, fault_text, page_lines_bytes, report_bytes,
-};
+use crate::{FAULT_ROOM, Fault, Quantity, fault_bytes, fault_text, page_lines_bytes, report_bytes};
 use model_base::Bytes;
 use model_history::{Entry, Marks, State};
+use model_page::Content;
 use model_store::Refusal;
 use std::alloc::{AllocError, Global};
 use std::test::Fail;
 
 // A page whose user bytes are these and then zeros.
-fn page_of(alloc: Global, lsn: u64, front: &[u8]) -> Result<PageView, AllocError> {
+fn page_of(alloc: Global, lsn: u64, front: &[u8]) -> Result<Content, AllocError> {
     let mut user = Vec::from_slice(alloc, front)?;
     user.extend_from_slice(&[0; 4050 - 63])?;
-    Ok(PageView {
+    Ok(Content {
         lsn,
         user: Bytes::new(user),
     })

@@ -1,13 +1,13 @@
 -- Where a text is cut.
-use Rattle.std.proofs.Common.{ℕ, ◌≡◌, ◌==◌, ◌+◌, ◌-◌, ◌<◌, ◌≤◌, Bool, true, false, not, cond, ltb, List, [], ◌∷◌, ◌++◌, Option, Some, None, Bor, length, take, drop, get_or, refl, ap, sym, ◌∙◌, arith, rules, tests}
-use Rattle.std.specs.List.{position, position_or_len, prefix_len, slice_split}
+use Rattle.std.proofs.Common.{ℕ, ◌≡◌, ◌==◌, ◌+◌, ◌-◌, ◌<◌, ◌≤◌, Bool, true, false, not, cond, ltb, List, [], ◌∷◌, ◌++◌, Some, None, length, take, drop, get_or, refl, ap, sym, ◌∙◌, arith}
+use Rattle.std.specs.List.{position, position_or_len, slice_split}
 use Rattle.std.proofs.lemmas.Bool.{eqb-true, eq-eqb}
 use Rattle.std.proofs.lemmas.Bool.Decides.{nat_tests}
 use Rattle.std.proofs.lemmas.List.{take-append-drop, drop_more, take_rest, get_or-take, get_or_default, length-take-le}
 use Rattle.std.proofs.lemmas.List.Quantifiers.{position-Some}
 use Rattle.std.proofs.lemmas.List.Splits.{slice_split_none, slice_split_at}
 use Rattle.std.proofs.lemmas.List.Sums.{prefix_len_passes}
-use Rattle.model_script.specs.Cut.{Lacks, IsCut, parts_behind}
+use Rattle.model_script.specs.Cut.{Lacks}
 
 -- the text is cut where the byte first stands
 pub cut_at : (text : List ℕ) (byte at : ℕ) → position (λ other. other == byte) text ≡ Some at → (text ≡ take at text ++ byte ∷ take (length text - (at + 1)) (drop (at + 1) text)) × Lacks byte (take at text)

@@ -1,5 +1,5 @@
 -- The operations of a line, one on.
-use Rattle.std.proofs.Common.{ℕ, suc, ◌≡◌, ◌==◌, ◌+◌, ◌^◌, ◌<◌, List, [], ◌∷◌, ◌++◌, Option, Some, None, Bor, length, refl, ap, sym, ◌∙◌, subst, append_assoc, append-nil, length-append, arith, rules}
+use Rattle.std.proofs.Common.{ℕ, ◌≡◌, ◌+◌, ◌^◌, ◌<◌, List, [], ◌∷◌, ◌++◌, Option, Some, None, Bor, length, refl, ap, sym, ◌∙◌, append_assoc, append-nil, length-append, arith}
 use Rattle.std.specs.Option.{option_and_then}
 use Rattle.model_script.specs.Cut.{IsCut}
 use Rattle.model_script.specs.Grammar.{item_of, items_of, words_of, line_from, number_below, mode_of}

@@ -4,3 +4,4 @@ pub mod ItemLemmas
 pub mod LineLemmas
 pub mod NumberLemmas
 pub mod WordLemmas
+pub mod ScriptLemmas

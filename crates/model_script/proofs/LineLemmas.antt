@@ -1,6 +1,5 @@
 -- The first line of a text.
-use Rattle.std.proofs.Common.{ℕ, ◌≡◌, ◌==◌, ◌+◌, ◌-◌, ◌<◌, ◌≤◌, Bool, true, false, cond, List, [], ◌∷◌, ◌++◌, map, length, take, get_or, ◌≢◌, Option, Some, None, Bor, subst, refl, ap, sym, ◌∙◌, length-append, arith, rules, tests}
-use Rattle.std.specs.List.{All}
+use Rattle.std.proofs.Common.{ℕ, ◌≡◌, ◌==◌, ◌+◌, ◌-◌, ◌<◌, Bool, true, false, cond, List, [], ◌∷◌, ◌++◌, map, length, take, get_or, ◌≢◌, Option, Some, None, Bor, subst, refl, ap, sym, ◌∙◌, length-append, arith, rules, tests}
 use Rattle.std.proofs.lemmas.List.{take_all, take_more, nil_from_length}
 use Rattle.std.proofs.lemmas.List.Elements.{All-head, All-tail}
 use Rattle.model_base.specs.Lines.{onto_first, fed_lines, without_return, lines_of}

@@ -1,12 +1,12 @@
 -- The scripts that are run today: nothing, or one line `1 f b1 PAGE OFFSET VALUE` that writes a user byte of one of
 -- the first eight pages.
-use Rattle.std.specs.Prelude.{ℕ, ◌≡◌, ◌==◌, ◌&&◌, nat_lt, nat_le, ◌+◌, if◌then◌else◌, Bool, true, false, List, [], ◌∷◌, length, take, codes, Option, Some, None, Result, Ok, Err}
+use Rattle.std.specs.Prelude.{ℕ, ◌==◌, ◌&&◌, nat_lt, nat_le, ◌+◌, if◌then◌else◌, Bool, false, List, [], ◌∷◌, length, take, codes, Option, Some, None, Result, Ok, Err}
 use Rattle.std.specs.Str.{bytes_eq}
 use Rattle.model_base.specs.Lines.{lines_of}
 use Rattle.model_base.specs.declared.limits.TheConstants.{DEFAULT_PAGES, USER_START, USER_BYTES}
 use Rattle.model_script.specs.Grammar.{line_of}
 use Rattle.model_script.specs.declared.item.Item.{Item}
-use Rattle.model_script.specs.declared.item.Item.TheVariants.{Num, Text, Init}
+use Rattle.model_script.specs.declared.item.Item.TheVariants.{Num}
 use Rattle.model_script.specs.declared.script.ScriptLine.{ScriptLine}
 
 -- what each line of today begins with, to the letter

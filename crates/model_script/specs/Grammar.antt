@@ -1,7 +1,7 @@
 -- The grammar of scripts. A line is `USER MODE OP;OP;..`, with single spaces in and between the fields and no other
 -- spaces. MODE is f, w or n. OP is `b1|b2|b4|b8 PAGE OFFSET VALUE`, `s PAGE OFFSET HEX` or `i PAGE`. An empty line and a
 -- line that begins with # are skipped but counted.
-use Rattle.std.specs.Prelude.{ℕ, ◌+◌, ◌-◌, ◌*◌, ◌^◌, ◌==◌, ◌&&◌, nat_lt, nat_le, if◌then◌else◌, Bool, true, false, List, [], ◌∷◌, length, fold, codes, Option, Some, None, option_and_then, Result, Ok, Err}
+use Rattle.std.specs.Prelude.{ℕ, ◌+◌, ◌-◌, ◌*◌, ◌^◌, ◌==◌, ◌&&◌, nat_lt, nat_le, if◌then◌else◌, Bool, true, List, [], ◌∷◌, length, fold, codes, Option, Some, None, option_and_then, Result, Ok, Err}
 use Rattle.std.specs.List.{slice_split, list_all}
 use Rattle.std.specs.Char.{is_ascii_digit}
 use Rattle.std.specs.Str.{bytes_eq}

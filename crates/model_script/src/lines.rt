@@ -1,5 +1,5 @@
 // The lines of a text.
-ghost use Rattle.std.specs.Prelude.{◌≡◌, ◌<◌, ◌∷◌, [], length, MatchOption};
+ghost use Rattle.std.specs.Prelude.{◌≡◌, [], MatchOption};
 ghost use Rattle.model_base.specs.Lines.{lines_of, without_return};
 ghost use Rattle.model_script.specs.Cut.{IsFirstLine};
 

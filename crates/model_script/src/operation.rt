@@ -52,6 +52,7 @@ fn max_of(width: u32) -> u64
     }
 }
 
+// The operation that writes a number of the width.
 fn number_item(width: u32, page: &[u8], offset: &[u8], value: &[u8]) -> Option<Item>
     requires { IsWidth width }
     ensures { result ≡ number_item width page.now offset.now value.now }
@@ -67,6 +68,7 @@ fn number_item(width: u32, page: &[u8], offset: &[u8], value: &[u8]) -> Option<I
     })
 }
 
+// The operation that writes a string.
 fn text_item(
     alloc: Global,
     page: &[u8],

@@ -7,7 +7,7 @@ use Rattle.model_record.specs.Group.{group_text, stream_of, groups_of, group_len
 use Rattle.model_record.specs.Fits.{GroupFits}
 use Rattle.model_record.specs.declared.rec.Rec.{Rec}
 use Rattle.model_record.specs.declared.group.Whole.{Whole}
-use Rattle.model_log.specs.Lsn.{sn_of, block_of}
+use Rattle.model_log.specs.Lsn.{sn_of}
 use Rattle.model_log.specs.Block.{read_block, is_full, data_of}
 use Rattle.model_log.specs.Boundary.{IsTiled}
 use Rattle.model_log.specs.Device.{log_block}

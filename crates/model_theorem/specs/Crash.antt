@@ -2,11 +2,11 @@
 -- groups in lsn order, each user's as its script orders and once, then the pages read from what the devices kept:
 -- those of applying the first n groups whole to the opened pages, n reaching every group printed flushed; a group is
 -- lost only where a device call failed.
-use Rattle.std.specs.Prelude.{ℕ, ◌≡◌, ◌≤◌, ◌<◌, ◌⊎◌, List, [], take, slice_get, Option, Some, None, Result, Ok, IfSome}
+use Rattle.std.specs.Prelude.{ℕ, ◌≡◌, ◌≤◌, ◌<◌, ◌⊎◌, List, [], take, slice_get, Some, None, Result, Ok, IfSome}
 use Rattle.std.specs.List.{AllByRecursion}
 use Rattle.model_base.specs.declared.shape.Shape.{Shape}
 use Rattle.model_log.specs.Device.{newest_checkpoint}
-use Rattle.model_device.specs.Disk.{Disk, IsImage, settled}
+use Rattle.model_device.specs.Disk.{IsImage, settled}
 use Rattle.model_store.specs.Apply.{folded}
 use Rattle.model_store.specs.Scan.{IsGood}
 use Rattle.model_store.specs.Reading.{Reads}

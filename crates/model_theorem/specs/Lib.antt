@@ -1,3 +1,4 @@
 pub mod Crash
+pub mod Examples
 pub mod Premises
 pub mod Values

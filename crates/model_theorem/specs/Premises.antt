@@ -1,12 +1,10 @@
 -- What the crash theorem takes for granted.
-use Rattle.std.specs.Prelude.{ℕ, ◌≡◌, ◌<◌, ◌⊎◌, List, length, replicate, take}
-use Rattle.model_base.specs.declared.shape.Shape.{Shape}
+use Rattle.std.specs.Prelude.{ℕ, ◌≡◌, ◌<◌, ◌⊎◌, List, replicate, take}
 use Rattle.model_base.specs.declared.limits.TheConstants.{BLOCK_SIZE}
 use Rattle.model_base.specs.Limits.{default_shape}
 use Rattle.model_device.specs.Disk.{HasOneImage}
 use Rattle.model_device.specs.Valid.{IsValid}
 use Rattle.model_base.specs.Count.{last_count}
-use Rattle.model_page.specs.declared.content.Content.{Content}
 use Rattle.model_store.specs.Apply.{blank_pages}
 use Rattle.model_store.specs.Fair.{IsFair}
 use Rattle.model_store.specs.Reading.{Reading, IsOrderly}

@@ -1,3 +1,10 @@
 //! The crash theorem: what is taken for granted, and what is promised, over plain values. The contract of a call fills
-//! them in.
+//! them in. Beside these definitions stand laws that say which values the promise admits and which it refuses.
 #![tactic(auto)]
+
+mod examples;
+
+pub use examples::{
+    changed_pages_are_refused, empty_run_is_admitted, gap_is_refused,
+    missing_flushed_group_is_refused,
+};

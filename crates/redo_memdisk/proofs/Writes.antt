@@ -1,5 +1,5 @@
 -- A write that is done when the call says that it failed.
-use Rattle.std.proofs.Common.{◌+◌, ◌≤◌, ℕ, List, length, refl, inl, inr, ⊎_elim, arith}
+use Rattle.std.proofs.Common.{ℕ, List, length, refl, inl, inr, ⊎_elim, arith}
 use Rattle.model_device.specs.Disk.{Disk, after_write}
 use Rattle.model_device.specs.Calls.{written, FailsWrite, IsMixed}
 use Rattle.model_device.specs.Within.{IsSectorWrite}

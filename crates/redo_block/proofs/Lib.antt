@@ -1,0 +1,3 @@
+pub mod FrameRound
+pub mod Framings
+pub mod Sectors

@@ -1,0 +1,12 @@
+//! The header blocks of a log device, the file header and the checkpoints, filled and read in place. No memory is
+//! taken.
+#![tactic(auto)]
+
+mod checkpoint;
+mod head;
+#[cfg(test)]
+mod tests;
+
+pub use checkpoint::{fill_ckpt, read_ckpt};
+pub use head::{fill_head, read_head};
+pub use model_log::Head;

@@ -1,4 +1,0 @@
-pub mod Contents
-pub mod Known
-pub mod Parts
-pub mod Started

@@ -1,2 +1,0 @@
-//! The top call.
-#![tactic(auto)]
