@@ -1,0 +1,109 @@
+-- A call seen from outside.
+use Rattle.std.proofs.Common.{ℕ, ◌≡◌, ◌≤◌, ◌⊎◌, List, [], ◌++◌, length, Option, Some, None, Result, Ok, Err, refl, sym, ap, ◌∙◌, subst, arith, inl, inr}
+use Rattle.std.specs.Prelude.{IfOk, IfErr, IfSome, OnOk}
+use Rattle.model_base.specs.Limits.{default_shape}
+use Rattle.model_device.specs.Disk.{Disk}
+use Rattle.model_log.specs.Device.{log_device_length}
+use Rattle.model_page.specs.Copies.{data_device_length}
+use Rattle.model_script.specs.FirstPath.{first_path_script}
+use Rattle.model_script.specs.declared.script.ScriptLine.{ScriptLine}
+use Rattle.model_store.specs.declared.refusal.Refusal.TheVariants.{SmallLog, NotFormatted, BadFormat, SmallData, NoCheckpoint, BadRecord, PageLost, PageAhead}
+use Rattle.model_report.specs.FaultLine.{status_of}
+use Rattle.model_report.specs.declared.fault.Fault.{Fault}
+use Rattle.model_report.specs.declared.fault.Fault.TheVariants.{Memory, Words, Script, Source, Sink, LogDevice, DataDevice, Store, Turns, Fit}
+use Rattle.model_theorem.specs.Crash.{CrashSafe}
+use Rattle.redo_io.specs.Sink.{with_taken}
+use Rattle.redo_memdisk.specs.declared.fuse.Fuse.{Fuse}
+use Rattle.redo_lab.specs.Answer.{IsAnswer, IsFaultPrinted, IsSafe, IsTextPrinted}
+use Rattle.redo_lab.specs.Call.{crash_of}
+use Rattle.redo_lab.specs.Outcome.{IsSpent}
+use Rattle.redo_lab.specs.Script.{WasRead}
+
+-- a result is one or the other, with what is known of it
+pub one_or_other : {T E : Type 0} (items : T → List ℕ) (P P2 : List ℕ → Type 0) (Q Q2 : E → Type 0) (r : Result T E)
+    → IfOk r (λ t. P (items t)) → IfOk r (λ t. P2 (items t)) → IfErr r Q → IfErr r Q2
+    → ((text : List ℕ) × P text × P2 text) ⊎ ((e : E) × Q e × Q2 e)
+one_or_other items P P2 Q Q2 (Ok t) p p2 q q2 = inl (items t, p, p2)
+one_or_other items P P2 Q Q2 (Err e) p p2 q q2 = inr (e, q, q2)
+
+pub of_ok : {T E : Type 0} (X : Type 0) (r : Result T E) (t : T) → OnOk r X → r ≡ Ok t → X
+of_ok X r t on is = subst (λ s. OnOk s X) is on
+
+status_not_0 : (fault : Fault) → status_of fault ≡ 0 → ⊥
+status_not_0 Memory is = omega arith
+status_not_0 Words is = omega arith
+status_not_0 (Script n) is = omega arith
+status_not_0 Source is = omega arith
+status_not_0 Sink is = omega arith
+status_not_0 LogDevice is = omega arith
+status_not_0 DataDevice is = omega arith
+status_not_0 (Store (SmallLog n)) is = omega arith
+status_not_0 (Store NotFormatted) is = omega arith
+status_not_0 (Store (BadFormat n)) is = omega arith
+status_not_0 (Store (SmallData n)) is = omega arith
+status_not_0 (Store NoCheckpoint) is = omega arith
+status_not_0 (Store (BadRecord lsn)) is = omega arith
+status_not_0 (Store (PageLost p)) is = omega arith
+status_not_0 (Store (PageAhead p lsn)) is = omega arith
+status_not_0 (Turns n user) is = omega arith
+status_not_0 (Fit what n) is = omega arith
+
+-- a call with status 0 has a text, which the sink took
+pub taken_whole : {T : Type 0} (items : T → List ℕ) (P : T → Type 0) (r : Result T Fault) (status : ℕ) (taken now : Option (List ℕ)) (before after : ℕ)
+    → IfOk r P → IfOk r (λ text. IsTextPrinted (items text) status taken now before after)
+    → IfErr r (λ fault. IsFaultPrinted fault status taken now before after) → status ≡ 0
+    → (text : T) × P text × (now ≡ with_taken taken (items text)) × (r ≡ Ok text)
+taken_whole items P (Ok text) status taken now before after is (inl printed) fault zero = (text, is, printed.1, refl)
+taken_whole items P (Ok text) status taken now before after is (inr failed) fault zero = absurd (status_not_0 Sink (sym failed.0 ∙ zero))
+taken_whole items P (Err fault) status taken now before after is printed line zero = absurd (status_not_0 fault (sym line.0 ∙ zero))
+
+source_read : (text source : List ℕ) (left now : Option (List ℕ)) → WasRead text left now → left ≡ Some source → (text ≡ source) × (now ≡ Some [])
+source_read text source left now read is = subst (λ (l : Option (List ℕ)). WasRead text l now) is read
+
+sink_took : (taken now : Option (List ℕ)) (text : List ℕ) → now ≡ with_taken taken text → IfSome taken (λ bytes. now ≡ Some (bytes ++ text))
+sink_took None now text is = tt
+sink_took (Some bytes) now text is = is
+
+-- what is promised of a crash holds of the values of a call
+abbrev pub RunIsSafe : Type 0
+RunIsSafe = (text : List ℕ) (script : List ScriptLine) (log store : Disk) (log_faults store_faults : ℕ)
+    → first_path_script text ≡ Ok script
+    → log_device_length default_shape ≤ length log.reads → data_device_length default_shape ≤ length store.reads
+    → CrashSafe first_path_script (crash_of text script log log_faults store store_faults)
+
+pub is_safe : RunIsSafe → (words : List (List ℕ)) (left left_now : Option (List ℕ)) (log store log_now store_now : Option Disk) (text : List ℕ)
+    → IsAnswer words left left_now log store text log_now store_now
+    → (log_fuse store_fuse : Fuse) → IsSpent log_fuse → IsSpent store_fuse
+    → (taken taken_now : Option (List ℕ)) → taken_now ≡ with_taken taken text → (log_faults store_faults : ℕ)
+    → (source : List ℕ) (first second : Disk) → left ≡ Some source → log ≡ Some first → store ≡ Some second
+    → IsSafe source left_now taken taken_now first log_faults log_now log_fuse second store_faults store_now store_fuse
+is_safe safe words left left_now log store log_now store_now text answer log_fuse store_fuse log_spent store_spent taken taken_now took log_faults store_faults source first second left_is log_is store_is =
+    let done = answer.done first second log_is store_is in
+    let was_read = source_read answer.read.text source left left_now answer.read.read left_is in
+    record {
+      crash = crash_of source answer.script first log_faults second store_faults;
+      call = record {
+        source = refl;
+        source_left = was_read.1;
+        printed = sink_took taken taken_now _ (took ∙ ap (with_taken taken) done.printed);
+        pick = refl;
+      };
+      log_device = record {
+        at_entry = refl;
+        faults_are = refl;
+        before_crash = refl;
+        left = done.log_is;
+        pick = sym log_spent.pick;
+        failures = sym log_spent.mid;
+      };
+      store_device = record {
+        at_entry = refl;
+        faults_are = refl;
+        before_crash = refl;
+        left = done.store_is;
+        pick = sym store_spent.pick;
+        failures = sym store_spent.mid;
+      };
+      holds = safe source answer.script first second log_faults store_faults
+          (subst (λ (t : List ℕ). first_path_script t ≡ Ok answer.script) was_read.0 answer.read.is_script) done.log_long done.store_long;
+    }

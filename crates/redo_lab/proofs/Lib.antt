@@ -1,0 +1,15 @@
+pub mod Calls
+pub mod Contents
+pub mod Formats
+pub mod Fronts
+pub mod Known
+pub mod Lines
+pub mod Opening
+pub mod Parts
+pub mod Safe
+pub mod Started
+pub mod StepLemmas
+pub mod Told
+pub mod Whole
+pub mod Words
+pub mod Zeros

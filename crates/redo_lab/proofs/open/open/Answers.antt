@@ -1,0 +1,15 @@
+use Rattle.std.proofs.Common.{sym, ◌∙◌}
+use Rattle.std.proofs.lemmas.Bool.{false≢true}
+use Rattle.model_store.specs.Read.{reading_of}
+use Rattle.redo_lab.specs.Steps.{reads_of}
+use Rattle.redo_lab.proofs.Opening.{open_fault, not_fresh}
+use Rattle.redo_lab.proofs.open.open.Goals as goal
+
+pub returns-in-Err-clause-fault : goal.returns-in-Err-clause-fault
+returns-in-Err-clause-fault g c =
+    open_fault c.one_answer.ensures.read (reads_of (g.L.Sectors.tells c.args.log.now.inner)) (reads_of (g.D.Sectors.tells c.args.store.now.inner)) c.in-Err.fault c.in-Err.ensures.fault
+
+pub returns-then-not-is_fresh-clause-fault : goal.returns-then-not-is_fresh-clause-fault
+returns-then-not-is_fresh-clause-fault g c =
+    not_fresh c.one_reading.ensures (reads_of (g.L.Sectors.tells c.args.log.now.inner)) (reads_of (g.D.Sectors.tells c.args.store.now.inner)) (reading_of c.in-Ok.read)
+    (λ fresh. false≢true (sym c.if-not-is_fresh.true ∙ c.is_fresh.ensures fresh)) c.in-Ok.ensures.read

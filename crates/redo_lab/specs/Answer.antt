@@ -1,0 +1,74 @@
+-- What a call comes to, seen from outside.
+use Rattle.std.specs.Prelude.{ℕ, ◌≡◌, ◌⊎◌, List, [], ◌∷◌, codes, Option, Some, ⊤}
+use Rattle.model_base.specs.Count.{HasRisen}
+use Rattle.model_device.specs.Disk.{Disk}
+use Rattle.model_script.specs.FirstPath.{first_path_script}
+use Rattle.model_script.specs.declared.script.ScriptLine.{ScriptLine}
+use Rattle.model_report.specs.FaultLine.{status_of, fault_line}
+use Rattle.model_report.specs.declared.fault.Fault.{Fault}
+use Rattle.model_report.specs.declared.fault.Fault.TheVariants.{Memory, Words, Script, Source, Sink, LogDevice, DataDevice, Store, Turns, Fit}
+use Rattle.model_theorem.specs.Values.{Crash}
+use Rattle.model_theorem.specs.Crash.{CrashSafe}
+use Rattle.redo_io.specs.Sink.{with_taken, TakesPart}
+use Rattle.redo_memdisk.specs.declared.fuse.Fuse.{Fuse}
+use Rattle.redo_lab.specs.Call.{IsCall, IsDevice}
+use Rattle.redo_lab.specs.Check.{IsTooShort, IsUsedFit}
+use Rattle.redo_lab.specs.Outcome.{IsDone, IsUntold}
+use Rattle.redo_lab.specs.Steps.{reads_of}
+use Rattle.redo_lab.specs.Script.{IsScriptOf, IsBadLine, IsLongScript}
+
+-- the words of the one command of today
+abbrev pub the_command : List (List ℕ)
+the_command = codes "crash" ∷ []
+
+-- The words are the command, what the source had left is a script, and on devices that meant this all was done that
+-- the call is to do.
+pub record IsAnswer (words : List (List ℕ)) (left now : Option (List ℕ)) (log store : Option Disk) (text : List ℕ) (log_now store_now : Option Disk) : Type 0 where
+  pub command : words ≡ the_command
+  pub script : List ScriptLine
+  pub read : IsScriptOf left now script
+  pub done : (first second : Disk) → log ≡ Some first → store ≡ Some second → IsDone script first second text log_now store_now
+
+-- Why a call gives no text. A source and the devices are seen by what they told at entry and tell now, by their counts
+-- of faults and by the sizes of the devices; a device's failure is counted besides.
+abbrev pub IsLabFault : List (List ℕ) → Option (List ℕ) → Option (List ℕ) → ℕ → ℕ → Option (List ℕ) → Option (List ℕ) → ℕ → ℕ → Fault → Type 0
+IsLabFault words left now before after log store log_size store_size Memory = ⊤
+IsLabFault words left now before after log store log_size store_size Words = words ≡ the_command → ⊥
+IsLabFault words left now before after log store log_size store_size (Script n) = IsBadLine left now n
+IsLabFault words left now before after log store log_size store_size Source = HasRisen before after
+IsLabFault words left now before after log store log_size store_size LogDevice = ⊤
+IsLabFault words left now before after log store log_size store_size DataDevice = ⊤
+IsLabFault words left now before after log store log_size store_size (Store refusal) = IsTooShort log_size store_size refusal ⊎ IsUntold log store
+IsLabFault words left now before after log store log_size store_size (Fit what n) = IsLongScript left what n ⊎ IsUsedFit log what n
+IsLabFault words left now before after log store log_size store_size Sink = ⊥
+IsLabFault words left now before after log store log_size store_size (Turns n user) = ⊥
+
+-- the text was to be printed: the sink took all of it, or failed and took only a part
+abbrev pub IsTextPrinted : List ℕ → ℕ → Option (List ℕ) → Option (List ℕ) → ℕ → ℕ → Type 0
+IsTextPrinted text status taken now before after =
+    ((status ≡ 0) × (now ≡ with_taken taken text))
+    ⊎ ((status ≡ status_of Sink) × HasRisen before after × TakesPart taken text now)
+
+-- the fault's line was to be printed, and the status is the fault's whether or not the sink took all of the line
+abbrev pub IsFaultPrinted : Fault → ℕ → Option (List ℕ) → Option (List ℕ) → ℕ → ℕ → Type 0
+IsFaultPrinted fault status taken now before after =
+    (status ≡ status_of fault)
+    × ((now ≡ with_taken taken (fault_line fault)) ⊎ (HasRisen before after × TakesPart taken (fault_line fault) now))
+
+-- What is promised of a crash holds of this call: there are values of which it speaks, which are those of the source,
+-- the sink and the devices at entry and now.
+pub record IsSafe (source : List ℕ) (source_now taken taken_now : Option (List ℕ)) (log : Disk) (log_faults : ℕ) (log_now : Option Disk) (log_fuse : Fuse) (store : Disk) (store_faults : ℕ) (store_now : Option Disk) (store_fuse : Fuse) : Type 0 where
+  pub crash : Crash
+  pub call : IsCall source source_now taken taken_now crash
+  pub log_device : IsDevice log log_faults log_now log_fuse crash.log
+  pub store_device : IsDevice store store_faults store_now store_fuse crash.store
+  pub holds : CrashSafe first_path_script crash
+
+-- What a call comes to: a text that was printed, or a fault whose line was. The source, the sink and the devices are
+-- seen by what they told at entry and tell now, and by their counts of faults.
+abbrev pub IsOutcome : (words : List (List ℕ)) (left now : Option (List ℕ)) (before after : ℕ) (log store : Option Disk) (log_size store_size : ℕ) (log_now store_now : Option Disk) (status : ℕ) (taken taken_now : Option (List ℕ)) (out_before out_after : ℕ) → Type 0
+IsOutcome words left now before after log store log_size store_size log_now store_now status taken taken_now out_before out_after =
+    ((text : List ℕ) × IsAnswer words left now log store text log_now store_now
+    × IsTextPrinted text status taken taken_now out_before out_after)
+    ⊎ ((fault : Fault) × IsLabFault words left now before after (reads_of log) (reads_of store) log_size store_size fault
+    × IsFaultPrinted fault status taken taken_now out_before out_after)

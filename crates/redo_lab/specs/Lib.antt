@@ -1,0 +1,10 @@
+pub mod Answer
+pub mod Call
+pub mod Check
+pub mod Contents
+pub mod FirstReading
+pub mod Outcome
+pub mod Reads
+pub mod Script
+pub mod Steps
+pub mod Today

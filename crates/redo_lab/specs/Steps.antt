@@ -1,0 +1,65 @@
+-- What steps on a device that a fuse watches do to it, beside what they do to its bytes.
+use Rattle.std.specs.Prelude.{ℕ, ◌≡◌, ◌≤◌, ◌<◌, ◌⊎◌, Option, None, List}
+use Rattle.std.specs.Option.{option_map}
+use Rattle.model_base.specs.Count.{HasRisen}
+use Rattle.model_device.specs.Disk.{Disk, settled}
+use Rattle.redo_disk.specs.declared.error.DevError.{DevError}
+use Rattle.redo_disk.specs.declared.error.DevError.TheVariants.{Failed, NoMemory}
+use Rattle.model_report.specs.declared.fault.Fault.{Fault}
+use Rattle.model_report.specs.declared.fault.Fault.TheVariants.{Memory, LogDevice, DataDevice}
+use Rattle.redo_memdisk.specs.declared.fuse.Fuse.{Fuse}
+
+-- no call answered that the device failed, and the fuse stands where it stood
+pub record IsQuiet (old new : Fuse) : Type 0 where
+  pub stage : new.stage ≡ old.stage
+  pub limit : new.limit ≡ old.limit
+  pub pick : new.pick ≡ old.pick
+  pub early : new.early ≡ old.early
+  pub mid : new.mid ≡ old.mid
+  pub late : new.late ≡ old.late
+
+-- some call answered that the device failed
+abbrev pub HasFailed : Fuse → Type 0
+HasFailed fuse = (0 < fuse.early) ⊎ (0 < fuse.mid) ⊎ (0 < fuse.late)
+
+-- what a failure of the device leaves: it is counted by the device and by the fuse
+pub record IsCounted (before now : ℕ) (fuse : Fuse) : Type 0 where
+  pub risen : HasRisen before now
+  pub noted : HasFailed fuse
+
+-- Steps on a device whose size, count of faults and fuse were these and are these. Where they succeeded no call
+-- failed; where they ended because the device failed, the failure was counted.
+pub record Steps (size now_size before now : ℕ) (old new : Fuse) (succeeded failed : Type 0) : Type 0 where
+  pub same_size : now_size ≡ size
+  pub later : before ≤ now
+  pub limit : new.limit ≡ old.limit
+  pub quiet : succeeded → IsQuiet old new
+  pub counted : failed → IsCounted before now new
+
+-- what reads give of a device, where it tells
+abbrev pub reads_of : Option Disk → Option (List ℕ)
+reads_of told = option_map (λ (disk : Disk). disk.reads) told
+
+-- a device that holds this and has no write since its last good sync, where it tells
+abbrev pub settled_as : Option (List ℕ) → Option Disk
+settled_as bytes = option_map settled bytes
+
+-- why a call ends where a device failed, or had no memory
+abbrev pub log_fault : DevError → Fault
+log_fault Failed = LogDevice
+log_fault NoMemory = Memory
+
+abbrev pub data_fault : DevError → Fault
+data_fault Failed = DataDevice
+data_fault NoMemory = Memory
+
+-- A device on which a call of today has gone so far: its size, its count of faults, and its fuse, which passes all and
+-- has noted no failure where all succeeded.
+pub record Side (size now_size before now : ℕ) (fuse : Fuse) (succeeded failed : Type 0) : Type 0 where
+  pub same_size : now_size ≡ size
+  pub later : before ≤ now
+  pub limit : succeeded → fuse.limit ≡ None
+  pub early : succeeded → fuse.early ≡ 0
+  pub mid : succeeded → fuse.mid ≡ 0
+  pub late : succeeded → fuse.late ≡ 0
+  pub counted : failed → IsCounted before now fuse
