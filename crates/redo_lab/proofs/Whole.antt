@@ -12,6 +12,7 @@ use Rattle.model_script.specs.declared.script.ScriptLine.{ScriptLine}
 use Rattle.model_report.specs.declared.fault.Fault.{Fault}
 use Rattle.model_report.specs.declared.fault.Fault.TheVariants.{Memory, Words, Script, Source, Sink, LogDevice, DataDevice, Store, Turns, Fit}
 use Rattle.redo_disk.specs.Sectors.{HasSize}
+use Rattle.redo_lab.specs.Check.{IsUnused}
 use Rattle.redo_lab.specs.Contents.{formatted_log, formatted_store}
 use Rattle.redo_lab.specs.FirstReading.{empty_reading}
 use Rattle.redo_lab.specs.Outcome.{IsOpenFault, IsNoFreshStore, IsCrashFault, IsDone, IsUntold, IsReportOf}
@@ -110,9 +111,9 @@ pub is_done : (script : List ScriptLine) → FinalIsRead script
     → log_device_length default_shape ≤ log_size → data_device_length default_shape ≤ store_size
     → (log_now store_now : Option Disk) → log_now ≡ settled_as (option_map (final_log script) (reads_of log))
     → store_now ≡ settled_as (option_map (formatted_store default_shape) (reads_of store))
-    → (text : List ℕ) → OnFronts (reads_of log_now) (reads_of store_now) (IsReportOf script text)
+    → (text : List ℕ) → OnFronts (reads_of log_now) (reads_of store_now) (IsReportOf script text) → IsUnused (reads_of log)
     → (first second : Disk) → log ≡ Some first → store ≡ Some second → IsDone script first second text log_now store_now
-is_done script final one log store log_size store_size log_sized store_sized log_long store_long log_now store_now log_told store_told text report first second log_is store_is =
+is_done script final one log store log_size store_size log_sized store_sized log_long store_long log_now store_now log_told store_told text report unused first second log_is store_is =
     let on_log = log_told ∙ ap (λ (t : Option Disk). settled_as (option_map (final_log script) (reads_of t))) log_is in
     let on_store = store_told ∙ ap (λ (t : Option Disk). settled_as (option_map (formatted_store default_shape) (reads_of t))) store_is in
     let log_enough = long_of first log_size (log_device_length default_shape) (subst (λ (t : Option Disk). IfSome t (HasSize log_size)) log_is log_sized) log_long in
@@ -120,6 +121,7 @@ is_done script final one log store log_size store_size log_sized store_sized log
     record {
       log_long = log_enough;
       store_long = store_enough;
+      unused = subst (λ (t : Option Disk). IsUnused (reads_of t)) log_is unused;
       printed = final_text script final one first second text log_enough store_enough
           (subst (λ (t : Option Disk). OnFronts (Some (final_log script first.reads)) (reads_of t) (IsReportOf script text)) on_store
           (subst (λ (t : Option Disk). OnFronts (reads_of t) (reads_of store_now) (IsReportOf script text)) on_log report));

@@ -3,7 +3,7 @@ use Rattle.std.proofs.Common.{◌≡◌, ◌≢◌, ℕ, ◌<◌, ◌≤◌, Lis
 use Rattle.std.specs.Prelude.{IfSome, slice_index}
 use Rattle.std.proofs.lemmas.List.{get_or-take}
 use Rattle.model_device.specs.Disk.{Disk}
-use Rattle.redo_lab.specs.Check.{IsUsedAt}
+use Rattle.redo_lab.specs.Check.{IsUnused, IsUsedAt}
 use Rattle.redo_lab.specs.Steps.{reads_of}
 
 -- the one item of a list of one
@@ -22,3 +22,10 @@ used_at (Some disk) out at read within used first =
 
 pub head_same : {x y : List ℕ} → x ∷ [] ≡ y ∷ [] → x ≡ y
 head_same same = cc
+
+-- a first block without a byte in use stands so on the device
+pub unused_if : (told : Option Disk) (out : List ℕ) → IfSome told (λ disk. out ≡ take 512 (drop 0 disk.reads)) → length out ≡ 512
+    → ((i : ℕ) → i < length out → slice_index out i ≡ 0) → IsUnused (reads_of told)
+unused_if None out read long none = tt
+unused_if (Some disk) out read long none =
+    λ i below. sym (ap (λ (l : List ℕ). get_or l i 0) read ∙ get_or-take 512 disk.reads i 0 below) ∙ none i (omega arith)

@@ -1,5 +1,5 @@
 -- What a call comes to, seen from outside.
-use Rattle.std.specs.Prelude.{ℕ, ◌≡◌, ◌⊎◌, List, [], ◌∷◌, codes, Option, Some, ⊤}
+use Rattle.std.specs.Prelude.{ℕ, ◌≡◌, ◌⊎◌, List, [], ◌∷◌, codes, Option, Some}
 use Rattle.model_base.specs.Count.{HasRisen}
 use Rattle.model_device.specs.Disk.{Disk}
 use Rattle.model_script.specs.FirstPath.{first_path_script}
@@ -29,17 +29,24 @@ pub record IsAnswer (words : List (List ℕ)) (left now : Option (List ℕ)) (lo
   pub read : IsScriptOf left now script
   pub done : (first second : Disk) → log ≡ Some first → store ≡ Some second → IsDone script first second text log_now store_now
 
+-- the words are the command, and what the source had left was read and is a script
+abbrev pub WasScript : List (List ℕ) → Option (List ℕ) → Option (List ℕ) → Type 0
+WasScript words left now = (words ≡ the_command) × (script : List ScriptLine) × IsScriptOf left now script
+
 -- Why a call gives no text. A source and the devices are seen by what they told at entry and tell now, by their counts
--- of faults and by the sizes of the devices; a device's failure is counted besides.
+-- of faults and by the sizes of the devices; a device's failure is counted besides. The first that doesn't hold
+-- decides: the words, the source, the script, the devices.
 abbrev pub IsLabFault : List (List ℕ) → Option (List ℕ) → Option (List ℕ) → ℕ → ℕ → Option (List ℕ) → Option (List ℕ) → ℕ → ℕ → Fault → Type 0
-IsLabFault words left now before after log store log_size store_size Memory = ⊤
+IsLabFault words left now before after log store log_size store_size Memory = words ≡ the_command
 IsLabFault words left now before after log store log_size store_size Words = words ≡ the_command → ⊥
-IsLabFault words left now before after log store log_size store_size (Script n) = IsBadLine left now n
-IsLabFault words left now before after log store log_size store_size Source = HasRisen before after
-IsLabFault words left now before after log store log_size store_size LogDevice = ⊤
-IsLabFault words left now before after log store log_size store_size DataDevice = ⊤
-IsLabFault words left now before after log store log_size store_size (Store refusal) = IsTooShort log_size store_size refusal ⊎ IsUntold log store
-IsLabFault words left now before after log store log_size store_size (Fit what n) = IsLongScript left what n ⊎ IsUsedFit log what n
+IsLabFault words left now before after log store log_size store_size (Script n) = (words ≡ the_command) × IsBadLine left now n
+IsLabFault words left now before after log store log_size store_size Source = (words ≡ the_command) × HasRisen before after
+IsLabFault words left now before after log store log_size store_size LogDevice = WasScript words left now
+IsLabFault words left now before after log store log_size store_size DataDevice = WasScript words left now
+IsLabFault words left now before after log store log_size store_size (Store refusal) =
+    WasScript words left now × (IsTooShort log log_size store_size refusal ⊎ IsUntold log store)
+IsLabFault words left now before after log store log_size store_size (Fit what n) =
+    ((words ≡ the_command) × IsLongScript left what n) ⊎ (WasScript words left now × IsUsedFit log log_size what n)
 IsLabFault words left now before after log store log_size store_size Sink = ⊥
 IsLabFault words left now before after log store log_size store_size (Turns n user) = ⊥
 

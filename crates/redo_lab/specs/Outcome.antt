@@ -9,7 +9,7 @@ use Rattle.model_script.specs.declared.script.ScriptLine.{ScriptLine}
 use Rattle.model_report.specs.declared.fault.Fault.{Fault}
 use Rattle.model_report.specs.declared.fault.Fault.TheVariants.{Memory, Words, Script, Source, Sink, LogDevice, DataDevice, Store, Turns, Fit}
 use Rattle.redo_memdisk.specs.declared.fuse.Fuse.{Fuse}
-use Rattle.redo_lab.specs.Check.{IsTooShort, IsUsedFit}
+use Rattle.redo_lab.specs.Check.{IsTooShort, IsUnused, IsUsedFit}
 use Rattle.redo_lab.specs.Contents.{formatted_store}
 use Rattle.redo_lab.specs.FirstReading.{empty_reading}
 use Rattle.redo_lab.specs.Reads.{OnFronts}
@@ -22,11 +22,13 @@ pub record IsSpent (fuse : Fuse) : Type 0 where
   pub mid : fuse.mid ≡ 0
   pub late : fuse.late ≡ 0
 
--- The call on devices that meant this did all that it is to do: both devices were long enough, they hold what
+-- The call on devices that meant this did all that it is to do: both devices were long enough and the log device was
+-- unused, they hold what
 -- formatting, opening and the run leave, and the text is the report of that.
 pub record IsDone (script : List ScriptLine) (log store : Disk) (text : List ℕ) (log_now store_now : Option Disk) : Type 0 where
   pub log_long : log_device_length default_shape ≤ length log.reads
   pub store_long : data_device_length default_shape ≤ length store.reads
+  pub unused : IsUnused (Some log.reads)
   pub printed : text ≡ printed_text script (final_reading script)
   pub log_is : log_now ≡ Some (settled (final_log script log.reads))
   pub store_is : store_now ≡ Some (settled (formatted_store default_shape store.reads))
@@ -64,8 +66,8 @@ abbrev pub IsCrashFault : Option (List ℕ) → Option (List ℕ) → ℕ → �
 IsCrashFault log store log_size store_size Memory = ⊤
 IsCrashFault log store log_size store_size LogDevice = ⊤
 IsCrashFault log store log_size store_size DataDevice = ⊤
-IsCrashFault log store log_size store_size (Store refusal) = IsTooShort log_size store_size refusal ⊎ IsUntold log store
-IsCrashFault log store log_size store_size (Fit what n) = IsUsedFit log what n
+IsCrashFault log store log_size store_size (Store refusal) = IsTooShort log log_size store_size refusal ⊎ IsUntold log store
+IsCrashFault log store log_size store_size (Fit what n) = IsUsedFit log log_size what n
 IsCrashFault log store log_size store_size Words = ⊥
 IsCrashFault log store log_size store_size (Script n) = ⊥
 IsCrashFault log store log_size store_size Source = ⊥
@@ -77,8 +79,8 @@ abbrev pub IsPrepareFault : Option (List ℕ) → ℕ → ℕ → Fault → Type
 IsPrepareFault held log store Memory = ⊤
 IsPrepareFault held log store LogDevice = ⊤
 IsPrepareFault held log store DataDevice = ⊤
-IsPrepareFault held log store (Store refusal) = IsTooShort log store refusal
-IsPrepareFault held log store (Fit what n) = IsUsedFit held what n
+IsPrepareFault held log store (Store refusal) = IsTooShort held log store refusal
+IsPrepareFault held log store (Fit what n) = IsUsedFit held log what n
 IsPrepareFault held log store Words = ⊥
 IsPrepareFault held log store (Script n) = ⊥
 IsPrepareFault held log store Source = ⊥

@@ -6,7 +6,7 @@ ghost use Rattle.model_log.specs.Device.{log_device_length};
 ghost use Rattle.model_page.specs.Copies.{data_device_length};
 ghost use Rattle.redo_disk.specs.Sectors.{HasSize};
 ghost use Rattle.redo_memdisk.specs.Fused.{fuse_of, inner_of};
-ghost use Rattle.redo_lab.specs.Check.{IsCheckFault};
+ghost use Rattle.redo_lab.specs.Check.{IsCheckFault, IsUnused};
 ghost use Rattle.redo_lab.specs.Steps.{Steps, reads_of};
 
 use crate::format::{LOG_LENGTH, STORE_LENGTH, log_fault};
@@ -22,6 +22,7 @@ fn first_used(bytes: &[u8]) -> Option<usize>
     ensures within { IfSome result (λ at. at < length bytes.now) }
     ensures used { IfSome result (λ at. slice_index bytes.now at ≢ 0) }
     ensures first { IfSome result (λ at. (before : ℕ) → before < at → slice_index bytes.now before ≡ 0) }
+    ensures none { IfNone result ((i : ℕ) → i < length bytes.now → slice_index bytes.now i ≡ 0) }
 {
     for (at, byte) in bytes.iter().enumerate() {
         if *byte != 0 {
@@ -41,6 +42,7 @@ pub(crate) fn check_devices<L: Sectors, D: Sectors>(
     ensures store_long { OnOk result (data_device_length default_shape ≤ D.size (inner_of store.now)) }
     ensures log_sized { OnOk result (IfSome (L.tells (inner_of log.old)) (HasSize (L.size (inner_of log.old)))) }
     ensures store_sized { OnOk result (IfSome (D.tells (inner_of store.now)) (HasSize (D.size (inner_of store.now)))) }
+    ensures unused { OnOk result (IsUnused (reads_of (L.tells (inner_of log.old)))) }
     ensures fault { IfErr result (IsCheckFault (reads_of (L.tells (inner_of log.old)))
         (L.size (inner_of log.old)) (D.size (inner_of store.now))) }
     ensures same { L.tells (inner_of log.new) ≡ L.tells (inner_of log.old) }

@@ -9,6 +9,7 @@ ghost use Rattle.model_script.specs.FirstPath.{first_path_script};
 ghost use Rattle.redo_memdisk.specs.Fuse.{fresh, crashed_with};
 ghost use Rattle.redo_disk.specs.Sectors.{HasSize};
 ghost use Rattle.redo_memdisk.specs.Fused.{fuse_of, inner_of};
+ghost use Rattle.redo_lab.specs.Check.{IsUnused};
 ghost use Rattle.redo_lab.specs.Contents.{formatted_log, formatted_store, started_log};
 ghost use Rattle.redo_lab.specs.Outcome.{IsDone, IsSpent, IsCrashFault, IsPrepareFault, IsReportOf};
 ghost use Rattle.redo_lab.specs.Reads.{OnFronts, IsReadFault};
@@ -96,6 +97,7 @@ fn prepare<L: Sectors, D: Sectors>(
     ensures store_long { OnOk result (data_device_length default_shape ≤ D.size (inner_of store.old)) }
     ensures log_sized { OnOk result (IfSome (L.tells (inner_of log.old)) (HasSize (L.size (inner_of log.old)))) }
     ensures store_sized { OnOk result (IfSome (D.tells (inner_of store.old)) (HasSize (D.size (inner_of store.old)))) }
+    ensures unused { OnOk result (IsUnused (reads_of (L.tells (inner_of log.old)))) }
     ensures fault { IfErr result (IsPrepareFault (reads_of (L.tells (inner_of log.old)))
         (L.size (inner_of log.old)) (D.size (inner_of store.old))) }
     ensures log_side { Side (L.size (inner_of log.old)) (L.size (inner_of log.new))
@@ -131,6 +133,7 @@ fn begin<L: Sectors, D: Sectors>(
     ensures store_long { OnOk result (data_device_length default_shape ≤ D.size (inner_of store.old)) }
     ensures log_sized { OnOk result (IfSome (L.tells (inner_of log.old)) (HasSize (L.size (inner_of log.old)))) }
     ensures store_sized { OnOk result (IfSome (D.tells (inner_of store.old)) (HasSize (D.size (inner_of store.old)))) }
+    ensures unused { OnOk result (IsUnused (reads_of (L.tells (inner_of log.old)))) }
     ensures fault { IfErr result (IsCrashFault (reads_of (L.tells (inner_of log.old)))
         (reads_of (D.tells (inner_of store.old))) (L.size (inner_of log.old)) (D.size (inner_of store.old))) }
     ensures log_side { Side (L.size (inner_of log.old)) (L.size (inner_of log.new))

@@ -114,6 +114,8 @@ pub fn lab<S: Source, O: Sink, L: Sectors, D: Sectors>(
         result.status (O.taken out.old) (O.taken out.new) (O.faults out.old) (O.faults out.new) }
     ensures words { map (λ word. string_bytes word) words.now ≢ the_command → result.status ≡ 2 }
     ensures read { TakesAtMost (MAX_SCRIPT + PIECE) (S.left src.old) (S.left src.new) }
+    ensures log_spent { result.status ≡ 0 → IsSpent (fuse_of result.log) }
+    ensures store_spent { result.status ≡ 0 → IsSpent (fuse_of result.store) }
     ensures log_device { result.status ≡ 6
         → IsCounted (L.faults log) (L.faults (inner_of result.log)) (fuse_of result.log) }
     ensures data_device { result.status ≡ 7

@@ -1,6 +1,6 @@
 // What a call prints, and its status: the texts themselves, which clauses name by definitions alone.
 use super::*;
-use redo_disk::write_and_sync;
+use redo_disk::{DevError, Sectors, write_and_sync};
 use redo_io::{MemSink, MemSource};
 use redo_memdisk::MemDisk;
 use std::alloc::{AllocError, Global};
@@ -129,13 +129,21 @@ fn refuses_devices_that_do_not_fit(rt: HostRuntime) -> Result<(), Fail> {
     Ok(())
 }
 
+/// Writes a first block whose first byte that isn't 0 stands at 7.
+fn use_first_block<D: Sectors>(device: &mut D) -> Result<(), DevError> {
+    let mut block = [0; 512];
+    block[7] = 5;
+    if device.len() < 512 {
+        return Err(DevError::Failed);
+    }
+    write_and_sync(device, 0, &block)
+}
+
 #[test]
 fn refuses_a_log_that_is_in_use(rt: HostRuntime) -> Result<(), Fail> {
     let alloc = rt.alloc();
-    let mut block = [0; 512];
-    block[7] = 5;
     let mut log = MemDisk::new(alloc, LOG_LENGTH)?;
-    write_and_sync(&mut log, 0, &block)?;
+    use_first_block(&mut log)?;
     let store = MemDisk::new(alloc, STORE_LENGTH)?;
     let mut source = MemSource::new(LINE.to_vec(alloc)?);
     let (status, sink) = crash_on(alloc, &mut source, log, store)?;

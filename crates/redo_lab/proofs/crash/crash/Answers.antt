@@ -25,7 +25,7 @@ returns-in-Ok-read_back-clause-done g c =
     c.in-Ok-read_back.text.items
     (subst (λ (t : Option Disk). OnFronts (reads_of t) (reads_of (g.D.Sectors.tells c.read_back.new.store.inner)) (IsReportOf c.args.script.now c.in-Ok-read_back.text.items)) (sym c.in-Ok-read_back.ensures.log_same)
     (subst (λ (t : Option Disk). OnFronts (reads_of (g.L.Sectors.tells c.crash_settled.new.device.inner)) (reads_of t) (IsReportOf c.args.script.now c.in-Ok-read_back.text.items)) (sym c.in-Ok-read_back.ensures.store_same)
-    c.in-Ok-read_back.ensures.text))
+    c.in-Ok-read_back.ensures.text)) c.in-Ok.ensures.unused
     first second log_is store_is
 
 pub returns-in-Err-read_back-clause-fault : goal.returns-in-Err-read_back-clause-fault

@@ -28,3 +28,13 @@ returns-clause-crash_safe g c = λ zero source first second source_is log_is sto
     (of_ok _ c.answer-answer.result took.0 c.answer-answer.ensures.store_spent took.3)
     _ _ took.2 (g.L.Sectors.faults c.args.log) (g.D.Sectors.faults c.args.store) source first second source_is
     (ap g.L.Sectors.tells c.plain-log.ensures.inner ∙ log_is) (ap g.D.Sectors.tells c.plain-store.ensures.inner ∙ store_is)
+
+pub returns-clause-log_spent : goal.returns-clause-log_spent
+returns-clause-log_spent g c = λ zero.
+    let took = taken_whole (λ text. text.items) _ c.answer-answer.result _ _ _ _ _ c.answer-answer.ensures.text c.print-status.ensures.text c.print-status.ensures.fault zero in
+    of_ok _ c.answer-answer.result took.0 c.answer-answer.ensures.log_spent took.3
+
+pub returns-clause-store_spent : goal.returns-clause-store_spent
+returns-clause-store_spent g c = λ zero.
+    let took = taken_whole (λ text. text.items) _ c.answer-answer.result _ _ _ _ _ c.answer-answer.ensures.text c.print-status.ensures.text c.print-status.ensures.fault zero in
+    of_ok _ c.answer-answer.result took.0 c.answer-answer.ensures.store_spent took.3
