@@ -1,5 +1,5 @@
 -- What comes of reading a script off a source, and why it isn't one.
-use Rattle.std.specs.Prelude.{ℕ, ◌≡◌, ◌<◌, List, [], length, Option, Some, None, Ok, Err, IfSome, ⊤}
+use Rattle.std.specs.Prelude.{ℕ, ◌≡◌, ◌<◌, ◌≤◌, List, [], length, Option, Some, None, Ok, Err, IfSome, ⊤}
 use Rattle.model_base.specs.Count.{HasRisen}
 use Rattle.model_base.specs.declared.limits.TheConstants.{MAX_SCRIPT}
 use Rattle.model_script.specs.FirstPath.{first_path_script}
@@ -14,16 +14,18 @@ abbrev pub WasRead : List ℕ → Option (List ℕ) → Option (List ℕ) → Ty
 WasRead text None now = ⊤
 WasRead text (Some left) now = (text ≡ left) × (now ≡ Some [])
 
--- the text was read, and it is this script
+-- the text was read, has no more bytes than a script may have, and is this script
 pub record IsScriptOf (left now : Option (List ℕ)) (script : List ScriptLine) : Type 0 where
   pub text : List ℕ
   pub read : WasRead text left now
+  pub short : length text ≤ MAX_SCRIPT
   pub is_script : first_path_script text ≡ Ok script
 
--- the text was read, and this is the number of its first line that is no part of a script
+-- the text was read, has no more bytes than a script may have, and this is the number of its first line that is no part of a script
 pub record IsBadLine (left now : Option (List ℕ)) (n : ℕ) : Type 0 where
   pub text : List ℕ
   pub read : WasRead text left now
+  pub short : length text ≤ MAX_SCRIPT
   pub is_bad : first_path_script text ≡ Err n
 
 -- the script has more bytes than a script may have, which is what is printed
