@@ -40,22 +40,22 @@ untold_fresh fresh (Some log) (Some store) log_size store_size log_sized store_s
 pub begin_fault : ((log store : List ℕ) → log_device_length default_shape ≤ length log → data_device_length default_shape ≤ length store
     → Reads (take (log_device_length default_shape) (formatted_log default_shape log)) (take (data_device_length default_shape) (formatted_store default_shape store)) (empty_reading 0))
     → (log store : Option Disk) (log_size store_size : ℕ) → IfSome log (HasSize log_size) → IfSome store (HasSize store_size)
-    → log_device_length default_shape ≤ log_size → data_device_length default_shape ≤ store_size
+    → log_device_length default_shape ≤ log_size → data_device_length default_shape ≤ store_size → IsUnused (reads_of log)
     → (log_now store_now : Option (List ℕ)) → log_now ≡ option_map (formatted_log default_shape) (reads_of log) → store_now ≡ option_map (formatted_store default_shape) (reads_of store)
     → (fault : Fault) → IsOpenFault log_now store_now fault → IsCrashFault (reads_of log) (reads_of store) log_size store_size fault
-begin_fault fresh log store log_size store_size log_sized store_sized log_long store_long log_now store_now log_is store_is Memory is = tt
-begin_fault fresh log store log_size store_size log_sized store_sized log_long store_long log_now store_now log_is store_is LogDevice is = tt
-begin_fault fresh log store log_size store_size log_sized store_sized log_long store_long log_now store_now log_is store_is DataDevice is = tt
-begin_fault fresh log store log_size store_size log_sized store_sized log_long store_long log_now store_now log_is store_is (Store refusal) is =
+begin_fault fresh log store log_size store_size log_sized store_sized log_long store_long unused log_now store_now log_is store_is Memory is = tt
+begin_fault fresh log store log_size store_size log_sized store_sized log_long store_long unused log_now store_now log_is store_is LogDevice is = omega arith
+begin_fault fresh log store log_size store_size log_sized store_sized log_long store_long unused log_now store_now log_is store_is DataDevice is = (log_long, unused, store_long)
+begin_fault fresh log store log_size store_size log_sized store_sized log_long store_long unused log_now store_now log_is store_is (Store refusal) is =
     inr (untold_fresh fresh log store log_size store_size log_sized store_sized log_long store_long
     (subst (λ (b : Option (List ℕ)). OnFronts (option_map (formatted_log default_shape) (reads_of log)) b IsNoFreshStore) store_is
     (subst (λ (b : Option (List ℕ)). OnFronts b store_now IsNoFreshStore) log_is is)))
-begin_fault fresh log store log_size store_size log_sized store_sized log_long store_long log_now store_now log_is store_is Words is = is
-begin_fault fresh log store log_size store_size log_sized store_sized log_long store_long log_now store_now log_is store_is (Script n) is = is
-begin_fault fresh log store log_size store_size log_sized store_sized log_long store_long log_now store_now log_is store_is Source is = is
-begin_fault fresh log store log_size store_size log_sized store_sized log_long store_long log_now store_now log_is store_is Sink is = is
-begin_fault fresh log store log_size store_size log_sized store_sized log_long store_long log_now store_now log_is store_is (Turns n user) is = is
-begin_fault fresh log store log_size store_size log_sized store_sized log_long store_long log_now store_now log_is store_is (Fit what n) is = absurd is
+begin_fault fresh log store log_size store_size log_sized store_sized log_long store_long unused log_now store_now log_is store_is Words is = is
+begin_fault fresh log store log_size store_size log_sized store_sized log_long store_long unused log_now store_now log_is store_is (Script n) is = is
+begin_fault fresh log store log_size store_size log_sized store_sized log_long store_long unused log_now store_now log_is store_is Source is = is
+begin_fault fresh log store log_size store_size log_sized store_sized log_long store_long unused log_now store_now log_is store_is Sink is = is
+begin_fault fresh log store log_size store_size log_sized store_sized log_long store_long unused log_now store_now log_is store_is (Turns n user) is = is
+begin_fault fresh log store log_size store_size log_sized store_sized log_long store_long unused log_now store_now log_is store_is (Fit what n) is = absurd is
 
 -- what is read off the devices in the end is the reading of the run, so it isn't refused
 abbrev pub FinalIsRead : List ScriptLine → Type 0
@@ -78,22 +78,22 @@ untold_final script final answers (Some log) (Some store) log_size store_size lo
 pub final_fault : (script : List ScriptLine) → FinalIsRead script
     → ((log store : List ℕ) (reading : Reading) (refusal : Refusal) → Reads log store reading → Refuses log store refusal → ⊥)
     → (log store : Option Disk) (log_size store_size : ℕ) → IfSome log (HasSize log_size) → IfSome store (HasSize store_size)
-    → log_device_length default_shape ≤ log_size → data_device_length default_shape ≤ store_size
+    → log_device_length default_shape ≤ log_size → data_device_length default_shape ≤ store_size → IsUnused (reads_of log)
     → (log_now store_now : Option (List ℕ)) → log_now ≡ option_map (final_log script) (reads_of log) → store_now ≡ option_map (formatted_store default_shape) (reads_of store)
     → (fault : Fault) → IsReadFault log_now store_now fault → IsCrashFault (reads_of log) (reads_of store) log_size store_size fault
-final_fault script final answers log store log_size store_size log_sized store_sized log_long store_long log_now store_now log_is store_is Memory is = tt
-final_fault script final answers log store log_size store_size log_sized store_sized log_long store_long log_now store_now log_is store_is LogDevice is = tt
-final_fault script final answers log store log_size store_size log_sized store_sized log_long store_long log_now store_now log_is store_is DataDevice is = tt
-final_fault script final answers log store log_size store_size log_sized store_sized log_long store_long log_now store_now log_is store_is (Store refusal) is =
+final_fault script final answers log store log_size store_size log_sized store_sized log_long store_long unused log_now store_now log_is store_is Memory is = tt
+final_fault script final answers log store log_size store_size log_sized store_sized log_long store_long unused log_now store_now log_is store_is LogDevice is = omega arith
+final_fault script final answers log store log_size store_size log_sized store_sized log_long store_long unused log_now store_now log_is store_is DataDevice is = (log_long, unused, store_long)
+final_fault script final answers log store log_size store_size log_sized store_sized log_long store_long unused log_now store_now log_is store_is (Store refusal) is =
     inr (untold_final script final answers log store log_size store_size log_sized store_sized log_long store_long refusal
     (subst (λ (b : Option (List ℕ)). OnFronts (option_map (final_log script) (reads_of log)) b (λ l s. Refuses l s refusal)) store_is
     (subst (λ (b : Option (List ℕ)). OnFronts b store_now (λ l s. Refuses l s refusal)) log_is is)))
-final_fault script final answers log store log_size store_size log_sized store_sized log_long store_long log_now store_now log_is store_is Words is = is
-final_fault script final answers log store log_size store_size log_sized store_sized log_long store_long log_now store_now log_is store_is (Script n) is = is
-final_fault script final answers log store log_size store_size log_sized store_sized log_long store_long log_now store_now log_is store_is Source is = is
-final_fault script final answers log store log_size store_size log_sized store_sized log_long store_long log_now store_now log_is store_is Sink is = is
-final_fault script final answers log store log_size store_size log_sized store_sized log_long store_long log_now store_now log_is store_is (Turns n user) is = is
-final_fault script final answers log store log_size store_size log_sized store_sized log_long store_long log_now store_now log_is store_is (Fit what n) is = absurd is
+final_fault script final answers log store log_size store_size log_sized store_sized log_long store_long unused log_now store_now log_is store_is Words is = is
+final_fault script final answers log store log_size store_size log_sized store_sized log_long store_long unused log_now store_now log_is store_is (Script n) is = is
+final_fault script final answers log store log_size store_size log_sized store_sized log_long store_long unused log_now store_now log_is store_is Source is = is
+final_fault script final answers log store log_size store_size log_sized store_sized log_long store_long unused log_now store_now log_is store_is Sink is = is
+final_fault script final answers log store log_size store_size log_sized store_sized log_long store_long unused log_now store_now log_is store_is (Turns n user) is = is
+final_fault script final answers log store log_size store_size log_sized store_sized log_long store_long unused log_now store_now log_is store_is (Fit what n) is = absurd is
 
 -- the report is that of the run's reading
 pub final_text : (script : List ScriptLine) → FinalIsRead script

@@ -1,9 +1,10 @@
 -- What a call comes to, seen from outside.
-use Rattle.std.specs.Prelude.{ℕ, ◌≡◌, ◌⊎◌, List, [], ◌∷◌, codes, Option, Some}
+use Rattle.std.specs.Prelude.{ℕ, ◌≡◌, ◌≤◌, ◌⊎◌, List, [], ◌∷◌, codes, Option, Some}
 use Rattle.model_base.specs.Count.{HasRisen}
 use Rattle.model_device.specs.Disk.{Disk}
 use Rattle.model_script.specs.FirstPath.{first_path_script}
 use Rattle.model_script.specs.declared.script.ScriptLine.{ScriptLine}
+use Rattle.model_log.specs.declared.layout.TheConstants.{HEADER_BLOCKS}
 use Rattle.model_report.specs.FaultLine.{status_of, fault_line}
 use Rattle.model_report.specs.declared.fault.Fault.{Fault}
 use Rattle.model_report.specs.declared.fault.Fault.TheVariants.{Memory, Words, Script, Source, Sink, LogDevice, DataDevice, Store, Turns, Fit}
@@ -12,7 +13,7 @@ use Rattle.model_theorem.specs.Crash.{CrashSafe}
 use Rattle.redo_io.specs.Sink.{with_taken, TakesPart}
 use Rattle.redo_memdisk.specs.declared.fuse.Fuse.{Fuse}
 use Rattle.redo_lab.specs.Call.{IsCall, IsDevice}
-use Rattle.redo_lab.specs.Check.{IsTooShort, IsUsedFit}
+use Rattle.redo_lab.specs.Check.{DoFit, IsTooShort, IsUsedFit}
 use Rattle.redo_lab.specs.Outcome.{IsDone, IsUntold}
 use Rattle.redo_lab.specs.Steps.{reads_of}
 use Rattle.redo_lab.specs.Script.{IsScriptOf, IsBadLine, IsLongScript}
@@ -35,14 +36,15 @@ WasScript words left now = (words ≡ the_command) × (script : List ScriptLine)
 
 -- Why a call gives no text. A source and the devices are seen by what they told at entry and tell now, by their counts
 -- of faults and by the sizes of the devices; a device's failure is counted besides. The first that doesn't hold
--- decides: the words, the source, the script, the devices.
+-- decides: the words, the source, the script, the devices. The log device is called once it has its header blocks, and
+-- the data device once both fit.
 abbrev pub IsLabFault : List (List ℕ) → Option (List ℕ) → Option (List ℕ) → ℕ → ℕ → Option (List ℕ) → Option (List ℕ) → ℕ → ℕ → Fault → Type 0
 IsLabFault words left now before after log store log_size store_size Memory = words ≡ the_command
 IsLabFault words left now before after log store log_size store_size Words = words ≡ the_command → ⊥
 IsLabFault words left now before after log store log_size store_size (Script n) = (words ≡ the_command) × IsBadLine left now n
 IsLabFault words left now before after log store log_size store_size Source = (words ≡ the_command) × HasRisen before after
-IsLabFault words left now before after log store log_size store_size LogDevice = WasScript words left now
-IsLabFault words left now before after log store log_size store_size DataDevice = WasScript words left now
+IsLabFault words left now before after log store log_size store_size LogDevice = WasScript words left now × (HEADER_BLOCKS ≤ log_size)
+IsLabFault words left now before after log store log_size store_size DataDevice = WasScript words left now × DoFit log log_size store_size
 IsLabFault words left now before after log store log_size store_size (Store refusal) =
     WasScript words left now × (IsTooShort log log_size store_size refusal ⊎ IsUntold log store)
 IsLabFault words left now before after log store log_size store_size (Fit what n) =

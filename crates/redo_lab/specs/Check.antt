@@ -32,6 +32,10 @@ IsTooShort held log store (BadRecord lsn) = ⊥
 IsTooShort held log store (PageLost p) = ⊥
 IsTooShort held log store (PageAhead p lsn) = ⊥
 
+-- both devices are long enough for the default sizes, and the log device is unused
+abbrev pub DoFit : Option (List ℕ) → ℕ → ℕ → Type 0
+DoFit held log store = (log_device_length default_shape ≤ log) × IsUnused held × (data_device_length default_shape ≤ store)
+
 -- the byte at the offset is the first of the device that isn't 0, and stands in its first block, where the device tells
 abbrev pub IsUsedAt : Option (List ℕ) → ℕ → Type 0
 IsUsedAt None at = ⊤
@@ -52,7 +56,7 @@ IsUsedFit held log quantity.Total at = ⊥
 -- why the devices of these sizes, of which the log device holds this where it tells, can't be formatted
 abbrev pub IsCheckFault : Option (List ℕ) → ℕ → ℕ → Fault → Type 0
 IsCheckFault held log store Memory = ⊤
-IsCheckFault held log store LogDevice = ⊤
+IsCheckFault held log store LogDevice = HEADER_BLOCKS ≤ log
 IsCheckFault held log store (Store refusal) = IsTooShort held log store refusal
 IsCheckFault held log store (Fit what at) = IsUsedFit held log what at
 IsCheckFault held log store DataDevice = ⊥

@@ -2,6 +2,7 @@
 use Rattle.std.specs.Prelude.{ℕ, ◌≡◌, ◌≤◌, ◌⊎◌, List, length, Option, Some, None, ⊤}
 use Rattle.model_base.specs.Limits.{default_shape}
 use Rattle.model_log.specs.Device.{log_device_length}
+use Rattle.model_log.specs.declared.layout.TheConstants.{HEADER_BLOCKS}
 use Rattle.model_page.specs.Copies.{data_device_length}
 use Rattle.model_device.specs.Disk.{Disk, settled}
 use Rattle.model_store.specs.Reading.{Reading, Reads}
@@ -9,7 +10,7 @@ use Rattle.model_script.specs.declared.script.ScriptLine.{ScriptLine}
 use Rattle.model_report.specs.declared.fault.Fault.{Fault}
 use Rattle.model_report.specs.declared.fault.Fault.TheVariants.{Memory, Words, Script, Source, Sink, LogDevice, DataDevice, Store, Turns, Fit}
 use Rattle.redo_memdisk.specs.declared.fuse.Fuse.{Fuse}
-use Rattle.redo_lab.specs.Check.{IsTooShort, IsUnused, IsUsedFit}
+use Rattle.redo_lab.specs.Check.{DoFit, IsTooShort, IsUnused, IsUsedFit}
 use Rattle.redo_lab.specs.Contents.{formatted_store}
 use Rattle.redo_lab.specs.FirstReading.{empty_reading}
 use Rattle.redo_lab.specs.Reads.{OnFronts}
@@ -64,8 +65,8 @@ IsUntold (Some log) (Some store) = ⊥
 -- devices that don't tell
 abbrev pub IsCrashFault : Option (List ℕ) → Option (List ℕ) → ℕ → ℕ → Fault → Type 0
 IsCrashFault log store log_size store_size Memory = ⊤
-IsCrashFault log store log_size store_size LogDevice = ⊤
-IsCrashFault log store log_size store_size DataDevice = ⊤
+IsCrashFault log store log_size store_size LogDevice = HEADER_BLOCKS ≤ log_size
+IsCrashFault log store log_size store_size DataDevice = DoFit log log_size store_size
 IsCrashFault log store log_size store_size (Store refusal) = IsTooShort log log_size store_size refusal ⊎ IsUntold log store
 IsCrashFault log store log_size store_size (Fit what n) = IsUsedFit log log_size what n
 IsCrashFault log store log_size store_size Words = ⊥
@@ -77,8 +78,8 @@ IsCrashFault log store log_size store_size (Turns n user) = ⊥
 -- why the devices weren't formatted
 abbrev pub IsPrepareFault : Option (List ℕ) → ℕ → ℕ → Fault → Type 0
 IsPrepareFault held log store Memory = ⊤
-IsPrepareFault held log store LogDevice = ⊤
-IsPrepareFault held log store DataDevice = ⊤
+IsPrepareFault held log store LogDevice = HEADER_BLOCKS ≤ log
+IsPrepareFault held log store DataDevice = DoFit held log store
 IsPrepareFault held log store (Store refusal) = IsTooShort held log store refusal
 IsPrepareFault held log store (Fit what n) = IsUsedFit held log what n
 IsPrepareFault held log store Words = ⊥

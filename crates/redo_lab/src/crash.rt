@@ -9,7 +9,7 @@ ghost use Rattle.model_script.specs.FirstPath.{first_path_script};
 ghost use Rattle.redo_memdisk.specs.Fuse.{fresh, crashed_with};
 ghost use Rattle.redo_disk.specs.Sectors.{HasSize};
 ghost use Rattle.redo_memdisk.specs.Fused.{fuse_of, inner_of};
-ghost use Rattle.redo_lab.specs.Check.{IsUnused};
+ghost use Rattle.redo_lab.specs.Check.{DoFit, IsUnused};
 ghost use Rattle.redo_lab.specs.Contents.{formatted_log, formatted_store, started_log};
 ghost use Rattle.redo_lab.specs.Outcome.{IsDone, IsSpent, IsCrashFault, IsPrepareFault, IsReportOf};
 ghost use Rattle.redo_lab.specs.Reads.{OnFronts, IsReadFault};
@@ -167,6 +167,7 @@ pub(crate) fn crash<L: Sectors, D: Sectors>(
     ensures done { IfOk result (λ text. (first second : Disk)
         → L.tells (inner_of log.old) ≡ Some first → D.tells (inner_of store.old) ≡ Some second
         → IsDone script.now first second text.items (L.tells (inner_of log.new)) (D.tells (inner_of store.new))) }
+    ensures fits { OnOk result (DoFit (reads_of (L.tells (inner_of log.old))) (L.size (inner_of log.old)) (D.size (inner_of store.old))) }
     ensures log_spent { OnOk result (IsSpent (fuse_of log.new)) }
     ensures store_spent { OnOk result (IsSpent (fuse_of store.new)) }
     ensures fault { IfErr result (IsCrashFault (reads_of (L.tells (inner_of log.old)))

@@ -9,6 +9,7 @@ ghost use Rattle.redo_io.specs.Source.{TakesAtMost};
 ghost use Rattle.redo_memdisk.specs.Fuse.{fresh};
 ghost use Rattle.redo_memdisk.specs.Fused.{fuse_of, inner_of};
 ghost use Rattle.redo_lab.specs.Answer.{IsAnswer, IsFaultPrinted, IsLabFault, IsOutcome, IsSafe, IsTextPrinted, the_command};
+ghost use Rattle.redo_lab.specs.Check.{DoFit};
 ghost use Rattle.redo_lab.specs.Outcome.{IsSpent};
 ghost use Rattle.redo_lab.specs.Steps.{IsCounted, reads_of};
 
@@ -35,6 +36,7 @@ fn answer<S: Source, L: Sectors, D: Sectors>(
     ensures text { IfOk result (λ text. IsAnswer (map (λ word. string_bytes word) words.now) (S.left src.old) (S.left src.new)
         (L.tells (inner_of log.old)) (D.tells (inner_of store.old)) text.items
         (L.tells (inner_of log.new)) (D.tells (inner_of store.new))) }
+    ensures fits { OnOk result (DoFit (reads_of (L.tells (inner_of log.old))) (L.size (inner_of log.old)) (D.size (inner_of store.old))) }
     ensures log_spent { OnOk result (IsSpent (fuse_of log.new)) }
     ensures store_spent { OnOk result (IsSpent (fuse_of store.new)) }
     ensures words { map (λ word. string_bytes word) words.now ≢ the_command → IsErrOf result Fault.Words }
@@ -114,6 +116,7 @@ pub fn lab<S: Source, O: Sink, L: Sectors, D: Sectors>(
         result.status (O.taken out.old) (O.taken out.new) (O.faults out.old) (O.faults out.new) }
     ensures words { map (λ word. string_bytes word) words.now ≢ the_command → result.status ≡ 2 }
     ensures read { TakesAtMost (MAX_SCRIPT + PIECE) (S.left src.old) (S.left src.new) }
+    ensures fits { result.status ≡ 0 → DoFit (reads_of (L.tells log)) (L.size log) (D.size store) }
     ensures log_spent { result.status ≡ 0 → IsSpent (fuse_of result.log) }
     ensures store_spent { result.status ≡ 0 → IsSpent (fuse_of result.store) }
     ensures log_device { result.status ≡ 6

@@ -34,7 +34,7 @@ returns-in-Err-read_back-clause-fault g c =
     (λ log store l m. c.final_is_read.ensures.front (c.requires.script.0) log store c.args.script.now (c.requires.script.1) l m)
     c.one_answer.ensures.read (g.L.Sectors.tells c.args.log.now.inner) (g.D.Sectors.tells c.args.store.now.inner)
     (g.L.Sectors.size c.args.log.now.inner) (g.D.Sectors.size c.args.store.now.inner)
-    c.in-Ok.ensures.log_sized c.in-Ok.ensures.store_sized c.in-Ok.ensures.log_long c.in-Ok.ensures.store_long _ _
+    c.in-Ok.ensures.log_sized c.in-Ok.ensures.store_sized c.in-Ok.ensures.log_long c.in-Ok.ensures.store_long c.in-Ok.ensures.unused _ _
     (ap reads_of (c.crash_settled.ensures.same
     ∙ told_then (started_log default_shape) (logged c.args.script.now) _ _ _ c.in-Ok.ensures.log_told c.in-Ok-run.ensures.told) ∙ reads-settled _)
     (ap reads_of (c.crash_settled-2.ensures.same ∙ c.in-Ok.ensures.store_told) ∙ reads-settled _)

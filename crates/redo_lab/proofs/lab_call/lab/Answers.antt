@@ -1,6 +1,8 @@
 use Rattle.std.proofs.Common.{ap, ◌∙◌, map, subst}
 use Rattle.std.specs.String.{string_bytes}
 use Rattle.redo_lab.specs.Answer.{IsOutcome}
+use Rattle.redo_lab.specs.Check.{DoFit}
+use Rattle.redo_lab.specs.Steps.{reads_of}
 use Rattle.redo_lab.proofs.Calls.{is_safe, of_ok, one_or_other, taken_whole}
 use Rattle.redo_lab.proofs.lab_call.lab.Goals as goal
 
@@ -38,3 +40,10 @@ pub returns-clause-store_spent : goal.returns-clause-store_spent
 returns-clause-store_spent g c = λ zero.
     let took = taken_whole (λ text. text.items) _ c.answer-answer.result _ _ _ _ _ c.answer-answer.ensures.text c.print-status.ensures.text c.print-status.ensures.fault zero in
     of_ok _ c.answer-answer.result took.0 c.answer-answer.ensures.store_spent took.3
+
+pub returns-clause-fits : goal.returns-clause-fits
+returns-clause-fits g c = λ zero.
+    let took = taken_whole (λ text. text.items) _ c.answer-answer.result _ _ _ _ _ c.answer-answer.ensures.text c.print-status.ensures.text c.print-status.ensures.fault zero in
+    subst (λ d. DoFit (reads_of (g.L.Sectors.tells c.args.log)) (g.L.Sectors.size c.args.log) (g.D.Sectors.size d)) c.plain-store.ensures.inner
+    (subst (λ l. DoFit (reads_of (g.L.Sectors.tells l)) (g.L.Sectors.size l) (g.D.Sectors.size c.plain-store.result.inner)) c.plain-log.ensures.inner
+    (of_ok _ c.answer-answer.result took.0 c.answer-answer.ensures.fits took.3))
