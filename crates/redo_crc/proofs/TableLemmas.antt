@@ -1,11 +1,12 @@
 -- Eight bits at once: the table has what they do to the low byte, and the high bytes only move down.
-use Rattle.std.proofs.Common.{◌≡◌, ℕ, true, false, ◌*◌, ◌/◌, ◌%◌, ◌^◌, ◌<◌, List, ◌++◌, map, get_or, cond, eqb, refl, ap, ◌∙◌, arith, bit_xor, bit_and}
+use Rattle.std.proofs.Common.{◌≡◌, ℕ, true, false, ◌*◌, ◌/◌, ◌%◌, ◌^◌, ◌<◌, List, ◌++◌, map, get_or, cond, eqb, refl, sym, ap, ◌∙◌, arith, fold, bit_xor, bit_and}
 use Rattle.std.specs.List.{range_with_len}
 use Rattle.std.proofs.lemmas.List.FromFn.{get_or-map-range_with_len}
 use Rattle.std.proofs.lemmas.List.Sums.{fold-append}
 use Rattle.std.proofs.lemmas.Nat.{xor_shr, xor_mod, and_mask}
 use lib.Bits.{xor_assoc, xor_shifted, xor_zero_l, xor_zero_r, xor_comm}
 use Rattle.model_number.specs.Crc32c.{polynomial, after_bit, after_eight_bits, after_byte, all_ones, register_after, crc_of}
+use Rattle.redo_crc.specs.Parts.{HasTaken}
 use Rattle.redo_crc.specs.declared.table.TheConstants.{TABLE}
 
 -- each entry is what eight bits do to its place
@@ -71,3 +72,8 @@ by_table register byte small =
 pub value-append : (a b : List ℕ) → crc_of (a ++ b) ≡ bit_xor (register_after (register_after all_ones a) b) all_ones
 unfolding crc_of register_after
 value-append a b = ap (λ (register : ℕ). bit_xor register all_ones) (fold-append after_byte all_ones a b)
+
+-- a register that has taken one text, and then takes another, has taken both
+pub taken_joined : (old new : ℕ) (text bytes : List ℕ) → HasTaken old text → new ≡ register_after old bytes → HasTaken new (text ++ bytes)
+unfolding register_after
+taken_joined old new text bytes taken is = is ∙ ap (λ (register : ℕ). fold after_byte register bytes) taken ∙ sym (fold-append after_byte all_ones text bytes)

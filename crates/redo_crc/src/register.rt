@@ -1,6 +1,7 @@
 // A checksum in the making.
-ghost use Rattle.std.specs.Prelude.{◌≡◌, bit_xor};
+ghost use Rattle.std.specs.Prelude.{◌≡◌, ℕ, List, [], ◌++◌, bit_xor};
 ghost use Rattle.model_number.specs.Crc32c.{all_ones, crc_of, register_after};
+ghost use Rattle.redo_crc.specs.Parts.{HasTaken};
 
 use crate::table::after_byte;
 use std::marker::Model;
@@ -21,22 +22,28 @@ impl Model for Crc {
 
 impl Crc {
     /// Before the first byte.
+    #[tactic(auto, unfolding(model_number::specs::Crc32c::register_after))]
     pub fn new() -> Self
-        ensures { result ≡ all_ones }
+        ensures register { result ≡ all_ones }
+        ensures taken { HasTaken result [] }
     {
         Crc { register: u32::MAX }
     }
 
     /// Takes the next bytes of the text.
+    #[tactic(auto, using(crate::proofs::TableLemmas::taken_joined))]
     pub fn update(&mut self, bytes: &[u8])
-        ensures { self.new ≡ register_after self.old bytes.now }
+        ensures register { self.new ≡ register_after self.old bytes.now }
+        ensures taken { (text : List ℕ) → HasTaken self.old text → HasTaken self.new (text ++ bytes.now) }
     {
         self.register = register_after(self.register, bytes);
     }
 
     /// The checksum of the bytes so far.
+    #[tactic(auto, unfolding(model_number::specs::Crc32c::crc_of))]
     pub fn value(&self) -> u32
-        ensures { result ≡ bit_xor self.now all_ones }
+        ensures register { result ≡ bit_xor self.now all_ones }
+        ensures taken { (text : List ℕ) → HasTaken self.now text → result ≡ crc_of text }
     {
         self.register ^ u32::MAX
     }
@@ -65,27 +72,50 @@ fn register_after(register: u32, bytes: &[u8]) -> u32
 mod tests {
     use super::*;
 
+    // Texts with their checksums, as the standard has them.
+    const KNOWN: [(&[u8], u32); 4] = [
+        (b"123456789", 0xE306_9283),
+        (&[0; 32], 0x8A91_36AA),
+        (&[0xFF; 32], 0x62A8_AB43),
+        (b"", 0),
+    ];
+
     #[test]
     fn known_checksums(rt: HostRuntime) {
-        let rows: [(&[u8], u32); 4] = [
-            (b"123456789", 0xE306_9283),
-            (&[0; 32], 0x8A91_36AA),
-            (&[0xFF; 32], 0x62A8_AB43),
-            (b"", 0),
-        ];
-        for (text, want) in rows {
+        for (text, want) in KNOWN {
             assert_eq!(rt; crc32c(text), want, "{text:?}");
         }
     }
 
     #[test]
-    fn parts(rt: HostRuntime) {
-        let text = b"123456789";
-        for cut in 0..text.len() {
-            let mut crc = Crc::new();
-            crc.update(&text[..cut]);
-            crc.update(&text[cut..]);
-            assert_eq!(rt; crc.value(), 0xE306_9283, "cut at {cut}");
+    fn known_checksums_in_parts(rt: HostRuntime) {
+        for (text, want) in KNOWN {
+            for cut in 0..=text.len() {
+                let mut crc = Crc::new();
+                crc.update(&text[..cut]);
+                crc.update(&text[cut..]);
+                assert_eq!(rt; crc.value(), want, "{text:?} cut at {cut}");
+            }
+        }
+    }
+
+    #[test]
+    fn agrees_with_the_plain_program(rt: HostRuntime) {
+        let lengths = [0, 1, 2, 3, 4, 5, 6, 7, 8, 9, 507, 508, 512];
+        // The first byte of a text, and how far each is above the one before it.
+        let patterns: [(u8, u8); 4] = [(0x00, 0x00), (0xFF, 0x00), (0x00, 0x01), (0x55, 0x9D)];
+        for (first, step) in patterns {
+            let mut text = [0; 512];
+            let mut byte = first;
+            for place in &mut text {
+                *place = byte;
+                byte = byte.wrapping_add(step);
+            }
+            for length in lengths {
+                let front = &text[..text.len().min(length)];
+                let want = model_number::crc32c(front);
+                assert_eq!(rt; crc32c(front), want, "{length} from {first} by {step}");
+            }
         }
     }
 }
