@@ -1,0 +1,104 @@
+//! The same work as the proved program, in plain Rust. `plain write` leaves the bytes that both work on in the current
+//! folder, and `plain time` times the work over them.
+
+mod checksum;
+mod decoder;
+mod generator;
+
+use decoder::{Got, Rec, decode};
+use std::hint::black_box;
+use std::time::{Duration, Instant};
+use std::{env, fs, io, process};
+
+const NOISE_FILE: &str = "noise.bin";
+const GROUPS_FILE: &str = "groups.bin";
+/// How often each work is done; the fastest time counts.
+const ROUNDS: u32 = 10;
+
+fn write() -> io::Result<()> {
+    fs::write(NOISE_FILE, generator::noise())?;
+    fs::write(GROUPS_FILE, generator::groups())
+}
+
+fn time() -> io::Result<()> {
+    let noise = fs::read(NOISE_FILE)?;
+    let (best, checksum) = fastest(|| checksum::crc32c(black_box(&noise)));
+    report("crc32c", noise.len(), best, &format!("{checksum:08x}"));
+    let stream = fs::read(GROUPS_FILE)?;
+    let (best, tally) = fastest(|| decode_all(black_box(&stream)));
+    report("decode", stream.len(), best, &tally);
+    Ok(())
+}
+
+/// The shortest time of all rounds, and what the last of them came to.
+fn fastest<T>(mut work: impl FnMut() -> T) -> (Duration, T) {
+    let mut best = Duration::MAX;
+    let mut round = || {
+        let start = Instant::now();
+        let outcome = black_box(work());
+        best = best.min(start.elapsed());
+        outcome
+    };
+    for _ in 1..ROUNDS {
+        round();
+    }
+    let outcome = round();
+    (best, outcome)
+}
+
+/// Decodes groups until one can't be, and says how many there were, how many records, how many bytes were left, and a
+/// sum over the values.
+fn decode_all(stream: &[u8]) -> String {
+    let mut rest = stream;
+    let (mut groups, mut records, mut sum) = (0u64, 0u64, 0u64);
+    while let Got::Value(group, length) = decode(rest) {
+        groups += 1;
+        records += group.len() as u64;
+        sum = group
+            .iter()
+            .fold(sum, |sum, rec| sum.wrapping_add(value_of(rec)));
+        rest = &rest[length..];
+    }
+    format!("{groups} {records} {} {sum:x}", rest.len())
+}
+
+/// A number for each record, so that two decoders that agree on all of them agree on the records.
+fn value_of(rec: &Rec) -> u64 {
+    match rec {
+        Rec::Num {
+            width,
+            space,
+            page,
+            offset,
+            value,
+        } => spot(*space, *page, *offset)
+            .wrapping_add(u64::from(*width))
+            .wrapping_add(*value),
+        Rec::Text {
+            space,
+            page,
+            offset,
+            bytes,
+        } => spot(*space, *page, *offset).wrapping_add(bytes.len() as u64),
+        Rec::Init { space, page } => spot(*space, *page, 0),
+    }
+}
+
+fn spot(space: u32, page: u32, offset: u32) -> u64 {
+    u64::from(space) + u64::from(page) + u64::from(offset)
+}
+
+fn report(name: &str, length: usize, best: Duration, outcome: &str) {
+    println!("{name} {length} {} {outcome}", best.as_nanos());
+}
+
+fn main() -> io::Result<()> {
+    match env::args().nth(1).as_deref() {
+        Some("write") => write(),
+        Some("time") => time(),
+        _ => {
+            eprintln!("usage: plain write|time");
+            process::exit(2)
+        }
+    }
+}
