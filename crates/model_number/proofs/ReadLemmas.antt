@@ -1,5 +1,5 @@
 -- What the bytes at hand say of a number that begins with them.
-use Rattle.std.proofs.Common.{◌≡◌, ◌≢◌, ℕ, zero, suc, ◌+◌, ◌-◌, ◌*◌, ◌^◌, ◌<◌, ◌≤◌, ◌⊎◌, List, [], ◌∷◌, ◌++◌, length, take, min, refl, sym, ap, ◌∙◌, arith, length-append, slice_index}
+use Rattle.std.proofs.Common.{◌≡◌, ◌≢◌, ℕ, zero, suc, ◌+◌, ◌-◌, ◌*◌, ◌%◌, ◌^◌, ◌<◌, ◌≤◌, ◌⊎◌, List, [], ◌∷◌, ◌++◌, length, take, min, refl, sym, ap, ◌∙◌, arith, length-append, slice_index, lt-ltb}
 use Rattle.std.proofs.Math.Nat.{mul-le-mul_right}
 use Rattle.std.proofs.lemmas.List.{append-nil, take_all, length-take-le}
 use Rattle.std.proofs.lemmas.Nat.{pow-add}
@@ -45,6 +45,32 @@ following row bytes = 256 ^ (row.length - given row bytes)
 -- the lowest number of the row's length that begins with these bytes
 abbrev pub lowest : Row → List ℕ → ℕ
 lowest row bytes = number_onto 0 (take (given row bytes) bytes) * following row bytes
+
+-- where there are bytes enough, one text begins with them
+pub following_whole : (row : Row) (bytes : List ℕ) → row.length ≤ length bytes → following row bytes ≡ 1
+following_whole row bytes long =
+    let whole : given row bytes ≡ row.length = omega arith in
+    let none : row.length - row.length ≡ 0 = omega arith in
+    rw (whole, none) refl
+
+pub lowest_whole : (row : Row) (bytes : List ℕ) → row.length ≤ length bytes → lowest row bytes ≡ number_onto 0 (take row.length bytes)
+lowest_whole row bytes long =
+    let whole : given row bytes ≡ row.length = omega arith in
+    let one = following_whole row bytes long in
+    let low : lowest row bytes ≡ number_onto 0 (take row.length bytes) * 1 = rw (one, whole) refl in
+    omega arith
+
+-- where the bytes are cut off, all of them are given
+pub following_cut : (row : Row) (bytes : List ℕ) → length bytes < row.length → following row bytes ≡ 256 ^ (row.length - length bytes)
+following_cut row bytes short =
+    let all : given row bytes ≡ length bytes = omega arith in
+    rw all refl
+
+pub lowest_cut : (row : Row) (bytes : List ℕ) → length bytes < row.length
+    → lowest row bytes ≡ number_onto 0 bytes * 256 ^ (row.length - length bytes)
+lowest_cut row bytes short =
+    let all : given row bytes ≡ length bytes = omega arith in
+    rw (all, take_all (length bytes) bytes (omega arith)) refl
 
 not_begun : (row : Row) → IsRow row → (bytes : List ℕ)
     → (lowest row bytes + following row bytes ≤ row.text) ⊎ (row.text + (row.last - row.first) < lowest row bytes)
@@ -216,3 +242,12 @@ text_fits row is_row =
     let most = pow256_le row.length 5 few in
     let fits = is_row.fits in
     omega arith
+
+-- a byte without a mark spells itself
+pub read_one : (byte : ℕ) (bytes : List ℕ) → byte < 0x80 → 1 ≤ length bytes → slice_index bytes 0 ≡ byte → Gives Spells32 bytes (Value byte 1)
+unfolding spelling32
+read_one byte [] small some first = absurd (omega arith)
+read_one byte (x ∷ bytes) small some first = (
+  some,
+  record { small = omega arith; spelled = let same : x ≡ byte = first in let low : byte % 256 ≡ byte = omega arith in rw (lt-ltb byte 0x80 small, same) (ap (λ (b : ℕ). b ∷ []) (sym low)) },
+)

@@ -1,5 +1,5 @@
 // The compressed spelling of a number, by the rows of the table.
-ghost use Rattle.std.specs.Prelude.{◌≡◌, ◌≤◌, length, IfOk};
+ghost use Rattle.std.specs.Prelude.{◌≡◌, ◌≤◌, ◌<◌, length, IfOk};
 ghost use Rattle.model_number.specs.Number.{number_of};
 ghost use Rattle.model_number.specs.Spelling.{spelling32, spelling64, Spells32, Spells64, Gives};
 ghost use Rattle.model_number.specs.Table.{IsRow, SpellsIn};
@@ -10,6 +10,9 @@ use std::alloc::{AllocError, Global};
 
 // A number of 64 bits is its high half times this, and its low half.
 const HALF: u64 = 1 << 32;
+
+// A byte below this spells itself; the first bytes of longer spellings have a mark.
+const MARKED: u8 = 0x80;
 
 /// The spelling of a number of 32 bits.
 pub fn spell32(alloc: Global, n: u32) -> Result<Vec<u8>, AllocError>
@@ -36,6 +39,10 @@ pub fn read32(bytes: &[u8]) -> Got<u32>
     let Some(first) = bytes.first() else {
         return Got::Short;
     };
+    // Spaces and pages mostly have numbers this small.
+    if *first < MARKED {
+        return Got::Value(u32::from(*first), 1);
+    }
     match row_beginning_with(*first) {
         Some(row) => read_in(row, bytes),
         None => Got::Bad,
@@ -57,22 +64,47 @@ pub fn read64(bytes: &[u8]) -> Got<u64>
     }
 }
 
-// Reads a number of the row. The texts that begin with the bytes at hand are consecutive numbers, as are those of the
-// row, so it is enough to compare the ends.
+// Reads a number of the row.
 fn read_in(row: Row, bytes: &[u8]) -> Got<u32>
     requires { IsRow row }
     ensures { Gives (SpellsIn row) bytes.now result }
 {
-    let given = bytes.len().min(row.length);
-    let following = 256u64.pow((row.length - given) as u32);
-    let lowest = number_of(&bytes[..given]) * following;
+    if bytes.len() < row.length {
+        read_cut(row, bytes)
+    } else {
+        read_whole(row, bytes)
+    }
+}
+
+// Reads a number of the row where there are bytes enough for its spelling.
+fn read_whole(row: Row, bytes: &[u8]) -> Got<u32>
+    requires row { IsRow row }
+    requires whole { row.length ≤ length bytes.now }
+    ensures { Gives (SpellsIn row) bytes.now result }
+{
+    let text = number_of(&bytes[..row.length]);
+    let last = row.text + u64::from(row.last - row.first);
+    if text < row.text || last < text {
+        Got::Bad
+    } else {
+        Got::Value(row.first + (text - row.text) as u32, row.length)
+    }
+}
+
+// Judges the front of a spelling of the row. The texts that begin with it are consecutive numbers, as are those of the
+// row, so it is enough to compare the ends.
+fn read_cut(row: Row, bytes: &[u8]) -> Got<u32>
+    requires row { IsRow row }
+    requires cut { length bytes.now < row.length }
+    ensures { Gives (SpellsIn row) bytes.now result }
+{
+    let following = 256u64.pow((row.length - bytes.len()) as u32);
+    let lowest = number_of(bytes) * following;
     let last = row.text + u64::from(row.last - row.first);
     if lowest + following <= row.text || last < lowest {
         Got::Bad
-    } else if given < row.length {
-        Got::Short
     } else {
-        Got::Value(row.first + (lowest - row.text) as u32, row.length)
+        Got::Short
     }
 }
 

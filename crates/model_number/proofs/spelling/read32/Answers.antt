@@ -3,7 +3,7 @@ use Rattle.std.proofs.Common.{◌≡◌, ◌≤◌, List, [], ◌∷◌, ℕ, le
 use Rattle.std.specs.List.{slice_get}
 use Rattle.model_number.specs.Spelling.{Gives, Spells32}
 use Rattle.model_number.specs.declared.got.Got.TheVariants.{Short}
-use Rattle.model_number.proofs.ReadLemmas.{read_empty, read_none, read_row}
+use Rattle.model_number.proofs.ReadLemmas.{read_empty, read_none, read_one, read_row}
 use Rattle.model_number.proofs.spelling.read32.Goals as goal
 
 none_at : (bytes : List ℕ) → None ≡ slice_get bytes 0 → Gives Spells32 bytes Short
@@ -28,3 +28,9 @@ returns-in-None c =
     let bytes = c.args.bytes.now in
     let first = some_at bytes c.in-Some.first.now c.in-Some.ensures.value in
     read_none c.in-Some.first.now c.in-None.ensures bytes first.0 first.1
+
+pub returns-then-first-lt-MARKED : goal.returns-then-first-lt-MARKED
+returns-then-first-lt-MARKED c =
+    let bytes = c.args.bytes.now in
+    let first = some_at bytes c.in-Some.first.now c.in-Some.ensures.value in
+    rw c.from.ensures (read_one c.in-Some.first.now bytes c.if-first-lt-MARKED.true first.0 first.1)
