@@ -60,10 +60,13 @@ begin_fault fresh log store log_size store_size log_sized store_sized fit log_no
 begin_fault fresh log store log_size store_size log_sized store_sized fit log_now store_now log_is store_is same (Store refusal) is =
     let none = subst (λ (b : Option (List ℕ)). OnRead (option_map (formatted_log default_shape) (reads_of log)) b (IsNoFreshStore refusal)) store_is
     (subst (λ (b : Option (List ℕ)). OnRead b store_now (IsNoFreshStore refusal)) log_is is) in
-    inr (fit, (
-      untold_fresh fresh log store log_size store_size log_sized store_sized fit.0 fit.2 refusal none,
-      read_untold _ _ (IsNoStore refusal) (on_read_weaker _ _ (IsNoFreshStore refusal) (IsNoStore refusal) (no_store refusal) none),
-    ))
+    inr (
+      fit,
+      (
+        untold_fresh fresh log store log_size store_size log_sized store_sized fit.0 fit.2 refusal none,
+        read_untold _ _ (IsNoStore refusal) (on_read_weaker _ _ (IsNoFreshStore refusal) (IsNoStore refusal) (no_store refusal) none),
+      ),
+    )
 begin_fault fresh log store log_size store_size log_sized store_sized fit log_now store_now log_is store_is same Words is = is
 begin_fault fresh log store log_size store_size log_sized store_sized fit log_now store_now log_is store_is same (Script n) is = is
 begin_fault fresh log store log_size store_size log_sized store_sized fit log_now store_now log_is store_is same Source is = is
@@ -101,10 +104,13 @@ final_fault script final answers log store log_size store_size log_sized store_s
 final_fault script final answers log store log_size store_size log_sized store_sized fit log_now store_now log_is store_is same (Store refusal) is =
     let refuses = subst (λ (b : Option (List ℕ)). OnRead (option_map (final_log script) (reads_of log)) b (λ l s. Refuses l s refusal)) store_is
     (subst (λ (b : Option (List ℕ)). OnRead b store_now (λ l s. Refuses l s refusal)) log_is is) in
-    inr (fit, (
-      untold_final script final answers log store log_size store_size log_sized store_sized fit.0 fit.2 refusal refuses,
-      read_untold _ _ (IsNoStore refusal) (on_read_weaker _ _ (λ l s. Refuses l s refusal) (IsNoStore refusal) (λ l s r. inl r) refuses),
-    ))
+    inr (
+      fit,
+      (
+        untold_final script final answers log store log_size store_size log_sized store_sized fit.0 fit.2 refusal refuses,
+        read_untold _ _ (IsNoStore refusal) (on_read_weaker _ _ (λ l s. Refuses l s refusal) (IsNoStore refusal) (λ l s r. inl r) refuses),
+      ),
+    )
 final_fault script final answers log store log_size store_size log_sized store_sized fit log_now store_now log_is store_is same Words is = is
 final_fault script final answers log store log_size store_size log_sized store_sized fit log_now store_now log_is store_is same (Script n) is = is
 final_fault script final answers log store log_size store_size log_sized store_sized fit log_now store_now log_is store_is same Source is = is

@@ -1,5 +1,5 @@
 -- What a call comes to, seen from outside.
-use Rattle.std.specs.Prelude.{ℕ, ◌≡◌, ◌≤◌, ◌⊎◌, List, [], ◌∷◌, codes, Option, Some}
+use Rattle.std.specs.Prelude.{ℕ, ◌≡◌, ◌⊎◌, List, [], ◌∷◌, codes, Option, Some}
 use Rattle.model_base.specs.Count.{HasRisen}
 use Rattle.model_device.specs.Disk.{Disk}
 use Rattle.model_script.specs.FirstPath.{first_path_script}
@@ -12,7 +12,8 @@ use Rattle.model_theorem.specs.Crash.{CrashSafe}
 use Rattle.redo_io.specs.Sink.{with_taken, TakesPart}
 use Rattle.redo_memdisk.specs.declared.fuse.Fuse.{Fuse}
 use Rattle.redo_lab.specs.Call.{IsCall, IsDevice}
-use Rattle.redo_lab.specs.Outcome.{IsDone, IsCrashFault}
+use Rattle.redo_lab.specs.Outcome.{IsDone, IsCrashFault, IsReportOf}
+use Rattle.redo_lab.specs.Reads.{OnRead}
 use Rattle.redo_lab.specs.Steps.{reads_of}
 use Rattle.redo_lab.specs.Script.{IsScriptOf, IsBadLine, IsLongScript}
 
@@ -20,12 +21,13 @@ use Rattle.redo_lab.specs.Script.{IsScriptOf, IsBadLine, IsLongScript}
 abbrev pub the_command : List (List ℕ)
 the_command = codes "crash" ∷ []
 
--- The words are the command, what the source had left is a script, and on devices that meant this all was done that
--- the call is to do.
+-- The words are the command, what the source had left is a script, the text is the report of what is read off the
+-- devices now, and on devices that meant this all was done that the call is to do.
 pub record IsAnswer (words : List (List ℕ)) (left now : Option (List ℕ)) (log store : Option Disk) (text : List ℕ) (log_now store_now : Option Disk) : Type 0 where
   pub command : words ≡ the_command
   pub script : List ScriptLine
   pub read : IsScriptOf left now script
+  pub reported : OnRead (reads_of log_now) (reads_of store_now) (IsReportOf script text)
   pub done : (first second : Disk) → log ≡ Some first → store ≡ Some second → IsDone script first second text log_now store_now
 
 -- the words are the command, and what the source had left was read and is a script

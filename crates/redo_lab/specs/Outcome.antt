@@ -54,7 +54,7 @@ IsOpenFault log store Sink = ⊥
 IsOpenFault log store (Turns n user) = ⊥
 IsOpenFault log store (Fit what n) = ⊥
 
--- the text is the report of what is read off the devices
+-- the text is the report of the run of the script, and of what is read off these bytes
 abbrev pub IsReportOf : List ScriptLine → List ℕ → List ℕ → List ℕ → Type 0
 IsReportOf script text log store = (reading : Reading) × Reads log store reading × (text ≡ printed_text script reading)
 

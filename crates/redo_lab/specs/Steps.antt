@@ -8,7 +8,6 @@ use Rattle.redo_disk.specs.declared.error.DevError.TheVariants.{Failed, NoMemory
 use Rattle.model_report.specs.declared.fault.Fault.{Fault}
 use Rattle.model_report.specs.declared.fault.Fault.TheVariants.{Memory, LogDevice, DataDevice}
 use Rattle.redo_memdisk.specs.declared.fuse.Fuse.{Fuse}
-use Rattle.redo_memdisk.specs.declared.fuse.Stage.{Stage}
 use Rattle.redo_memdisk.specs.declared.fuse.Stage.TheVariants.{Stopping, Crashed}
 
 -- No call answered that the device failed, and the fuse stands where it stood. Writes and syncs are counted where they

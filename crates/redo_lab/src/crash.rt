@@ -173,6 +173,8 @@ pub(crate) fn crash<L: Sectors, D: Sectors>(
     ensures done { IfOk result (λ text. (first second : Disk)
         → L.tells (inner_of log.old) ≡ Some first → D.tells (inner_of store.old) ≡ Some second
         → IsDone script.now first second text.items (L.tells (inner_of log.new)) (D.tells (inner_of store.new))) }
+    ensures reported { IfOk result (λ text. OnRead (reads_of (L.tells (inner_of log.new)))
+        (reads_of (D.tells (inner_of store.new))) (IsReportOf script.now text.items)) }
     ensures fits { OnOk result (DoFit (reads_of (L.tells (inner_of log.old))) (L.size (inner_of log.old)) (D.size (inner_of store.old))) }
     ensures log_spent { OnOk result (IsSpent (fuse_of log.new)) }
     ensures store_spent { OnOk result (IsSpent (fuse_of store.new)) }

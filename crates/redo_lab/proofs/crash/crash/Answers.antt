@@ -39,3 +39,9 @@ returns-in-Err-read_back-clause-fault g c =
     ∙ told_then (started_log default_shape) (logged c.args.script.now) _ _ _ c.in-Ok.ensures.log_told c.in-Ok-run.ensures.told) ∙ reads-settled _)
     (ap reads_of (c.crash_settled-2.ensures.same ∙ c.in-Ok.ensures.store_told) ∙ reads-settled _)
     _ c.in-Err-read_back.fault c.in-Err-read_back.ensures.fault
+
+pub returns-in-Ok-read_back-clause-reported : goal.returns-in-Ok-read_back-clause-reported
+returns-in-Ok-read_back-clause-reported g c =
+    subst (λ (t : Option Disk). OnRead (reads_of t) (reads_of (g.D.Sectors.tells c.read_back.new.store.inner)) (IsReportOf c.args.script.now c.in-Ok-read_back.text.items)) (sym c.in-Ok-read_back.ensures.log_same)
+    (subst (λ (t : Option Disk). OnRead (reads_of (g.L.Sectors.tells c.crash_settled.new.device.inner)) (reads_of t) (IsReportOf c.args.script.now c.in-Ok-read_back.text.items)) (sym c.in-Ok-read_back.ensures.store_same)
+    c.in-Ok-read_back.ensures.text)

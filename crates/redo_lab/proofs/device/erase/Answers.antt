@@ -1,4 +1,4 @@
-use Rattle.std.proofs.Common.{refl, ◌∙◌}
+use Rattle.std.proofs.Common.{◌∙◌}
 use Rattle.redo_lab.proofs.StepLemmas.{ok_is_no_error, steps_then}
 use Rattle.redo_lab.proofs.device.erase.Goals as goal
 
