@@ -15,7 +15,7 @@ one_of (x ∷ y ∷ ys) word some few first = absurd (omega arith)
 -- what was found in the first block stands so on the device
 pub used_at : (told : Option Disk) (out : List ℕ) (at : ℕ) → IfSome told (λ disk. out ≡ take 512 (drop 0 disk.reads)) → at < 512
     → slice_index out at ≢ 0 → ((before : ℕ) → before < at → slice_index out before ≡ 0) → IsUsedAt (reads_of told) at
-used_at None out at read within used first = tt
+used_at None out at read within used first = within
 used_at (Some disk) out at read within used first =
     let same : (k : ℕ) → k < 512 → get_or out k 0 ≡ get_or disk.reads k 0 = λ k below. ap (λ (l : List ℕ). get_or l k 0) read ∙ get_or-take 512 disk.reads k 0 below in
     (within, (λ zero. used (same at within ∙ zero)), λ before below. sym (same before (omega arith)) ∙ first before below)

@@ -1,10 +1,9 @@
 -- What a call comes to, seen from outside.
-use Rattle.std.specs.Prelude.{ℕ, ◌≡◌, ◌≤◌, ◌⊎◌, List, [], ◌∷◌, codes, Option, Some}
+use Rattle.std.specs.Prelude.{ℕ, ◌≡◌, ◌⊎◌, List, [], ◌∷◌, codes, Option, Some}
 use Rattle.model_base.specs.Count.{HasRisen}
 use Rattle.model_device.specs.Disk.{Disk}
 use Rattle.model_script.specs.FirstPath.{first_path_script}
 use Rattle.model_script.specs.declared.script.ScriptLine.{ScriptLine}
-use Rattle.model_log.specs.declared.layout.TheConstants.{HEADER_BLOCKS}
 use Rattle.model_report.specs.FaultLine.{status_of, fault_line}
 use Rattle.model_report.specs.declared.fault.Fault.{Fault}
 use Rattle.model_report.specs.declared.fault.Fault.TheVariants.{Memory, Words, Script, Source, Sink, LogDevice, DataDevice, Store, Turns, Fit}
@@ -13,8 +12,8 @@ use Rattle.model_theorem.specs.Crash.{CrashSafe}
 use Rattle.redo_io.specs.Sink.{with_taken, TakesPart}
 use Rattle.redo_memdisk.specs.declared.fuse.Fuse.{Fuse}
 use Rattle.redo_lab.specs.Call.{IsCall, IsDevice}
-use Rattle.redo_lab.specs.Check.{DoFit, IsTooShort, IsUsedFit}
-use Rattle.redo_lab.specs.Outcome.{IsDone, IsUntold}
+use Rattle.redo_lab.specs.Outcome.{IsDone, IsCrashFault, IsReportOf}
+use Rattle.redo_lab.specs.Reads.{OnRead}
 use Rattle.redo_lab.specs.Steps.{reads_of}
 use Rattle.redo_lab.specs.Script.{IsScriptOf, IsBadLine, IsLongScript}
 
@@ -22,12 +21,13 @@ use Rattle.redo_lab.specs.Script.{IsScriptOf, IsBadLine, IsLongScript}
 abbrev pub the_command : List (List ℕ)
 the_command = codes "crash" ∷ []
 
--- The words are the command, what the source had left is a script, and on devices that meant this all was done that
--- the call is to do.
+-- The words are the command, what the source had left is a script, the text is the report of what is read off the
+-- devices now, and on devices that meant this all was done that the call is to do.
 pub record IsAnswer (words : List (List ℕ)) (left now : Option (List ℕ)) (log store : Option Disk) (text : List ℕ) (log_now store_now : Option Disk) : Type 0 where
   pub command : words ≡ the_command
   pub script : List ScriptLine
   pub read : IsScriptOf left now script
+  pub reported : OnRead (reads_of log_now) (reads_of store_now) (IsReportOf script text)
   pub done : (first second : Disk) → log ≡ Some first → store ≡ Some second → IsDone script first second text log_now store_now
 
 -- the words are the command, and what the source had left was read and is a script
@@ -36,21 +36,32 @@ WasScript words left now = (words ≡ the_command) × (script : List ScriptLine)
 
 -- Why a call gives no text. A source and the devices are seen by what they told at entry and tell now, by their counts
 -- of faults and by the sizes of the devices; a device's failure is counted besides. The first that doesn't hold
--- decides: the words, the source, the script, the devices. The log device is called once it has its header blocks, and
--- the data device once both fit.
-abbrev pub IsLabFault : List (List ℕ) → Option (List ℕ) → Option (List ℕ) → ℕ → ℕ → Option (List ℕ) → Option (List ℕ) → ℕ → ℕ → Fault → Type 0
-IsLabFault words left now before after log store log_size store_size Memory = words ≡ the_command
-IsLabFault words left now before after log store log_size store_size Words = words ≡ the_command → ⊥
-IsLabFault words left now before after log store log_size store_size (Script n) = (words ≡ the_command) × IsBadLine left now n
-IsLabFault words left now before after log store log_size store_size Source = (words ≡ the_command) × HasRisen before after
-IsLabFault words left now before after log store log_size store_size LogDevice = WasScript words left now × (HEADER_BLOCKS ≤ log_size)
-IsLabFault words left now before after log store log_size store_size DataDevice = WasScript words left now × DoFit log log_size store_size
-IsLabFault words left now before after log store log_size store_size (Store refusal) =
-    WasScript words left now × (IsTooShort log log_size store_size refusal ⊎ IsUntold log store)
-IsLabFault words left now before after log store log_size store_size (Fit what n) =
-    ((words ≡ the_command) × IsLongScript left what n) ⊎ (WasScript words left now × IsUsedFit log log_size what n)
-IsLabFault words left now before after log store log_size store_size Sink = ⊥
-IsLabFault words left now before after log store log_size store_size (Turns n user) = ⊥
+-- decides: the words, the source, the script, the devices. Other words leave the source unread, and until the script
+-- is read and both devices fit, these mean what they did before (same). A failure of the log device ends the call once
+-- that has its header blocks, one of the data device once both fit.
+abbrev pub IsLabFault : List (List ℕ) → Option (List ℕ) → Option (List ℕ) → ℕ → ℕ → Option (List ℕ) → Option (List ℕ) → ℕ → ℕ → Type 0 → Fault → Type 0
+IsLabFault words left now before after log store log_size store_size same Memory = words ≡ the_command
+IsLabFault words left now before after log store log_size store_size same Words =
+    (words ≡ the_command → ⊥) × (now ≡ left) × same
+IsLabFault words left now before after log store log_size store_size same (Script n) =
+    (words ≡ the_command) × IsBadLine left now n × same
+IsLabFault words left now before after log store log_size store_size same Source =
+    (words ≡ the_command) × HasRisen before after × same
+IsLabFault words left now before after log store log_size store_size same LogDevice =
+    WasScript words left now × IsCrashFault log store log_size store_size same LogDevice
+IsLabFault words left now before after log store log_size store_size same DataDevice =
+    WasScript words left now × IsCrashFault log store log_size store_size same DataDevice
+IsLabFault words left now before after log store log_size store_size same (Store refusal) =
+    WasScript words left now × IsCrashFault log store log_size store_size same (Store refusal)
+IsLabFault words left now before after log store log_size store_size same (Fit what n) =
+    ((words ≡ the_command) × IsLongScript left what n × same)
+    ⊎ (WasScript words left now × IsCrashFault log store log_size store_size same (Fit what n))
+IsLabFault words left now before after log store log_size store_size same Sink = ⊥
+IsLabFault words left now before after log store log_size store_size same (Turns n user) = ⊥
+
+-- a call with this status had a text: it ran, and the sink took the text or failed
+abbrev pub HadText : ℕ → Type 0
+HadText status = (status ≡ 0) ⊎ (status ≡ status_of Sink)
 
 -- the text was to be printed: the sink took all of it, or failed and took only a part
 abbrev pub IsTextPrinted : List ℕ → ℕ → Option (List ℕ) → Option (List ℕ) → ℕ → ℕ → Type 0
@@ -79,5 +90,6 @@ abbrev pub IsOutcome : (words : List (List ℕ)) (left now : Option (List ℕ)) 
 IsOutcome words left now before after log store log_size store_size log_now store_now status taken taken_now out_before out_after =
     ((text : List ℕ) × IsAnswer words left now log store text log_now store_now
     × IsTextPrinted text status taken taken_now out_before out_after)
-    ⊎ ((fault : Fault) × IsLabFault words left now before after (reads_of log) (reads_of store) log_size store_size fault
+    ⊎ ((fault : Fault) × IsLabFault words left now before after (reads_of log) (reads_of store) log_size store_size
+    ((log_now ≡ log) × (store_now ≡ store)) fault
     × IsFaultPrinted fault status taken taken_now out_before out_after)

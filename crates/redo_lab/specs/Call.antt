@@ -38,19 +38,24 @@ crash_of text script log log_faults store store_faults = record {
 }
 
 -- The device of the theorem's values is the one that was handed in and is given back: what it meant, how often it had
--- failed, what it means, and what its fuse tells. Today nothing is pending at the crash.
+-- failed, what it means, and what its fuse tells. Today nothing is pending at the crash, and no write or sync came
+-- after it, so what the device means now is what the run left.
 pub record IsDevice (disk : Disk) (faults : ℕ) (now : Option Disk) (fuse : Fuse) (device : Device) : Type 0 where
   pub at_entry : device.at_entry ≡ disk
   pub faults_are : device.faults_at_entry ≡ faults
   pub before_crash : device.before_crash ≡ device.left
+  pub no_change_after : fuse.late_changes ≡ 0
   pub left : now ≡ Some device.left
   pub pick : device.pick ≡ fuse.pick
   pub failures : device.failures ≡ fuse.mid
 
 -- The values of the theorem are those of this call: the source had this text left and has this left; the sink had
--- taken this and has taken what was printed besides, where it tells.
+-- taken this and has taken what was printed besides, where it tells. A call of today formats the devices, with the
+-- default sizes and blank pages, and crashes them with the pick 0.
 pub record IsCall (text : List ℕ) (text_left taken taken_now : Option (List ℕ)) (crash : Crash) : Type 0 where
   pub source : crash.source ≡ text
   pub source_left : text_left ≡ Some crash.source_left
   pub printed : IfSome taken (λ bytes. taken_now ≡ Some (bytes ++ crash.printed))
   pub pick : crash.pick ≡ 0
+  pub shape : crash.shape ≡ default_shape
+  pub opened : crash.opened ≡ blank_pages default_shape

@@ -36,9 +36,9 @@ IsTooShort held log store (PageAhead p lsn) = ⊥
 abbrev pub DoFit : Option (List ℕ) → ℕ → ℕ → Type 0
 DoFit held log store = (log_device_length default_shape ≤ log) × IsUnused held × (data_device_length default_shape ≤ store)
 
--- the byte at the offset is the first of the device that isn't 0, and stands in its first block, where the device tells
+-- the byte at the offset stands in the device's first block, and is the first that isn't 0, where the device tells
 abbrev pub IsUsedAt : Option (List ℕ) → ℕ → Type 0
-IsUsedAt None at = ⊤
+IsUsedAt None at = at < BLOCK_SIZE
 IsUsedAt (Some bytes) at =
     (at < BLOCK_SIZE) × (slice_index bytes at ≢ 0) × ((before : ℕ) → before < at → slice_index bytes before ≡ 0)
 

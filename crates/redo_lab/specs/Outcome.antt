@@ -5,27 +5,29 @@ use Rattle.model_log.specs.Device.{log_device_length}
 use Rattle.model_log.specs.declared.layout.TheConstants.{HEADER_BLOCKS}
 use Rattle.model_page.specs.Copies.{data_device_length}
 use Rattle.model_device.specs.Disk.{Disk, settled}
-use Rattle.model_store.specs.Reading.{Reading, Reads}
+use Rattle.model_store.specs.Reading.{Reading, Reads, Refuses}
+use Rattle.model_store.specs.declared.refusal.Refusal.{Refusal}
+use Rattle.model_store.specs.declared.refusal.Refusal.TheVariants.{NotFormatted}
 use Rattle.model_script.specs.declared.script.ScriptLine.{ScriptLine}
 use Rattle.model_report.specs.declared.fault.Fault.{Fault}
 use Rattle.model_report.specs.declared.fault.Fault.TheVariants.{Memory, Words, Script, Source, Sink, LogDevice, DataDevice, Store, Turns, Fit}
 use Rattle.redo_memdisk.specs.declared.fuse.Fuse.{Fuse}
+use Rattle.redo_memdisk.specs.declared.fuse.Stage.TheVariants.{Crashed}
 use Rattle.redo_lab.specs.Check.{DoFit, IsTooShort, IsUnused, IsUsedFit}
 use Rattle.redo_lab.specs.Contents.{formatted_store}
 use Rattle.redo_lab.specs.FirstReading.{empty_reading}
-use Rattle.redo_lab.specs.Reads.{OnFronts}
+use Rattle.redo_lab.specs.Reads.{OnRead}
 use Rattle.redo_lab.specs.Today.{final_log, final_reading, printed_text}
 
--- no call of the device failed, and it was crashed with the pick 0
+-- the fuse was armed without a stop, the device was crashed with the pick 0, and no write or sync came after the crash
 pub record IsSpent (fuse : Fuse) : Type 0 where
+  pub stage : fuse.stage ≡ Crashed
+  pub limit : fuse.limit ≡ None
   pub pick : fuse.pick ≡ Some 0
-  pub early : fuse.early ≡ 0
-  pub mid : fuse.mid ≡ 0
-  pub late : fuse.late ≡ 0
+  pub changes : fuse.late_changes ≡ 0
 
 -- The call on devices that meant this did all that it is to do: both devices were long enough and the log device was
--- unused, they hold what
--- formatting, opening and the run leave, and the text is the report of that.
+-- unused, they hold what formatting, opening and the run leave, and the text is the report of that.
 pub record IsDone (script : List ScriptLine) (log store : Disk) (text : List ℕ) (log_now store_now : Option Disk) : Type 0 where
   pub log_long : log_device_length default_shape ≤ length log.reads
   pub store_long : data_device_length default_shape ≤ length store.reads
@@ -34,16 +36,17 @@ pub record IsDone (script : List ScriptLine) (log store : Disk) (text : List ℕ
   pub log_is : log_now ≡ Some (settled (final_log script log.reads))
   pub store_is : store_now ≡ Some (settled (formatted_store default_shape store.reads))
 
--- a store was refused that is read as an empty one: it can't be
-abbrev pub IsNoFreshStore : List ℕ → List ℕ → Type 0
-IsNoFreshStore log store = Reads log store (empty_reading 0) → ⊥
+-- these bytes aren't read as a store that was just formatted, and are refused so, or as unformatted
+pub record IsNoFreshStore (refusal : Refusal) (log store : List ℕ) : Type 0 where
+  pub other : Reads log store (empty_reading 0) → ⊥
+  pub refused : Refuses log store refusal ⊎ (refusal ≡ NotFormatted)
 
--- why opening ended: a device failed, or there was no memory, or what stands on the devices isn't a fresh store
+-- why opening ended: a device failed, or there was no memory, or what was read off the devices isn't a fresh store
 abbrev pub IsOpenFault : Option (List ℕ) → Option (List ℕ) → Fault → Type 0
 IsOpenFault log store Memory = ⊤
 IsOpenFault log store LogDevice = ⊤
 IsOpenFault log store DataDevice = ⊤
-IsOpenFault log store (Store refusal) = OnFronts log store IsNoFreshStore
+IsOpenFault log store (Store refusal) = OnRead log store (IsNoFreshStore refusal)
 IsOpenFault log store Words = ⊥
 IsOpenFault log store (Script n) = ⊥
 IsOpenFault log store Source = ⊥
@@ -51,39 +54,51 @@ IsOpenFault log store Sink = ⊥
 IsOpenFault log store (Turns n user) = ⊥
 IsOpenFault log store (Fit what n) = ⊥
 
--- the text is the report of what is read off the devices
+-- the text is the report of the run of the script, and of what is read off these bytes
 abbrev pub IsReportOf : List ScriptLine → List ℕ → List ℕ → List ℕ → Type 0
 IsReportOf script text log store = (reading : Reading) × Reads log store reading × (text ≡ printed_text script reading)
 
--- a store that was refused for its content, on devices that both tell, is none that a call of today leaves
-abbrev pub IsUntold : Option (List ℕ) → Option (List ℕ) → Type 0
-IsUntold None store = ⊤
-IsUntold (Some log) None = ⊤
-IsUntold (Some log) (Some store) = ⊥
+-- one of two devices doesn't tell what it holds
+abbrev pub DontBothTell : Option (List ℕ) → Option (List ℕ) → Type 0
+DontBothTell None store = ⊤
+DontBothTell (Some log) None = ⊤
+DontBothTell (Some log) (Some store) = ⊥
 
--- why a call ended on devices of these sizes that held this, where they tell: a refusal for content comes only from
--- devices that don't tell
-abbrev pub IsCrashFault : Option (List ℕ) → Option (List ℕ) → ℕ → ℕ → Fault → Type 0
-IsCrashFault log store log_size store_size Memory = ⊤
-IsCrashFault log store log_size store_size LogDevice = HEADER_BLOCKS ≤ log_size
-IsCrashFault log store log_size store_size DataDevice = DoFit log log_size store_size
-IsCrashFault log store log_size store_size (Store refusal) = IsTooShort log log_size store_size refusal ⊎ IsUntold log store
-IsCrashFault log store log_size store_size (Fit what n) = IsUsedFit log log_size what n
-IsCrashFault log store log_size store_size Words = ⊥
-IsCrashFault log store log_size store_size (Script n) = ⊥
-IsCrashFault log store log_size store_size Source = ⊥
-IsCrashFault log store log_size store_size Sink = ⊥
-IsCrashFault log store log_size store_size (Turns n user) = ⊥
+-- these bytes are refused so as a store, or, being no store that was just formatted, as unformatted
+abbrev pub IsNoStore : Refusal → List ℕ → List ℕ → Type 0
+IsNoStore refusal log store =
+    Refuses log store refusal ⊎ ((refusal ≡ NotFormatted) × (Reads log store (empty_reading 0) → ⊥))
+
+-- A refusal of what was read: it comes only from devices of which one doesn't tell, so that any bytes of the default
+-- sizes may have been read. On devices that tell, a call of today reads what it wrote.
+abbrev pub IsUntold : Option (List ℕ) → Option (List ℕ) → Refusal → Type 0
+IsUntold log store refusal = DontBothTell log store × OnRead None None (IsNoStore refusal)
+
+-- Why a call ended on devices of these sizes that held this, where they tell; same says that they mean what they did
+-- before. The log device is checked first, and until both devices fit nothing is written.
+abbrev pub IsCrashFault : Option (List ℕ) → Option (List ℕ) → ℕ → ℕ → Type 0 → Fault → Type 0
+IsCrashFault log store log_size store_size same Memory = ⊤
+IsCrashFault log store log_size store_size same LogDevice =
+    (HEADER_BLOCKS ≤ log_size) × (same ⊎ DoFit log log_size store_size)
+IsCrashFault log store log_size store_size same DataDevice = DoFit log log_size store_size
+IsCrashFault log store log_size store_size same (Store refusal) =
+    (IsTooShort log log_size store_size refusal × same) ⊎ (DoFit log log_size store_size × IsUntold log store refusal)
+IsCrashFault log store log_size store_size same (Fit what n) = IsUsedFit log log_size what n × same
+IsCrashFault log store log_size store_size same Words = ⊥
+IsCrashFault log store log_size store_size same (Script n) = ⊥
+IsCrashFault log store log_size store_size same Source = ⊥
+IsCrashFault log store log_size store_size same Sink = ⊥
+IsCrashFault log store log_size store_size same (Turns n user) = ⊥
 
 -- why the devices weren't formatted
-abbrev pub IsPrepareFault : Option (List ℕ) → ℕ → ℕ → Fault → Type 0
-IsPrepareFault held log store Memory = ⊤
-IsPrepareFault held log store LogDevice = HEADER_BLOCKS ≤ log
-IsPrepareFault held log store DataDevice = DoFit held log store
-IsPrepareFault held log store (Store refusal) = IsTooShort held log store refusal
-IsPrepareFault held log store (Fit what n) = IsUsedFit held log what n
-IsPrepareFault held log store Words = ⊥
-IsPrepareFault held log store (Script n) = ⊥
-IsPrepareFault held log store Source = ⊥
-IsPrepareFault held log store Sink = ⊥
-IsPrepareFault held log store (Turns n user) = ⊥
+abbrev pub IsPrepareFault : Option (List ℕ) → ℕ → ℕ → Type 0 → Fault → Type 0
+IsPrepareFault held log store same Memory = ⊤
+IsPrepareFault held log store same LogDevice = (HEADER_BLOCKS ≤ log) × (same ⊎ DoFit held log store)
+IsPrepareFault held log store same DataDevice = DoFit held log store
+IsPrepareFault held log store same (Store refusal) = IsTooShort held log store refusal × same
+IsPrepareFault held log store same (Fit what n) = IsUsedFit held log what n × same
+IsPrepareFault held log store same Words = ⊥
+IsPrepareFault held log store same (Script n) = ⊥
+IsPrepareFault held log store same Source = ⊥
+IsPrepareFault held log store same Sink = ⊥
+IsPrepareFault held log store same (Turns n user) = ⊥

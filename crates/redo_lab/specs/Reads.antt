@@ -12,12 +12,17 @@ abbrev pub HasFront : Option (List ℕ) → List ℕ → Type 0
 HasFront None bytes = ⊤
 HasFront (Some held) bytes = bytes ≡ take (length bytes) held
 
--- Both devices tell, and this is what stands on them as far as the default sizes go.
-abbrev pub OnFronts : Option (List ℕ) → Option (List ℕ) → (List ℕ → List ℕ → Type 0) → Type 0
-OnFronts None store P = ⊤
-OnFronts (Some log) None P = ⊤
-OnFronts (Some log) (Some store) P =
-    P (take (log_device_length default_shape) log) (take (data_device_length default_shape) store)
+-- these bytes, as far as the default sizes go, were read off two devices, and stand there where the devices tell
+pub record WereRead (log store : Option (List ℕ)) (log_bytes store_bytes : List ℕ) : Type 0 where
+  pub log_length : length log_bytes ≡ log_device_length default_shape
+  pub store_length : length store_bytes ≡ data_device_length default_shape
+  pub log_front : HasFront log log_bytes
+  pub store_front : HasFront store store_bytes
+
+-- of what was read off two devices this holds
+abbrev pub OnRead : Option (List ℕ) → Option (List ℕ) → (List ℕ → List ℕ → Type 0) → Type 0
+OnRead log store P =
+    (log_bytes : List ℕ) × (store_bytes : List ℕ) × WereRead log store log_bytes store_bytes × P log_bytes store_bytes
 
 -- a device failed, or there was no memory
 abbrev pub IsDeviceFault : Fault → Type 0
@@ -32,12 +37,12 @@ IsDeviceFault Sink = ⊥
 IsDeviceFault (Turns n user) = ⊥
 IsDeviceFault (Fit what n) = ⊥
 
--- Why two devices aren't read: a device failed, or there was no memory, or what stands on them is refused.
+-- Why two devices aren't read: a device failed, or there was no memory, or what was read off them is refused.
 abbrev pub IsReadFault : Option (List ℕ) → Option (List ℕ) → Fault → Type 0
 IsReadFault log store Memory = ⊤
 IsReadFault log store LogDevice = ⊤
 IsReadFault log store DataDevice = ⊤
-IsReadFault log store (Store refusal) = OnFronts log store (λ log store. Refuses log store refusal)
+IsReadFault log store (Store refusal) = OnRead log store (λ log store. Refuses log store refusal)
 IsReadFault log store Words = ⊥
 IsReadFault log store (Script n) = ⊥
 IsReadFault log store Source = ⊥

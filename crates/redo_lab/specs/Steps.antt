@@ -8,8 +8,10 @@ use Rattle.redo_disk.specs.declared.error.DevError.TheVariants.{Failed, NoMemory
 use Rattle.model_report.specs.declared.fault.Fault.{Fault}
 use Rattle.model_report.specs.declared.fault.Fault.TheVariants.{Memory, LogDevice, DataDevice}
 use Rattle.redo_memdisk.specs.declared.fuse.Fuse.{Fuse}
+use Rattle.redo_memdisk.specs.declared.fuse.Stage.TheVariants.{Stopping, Crashed}
 
--- no call answered that the device failed, and the fuse stands where it stood
+-- No call answered that the device failed, and the fuse stands where it stood. Writes and syncs are counted where they
+-- come after the crash.
 pub record IsQuiet (old new : Fuse) : Type 0 where
   pub stage : new.stage ≡ old.stage
   pub limit : new.limit ≡ old.limit
@@ -17,6 +19,7 @@ pub record IsQuiet (old new : Fuse) : Type 0 where
   pub early : new.early ≡ old.early
   pub mid : new.mid ≡ old.mid
   pub late : new.late ≡ old.late
+  pub changes : (old.stage ≡ Crashed → ⊥) → new.late_changes ≡ old.late_changes
 
 -- some call answered that the device failed
 abbrev pub HasFailed : Fuse → Type 0
@@ -27,13 +30,19 @@ pub record IsCounted (before now : ℕ) (fuse : Fuse) : Type 0 where
   pub risen : HasRisen before now
   pub noted : HasFailed fuse
 
--- Steps on a device whose size, count of faults and fuse were these and are these. Where they succeeded no call
--- failed; where they ended because the device failed, the failure was counted.
-pub record Steps (size now_size before now : ℕ) (old new : Fuse) (succeeded failed : Type 0) : Type 0 where
+-- no call answered that the device failed
+pub record IsUnfailed (fuse : Fuse) : Type 0 where
+  pub early : fuse.early ≡ 0
+  pub mid : fuse.mid ≡ 0
+  pub late : fuse.late ≡ 0
+
+-- Steps on a device whose size, count of faults and fuse were these and are these. Where they ended because the device
+-- failed, the failure was counted; else no call failed.
+pub record Steps (size now_size before now : ℕ) (old new : Fuse) (failed : Type 0) : Type 0 where
   pub same_size : now_size ≡ size
   pub later : before ≤ now
   pub limit : new.limit ≡ old.limit
-  pub quiet : succeeded → IsQuiet old new
+  pub quiet : (failed → ⊥) → IsQuiet old new
   pub counted : failed → IsCounted before now new
 
 -- what reads give of a device, where it tells
@@ -53,13 +62,13 @@ abbrev pub data_fault : DevError → Fault
 data_fault Failed = DataDevice
 data_fault NoMemory = Memory
 
--- A device on which a call of today has gone so far: its size, its count of faults, and its fuse, which passes all and
--- has noted no failure where all succeeded.
+-- A device on which a call of today has gone so far: its size, its count of faults, and its fuse, which is armed without
+-- a stop where all succeeded, and has noted no failure unless that is why the call ended.
 pub record Side (size now_size before now : ℕ) (fuse : Fuse) (succeeded failed : Type 0) : Type 0 where
   pub same_size : now_size ≡ size
   pub later : before ≤ now
+  pub stage : succeeded → fuse.stage ≡ Stopping
   pub limit : succeeded → fuse.limit ≡ None
-  pub early : succeeded → fuse.early ≡ 0
-  pub mid : succeeded → fuse.mid ≡ 0
-  pub late : succeeded → fuse.late ≡ 0
+  pub changes : succeeded → fuse.late_changes ≡ 0
+  pub unfailed : (failed → ⊥) → IsUnfailed fuse
   pub counted : failed → IsCounted before now fuse

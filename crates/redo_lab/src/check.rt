@@ -48,7 +48,7 @@ pub(crate) fn check_devices<L: Sectors, D: Sectors>(
     ensures same { L.tells (inner_of log.new) ≡ L.tells (inner_of log.old) }
     ensures steps { Steps (L.size (inner_of log.old)) (L.size (inner_of log.new))
         (L.faults (inner_of log.old)) (L.faults (inner_of log.new))
-        (fuse_of log.old) (fuse_of log.new) (IsOk result) (IsErrOf result Fault.LogDevice) }
+        (fuse_of log.old) (fuse_of log.new) (IsErrOf result Fault.LogDevice) }
 {
     let log_length = log.len();
     if log_length < HEADER_BLOCKS {

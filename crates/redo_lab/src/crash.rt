@@ -12,8 +12,8 @@ ghost use Rattle.redo_memdisk.specs.Fused.{fuse_of, inner_of};
 ghost use Rattle.redo_lab.specs.Check.{DoFit, IsUnused};
 ghost use Rattle.redo_lab.specs.Contents.{formatted_log, formatted_store, started_log};
 ghost use Rattle.redo_lab.specs.Outcome.{IsDone, IsSpent, IsCrashFault, IsPrepareFault, IsReportOf};
-ghost use Rattle.redo_lab.specs.Reads.{OnFronts, IsReadFault};
-ghost use Rattle.redo_lab.specs.Steps.{Steps, Side, IsCounted, reads_of, settled_as};
+ghost use Rattle.redo_lab.specs.Reads.{OnRead, IsReadFault};
+ghost use Rattle.redo_lab.specs.Steps.{Steps, Side, IsCounted, IsUnfailed, reads_of, settled_as};
 ghost use Rattle.redo_lab.specs.Today.{run_end};
 
 use crate::check::check_devices;
@@ -58,7 +58,7 @@ fn read_back<L: Sectors, D: Sectors>(
     requires store_long { data_device_length default_shape ≤ D.size (inner_of store.old) }
     requires log_passes { (fuse_of log.old).limit ≡ None }
     requires store_passes { (fuse_of store.old).limit ≡ None }
-    ensures text { IfOk result (λ text. OnFronts (reads_of (L.tells (inner_of log.old)))
+    ensures text { IfOk result (λ text. OnRead (reads_of (L.tells (inner_of log.old)))
         (reads_of (D.tells (inner_of store.old))) (IsReportOf script.now text.items)) }
     ensures fault { IfErr result (IsReadFault (reads_of (L.tells (inner_of log.old)))
         (reads_of (D.tells (inner_of store.old)))) }
@@ -66,10 +66,12 @@ fn read_back<L: Sectors, D: Sectors>(
     ensures store_same { D.tells (inner_of store.new) ≡ D.tells (inner_of store.old) }
     ensures log_steps { Steps (L.size (inner_of log.old)) (L.size (inner_of log.new))
         (L.faults (inner_of log.old)) (L.faults (inner_of log.new))
-        (fuse_of log.old) (fuse_of log.new) (IsOk result) (IsErrOf result Fault.LogDevice) }
+        (fuse_of log.old) (fuse_of log.new) (IsErrOf result Fault.LogDevice) }
     ensures store_steps { Steps (D.size (inner_of store.old)) (D.size (inner_of store.new))
         (D.faults (inner_of store.old)) (D.faults (inner_of store.new))
-        (fuse_of store.old) (fuse_of store.new) (IsOk result) (IsErrOf result Fault.DataDevice) }
+        (fuse_of store.old) (fuse_of store.new) (IsErrOf result Fault.DataDevice) }
+    ensures log_changes { (fuse_of log.new).late_changes ≡ (fuse_of log.old).late_changes }
+    ensures store_changes { (fuse_of store.new).late_changes ≡ (fuse_of store.old).late_changes }
 {
     let read = match recover(alloc, log, store) {
         Ok(read) => read,
@@ -99,7 +101,9 @@ fn prepare<L: Sectors, D: Sectors>(
     ensures store_sized { OnOk result (IfSome (D.tells (inner_of store.old)) (HasSize (D.size (inner_of store.old)))) }
     ensures unused { OnOk result (IsUnused (reads_of (L.tells (inner_of log.old)))) }
     ensures fault { IfErr result (IsPrepareFault (reads_of (L.tells (inner_of log.old)))
-        (L.size (inner_of log.old)) (D.size (inner_of store.old))) }
+        (L.size (inner_of log.old)) (D.size (inner_of store.old))
+        ((L.tells (inner_of log.new) ≡ L.tells (inner_of log.old))
+        × (D.tells (inner_of store.new) ≡ D.tells (inner_of store.old)))) }
     ensures log_side { Side (L.size (inner_of log.old)) (L.size (inner_of log.new))
         (L.faults (inner_of log.old)) (L.faults (inner_of log.new)) (fuse_of log.new)
         (IsOk result) (IsErrOf result Fault.LogDevice) }
@@ -135,7 +139,9 @@ fn begin<L: Sectors, D: Sectors>(
     ensures store_sized { OnOk result (IfSome (D.tells (inner_of store.old)) (HasSize (D.size (inner_of store.old)))) }
     ensures unused { OnOk result (IsUnused (reads_of (L.tells (inner_of log.old)))) }
     ensures fault { IfErr result (IsCrashFault (reads_of (L.tells (inner_of log.old)))
-        (reads_of (D.tells (inner_of store.old))) (L.size (inner_of log.old)) (D.size (inner_of store.old))) }
+        (reads_of (D.tells (inner_of store.old))) (L.size (inner_of log.old)) (D.size (inner_of store.old))
+        ((L.tells (inner_of log.new) ≡ L.tells (inner_of log.old))
+        × (D.tells (inner_of store.new) ≡ D.tells (inner_of store.old)))) }
     ensures log_side { Side (L.size (inner_of log.old)) (L.size (inner_of log.new))
         (L.faults (inner_of log.old)) (L.faults (inner_of log.new)) (fuse_of log.new)
         (IsOk result) (IsErrOf result Fault.LogDevice) }
@@ -167,11 +173,17 @@ pub(crate) fn crash<L: Sectors, D: Sectors>(
     ensures done { IfOk result (λ text. (first second : Disk)
         → L.tells (inner_of log.old) ≡ Some first → D.tells (inner_of store.old) ≡ Some second
         → IsDone script.now first second text.items (L.tells (inner_of log.new)) (D.tells (inner_of store.new))) }
+    ensures reported { IfOk result (λ text. OnRead (reads_of (L.tells (inner_of log.new)))
+        (reads_of (D.tells (inner_of store.new))) (IsReportOf script.now text.items)) }
     ensures fits { OnOk result (DoFit (reads_of (L.tells (inner_of log.old))) (L.size (inner_of log.old)) (D.size (inner_of store.old))) }
     ensures log_spent { OnOk result (IsSpent (fuse_of log.new)) }
     ensures store_spent { OnOk result (IsSpent (fuse_of store.new)) }
     ensures fault { IfErr result (IsCrashFault (reads_of (L.tells (inner_of log.old)))
-        (reads_of (D.tells (inner_of store.old))) (L.size (inner_of log.old)) (D.size (inner_of store.old))) }
+        (reads_of (D.tells (inner_of store.old))) (L.size (inner_of log.old)) (D.size (inner_of store.old))
+        ((L.tells (inner_of log.new) ≡ L.tells (inner_of log.old))
+        × (D.tells (inner_of store.new) ≡ D.tells (inner_of store.old)))) }
+    ensures log_unfailed { (IsErrOf result Fault.LogDevice → ⊥) → IsUnfailed (fuse_of log.new) }
+    ensures store_unfailed { (IsErrOf result Fault.DataDevice → ⊥) → IsUnfailed (fuse_of store.new) }
     ensures log_counted { IsErrOf result Fault.LogDevice
         → IsCounted (L.faults (inner_of log.old)) (L.faults (inner_of log.new)) (fuse_of log.new) }
     ensures store_counted { IsErrOf result Fault.DataDevice

@@ -21,7 +21,7 @@ fn write<D: Sectors>(device: &mut Fused<D>, at: u64, bytes: &[u8]) -> Result<(),
         ≡ option_map (overwritten at bytes.now) (reads_of (D.tells (inner_of device.old)))) }
     ensures steps { Steps (D.size (inner_of device.old)) (D.size (inner_of device.new))
         (D.faults (inner_of device.old)) (D.faults (inner_of device.new))
-        (fuse_of device.old) (fuse_of device.new) (IsOk result) (IsErrOf result DevError.Failed) }
+        (fuse_of device.old) (fuse_of device.new) (IsErrOf result DevError.Failed) }
 {
     device.write(at, bytes)
 }
@@ -32,7 +32,7 @@ fn sync<D: Sectors>(device: &mut Fused<D>) -> Result<(), DevError>
         ≡ settled_as (reads_of (D.tells (inner_of device.old)))) }
     ensures steps { Steps (D.size (inner_of device.old)) (D.size (inner_of device.new))
         (D.faults (inner_of device.old)) (D.faults (inner_of device.new))
-        (fuse_of device.old) (fuse_of device.new) (IsOk result) (IsErrOf result DevError.Failed) }
+        (fuse_of device.old) (fuse_of device.new) (IsErrOf result DevError.Failed) }
 {
     device.sync()
 }
@@ -45,7 +45,7 @@ pub(crate) fn put<D: Sectors>(device: &mut Fused<D>, at: u64, bytes: &[u8]) -> R
         ≡ settled_as (option_map (overwritten at bytes.now) (reads_of (D.tells (inner_of device.old))))) }
     ensures steps { Steps (D.size (inner_of device.old)) (D.size (inner_of device.new))
         (D.faults (inner_of device.old)) (D.faults (inner_of device.new))
-        (fuse_of device.old) (fuse_of device.new) (IsOk result) (IsErrOf result DevError.Failed) }
+        (fuse_of device.old) (fuse_of device.new) (IsErrOf result DevError.Failed) }
 {
     write(device, at, bytes)?;
     sync(device)
@@ -62,7 +62,7 @@ fn zero<D: Sectors>(device: &mut Fused<D>, from: u64, to: u64, zeros: &[u8]) -> 
         ≡ option_map (zeroed from to) (reads_of (D.tells (inner_of device.old)))) }
     ensures steps { Steps (D.size (inner_of device.old)) (D.size (inner_of device.new))
         (D.faults (inner_of device.old)) (D.faults (inner_of device.new))
-        (fuse_of device.old) (fuse_of device.new) (IsOk result) (IsErrOf result DevError.Failed) }
+        (fuse_of device.old) (fuse_of device.new) (IsErrOf result DevError.Failed) }
 {
     let mut at = from;
     while at < to {
@@ -89,7 +89,7 @@ pub(crate) fn erase<D: Sectors>(
         ≡ settled_as (option_map (zeroed from to) (reads_of (D.tells (inner_of device.old))))) }
     ensures steps { Steps (D.size (inner_of device.old)) (D.size (inner_of device.new))
         (D.faults (inner_of device.old)) (D.faults (inner_of device.new))
-        (fuse_of device.old) (fuse_of device.new) (IsOk result) (IsErrOf result DevError.Failed) }
+        (fuse_of device.old) (fuse_of device.new) (IsErrOf result DevError.Failed) }
 {
     let zeros = vec![in alloc; 0u8; PIECE]?;
     zero(device, from, to, &zeros)?;

@@ -54,7 +54,7 @@ fn clear_log<L: Sectors>(alloc: Global, log: &mut Fused<L>) -> Result<(), DevErr
         (reads_of (L.tells (inner_of log.old))))) }
     ensures steps { Steps (L.size (inner_of log.old)) (L.size (inner_of log.new))
         (L.faults (inner_of log.old)) (L.faults (inner_of log.new))
-        (fuse_of log.old) (fuse_of log.new) (IsOk result) (IsErrOf result DevError.Failed) }
+        (fuse_of log.old) (fuse_of log.new) (IsErrOf result DevError.Failed) }
 {
     erase(alloc, log, 0, BLOCK_SIZE)?;
     erase(alloc, log, 2 * BLOCK_SIZE, LOG_LENGTH)
@@ -69,7 +69,7 @@ fn head_log<L: Sectors>(alloc: Global, log: &mut Fused<L>) -> Result<(), DevErro
         (reads_of (L.tells (inner_of log.old))))) }
     ensures steps { Steps (L.size (inner_of log.old)) (L.size (inner_of log.new))
         (L.faults (inner_of log.old)) (L.faults (inner_of log.new))
-        (fuse_of log.old) (fuse_of log.new) (IsOk result) (IsErrOf result DevError.Failed) }
+        (fuse_of log.old) (fuse_of log.new) (IsErrOf result DevError.Failed) }
 {
     let shape = Shape::default_shape();
     let checkpoint = checkpoint_bytes(alloc, 0, START_LSN, &shape)?;
@@ -95,10 +95,10 @@ pub(crate) fn format<L: Sectors, D: Sectors>(
     ensures fault { IfErr result IsDeviceFault }
     ensures log_steps { Steps (L.size (inner_of log.old)) (L.size (inner_of log.new))
         (L.faults (inner_of log.old)) (L.faults (inner_of log.new))
-        (fuse_of log.old) (fuse_of log.new) (IsOk result) (IsErrOf result Fault.LogDevice) }
+        (fuse_of log.old) (fuse_of log.new) (IsErrOf result Fault.LogDevice) }
     ensures store_steps { Steps (D.size (inner_of store.old)) (D.size (inner_of store.new))
         (D.faults (inner_of store.old)) (D.faults (inner_of store.new))
-        (fuse_of store.old) (fuse_of store.new) (IsOk result) (IsErrOf result Fault.DataDevice) }
+        (fuse_of store.old) (fuse_of store.new) (IsErrOf result Fault.DataDevice) }
 {
     clear_log(alloc, log).map_err(log_fault)?;
     erase(alloc, store, 0, STORE_LENGTH).map_err(data_fault)?;

@@ -8,10 +8,10 @@ ghost use Rattle.redo_io.specs.declared.read.TheConstants.{PIECE};
 ghost use Rattle.redo_io.specs.Source.{TakesAtMost};
 ghost use Rattle.redo_memdisk.specs.Fuse.{fresh};
 ghost use Rattle.redo_memdisk.specs.Fused.{fuse_of, inner_of};
-ghost use Rattle.redo_lab.specs.Answer.{IsAnswer, IsFaultPrinted, IsLabFault, IsOutcome, IsSafe, IsTextPrinted, the_command};
+ghost use Rattle.redo_lab.specs.Answer.{HadText, IsAnswer, IsFaultPrinted, IsLabFault, IsOutcome, IsSafe, IsTextPrinted, the_command};
 ghost use Rattle.redo_lab.specs.Check.{DoFit};
 ghost use Rattle.redo_lab.specs.Outcome.{IsSpent};
-ghost use Rattle.redo_lab.specs.Steps.{IsCounted, reads_of};
+ghost use Rattle.redo_lab.specs.Steps.{IsCounted, IsUnfailed, reads_of};
 
 use crate::Ended;
 use crate::crash::crash;
@@ -39,10 +39,14 @@ fn answer<S: Source, L: Sectors, D: Sectors>(
     ensures fits { OnOk result (DoFit (reads_of (L.tells (inner_of log.old))) (L.size (inner_of log.old)) (D.size (inner_of store.old))) }
     ensures log_spent { OnOk result (IsSpent (fuse_of log.new)) }
     ensures store_spent { OnOk result (IsSpent (fuse_of store.new)) }
+    ensures log_unfailed { (IsErrOf result Fault.LogDevice → ⊥) → IsUnfailed (fuse_of log.new) }
+    ensures store_unfailed { (IsErrOf result Fault.DataDevice → ⊥) → IsUnfailed (fuse_of store.new) }
     ensures words { map (λ word. string_bytes word) words.now ≢ the_command → IsErrOf result Fault.Words }
     ensures fault { IfErr result (IsLabFault (map (λ word. string_bytes word) words.now) (S.left src.old) (S.left src.new)
         (S.faults src.old) (S.faults src.new) (reads_of (L.tells (inner_of log.old)))
-        (reads_of (D.tells (inner_of store.old))) (L.size (inner_of log.old)) (D.size (inner_of store.old))) }
+        (reads_of (D.tells (inner_of store.old))) (L.size (inner_of log.old)) (D.size (inner_of store.old))
+        ((L.tells (inner_of log.new) ≡ L.tells (inner_of log.old))
+        × (D.tells (inner_of store.new) ≡ D.tells (inner_of store.old)))) }
     ensures log_counted { IsErrOf result Fault.LogDevice
         → IsCounted (L.faults (inner_of log.old)) (L.faults (inner_of log.new)) (fuse_of log.new) }
     ensures store_counted { IsErrOf result Fault.DataDevice
@@ -116,9 +120,11 @@ pub fn lab<S: Source, O: Sink, L: Sectors, D: Sectors>(
         result.status (O.taken out.old) (O.taken out.new) (O.faults out.old) (O.faults out.new) }
     ensures words { map (λ word. string_bytes word) words.now ≢ the_command → result.status ≡ 2 }
     ensures read { TakesAtMost (MAX_SCRIPT + PIECE) (S.left src.old) (S.left src.new) }
-    ensures fits { result.status ≡ 0 → DoFit (reads_of (L.tells log)) (L.size log) (D.size store) }
-    ensures log_spent { result.status ≡ 0 → IsSpent (fuse_of result.log) }
-    ensures store_spent { result.status ≡ 0 → IsSpent (fuse_of result.store) }
+    ensures fits { HadText result.status → DoFit (reads_of (L.tells log)) (L.size log) (D.size store) }
+    ensures log_spent { HadText result.status → IsSpent (fuse_of result.log) }
+    ensures store_spent { HadText result.status → IsSpent (fuse_of result.store) }
+    ensures log_unfailed { result.status ≢ 6 → IsUnfailed (fuse_of result.log) }
+    ensures store_unfailed { result.status ≢ 7 → IsUnfailed (fuse_of result.store) }
     ensures log_device { result.status ≡ 6
         → IsCounted (L.faults log) (L.faults (inner_of result.log)) (fuse_of result.log) }
     ensures data_device { result.status ≡ 7

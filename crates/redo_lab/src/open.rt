@@ -9,7 +9,7 @@ ghost use Rattle.redo_lab.specs.Contents.{opened_log};
 ghost use Rattle.redo_lab.specs.FirstReading.{empty_reading};
 ghost use Rattle.redo_lab.specs.Outcome.{IsOpenFault};
 ghost use Rattle.redo_lab.specs.Steps.{Steps, reads_of, settled_as};
-ghost use Rattle.redo_lab.specs.Reads.{HasFront, OnFronts, IsDeviceFault, IsReadFault};
+ghost use Rattle.redo_lab.specs.Reads.{HasFront, OnRead, IsDeviceFault, IsReadFault};
 ghost use Rattle.model_store.specs.Reading.{Reads};
 ghost use Rattle.model_store.specs.Read.{reading_of};
 
@@ -40,7 +40,8 @@ fn read_piece<D: Sectors>(
     ensures same { D.tells (inner_of device.new) ≡ D.tells (inner_of device.old) }
     ensures steps { Steps (D.size (inner_of device.old)) (D.size (inner_of device.new))
         (D.faults (inner_of device.old)) (D.faults (inner_of device.new))
-        (fuse_of device.old) (fuse_of device.new) (IsOk result) (IsErrOf result DevError.Failed) }
+        (fuse_of device.old) (fuse_of device.new) (IsErrOf result DevError.Failed) }
+    ensures changes { (fuse_of device.new).late_changes ≡ (fuse_of device.old).late_changes }
 {
     let mut piece = vec![in alloc; 0u8; count]?;
     device.read(bytes.len() as u64, piece.as_mut_slice())?;
@@ -62,7 +63,8 @@ fn read_front<D: Sectors>(
     ensures same { D.tells (inner_of device.new) ≡ D.tells (inner_of device.old) }
     ensures steps { Steps (D.size (inner_of device.old)) (D.size (inner_of device.new))
         (D.faults (inner_of device.old)) (D.faults (inner_of device.new))
-        (fuse_of device.old) (fuse_of device.new) (IsOk result) (IsErrOf result DevError.Failed) }
+        (fuse_of device.old) (fuse_of device.new) (IsErrOf result DevError.Failed) }
+    ensures changes { (fuse_of device.new).late_changes ≡ (fuse_of device.old).late_changes }
 {
     let mut bytes = Vec::new(alloc);
     'pieces: while (bytes.len() as u64) < len {
@@ -82,8 +84,9 @@ fn read_log<L: Sectors>(alloc: Global, log: &mut Fused<L>) -> Result<Vec<u8>, Fa
     ensures same { L.tells (inner_of log.new) ≡ L.tells (inner_of log.old) }
     ensures steps { Steps (L.size (inner_of log.old)) (L.size (inner_of log.new))
         (L.faults (inner_of log.old)) (L.faults (inner_of log.new))
-        (fuse_of log.old) (fuse_of log.new) (IsOk result) (IsErrOf result Fault.LogDevice) }
+        (fuse_of log.old) (fuse_of log.new) (IsErrOf result Fault.LogDevice) }
     ensures apart { IsErrOf result Fault.DataDevice → ⊥ }
+    ensures changes { (fuse_of log.new).late_changes ≡ (fuse_of log.old).late_changes }
 {
     match read_front(alloc, log, LOG_LENGTH) {
         Ok(bytes) => Ok(bytes),
@@ -101,8 +104,9 @@ fn read_data<D: Sectors>(alloc: Global, store: &mut Fused<D>) -> Result<Vec<u8>,
     ensures same { D.tells (inner_of store.new) ≡ D.tells (inner_of store.old) }
     ensures steps { Steps (D.size (inner_of store.old)) (D.size (inner_of store.new))
         (D.faults (inner_of store.old)) (D.faults (inner_of store.new))
-        (fuse_of store.old) (fuse_of store.new) (IsOk result) (IsErrOf result Fault.DataDevice) }
+        (fuse_of store.old) (fuse_of store.new) (IsErrOf result Fault.DataDevice) }
     ensures apart { IsErrOf result Fault.LogDevice → ⊥ }
+    ensures changes { (fuse_of store.new).late_changes ≡ (fuse_of store.old).late_changes }
 {
     match read_front(alloc, store, STORE_LENGTH) {
         Ok(bytes) => Ok(bytes),
@@ -120,7 +124,7 @@ pub(crate) fn recover<L: Sectors, D: Sectors>(
     requires store_long { data_device_length default_shape ≤ D.size (inner_of store.old) }
     requires log_passes { (fuse_of log.old).limit ≡ None }
     requires store_passes { (fuse_of store.old).limit ≡ None }
-    ensures read { IfOk result (λ read. OnFronts (reads_of (L.tells (inner_of log.old)))
+    ensures read { IfOk result (λ read. OnRead (reads_of (L.tells (inner_of log.old)))
         (reads_of (D.tells (inner_of store.old))) (λ log store. Reads log store (reading_of read))) }
     ensures fault { IfErr result (IsReadFault (reads_of (L.tells (inner_of log.old)))
         (reads_of (D.tells (inner_of store.old)))) }
@@ -128,10 +132,12 @@ pub(crate) fn recover<L: Sectors, D: Sectors>(
     ensures store_same { D.tells (inner_of store.new) ≡ D.tells (inner_of store.old) }
     ensures log_steps { Steps (L.size (inner_of log.old)) (L.size (inner_of log.new))
         (L.faults (inner_of log.old)) (L.faults (inner_of log.new))
-        (fuse_of log.old) (fuse_of log.new) (IsOk result) (IsErrOf result Fault.LogDevice) }
+        (fuse_of log.old) (fuse_of log.new) (IsErrOf result Fault.LogDevice) }
     ensures store_steps { Steps (D.size (inner_of store.old)) (D.size (inner_of store.new))
         (D.faults (inner_of store.old)) (D.faults (inner_of store.new))
-        (fuse_of store.old) (fuse_of store.new) (IsOk result) (IsErrOf result Fault.DataDevice) }
+        (fuse_of store.old) (fuse_of store.new) (IsErrOf result Fault.DataDevice) }
+    ensures log_changes { (fuse_of log.new).late_changes ≡ (fuse_of log.old).late_changes }
+    ensures store_changes { (fuse_of store.new).late_changes ≡ (fuse_of store.old).late_changes }
 {
     let log_bytes = read_log(alloc, log)?;
     let store_bytes = read_data(alloc, store)?;
@@ -157,7 +163,7 @@ fn start_log<L: Sectors>(alloc: Global, log: &mut Fused<L>) -> Result<(), DevErr
         ≡ settled_as (option_map (opened_log default_shape) (reads_of (L.tells (inner_of log.old))))) }
     ensures steps { Steps (L.size (inner_of log.old)) (L.size (inner_of log.new))
         (L.faults (inner_of log.old)) (L.faults (inner_of log.new))
-        (fuse_of log.old) (fuse_of log.new) (IsOk result) (IsErrOf result DevError.Failed) }
+        (fuse_of log.old) (fuse_of log.new) (IsErrOf result DevError.Failed) }
 {
     let shape = Shape::default_shape();
     let checkpoint = checkpoint_bytes(alloc, 1, START_LSN, &shape)?;
@@ -183,10 +189,10 @@ pub(crate) fn open<L: Sectors, D: Sectors>(
         (reads_of (D.tells (inner_of store.old)))) }
     ensures log_steps { Steps (L.size (inner_of log.old)) (L.size (inner_of log.new))
         (L.faults (inner_of log.old)) (L.faults (inner_of log.new))
-        (fuse_of log.old) (fuse_of log.new) (IsOk result) (IsErrOf result Fault.LogDevice) }
+        (fuse_of log.old) (fuse_of log.new) (IsErrOf result Fault.LogDevice) }
     ensures store_steps { Steps (D.size (inner_of store.old)) (D.size (inner_of store.new))
         (D.faults (inner_of store.old)) (D.faults (inner_of store.new))
-        (fuse_of store.old) (fuse_of store.new) (IsOk result) (IsErrOf result Fault.DataDevice) }
+        (fuse_of store.old) (fuse_of store.new) (IsErrOf result Fault.DataDevice) }
 {
     one_reading();
     one_answer();

@@ -55,7 +55,7 @@ fn log_line<L: Sectors>(alloc: Global, line: &ScriptLine, log: &mut Fused<L>) ->
     ensures apart { IsErrOf result Fault.DataDevice → ⊥ }
     ensures steps { Steps (L.size (inner_of log.old)) (L.size (inner_of log.new))
         (L.faults (inner_of log.old)) (L.faults (inner_of log.new))
-        (fuse_of log.old) (fuse_of log.new) (IsOk result) (IsErrOf result Fault.LogDevice) }
+        (fuse_of log.old) (fuse_of log.new) (IsErrOf result Fault.LogDevice) }
 {
     let (block, length) = match first_block(alloc, line) {
         Ok(found) => found,
@@ -84,7 +84,7 @@ pub(crate) fn run<L: Sectors>(
     ensures apart { IsErrOf result Fault.DataDevice → ⊥ }
     ensures steps { Steps (L.size (inner_of log.old)) (L.size (inner_of log.new))
         (L.faults (inner_of log.old)) (L.faults (inner_of log.new))
-        (fuse_of log.old) (fuse_of log.new) (IsOk result) (IsErrOf result Fault.LogDevice) }
+        (fuse_of log.old) (fuse_of log.new) (IsErrOf result Fault.LogDevice) }
 {
     short_lines();
     match script.0.first() {

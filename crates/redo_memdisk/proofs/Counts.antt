@@ -7,7 +7,9 @@ use Rattle.redo_disk.specs.declared.error.DevError.{DevError}
 use Rattle.redo_disk.specs.Sectors.{HasCause}
 use Rattle.redo_memdisk.specs.declared.fuse.Fuse.{Fuse}
 use Rattle.redo_memdisk.specs.Count.{counted}
-use Rattle.redo_memdisk.specs.Fuse.{after_call, fails_next}
+use Rattle.redo_memdisk.specs.Fuse.{after_call, after_change, fails_next, with_change}
+use Rattle.redo_memdisk.specs.declared.fuse.Stage.{Stage}
+use Rattle.redo_memdisk.specs.declared.fuse.Stage.TheVariants.{Before, Stopping, Crashed}
 
 pub counted_later : (count : ℕ) → count ≤ counted count
 counted_later count = grind (arith, nat_tests)
@@ -46,3 +48,21 @@ HasCause-passed before now own result cause = record {
 pub own-after_call : (fuse new : Fuse) (stops failed : Bool) → stops ≡ fails_next fuse → stops ≡ true → new ≡ after_call fuse failed
     → new.own ≡ counted fuse.own
 own-after_call fuse new stops failed stops_is true_is new_is = ap (λ (f : Fuse). f.own) new_is ∙ rw (sym stops_is ∙ true_is) refl
+
+-- counting a change changes nothing of what the fuse fails
+same-fails_next : (stage : Stage) (fuse : Fuse) → fails_next (with_change stage fuse) ≡ fails_next fuse
+same-fails_next Before fuse = refl
+same-fails_next Stopping fuse = refl
+same-fails_next Crashed fuse = refl
+
+same-own : (stage : Stage) (fuse : Fuse) → (with_change stage fuse).own ≡ fuse.own
+same-own Before fuse = refl
+same-own Stopping fuse = refl
+same-own Crashed fuse = refl
+
+-- so it does at a write or a sync
+pub own-after_change : (fuse new : Fuse) (stops failed : Bool) → stops ≡ fails_next fuse → stops ≡ true → new ≡ after_change fuse failed
+    → new.own ≡ counted fuse.own
+own-after_change fuse new stops failed stops_is true_is new_is =
+    own-after_call (with_change fuse.stage fuse) new stops failed (stops_is ∙ sym (same-fails_next fuse.stage fuse)) true_is new_is
+    ∙ ap counted (same-own fuse.stage fuse)

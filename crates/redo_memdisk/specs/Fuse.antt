@@ -24,6 +24,7 @@ fresh = record {
   early = 0;
   mid = 0;
   late = 0;
+  late_changes = 0;
   own = 0;
 }
 
@@ -55,6 +56,16 @@ after_passed Crashed fuse failed = record fuse { late = counted_if failed fuse.l
 -- the fuse after a call, by whether it answered Failed
 abbrev pub after_call : Fuse → Bool → Fuse
 after_call fuse failed = if fails_next fuse then after_own fuse else after_passed fuse.stage fuse failed
+
+-- a write or a sync is counted where it comes after the crash
+abbrev pub with_change : Stage → Fuse → Fuse
+with_change Before fuse = fuse
+with_change Stopping fuse = fuse
+with_change Crashed fuse = record fuse { late_changes = counted fuse.late_changes }
+
+-- the fuse after a write or a sync, by whether it answered Failed
+abbrev pub after_change : Fuse → Bool → Fuse
+after_change fuse failed = after_call (with_change fuse.stage fuse) failed
 
 -- the fuse after a crash with this pick
 abbrev pub crashed_with : ℕ → Fuse → Fuse

@@ -1,6 +1,6 @@
 // The plan of a stop, and what came of it.
 ghost use Rattle.std.specs.Prelude.{◌≡◌};
-ghost use Rattle.redo_memdisk.specs.Fuse.{after_call, armed, crashed_with, fails_next, fresh, is_failed};
+ghost use Rattle.redo_memdisk.specs.Fuse.{after_call, after_change, armed, crashed_with, fails_next, fresh, is_failed};
 
 use crate::count::{counted, counted_if};
 use redo_disk::DevError;
@@ -34,6 +34,8 @@ pub struct Fuse {
     pub mid: u64,
     /// How many calls answered `Failed` after the crash.
     pub late: u64,
+    /// How many writes and syncs came after the crash.
+    pub late_changes: u64,
     /// How many calls it has failed itself.
     pub own: u64,
 }
@@ -59,6 +61,7 @@ impl Fuse {
             early: 0,
             mid: 0,
             late: 0,
+            late_changes: 0,
             own: 0,
         }
     }
@@ -100,6 +103,16 @@ impl Fuse {
             }
             Stage::Crashed => self.late = counted_if(failed, self.late),
         }
+    }
+
+    /// Counts a write or a sync by whether it answered that the device failed.
+    pub(crate) fn note_change(&mut self, failed: bool)
+        ensures { self.new ≡ after_change self.old failed }
+    {
+        if self.stage == Stage::Crashed {
+            self.late_changes = counted(self.late_changes);
+        }
+        self.note_call(failed);
     }
 
     /// Ends the stop.

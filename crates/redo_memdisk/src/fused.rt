@@ -2,7 +2,7 @@
 ghost use Rattle.std.specs.Prelude.{◌≡◌, ◌+◌, ◌≤◌, length, IsTrue, true, false, Option, Some, None, IfSome, OnOk, OnErr};
 ghost use Rattle.model_device.specs.Calls.{written, FailsWrite, synced, Crashes};
 ghost use Rattle.redo_disk.specs.Sectors.{IsRange, HasSize, HasCause, OnTold, part, write_at};
-ghost use Rattle.redo_memdisk.specs.Fuse.{after_call, armed, crashed_with, fails_next, fresh, is_failed};
+ghost use Rattle.redo_memdisk.specs.Fuse.{after_call, after_change, armed, crashed_with, fails_next, fresh, is_failed};
 ghost use Rattle.redo_memdisk.specs.declared.fuse.Stage.{Stage};
 ghost use Rattle.redo_memdisk.specs.Fused.{fuse_of, inner_of};
 
@@ -113,7 +113,7 @@ impl<D: Sectors> Sectors for Fused<D> {
         ensures cause { HasCause (D.faults (inner_of self.old) + (fuse_of self.old).own)
             (D.faults (inner_of self.new) + (fuse_of self.new).own) result }
 
-        ensures fuse { fuse_of self.new ≡ after_call (fuse_of self.old) (is_failed result) }
+        ensures fuse { fuse_of self.new ≡ after_change (fuse_of self.old) (is_failed result) }
         ensures stopped { IsTrue (fails_next (fuse_of self.old)) → result ≡ Err DevError.Failed }
         // the first call that it fails is passed on
         ensures cut { IsTrue (fails_next (fuse_of self.old)) → (fuse_of self.old).tripped ≡ false
@@ -130,11 +130,11 @@ impl<D: Sectors> Sectors for Fused<D> {
             if !self.fuse.tripped {
                 cut_write(&mut self.inner, at, bytes);
             }
-            self.fuse.note_call(true);
+            self.fuse.note_change(true);
             return Err(DevError::Failed);
         }
         let answer = self.inner.write(at, bytes);
-        self.fuse.note_call(is_failed(&answer));
+        self.fuse.note_change(is_failed(&answer));
         answer
     }
 
@@ -146,18 +146,18 @@ impl<D: Sectors> Sectors for Fused<D> {
         ensures cause { HasCause (D.faults (inner_of self.old) + (fuse_of self.old).own)
             (D.faults (inner_of self.new) + (fuse_of self.new).own) result }
 
-        ensures fuse { fuse_of self.new ≡ after_call (fuse_of self.old) (is_failed result) }
+        ensures fuse { fuse_of self.new ≡ after_change (fuse_of self.old) (is_failed result) }
         ensures stopped { IsTrue (fails_next (fuse_of self.old)) → result ≡ Err DevError.Failed }
         ensures kept { IsTrue (fails_next (fuse_of self.old)) → inner_of self.new ≡ inner_of self.old }
         ensures inner { fails_next (fuse_of self.old) ≡ false
             → HasCause (D.faults (inner_of self.old)) (D.faults (inner_of self.new)) result }
     {
         if self.fuse.fails_next() {
-            self.fuse.note_call(true);
+            self.fuse.note_change(true);
             return Err(DevError::Failed);
         }
         let answer = self.inner.sync();
-        self.fuse.note_call(is_failed(&answer));
+        self.fuse.note_change(is_failed(&answer));
         answer
     }
 

@@ -4,7 +4,7 @@ use Rattle.model_base.specs.Overwrite.{overwritten}
 use Rattle.redo_lab.specs.Steps.{reads_of}
 use Rattle.std.proofs.lemmas.List.{take-replicate}
 use Rattle.redo_lab.specs.declared.device.TheConstants.{PIECE}
-use Rattle.redo_lab.proofs.StepLemmas.{quiet_same, quiet_then}
+use Rattle.redo_lab.proofs.StepLemmas.{ok_is_no_error, quiet_same, quiet_then}
 use Rattle.redo_lab.proofs.Zeros.{told_none, told_more}
 use Rattle.redo_lab.proofs.device.zero.Goals as goal
 
@@ -35,7 +35,7 @@ loop-at-preserved g c =
       up_to = omega arith;
       size = steps.same_size ∙ before.size;
       later = omega (arith, steps.later, before.later);
-      quiet = quiet_then c.args.device.now.fuse c.loop-at.device.fuse c.write.new.device.fuse before.quiet (steps.quiet refl);
+      quiet = quiet_then c.args.device.now.fuse c.loop-at.device.fuse c.write.new.device.fuse before.quiet (steps.quiet (ok_is_no_error _ _));
       told = told_more c.args.from at (at + count) _ _ _ before.from (omega arith) before.told
           (c.in_ok-write.ensures.told ∙ ap (λ (l : List ℕ). option_map (overwritten at l) (reads_of (g.D.Sectors.tells c.loop-at.device.inner))) bytes);
     }

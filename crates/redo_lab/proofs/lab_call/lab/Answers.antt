@@ -1,9 +1,11 @@
-use Rattle.std.proofs.Common.{ap, ◌∙◌, map, subst}
+use Rattle.std.proofs.Common.{ap, sym, ◌∙◌, map, subst}
 use Rattle.std.specs.String.{string_bytes}
 use Rattle.redo_lab.specs.Answer.{IsOutcome}
 use Rattle.redo_lab.specs.Check.{DoFit}
 use Rattle.redo_lab.specs.Steps.{reads_of}
-use Rattle.redo_lab.proofs.Calls.{is_safe, of_ok, one_or_other, taken_whole}
+use Rattle.model_report.specs.declared.fault.Fault.TheVariants.{LogDevice, DataDevice}
+use Rattle.redo_lab.proofs.Calls.{had_text, has_status, is_safe, of_ok, one_or_other, taken_whole}
+use Rattle.redo_lab.proofs.StepLemmas.{ok_is_no_error}
 use Rattle.redo_lab.proofs.lab_call.lab.Goals as goal
 
 pub returns-clause-outcome : goal.returns-clause-outcome
@@ -28,22 +30,32 @@ returns-clause-crash_safe g c = λ zero source first second source_is log_is sto
     c.answer-answer.new.log.fuse c.answer-answer.new.store.fuse
     (of_ok _ c.answer-answer.result took.0 c.answer-answer.ensures.log_spent took.3)
     (of_ok _ c.answer-answer.result took.0 c.answer-answer.ensures.store_spent took.3)
+    (c.answer-answer.ensures.log_unfailed (λ is. ok_is_no_error _ _ (sym took.3 ∙ is)))
+    (c.answer-answer.ensures.store_unfailed (λ is. ok_is_no_error _ _ (sym took.3 ∙ is)))
     _ _ took.2 (g.L.Sectors.faults c.args.log) (g.D.Sectors.faults c.args.store) source first second source_is
     (ap g.L.Sectors.tells c.plain-log.ensures.inner ∙ log_is) (ap g.D.Sectors.tells c.plain-store.ensures.inner ∙ store_is)
 
 pub returns-clause-log_spent : goal.returns-clause-log_spent
-returns-clause-log_spent g c = λ zero.
-    let took = taken_whole (λ text. text.items) _ c.answer-answer.result _ _ _ _ _ c.answer-answer.ensures.text c.print-status.ensures.text c.print-status.ensures.fault zero in
-    of_ok _ c.answer-answer.result took.0 c.answer-answer.ensures.log_spent took.3
+returns-clause-log_spent g c = λ had.
+    let text = had_text _ (λ none. none) c.answer-answer.result _ _ _ _ _ c.answer-answer.ensures.fault c.print-status.ensures.fault had in
+    of_ok _ c.answer-answer.result text.0 c.answer-answer.ensures.log_spent text.1
 
 pub returns-clause-store_spent : goal.returns-clause-store_spent
-returns-clause-store_spent g c = λ zero.
-    let took = taken_whole (λ text. text.items) _ c.answer-answer.result _ _ _ _ _ c.answer-answer.ensures.text c.print-status.ensures.text c.print-status.ensures.fault zero in
-    of_ok _ c.answer-answer.result took.0 c.answer-answer.ensures.store_spent took.3
+returns-clause-store_spent g c = λ had.
+    let text = had_text _ (λ none. none) c.answer-answer.result _ _ _ _ _ c.answer-answer.ensures.fault c.print-status.ensures.fault had in
+    of_ok _ c.answer-answer.result text.0 c.answer-answer.ensures.store_spent text.1
 
 pub returns-clause-fits : goal.returns-clause-fits
-returns-clause-fits g c = λ zero.
-    let took = taken_whole (λ text. text.items) _ c.answer-answer.result _ _ _ _ _ c.answer-answer.ensures.text c.print-status.ensures.text c.print-status.ensures.fault zero in
+returns-clause-fits g c = λ had.
+    let text = had_text _ (λ none. none) c.answer-answer.result _ _ _ _ _ c.answer-answer.ensures.fault c.print-status.ensures.fault had in
     subst (λ d. DoFit (reads_of (g.L.Sectors.tells c.args.log)) (g.L.Sectors.size c.args.log) (g.D.Sectors.size d)) c.plain-store.ensures.inner
     (subst (λ l. DoFit (reads_of (g.L.Sectors.tells l)) (g.L.Sectors.size l) (g.D.Sectors.size c.plain-store.result.inner)) c.plain-log.ensures.inner
-    (of_ok _ c.answer-answer.result took.0 c.answer-answer.ensures.fits took.3))
+    (of_ok _ c.answer-answer.result text.0 c.answer-answer.ensures.fits text.1))
+
+pub returns-clause-log_unfailed : goal.returns-clause-log_unfailed
+returns-clause-log_unfailed g c = λ other.
+    c.answer-answer.ensures.log_unfailed (λ is. other (has_status LogDevice c.answer-answer.result _ _ _ _ _ c.print-status.ensures.fault is))
+
+pub returns-clause-store_unfailed : goal.returns-clause-store_unfailed
+returns-clause-store_unfailed g c = λ other.
+    c.answer-answer.ensures.store_unfailed (λ is. other (has_status DataDevice c.answer-answer.result _ _ _ _ _ c.print-status.ensures.fault is))

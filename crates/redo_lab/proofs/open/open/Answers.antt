@@ -3,6 +3,7 @@ use Rattle.std.proofs.lemmas.Bool.{false≢true}
 use Rattle.model_store.specs.Read.{reading_of}
 use Rattle.redo_lab.specs.Steps.{reads_of}
 use Rattle.redo_lab.proofs.Opening.{open_fault, not_fresh}
+use Rattle.redo_lab.proofs.StepLemmas.{ok_is_no_error, log_steps_of, steps_ok, steps_then}
 use Rattle.redo_lab.proofs.open.open.Goals as goal
 
 pub returns-in-Err-clause-fault : goal.returns-in-Err-clause-fault
@@ -13,3 +14,10 @@ pub returns-then-not-is_fresh-clause-fault : goal.returns-then-not-is_fresh-clau
 returns-then-not-is_fresh-clause-fault g c =
     not_fresh c.one_reading.ensures (reads_of (g.L.Sectors.tells c.args.log.now.inner)) (reads_of (g.D.Sectors.tells c.args.store.now.inner)) (reading_of c.in-Ok.read)
     (λ fresh. false≢true (sym c.if-not-is_fresh.true ∙ c.is_fresh.ensures fresh)) c.in-Ok.ensures.read
+
+pub returns-in-Ok-start_log-clause-log_steps : goal.returns-in-Ok-start_log-clause-log_steps
+returns-in-Ok-start_log-clause-log_steps g c = steps_then c.in-Ok.ensures.log_steps (ok_is_no_error _ _) (steps_ok c.in-Ok-start_log.ensures.steps)
+
+pub returns-clause-log_steps : goal.returns-clause-log_steps
+returns-clause-log_steps g c =
+    steps_then c.in-Ok.ensures.log_steps (ok_is_no_error _ _) (log_steps_of c.in-Err-start_log.error c.log_fault.result c.log_fault.ensures c.in-Err-start_log.ensures.steps)

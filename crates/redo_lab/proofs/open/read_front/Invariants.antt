@@ -11,6 +11,7 @@ invariant-pieces g l = record {
   size : g.D.Sectors.size l.device.inner ≡ g.D.Sectors.size l.fn.device.inner;
   later : g.D.Sectors.faults l.fn.device.inner ≤ g.D.Sectors.faults l.device.inner;
   quiet : IsQuiet l.fn.device.fuse l.device.fuse;
+  changes : l.device.fuse.late_changes ≡ l.fn.device.fuse.late_changes;
   same : g.D.Sectors.tells l.device.inner ≡ g.D.Sectors.tells l.fn.device.inner;
   front : HasFront (reads_of (g.D.Sectors.tells l.fn.device.inner)) l.bytes.items;
 }
