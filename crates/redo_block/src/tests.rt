@@ -81,8 +81,18 @@ fn damaged_blocks(rt: HostRuntime) {
         ("first offset above the length", 6, b"\0\x13", None),
         ("first offset 507", 4, b"\x02\0\x01\xFB", view(512, 507, 1)),
         ("first offset 508", 4, b"\x02\0\x01\xFC", None),
-        ("first offset above a length of 12", 4, b"\0\x0C\0\x0D", None),
-        ("the checkpoint's first byte", 8, b"\x01", view(18, 12, 0x0100_0001)),
+        (
+            "first offset above a length of 12",
+            4,
+            b"\0\x0C\0\x0D",
+            None,
+        ),
+        (
+            "the checkpoint's first byte",
+            8,
+            b"\x01",
+            view(18, 12, 0x0100_0001),
+        ),
         ("the checkpoint's last byte", 11, b"\x02", view(18, 12, 2)),
         ("a data byte", 17, b"\x08", view(18, 12, 1)),
         ("the first unused byte", 18, b"\x01", view(18, 12, 1)),
@@ -102,7 +112,11 @@ fn damaged_blocks(rt: HostRuntime) {
         let mut damaged = block;
         damaged[at] ^= 1;
         assert_eq!(rt; read(&damaged, 8192), None, "a checksum's byte at {at}");
-        assert_eq!(rt; read_block(&damaged, 8192), None, "a checksum's byte at {at}");
+        assert_eq!(rt;
+            read_block(&damaged, 8192),
+            None,
+            "a checksum's byte at {at}"
+        );
     }
 }
 
@@ -118,6 +132,7 @@ fn three_blocks(rt: HostRuntime) -> Result<(), Fail> {
     assert_eq!(rt; blocks.len(), 1536);
     let mut rest = blocks;
     for (lsn, length, first) in [(8192, 512, 12), (8704, 512, 0), (9216, 220, 220)] {
+        assert!(rt; lsn < 1 << 61);
         let (block, others) = rest.split_first_chunk::<512>().ok_or("a block")?;
         assert_eq!(rt; read(block, lsn), view(length, first, 1), "at {lsn}");
         rest = others;
