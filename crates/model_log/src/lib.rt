@@ -16,7 +16,7 @@ pub use block::{
     BlockView, block_bytes, block_data, block_reads_back, fits_number, is_first, is_length,
     length_of, read_block, view_of,
 };
-pub use boundary::{boundary_block, boundary_length, frame_blocks};
+pub use boundary::{boundary_block, boundary_length, cut_is_framed, frame_blocks};
 pub use checkpoint::{
     checkpoint_bytes, checkpoint_reads_back, newest_checkpoint, read_checkpoint,
     read_sealed_checkpoint,
