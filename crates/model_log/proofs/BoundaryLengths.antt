@@ -12,7 +12,7 @@ count-content : (low count : ℕ) (stream : List ℕ) → low + count ≤ length
 count-content low count stream within = omega (arith, length-take count (drop low stream), length-drop low stream)
 
 -- sn_of rises
-sn_of-rises : (low high : ℕ) → low ≤ high → sn_of low ≤ sn_of high
+pub sn_of-rises : (low high : ℕ) → low ≤ high → sn_of low ≤ sn_of high
 sn_of-rises low high below = grind (arith, nat_tests)
 
 -- at the first data byte of a block and at the block's start the same bytes precede

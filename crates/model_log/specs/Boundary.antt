@@ -1,6 +1,6 @@
 -- The stream of a run's groups cut into log blocks. A run starts at the lsn s, at the first data byte of a block; its
 -- groups follow one another without a gap. A boundary is s or the end of a group.
-use Rattle.std.specs.Prelude.{ℕ, ◌≡◌, ◌≤◌, ◌<◌, ◌+◌, ◌-◌, ◌*◌, ◌/◌, ◌^◌, ◌==◌, ◌&&◌, ◌⊎◌, min, nat_lt, nat_le, if◌then◌else◌, Bool, List, [], ◌∷◌, ◌++◌, length, take, drop, Option, Some, None, slice_get}
+use Rattle.std.specs.Prelude.{ℕ, ◌≡◌, ◌≤◌, ◌<◌, ◌+◌, ◌-◌, ◌*◌, ◌/◌, ◌^◌, ◌==◌, ◌&&◌, ◌⊎◌, min, nat_lt, nat_le, if◌then◌else◌, Bool, List, [], ◌∷◌, ◌++◌, length, take, drop, get_or, Option, Some, None, slice_get}
 use Rattle.model_base.specs.declared.limits.TheConstants.{BLOCK_SIZE}
 use Rattle.model_record.specs.Group.{stream_of, groups_of, group_length}
 use Rattle.model_record.specs.declared.group.Whole.{Whole}
@@ -78,3 +78,8 @@ abbrev pub framed : List ℕ → ℕ → List ℕ → ℕ → List ℕ
 framed stream from [] ckpt = []
 framed stream from (first ∷ firsts) ckpt =
     block_text from (take BLOCK_DATA stream) first ckpt ++ framed (drop BLOCK_DATA stream) (from + BLOCK_SIZE) firsts ckpt
+
+-- The first offset of each block of the run to m, which are those under which a writer makes them.
+pub record AreFirstsOf (s : ℕ) (wholes : List Whole) (m : ℕ) (firsts : List ℕ) : Type 0 where
+  pub count : length firsts ≡ blocks_below s m
+  pub each : (i : ℕ) → i < length firsts → get_or firsts i 0 ≡ first_at s wholes (block_of s + BLOCK_SIZE * i)

@@ -1,11 +1,11 @@
 // The blocks of a run's groups, as they stand on the device once everything below a boundary is written.
 ghost use Rattle.std.specs.Prelude.{◌≡◌, ◌≤◌, ◌<◌, ◌+◌, ◌-◌, ◌*◌, ◌%◌, ◌^◌, ℕ, List, length, min, take, drop, map, IfOk, IfSome};
-ghost use Rattle.std.specs.List.{AllByRecursion};
+ghost use Rattle.std.specs.List.{AllByRecursion, concat};
 ghost use Rattle.model_record.specs.Group.{IsGroup, stream_of, groups_of};
 ghost use Rattle.model_record.specs.declared.group.Whole.{Whole};
 ghost use Rattle.model_log.specs.Lsn.{sn_of, block_of, IsAtDataStart, IsDataLsn};
 ghost use Rattle.model_log.specs.Block.{length_of};
-ghost use Rattle.model_log.specs.Boundary.{ends_in, crossing_end, first_at, content_at, length_at, blocks_below, IsBoundaryBlock, IsFramed};
+ghost use Rattle.model_log.specs.Boundary.{ends_in, crossing_end, first_at, content_at, length_at, blocks_below, stream_between, framed, AreFirstsOf, IsBoundaryBlock, IsFramed};
 
 use crate::{BLOCK_DATA, BLOCK_HEADER, block_bytes, block_of, sn_of};
 use model_base::BLOCK_SIZE;
@@ -136,4 +136,11 @@ pub fn boundary_length()
     ensures { (s m b : ℕ) (wholes : List Whole) → IsAtDataStart s → IsDataLsn m → b % BLOCK_SIZE ≡ 0 → block_of s ≤ b
         → b + BLOCK_HEADER < m → sn_of m - sn_of s ≤ length (stream_of (groups_of wholes))
         → length_of (length (content_at s wholes m b)) ≡ length_at m b }
+{}
+
+/// What is cut from a run's bytes below a boundary, under the first offsets of the run's blocks, is its framed stream.
+pub fn cut_is_framed()
+    ensures { (s m ckpt : ℕ) (wholes : List Whole) (firsts : List ℕ) → IsAtDataStart s → ckpt < 2 ^ 32
+        → AreFirstsOf s wholes m firsts → (blocks : List (List ℕ)) × (IsFramed s wholes m blocks
+        × (framed (stream_between s wholes s m) s firsts ckpt ≡ concat blocks)) }
 {}

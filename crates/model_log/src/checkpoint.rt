@@ -1,6 +1,7 @@
 // A checkpoint block, written and read.
-ghost use Rattle.std.specs.Prelude.{◌≡◌, ◌≤◌, ◌<◌, ◌^◌, ◌%◌, ℕ, length, vec_len, IfOk};
+ghost use Rattle.std.specs.Prelude.{◌≡◌, ◌≤◌, ◌<◌, ◌^◌, ◌%◌, ℕ, length, vec_len, IfOk, IsTrue};
 ghost use Rattle.model_base.specs.declared.shape.Shape.{Shape};
+ghost use Rattle.model_log.specs.Block.{fits_checksum};
 ghost use Rattle.model_log.specs.Checkpoint.{place_of, checkpoint_text, is_checkpoint, read_checkpoint};
 ghost use Rattle.model_log.specs.Device.{newer, newest_checkpoint};
 
@@ -39,20 +40,37 @@ pub fn checkpoint_bytes(
     sealed(bytes)
 }
 
-/// Whether the fields of 512 bytes fit those of a checkpoint in this header block.
+/// Whether the fields of 512 bytes, whose checksum fits, fit those of a checkpoint in this header block.
 fn is_checkpoint(bytes: &[u8], which: u32, shape: &Shape) -> bool
     requires whole { length bytes.now ≡ 512 }
+    requires sealed { IsTrue (fits_checksum bytes.now) }
     requires many_blocks { 1024 ≤ shape.now.log_blocks }
     requires few_blocks { shape.now.log_blocks ≤ 1048576 }
     ensures { result ≡ is_checkpoint which shape.now bytes.now }
 {
     let lsn = field_u64(bytes, 8);
-    fits_checksum(bytes)
-        && place_of(field_u64(bytes, 0)) == which
+    place_of(field_u64(bytes, 0)) == which
         && lsn % BLOCK_SIZE == 0
         && START_LSN <= lsn
         && lsn < LSN_LIMIT
         && field_u64(bytes, 16) == offset_of(lsn, shape.log_blocks)
+}
+
+/// The number and the lsn of the checkpoint in header block `which`, which is 1 or 3, once its checksum was found to
+/// fit; nothing where none passes.
+#[tactic(auto, unfolding(crate::specs::Checkpoint::read_checkpoint))]
+pub fn read_sealed_checkpoint(bytes: &[u8], which: u32, shape: &Shape) -> Option<(u64, u64)>
+    requires whole { length bytes.now ≡ 512 }
+    requires sealed { IsTrue (fits_checksum bytes.now) }
+    requires many_blocks { 1024 ≤ shape.now.log_blocks }
+    requires few_blocks { shape.now.log_blocks ≤ 1048576 }
+    ensures { result ≡ read_checkpoint which shape.now bytes.now }
+{
+    if is_checkpoint(bytes, which, shape) {
+        Some((field_u64(bytes, 0), field_u64(bytes, 8)))
+    } else {
+        None
+    }
 }
 
 /// The number and the lsn of the checkpoint in header block `which`, which is 1 or 3; nothing where none passes.
@@ -63,8 +81,8 @@ pub fn read_checkpoint(bytes: &[u8], which: u32, shape: &Shape) -> Option<(u64, 
     requires few_blocks { shape.now.log_blocks ≤ 1048576 }
     ensures { result ≡ read_checkpoint which shape.now bytes.now }
 {
-    if is_checkpoint(bytes, which, shape) {
-        Some((field_u64(bytes, 0), field_u64(bytes, 8)))
+    if fits_checksum(bytes) {
+        read_sealed_checkpoint(bytes, which, shape)
     } else {
         None
     }

@@ -1,7 +1,8 @@
 // The file header, written and read.
-ghost use Rattle.std.specs.Prelude.{◌≡◌, ◌<◌, ◌^◌, length, vec_len, IfOk};
+ghost use Rattle.std.specs.Prelude.{◌≡◌, ◌<◌, ◌^◌, length, vec_len, IfOk, IsTrue};
 ghost use Rattle.model_base.specs.declared.shape.Shape.{Shape};
 ghost use Rattle.model_base.specs.Limits.{IsWithinLimits};
+ghost use Rattle.model_log.specs.Block.{fits_checksum};
 ghost use Rattle.model_log.specs.Head.{head_text, shape_of, is_within_limits, read_head};
 ghost use Rattle.model_log.specs.declared.head.Head.TheVariants.{Good};
 
@@ -65,15 +66,13 @@ fn has_limits(shape: &Shape) -> bool
     shape.is_within_limits()
 }
 
-/// What 512 bytes say as a file header.
+/// What 512 bytes say as a file header, once their checksum was found to fit.
 #[tactic(auto, unfolding(crate::specs::Head::read_head))]
-pub fn read_head(bytes: &[u8]) -> Head
-    requires { length bytes.now ≡ 512 }
+pub fn read_sealed_head(bytes: &[u8]) -> Head
+    requires whole { length bytes.now ≡ 512 }
+    requires sealed { IsTrue (fits_checksum bytes.now) }
     ensures { result ≡ read_head bytes.now }
 {
-    if !fits_checksum(bytes) {
-        return Head::Unformatted;
-    }
     let format = field_u32(bytes, 0);
     if format != FORMAT {
         return Head::OtherFormat(format);
@@ -81,6 +80,19 @@ pub fn read_head(bytes: &[u8]) -> Head
     let shape = shape_of(bytes);
     if field_u64(bytes, 8) == START_LSN && has_limits(&shape) {
         Head::Good(shape)
+    } else {
+        Head::Unformatted
+    }
+}
+
+/// What 512 bytes say as a file header.
+#[tactic(auto, unfolding(crate::specs::Head::read_head))]
+pub fn read_head(bytes: &[u8]) -> Head
+    requires { length bytes.now ≡ 512 }
+    ensures { result ≡ read_head bytes.now }
+{
+    if fits_checksum(bytes) {
+        read_sealed_head(bytes)
     } else {
         Head::Unformatted
     }

@@ -42,7 +42,7 @@ pub fn frame(
     firsts: &[u32],
     ckpt: u32,
 ) -> Result<Bytes, NoMemory>
-    requires small { from + 512 * length firsts.now < 2 ^ 61 }
+    requires small { from + 512 * length firsts.now < 2 ^ 61 + 512 }
     requires each { AreFirsts stream.now firsts.now }
     ensures { IfOk result (λ blocks. blocks ≡ framed stream.now from firsts.now ckpt) }
 {
@@ -63,7 +63,7 @@ pub fn frame(
 /// Joins the data of the blocks, the first of which stands at the lsn `from`, through the first that isn't full or up
 /// to the first that isn't read. It fails only where memory runs out.
 pub fn unframe(alloc: Global, blocks: &[u8], from: u64) -> Result<Bytes, NoMemory>
-    requires { from + length blocks.now < 2 ^ 61 }
+    requires { from + length blocks.now < 2 ^ 61 + 512 }
     ensures { IfOk result (λ stream. stream ≡ unframed blocks.now from) }
 {
     let mut stream = Vec::new(alloc);

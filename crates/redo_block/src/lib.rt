@@ -10,4 +10,4 @@ mod tests;
 
 pub use block::{fill, read};
 pub use framing::{are_firsts, frame, unframe, unframe_of_frame};
-pub use model_log::BlockView;
+pub use model_log::{BlockView, block_reads_back, cut_is_framed};

@@ -1,5 +1,5 @@
 //! A sector of 512 bytes that is filled from its front and ends with its checksum.
-ghost use Rattle.std.specs.Prelude.{◌≡◌, ◌≤◌, ◌+◌, ◌++◌, length, take};
+ghost use Rattle.std.specs.Prelude.{◌≡◌, ◌≤◌, ◌+◌, ◌++◌, length, take, drop};
 ghost use Rattle.model_number.specs.Field.{padded_to};
 ghost use Rattle.model_log.specs.Block.{with_checksum, fits_checksum};
 
@@ -9,11 +9,12 @@ use redo_crc::crc32c;
 /// The offset at which the checksum stands.
 const CHECKSUM: usize = 508;
 
-/// Puts bytes at an offset, behind what stands before it, and gives the offset behind them.
+/// Puts bytes at an offset and gives the offset behind them. What stands before and behind them stays.
 pub fn put(sector: &mut [u8; 512], at: usize, bytes: &[u8]) -> usize
     requires { at + length bytes.now ≤ 512 }
     ensures next { result ≡ at + length bytes.now }
     ensures front { take result sector.new ≡ take at sector.old ++ bytes.now }
+    ensures behind { drop result sector.new ≡ drop result sector.old }
 {
     let end = at + bytes.len();
     sector[at..end].copy_from_slice(bytes);

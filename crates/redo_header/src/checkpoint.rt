@@ -2,8 +2,8 @@
 ghost use Rattle.std.specs.Prelude.{◌≡◌, ◌≤◌, ◌<◌, ◌^◌};
 ghost use Rattle.model_log.specs.Checkpoint.{checkpoint_text, read_checkpoint};
 
-use model_log::{RING_SIZE, read_checkpoint};
-use redo_block::sector::{put, seal};
+use model_log::{RING_SIZE, read_sealed_checkpoint};
+use redo_block::sector::{is_sealed, put, seal};
 use redo_lsn::{Shape, offset_of};
 
 /// Makes the 512 bytes the checkpoint of this number at this lsn.
@@ -21,12 +21,16 @@ pub fn fill_ckpt(out: &mut [u8; 512], number: u64, lsn: u64, shape: &Shape)
     seal(out, at);
 }
 
-/// The number and the lsn of the checkpoint in header block `which`, which is 1 or 3; nothing where none passes. A
-/// store reads both when it is opened.
+/// The number and the lsn of the checkpoint in header block `which`, which is 1 or 3; nothing where none passes.
+#[tactic(auto, unfolding(model_log::specs::Checkpoint::read_checkpoint))]
 pub fn read_ckpt(bytes: &[u8; 512], which: u32, shape: &Shape) -> Option<(u64, u64)>
     requires many_blocks { 1024 ≤ shape.now.log_blocks }
     requires few_blocks { shape.now.log_blocks ≤ 1048576 }
     ensures { result ≡ read_checkpoint which shape.now bytes.now }
 {
-    read_checkpoint(bytes, which, shape)
+    if is_sealed(bytes) {
+        read_sealed_checkpoint(bytes, which, shape)
+    } else {
+        None
+    }
 }

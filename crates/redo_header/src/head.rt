@@ -3,8 +3,8 @@ ghost use Rattle.std.specs.Prelude.{◌≡◌};
 ghost use Rattle.model_log.specs.Head.{head_text, read_head};
 
 use model_base::START_LSN;
-use model_log::{CREATOR, FORMAT, Head};
-use redo_block::sector::{put, seal};
+use model_log::{CREATOR, FORMAT, Head, read_sealed_head};
+use redo_block::sector::{is_sealed, put, seal};
 use redo_lsn::Shape;
 
 /// Makes the 512 bytes the header of a store of this shape.
@@ -23,9 +23,14 @@ pub fn fill_head(out: &mut [u8; 512], shape: &Shape)
     seal(out, at);
 }
 
-/// What 512 bytes say as a file header. A store reads it once, when it is opened.
+/// What 512 bytes say as a file header.
+#[tactic(auto, unfolding(model_log::specs::Head::read_head))]
 pub fn read_head(bytes: &[u8; 512]) -> Head
     ensures { result ≡ read_head bytes.now }
 {
-    model_log::read_head(bytes)
+    if is_sealed(bytes) {
+        read_sealed_head(bytes)
+    } else {
+        Head::Unformatted
+    }
 }

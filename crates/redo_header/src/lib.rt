@@ -9,4 +9,4 @@ mod tests;
 
 pub use checkpoint::{fill_ckpt, read_ckpt};
 pub use head::{fill_head, read_head};
-pub use model_log::Head;
+pub use model_log::{Head, checkpoint_reads_back, head_reads_back};

@@ -3,6 +3,8 @@
 #![tactic(auto)]
 
 mod memory;
+#[cfg(test)]
+mod tests;
 
 pub use memory::NoMemory;
 pub use model_base::{Bytes, Shape};

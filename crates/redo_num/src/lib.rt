@@ -2,6 +2,8 @@
 #![tactic(auto)]
 
 mod put;
+#[cfg(test)]
+mod tests;
 
 pub use model_number::{Got, one_spelling, read32 as get32, read64 as get64};
 pub use put::{put32, put64};
