@@ -6,17 +6,6 @@ use std::alloc::{AllocError, Global};
 use std::process::Abort;
 use std::test::Fail;
 
-/// Where the spelling of a number changes its length.
-const BORDERS: [u32; 7] = [
-    0x80,
-    0x4000,
-    0x20_0000,
-    0x1000_0000,
-    0xFF00_0000,
-    0xFFFE_0000,
-    0xFFFF_FC00,
-];
-
 fn number(width: u32, page: u32, offset: u32, value: u64) -> Rec {
     Rec::Num {
         width,
@@ -64,6 +53,10 @@ fn encoded(rt: &impl Abort, alloc: Global, group: &Group) -> Result<Bytes, Fail>
     Ok(text)
 }
 
+fn front(bytes: &[u8], count: usize) -> &[u8] {
+    &bytes[..count.min(bytes.len())]
+}
+
 /// What reading gives, without the group.
 fn taken(alloc: Global, bytes: &[u8]) -> Result<Got<()>, Fail> {
     Ok(match decode(alloc, bytes)? {
@@ -92,13 +85,17 @@ fn expect_text(rt: &impl Abort, alloc: Global, group: &Group, text: &[u8]) -> Re
 /// Checks that each front of a group's text is less than a whole one.
 fn expect_fronts(rt: &impl Abort, alloc: Global, text: &[u8]) -> Result<(), Fail> {
     for count in 0..text.len() {
-        assert_eq!(rt; taken(alloc, &text[..count])?, Got::Short, "{count} bytes");
+        assert_eq!(rt;
+            taken(alloc, front(text, count))?,
+            Got::Short,
+            "{count} bytes"
+        );
     }
     Ok(())
 }
 
 #[test]
-fn texts(rt: HostRuntime) -> Result<(), Fail> {
+fn worked_texts(rt: HostRuntime) -> Result<(), Fail> {
     let alloc = rt.alloc();
     let small = alone(alloc, number(1, 3, 100, 7))?;
     let two = Group(vec![in alloc; number(1, 3, 100, 7), number(1, 4, 100, 8)]?);
@@ -120,18 +117,21 @@ fn texts(rt: HostRuntime) -> Result<(), Fail> {
 }
 
 #[test]
-fn a_long_string(rt: HostRuntime) -> Result<(), Fail> {
+fn a_string_of_489_bytes(rt: HostRuntime) -> Result<(), Fail> {
     let alloc = rt.alloc();
     let group = alone(alloc, string(alloc, 38, 489)?)?;
     let text = encoded(&rt, alloc, &group)?;
     assert_eq!(rt; text.len(), 496);
-    assert!(rt; text.as_slice().starts_with(&[0x9E, 1, 3, 0, 38, 1, 0xE9, 7]));
+    assert!(rt;
+        text.as_slice()
+            .starts_with(&[0x9E, 1, 3, 0, 38, 1, 0xE9, 7])
+    );
     expect_text(&rt, alloc, &group, text.as_slice())?;
     expect_fronts(&rt, alloc, text.as_slice())
 }
 
 #[test]
-fn other_bytes(rt: HostRuntime) -> Result<(), Fail> {
+fn short_and_bad_bytes(rt: HostRuntime) -> Result<(), Fail> {
     for (bytes, expected) in [
         ([].as_slice(), Got::Short),
         ([0x81, 1, 3, 0, 100].as_slice(), Got::Short),
@@ -162,84 +162,99 @@ fn other_bytes(rt: HostRuntime) -> Result<(), Fail> {
 }
 
 #[test]
-fn texts_of_8192_bytes_and_one_more(rt: HostRuntime) -> Result<(), Fail> {
+fn texts_of_8192_bytes(rt: HostRuntime) -> Result<(), Fail> {
     let alloc = rt.alloc();
-    let full = [
+    let groups = [
         alone(alloc, string(alloc, 38, 8185)?)?,
         with_second(alloc, string(alloc, 38, 8181)?)?,
     ];
-    for group in &full {
+    for group in &groups {
         let text = encoded(&rt, alloc, group)?;
         assert_eq!(rt; text.len(), 8192);
         expect_text(&rt, alloc, group, text.as_slice())?;
-        assert!(rt; text.len() > 8191);
-        assert_eq!(rt; taken(alloc, &text.as_slice()[..8191])?, Got::Short);
-    }
-    let longer = [
-        alone(alloc, string(alloc, 38, 8186)?)?,
-        with_second(alloc, string(alloc, 38, 8182)?)?,
-    ];
-    for group in &longer {
-        assert!(rt; has_text(group));
-        let text = group_bytes(alloc, group)?;
-        assert_eq!(rt; text.len(), 8193);
-        assert_eq!(rt; taken(alloc, &text)?, Got::Bad);
-        assert_eq!(rt; taken(alloc, &text[..8192])?, Got::Bad);
-        assert_eq!(rt; taken(alloc, &text[..8191])?, Got::Short);
+        assert_eq!(rt; taken(alloc, front(text.as_slice(), 8191))?, Got::Short);
     }
     Ok(())
 }
 
-/// Checks that the plain program gives the same text, for the record alone and with another.
+#[test]
+fn texts_of_8193_bytes(rt: HostRuntime) -> Result<(), Fail> {
+    let alloc = rt.alloc();
+    let groups = [
+        alone(alloc, string(alloc, 38, 8186)?)?,
+        with_second(alloc, string(alloc, 38, 8182)?)?,
+    ];
+    for group in &groups {
+        assert!(rt; has_text(group));
+        let text = group_bytes(alloc, group)?;
+        assert_eq!(rt; text.len(), 8193);
+        for (count, expected) in [(8193, Got::Bad), (8192, Got::Bad), (8191, Got::Short)] {
+            assert_eq!(rt;
+                taken(alloc, front(&text, count))?,
+                expected,
+                "{count} bytes"
+            );
+        }
+    }
+    Ok(())
+}
+
+/// Checks that the plain program gives the same text.
 fn expect_agreement(rt: &impl Abort, alloc: Global, group: &Group) -> Result<(), Fail> {
     assert!(rt; has_text(group));
     let text = group_bytes(alloc, group)?;
     expect_text(rt, alloc, group, &text)
 }
 
-/// Zero, the greatest number, and each border of the spelling with its neighbours.
+/// Zero, the greatest number, and each number from which on spellings have another length, with its neighbours.
 fn edges(alloc: Global) -> Result<Vec<u32>, AllocError> {
+    let borders = [
+        0x80,
+        0x4000,
+        0x20_0000,
+        0x1000_0000,
+        0xFF00_0000,
+        0xFFFE_0000,
+        0xFFFF_FC00,
+    ];
     let mut numbers = vec![in alloc; 0, u32::MAX]?;
-    for border in BORDERS {
-        numbers.extend_from_slice(&[
-            border.wrapping_sub(1),
-            border,
-            border.wrapping_add(1),
-        ])?;
+    for border in borders {
+        numbers.extend_from_slice(&[border - 1, border, border + 1])?;
     }
     Ok(numbers)
+}
+
+/// Records in which the number stands in each place of its own.
+fn records_with(edge: u32) -> [Rec; 7] {
+    let wide = u64::from(edge);
+    [
+        number(4, 3, 38, wide),
+        number(8, 3, 0, wide),
+        number(8, 3, 65535, wide << 32),
+        number(8, 3, 38, wide << 32 | wide),
+        number(2, edge, 38, 1),
+        Rec::Num {
+            width: 1,
+            space: edge,
+            page: 3,
+            offset: 38,
+            value: 1,
+        },
+        Rec::Init {
+            space: edge,
+            page: edge,
+        },
+    ]
 }
 
 #[test]
 fn agrees_with_the_plain_program_at_edges(rt: HostRuntime) -> Result<(), Fail> {
     let alloc = rt.alloc();
     for edge in edges(alloc)? {
-        let in_value = number(4, 3, 38, u64::from(edge));
-        let in_low_half = number(8, 3, 0, u64::from(edge));
-        let in_high_half = number(8, 3, 65535, u64::from(edge) << 32);
-        let in_both_halves = number(8, 3, 38, u64::from(edge) << 32 | u64::from(edge));
-        let in_page = number(2, edge, 38, 1);
-        let in_space = Rec::Num {
-            width: 1,
-            space: edge,
-            page: 3,
-            offset: 38,
-            value: 1,
-        };
-        let in_init = Rec::Init {
-            space: edge,
-            page: edge,
-        };
-        let recs = [
-            in_value,
-            in_low_half,
-            in_high_half,
-            in_both_halves,
-            in_page,
-            in_space,
-            in_init,
-        ];
-        for rec in recs {
+        for rec in records_with(edge) {
+            expect_agreement(&rt, alloc, &alone(alloc, rec)?)?;
+        }
+        for rec in records_with(edge) {
             expect_agreement(&rt, alloc, &with_second(alloc, rec)?)?;
         }
     }
