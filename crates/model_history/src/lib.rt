@@ -6,7 +6,6 @@ mod entry;
 mod groups;
 mod legal;
 mod lines;
-mod measuring;
 mod place;
 mod states;
 

@@ -4,7 +4,6 @@ ghost use Rattle.std.specs.Option.{SomeIff};
 ghost use Rattle.model_record.specs.Group.{group_length};
 ghost use Rattle.model_log.specs.Lsn.{lsn_of, sn_of};
 
-use crate::measuring::counted_length;
 use model_base::BLOCK_SIZE;
 use model_log::{BLOCK_DATA, BLOCK_HEADER, sn_of};
 use model_record::Group;
@@ -22,7 +21,7 @@ fn fitting_lsn(sn: u64) -> Option<u64>
 pub fn ends_at(start: u64, end: u64, group: &Group) -> bool
     ensures { IsTrue result ↔ (end ≡ lsn_of (sn_of start + group_length group.now)) }
 {
-    let Some(length) = counted_length(group) else {
+    let Some(length) = group.checked_length() else {
         return false;
     };
     let Some(sn) = sn_of(start).checked_add(length) else {

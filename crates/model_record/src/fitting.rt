@@ -8,12 +8,13 @@ use model_base::{Shape, USER_START};
 /// Bytes at a page's end that are no user bytes.
 const TRAILER: u32 = 8;
 
-/// Whether each record of the group names a page of the store and writes user bytes, and each number has room in its
-/// width.
-pub fn fits(group: &Group, shape: &Shape) -> bool
-    ensures { IsTrue result ↔ GroupFits shape.now group.now }
-{
-    group.0.iter().all(|rec| record_fits(rec, shape))
+impl Group {
+    /// Whether each record names a page of the store and writes user bytes, and each number has room in its width.
+    pub fn fits(&self, shape: &Shape) -> bool
+        ensures { IsTrue result ↔ GroupFits shape.now self.now }
+    {
+        self.0.iter().all(|rec| record_fits(rec, shape))
+    }
 }
 
 fn record_fits(rec: &Rec, shape: &Shape) -> bool

@@ -14,13 +14,11 @@ mod spelled;
 mod stop;
 mod writing;
 
-pub use fitting::fits;
 pub use group::{Group, Whole};
-pub use measuring::group_length;
 pub use reading::{one_group, read_group};
 pub use rec::Rec;
 pub use spelled::has_text;
-pub use writing::{group_bytes, stream_bytes};
+pub use writing::{END_MARK, SINGLE, group_bytes, stream_bytes};
 
 #[cfg(test)]
 mod tests;

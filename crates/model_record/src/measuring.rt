@@ -1,42 +1,69 @@
-// How long the text of a group is.
-ghost use Rattle.std.specs.Prelude.{◌≡◌, ◌+◌, ◌≤◌, ◌<◌, ◌^◌, length};
-ghost use Rattle.std.specs.List.{AllByRecursion, flat_map};
+// How long the text of a group is, also of one that has no room in the format.
+ghost use Rattle.std.specs.Prelude.{◌≡◌, ◌≤◌, ◌<◌, ◌+◌, ◌^◌, length};
+ghost use Rattle.std.specs.List.{flat_map};
+ghost use Rattle.std.specs.Option.{SomeIff};
 ghost use Rattle.model_number.specs.Spelling.{spelling32};
-ghost use Rattle.model_record.specs.Record.{HasText, HasSpelling, record_text, value_text};
+ghost use Rattle.model_record.specs.Record.{record_text, value_text};
 ghost use Rattle.model_record.specs.Group.{IsGroup, group_length};
 
 use crate::{Group, Rec};
 
-/// The number of bytes of a group's text.
-#[tactic(auto, unfolding(crate::specs::Group::group_text, crate::specs::Record::single_text, crate::specs::Record::record_text))]
-pub fn group_length(group: &Group) -> u64
-    requires is_group { IsGroup group.now }
-    requires countable { group_length group.now < 2 ^ 64 }
-    ensures { result ≡ group_length group.now }
-{
-    match group.0.as_slice() {
-        [] => 0,
-        [only] => record_length(only),
-        several => records_length(several) + 1,
+impl Group {
+    /// The number of bytes of the group's text.
+    pub fn length(&self) -> u64
+        requires is_group { IsGroup self.now }
+        requires countable { group_length self.now < 2 ^ 64 }
+        ensures { result ≡ group_length self.now }
+    {
+        self.checked_length().unwrap()
+    }
+
+    /// The number of bytes of the text of the records, also where one has no room in the format, if it fits 64 bits.
+    #[tactic(auto, unfolding(crate::specs::Group::group_text, crate::specs::Record::single_text, crate::specs::Record::record_text))]
+    pub fn checked_length(&self) -> Option<u64>
+        ensures { SomeIff result (group_length self.now < 2 ^ 64) (group_length self.now) }
+    {
+        match self.0.as_slice() {
+            [] => Some(0),
+            [only] => record_length(only),
+            several => with_end_mark(several),
+        }
     }
 }
 
-fn records_length(recs: &[Rec]) -> u64
-    requires each { AllByRecursion HasText recs.now }
-    requires countable { length (flat_map record_text recs.now) < 2 ^ 64 }
-    ensures { result ≡ length (flat_map record_text recs.now) }
+// The length of several records and the mark at their end.
+fn with_end_mark(recs: &[Rec]) -> Option<u64>
+    ensures { SomeIff result (length (flat_map record_text recs.now) + 1 < 2 ^ 64)
+        (length (flat_map record_text recs.now) + 1) }
 {
-    let mut total = 0;
+    records_length(recs)?.checked_add(1)
+}
+
+fn records_length(recs: &[Rec]) -> Option<u64>
+    ensures { SomeIff result (length (flat_map record_text recs.now) < 2 ^ 64)
+        (length (flat_map record_text recs.now)) }
+{
+    let mut total: u64 = 0;
     for rec in recs {
-        total += record_length(rec);
+        let Some(next) = with_record(total, rec) else {
+            return None;
+        };
+        total = next;
     }
-    total
+    Some(total)
+}
+
+fn with_record(total: u64, rec: &Rec) -> Option<u64>
+    ensures { SomeIff result (total + length (record_text rec.now) < 2 ^ 64)
+        (total + length (record_text rec.now)) }
+{
+    total.checked_add(record_length(rec)?)
 }
 
 #[tactic(auto, unfolding(crate::specs::Record::record_text))]
-fn record_length(rec: &Rec) -> u64
-    requires { HasText rec.now }
-    ensures { result ≡ length (record_text rec.now) }
+fn record_length(rec: &Rec) -> Option<u64>
+    ensures { SomeIff result (length (record_text rec.now) < 2 ^ 64)
+        (length (record_text rec.now)) }
 {
     match rec {
         Rec::Num {
@@ -45,32 +72,38 @@ fn record_length(rec: &Rec) -> u64
             page,
             offset: _,
             value,
-        } => 3 + length32(*space) + length32(*page) + value_length(*width, *value),
+        } => Some(3 + id_length(*space) + id_length(*page) + value_length(*width, *value)),
         Rec::Text {
             space,
             page,
             offset: _,
             bytes,
-        } => 5 + length32(*space) + length32(*page) + bytes.len() as u64,
-        Rec::Init { space, page } => 1 + length32(*space) + length32(*page),
+        } => (5 + id_length(*space) + id_length(*page)).checked_add(bytes.len() as u64),
+        Rec::Init { space, page } => Some(1 + id_length(*space) + id_length(*page)),
     }
 }
 
 #[tactic(auto, unfolding(model_number::specs::Spelling::spelling64))]
 fn value_length(width: u32, value: u64) -> u64
-    requires { HasSpelling width value }
     ensures exact { result ≡ length (value_text width value) }
     ensures short { result ≤ 9 }
 {
     if width == 8 {
-        length32((value >> 32) as u32) + 4
+        spelling_length(value >> 32) + 4
     } else {
-        length32(value as u32)
+        spelling_length(value)
     }
 }
 
+fn id_length(id: u32) -> u64
+    ensures exact { result ≡ length (spelling32 id) }
+    ensures short { result ≤ 5 }
+{
+    spelling_length(u64::from(id))
+}
+
 #[tactic(auto, unfolding(model_number::specs::Spelling::spelling32))]
-fn length32(number: u32) -> u64
+fn spelling_length(number: u64) -> u64
     ensures exact { result ≡ length (spelling32 number) }
     ensures short { result ≤ 5 }
 {
@@ -82,6 +115,6 @@ fn length32(number: u32) -> u64
         0x1000_0000..=0xFEFF_FFFF => 5,
         0xFF00_0000..=0xFFFD_FFFF => 4,
         0xFFFE_0000..=0xFFFF_FBFF => 3,
-        0xFFFF_FC00..=0xFFFF_FFFF => 2,
+        0xFFFF_FC00..=u64::MAX => 2,
     }
 }

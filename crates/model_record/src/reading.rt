@@ -54,7 +54,7 @@ fn read_single(alloc: Global, bytes: &[u8]) -> Result<(Group, &[u8]), Stop>
     ensures { Reads (λ x. (x.0, x.1.now)) IsGroupText bytes.now result }
 {
     let (rec, rest) = read_record(alloc, SINGLE, bytes)?;
-    let mut recs = Vec::new(alloc);
+    let mut recs = Vec::with_capacity(alloc, 1)?;
     recs.push(rec)?;
     Ok((Group(recs), rest))
 }

@@ -34,7 +34,7 @@ fn expect_text(rt: &impl Abort, alloc: Global, group: &Group, text: &[u8]) -> Re
     assert!(rt; has_text(group));
     let written = group_bytes(alloc, group)?;
     assert_eq!(rt; written.as_slice(), text);
-    assert_eq!(rt; group_length(group), text.len() as u64);
+    assert_eq!(rt; group.length(), text.len() as u64);
     let mut longer = Vec::from_slice(alloc, text)?;
     longer.extend_from_slice(&[31, 0])?;
     match read_group(alloc, &longer)? {
@@ -178,7 +178,7 @@ fn what_fits(rt: HostRuntime) -> Result<(), Fail> {
         (Rec::Init { space: 1, page: 7 }, true),
         (Rec::Init { space: 2, page: 7 }, false),
     ] {
-        assert_eq!(rt; fits(&alone(alloc, rec)?, &shape), expected);
+        assert_eq!(rt; alone(alloc, rec)?.fits(&shape), expected);
     }
     Ok(())
 }

@@ -15,9 +15,9 @@ pub(crate) const STRING: u8 = 30;
 /// The type byte of a page that is set to zeros.
 pub(crate) const INIT: u8 = 59;
 /// What is added to the type byte of a record that is a group alone.
-pub(crate) const SINGLE: u8 = 0x80;
+pub const SINGLE: u8 = 0x80;
 /// The byte that ends a group of several records.
-pub(crate) const END_MARK: u8 = 31;
+pub const END_MARK: u8 = 31;
 
 /// The text of a group. It fails only where memory runs out.
 pub fn group_bytes(alloc: Global, group: &Group) -> Result<Vec<u8>, AllocError>
@@ -75,7 +75,7 @@ fn put_record(alloc: Global, out: &mut Vec<u8>, flag: u8, rec: &Rec) -> Result<(
     ensures { OnOk result
         (out.new.items ≡ out.old.items ++ (flag + type_of rec.now) ∷ after_type rec.now) }
 {
-    out.push(flag + type_byte(rec))?;
+    out.push(flag + rec.type_byte())?;
     match rec {
         Rec::Num {
             width,
@@ -102,15 +102,18 @@ fn put_record(alloc: Global, out: &mut Vec<u8>, flag: u8, rec: &Rec) -> Result<(
     }
 }
 
-fn type_byte(rec: &Rec) -> u8
-    requires { HasText rec.now }
-    ensures exact { result ≡ type_of rec.now }
-    ensures small { result < 128 }
-{
-    match rec {
-        Rec::Num { width, .. } => *width as u8,
-        Rec::Text { .. } => STRING,
-        Rec::Init { .. } => INIT,
+impl Rec {
+    /// The byte with which the record's text begins where it isn't a group alone.
+    pub fn type_byte(&self) -> u8
+        requires { HasText self.now }
+        ensures exact { result ≡ type_of self.now }
+        ensures small { result < 128 }
+    {
+        match self {
+            Rec::Num { width, .. } => *width as u8,
+            Rec::Text { .. } => STRING,
+            Rec::Init { .. } => INIT,
+        }
     }
 }
 

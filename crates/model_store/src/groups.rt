@@ -7,7 +7,7 @@ ghost use Rattle.model_store.specs.Groups.{GivesGood, EndAt, BreakAt};
 use model_base::Shape;
 use model_log::{lsn_and_sn, lsn_of, sn_of};
 use model_number::Got;
-use model_record::{Group, Whole, fits, one_group, read_group};
+use model_record::{Group, Whole, one_group, read_group};
 use std::alloc::{AllocError, Global};
 
 /// Reads a group that fits the store off the front of the bytes.
@@ -17,7 +17,7 @@ fn read_good(alloc: Global, bytes: &[u8], shape: &Shape) -> Result<Got<Group>, A
     one_group();
     match read_group(alloc, bytes)? {
         Got::Value(group, taken) => {
-            if fits(&group, shape) {
+            if group.fits(shape) {
                 Ok(Got::Value(group, taken))
             } else {
                 Ok(Got::Bad)

@@ -4,7 +4,7 @@ ghost use Rattle.std.specs.Prelude.{◌≡◌, ◌+◌, length, vec_len, All, If
 use crate::apply_group;
 use model_base::{Bytes, Shape};
 use model_page::Content;
-use model_record::{Group, Rec, fits};
+use model_record::{Group, Rec};
 use std::alloc::{AllocError, Global};
 use std::test::Fail;
 
@@ -54,7 +54,7 @@ fn two_pages_after(alloc: Global) -> Result<Vec<Content>, AllocError> {
     };
     let mut pages = two_pages(alloc)?;
     let group = three_records(alloc)?;
-    if fits(&group, &shape) {
+    if group.fits(&shape) {
         apply_group(pages.as_mut_slice(), &group, 9000, &shape);
     }
     Ok(pages)
