@@ -14,9 +14,9 @@ ghost use Rattle.redo_lab.specs.Steps.{Steps, reads_of, settled_as, log_fault, d
 
 use crate::device::{erase, put};
 use model_base::{BLOCK_SIZE, START_LSN, Shape};
-use model_log::{checkpoint_bytes, head_bytes};
 use model_report::Fault;
 use redo_disk::{DevError, Sectors};
+use redo_header::{fill_ckpt, fill_head};
 use redo_memdisk::Fused;
 use std::alloc::Global;
 
@@ -61,7 +61,7 @@ fn clear_log<L: Sectors>(alloc: Global, log: &mut Fused<L>) -> Result<(), DevErr
 }
 
 /// Writes the first checkpoint, and then the header.
-fn head_log<L: Sectors>(alloc: Global, log: &mut Fused<L>) -> Result<(), DevError>
+fn head_log<L: Sectors>(log: &mut Fused<L>) -> Result<(), DevError>
     requires long { log_device_length default_shape ≤ L.size (inner_of log.old) }
     requires passes { (fuse_of log.old).limit ≡ None }
     ensures told { OnOk result (L.tells (inner_of log.new) ≡ settled_as (option_map
@@ -72,10 +72,11 @@ fn head_log<L: Sectors>(alloc: Global, log: &mut Fused<L>) -> Result<(), DevErro
         (fuse_of log.old) (fuse_of log.new) (IsErrOf result DevError.Failed) }
 {
     let shape = Shape::default_shape();
-    let checkpoint = checkpoint_bytes(alloc, 0, START_LSN, &shape)?;
-    let head = head_bytes(alloc, &shape)?;
-    put(log, BLOCK_SIZE, &checkpoint)?;
-    put(log, 0, &head)
+    let mut block = [0; 512];
+    fill_ckpt(&mut block, 0, START_LSN, &shape);
+    put(log, BLOCK_SIZE, &block)?;
+    fill_head(&mut block, &shape);
+    put(log, 0, &block)
 }
 
 /// Formats both devices. A stop before the last write leaves a log device without a header.
@@ -102,5 +103,5 @@ pub(crate) fn format<L: Sectors, D: Sectors>(
 {
     clear_log(alloc, log).map_err(log_fault)?;
     erase(alloc, store, 0, STORE_LENGTH).map_err(data_fault)?;
-    head_log(alloc, log).map_err(log_fault)
+    head_log(log).map_err(log_fault)
 }

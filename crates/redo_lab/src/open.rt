@@ -16,10 +16,11 @@ ghost use Rattle.model_store.specs.Read.{reading_of};
 use crate::device::{PIECE, erase, put};
 use crate::format::{LOG_LENGTH, STORE_LENGTH, data_fault, log_fault};
 use model_base::{BLOCK_SIZE, FIRST_DATA_LSN, START_LSN, Shape};
-use model_log::{HEADER_BLOCKS, checkpoint_bytes};
+use model_log::HEADER_BLOCKS;
 use model_report::Fault;
 use model_store::{Read, Refusal, one_answer, one_reading, read_store};
 use redo_disk::{DevError, Sectors};
+use redo_header::fill_ckpt;
 use redo_memdisk::Fused;
 use std::alloc::Global;
 
@@ -166,7 +167,8 @@ fn start_log<L: Sectors>(alloc: Global, log: &mut Fused<L>) -> Result<(), DevErr
         (fuse_of log.old) (fuse_of log.new) (IsErrOf result DevError.Failed) }
 {
     let shape = Shape::default_shape();
-    let checkpoint = checkpoint_bytes(alloc, 1, START_LSN, &shape)?;
+    let mut checkpoint = [0; 512];
+    fill_ckpt(&mut checkpoint, 1, START_LSN, &shape);
     erase(alloc, log, HEADER_BLOCKS, LOG_LENGTH)?;
     put(log, 3 * BLOCK_SIZE, &checkpoint)
 }

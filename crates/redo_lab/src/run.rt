@@ -16,28 +16,30 @@ use crate::device::put;
 use crate::format::log_fault;
 use crate::laws::short_lines;
 use model_base::{DEFAULT_SPACE, FIRST_DATA_LSN, START_LSN};
-use model_log::{BLOCK_HEADER, HEADER_BLOCKS, block_bytes, lsn_of, sn_of};
-use model_record::group_bytes;
+use model_log::{BLOCK_HEADER, HEADER_BLOCKS};
 use model_report::Fault;
 use model_script::{Script, ScriptLine};
+use redo_block::fill;
 use redo_disk::Sectors;
+use redo_lsn::{NoMemory, lsn_of, sn_of};
 use redo_memdisk::Fused;
-use std::alloc::{AllocError, Global};
+use redo_record::encode;
+use std::alloc::Global;
 
 /// The number of the checkpoint that the run's blocks name: that of opening.
 const FIRST_NUMBER: u32 = 1;
 
 /// The log's first block with the line's group in it, and the length of the group's text.
-fn first_block(alloc: Global, line: &ScriptLine) -> Result<(Vec<u8>, u64), AllocError>
+fn first_block(alloc: Global, line: &ScriptLine) -> Result<([u8; 512], u64), NoMemory>
     requires has_text { IsGroup (line_group line.now) }
     requires short { group_length (line_group line.now) < 496 }
-    ensures block { IfOk result (λ found. found.0.items ≡ block_of_group (line_group line.now)) }
-    ensures whole { IfOk result (λ found. length found.0.items ≡ 512) }
+    ensures block { IfOk result (λ found. found.0 ≡ block_of_group (line_group line.now)) }
     ensures length { IfOk result (λ found. found.1 ≡ group_length (line_group line.now)) }
 {
     let group = line.group(alloc, DEFAULT_SPACE)?;
-    let text = group_bytes(alloc, &group)?;
-    let block = block_bytes(alloc, START_LSN, &text, BLOCK_HEADER as u32, FIRST_NUMBER)?;
+    let text = encode(alloc, &group)?;
+    let mut block = [0; 512];
+    fill(&mut block, START_LSN, text.as_slice(), BLOCK_HEADER as u32, FIRST_NUMBER);
     Ok((block, text.len() as u64))
 }
 

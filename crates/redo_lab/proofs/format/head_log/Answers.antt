@@ -12,10 +12,10 @@ use Rattle.redo_lab.proofs.format.head_log.Goals as goal
 
 pub returns-clause-told : goal.returns-clause-told
 returns-clause-told g c =
-    let checkpoint : List ℕ = c.deref.result.now in
-    let head : List ℕ = c.deref-2.result.now in
-    let is_checkpoint = c.deref.ensures.value ∙ c.in_ok-checkpoint.ensures.text ∙ ap (checkpoint_text 0 START_LSN) c.default_shape-shape.ensures in
-    let is_head : head ≡ head_text default_shape = c.deref-2.ensures.value ∙ c.in_ok-head.ensures.text ∙ ap head_text c.default_shape-shape.ensures in
+    let checkpoint : List ℕ = c.fill_ckpt.new.out in
+    let head : List ℕ = c.fill_head.new.out in
+    let is_checkpoint = c.fill_ckpt.ensures ∙ ap (checkpoint_text 0 START_LSN) c.default_shape-shape.ensures in
+    let is_head : head ≡ head_text default_shape = c.fill_head.ensures ∙ ap head_text c.default_shape-shape.ensures in
     on_ok_weaker c.put-2.result
     (λ told. told_then (overwritten 512 checkpoint) (overwritten 0 head) _ _ _ c.in_ok-put.ensures.told told
     ∙ ap settled_as (map_same _ _ (reads_of (g.L.Sectors.tells c.args.log.now.inner))

@@ -13,9 +13,9 @@ use Rattle.redo_lab.proofs.open.start_log.Goals as goal
 
 pub returns-clause-told : goal.returns-clause-told
 returns-clause-told g c =
-    let checkpoint : List ℕ = c.deref.result.now in
+    let checkpoint : List ℕ = c.fill_ckpt.new.out in
     let is_checkpoint : checkpoint ≡ checkpoint_text 1 START_LSN default_shape =
-    c.deref.ensures.value ∙ c.in_ok-checkpoint.ensures.text ∙ ap (checkpoint_text 1 START_LSN) c.default_shape-shape.ensures in
+    c.fill_ckpt.ensures ∙ ap (checkpoint_text 1 START_LSN) c.default_shape-shape.ensures in
     on_ok_weaker c.put.result
     (λ told. told_then (zeroed HEADER_BLOCKS (log_device_length default_shape)) (overwritten 1536 checkpoint) _ _ _ c.in_ok-erase.ensures.told told
     ∙ ap settled_as (map_same _ _ (reads_of (g.L.Sectors.tells c.args.log.now.inner)) (λ (bytes : List ℕ). opened_in_steps checkpoint bytes is_checkpoint)))
