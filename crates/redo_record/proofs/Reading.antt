@@ -1,5 +1,5 @@
 -- What reading gives where a group's text stands in front.
-use Rattle.std.proofs.Common.{◌≡◌, ℕ, ◌+◌, ◌≤◌, List, [], ◌++◌, length, take, drop, sym, ap, ◌∙◌, refl, subst, arith, append_assoc, length-append}
+use Rattle.std.proofs.Common.{◌≡◌, ℕ, ◌≤◌, List, [], ◌++◌, length, drop, sym, ap, ◌∙◌, refl, arith, append_assoc, length-append}
 use Rattle.std.proofs.lemmas.List.{append-nil, take_at, take-append-drop, length-take-le}
 use Rattle.model_number.specs.declared.got.Got.{Got}
 use Rattle.model_number.specs.declared.got.Got.TheVariants.{Value, Short, Bad}
