@@ -1,5 +1,5 @@
 -- A call seen from outside.
-use Rattle.std.proofs.Common.{ℕ, ◌≡◌, ◌≤◌, ◌⊎◌, List, [], ◌++◌, length, Option, Some, None, Result, Ok, Err, refl, sym, ap, ◌∙◌, subst, arith, inl, inr, ⊎_elim}
+use Rattle.std.proofs.Common.{ℕ, ◌≡◌, ◌≤◌, ◌⊎◌, List, ◌++◌, length, Option, Some, None, Result, Ok, Err, refl, sym, ap, ◌∙◌, subst, arith, inl, inr, ⊎_elim}
 use Rattle.std.specs.Prelude.{IfOk, IfErr, IfSome, IsErrOf, OnOk}
 use Rattle.model_base.specs.Limits.{default_shape}
 use Rattle.model_device.specs.Disk.{Disk}
@@ -92,9 +92,6 @@ taken_whole items P (Ok text) status taken now before after is (inl printed) fau
 taken_whole items P (Ok text) status taken now before after is (inr failed) fault zero = absurd (status_not_0 Sink (sym failed.0 ∙ zero))
 taken_whole items P (Err fault) status taken now before after is printed line zero = absurd (status_not_0 fault (sym line.0 ∙ zero))
 
-source_read : (text source : List ℕ) (left now : Option (List ℕ)) → WasRead text left now → left ≡ Some source → (text ≡ source) × (now ≡ Some [])
-source_read text source left now read is = subst (λ (l : Option (List ℕ)). WasRead text l now) is read
-
 sink_took : (taken now : Option (List ℕ)) (text : List ℕ) → now ≡ with_taken taken text → IfSome taken (λ bytes. now ≡ Some (bytes ++ text))
 sink_took None now text is = tt
 sink_took (Some bytes) now text is = is
@@ -110,39 +107,39 @@ pub is_safe : RunIsSafe → (words : List (List ℕ)) (left left_now : Option (L
     → IsAnswer words left left_now log store text log_now store_now
     → (log_fuse store_fuse : Fuse) → IsSpent log_fuse → IsSpent store_fuse → IsUnfailed log_fuse → IsUnfailed store_fuse
     → (taken taken_now : Option (List ℕ)) → taken_now ≡ with_taken taken text → (log_faults store_faults : ℕ)
-    → (source : List ℕ) (first second : Disk) → left ≡ Some source → log ≡ Some first → store ≡ Some second
-    → IsSafe source left_now taken taken_now first log_faults log_now log_fuse second store_faults store_now store_fuse
-is_safe safe words left left_now log store log_now store_now text answer log_fuse store_fuse log_spent store_spent log_unfailed store_unfailed taken taken_now took log_faults store_faults source first second left_is log_is store_is =
-    let done = answer.done first second log_is store_is in
-    let was_read = source_read answer.read.text source left left_now answer.read.read left_is in
-    record {
-      crash = crash_of source answer.script first log_faults second store_faults;
-      call = record {
-        source = refl;
-        source_left = was_read.1;
-        printed = sink_took taken taken_now _ (took ∙ ap (with_taken taken) done.printed);
-        pick = refl;
-        shape = refl;
-        opened = refl;
-      };
-      log_device = record {
-        at_entry = refl;
-        faults_are = refl;
-        before_crash = refl;
-        left = done.log_is;
-        no_change_after = log_spent.changes;
-        pick = sym log_spent.pick;
-        failures = sym log_unfailed.mid;
-      };
-      store_device = record {
-        at_entry = refl;
-        faults_are = refl;
-        before_crash = refl;
-        left = done.store_is;
-        no_change_after = store_spent.changes;
-        pick = sym store_spent.pick;
-        failures = sym store_unfailed.mid;
-      };
-      holds = safe source answer.script first second log_faults store_faults
-          (subst (λ (t : List ℕ). first_path_script t ≡ Ok answer.script) was_read.0 answer.read.is_script) done.log_long done.store_long;
-    }
+    → (first second : Disk) → log ≡ Some first → store ≡ Some second
+    → (source : List ℕ) × WasRead source left left_now × IsSafe source taken taken_now first log_faults log_now log_fuse second store_faults store_now store_fuse
+is_safe safe words left left_now log store log_now store_now text answer log_fuse store_fuse log_spent store_spent log_unfailed store_unfailed taken taken_now took log_faults store_faults first second log_is store_is =
+    let done = answer.done first second log_is store_is in (
+      answer.read.text,
+      answer.read.read,
+      record {
+        crash = crash_of answer.read.text answer.script first log_faults second store_faults;
+        call = record {
+          source = refl;
+          printed = sink_took taken taken_now _ (took ∙ ap (with_taken taken) done.printed);
+          pick = refl;
+          shape = refl;
+          opened = refl;
+        };
+        log_device = record {
+          at_entry = refl;
+          faults_are = refl;
+          before_crash = refl;
+          left = done.log_is;
+          no_change_after = log_spent.changes;
+          pick = sym log_spent.pick;
+          failures = sym log_unfailed.mid;
+        };
+        store_device = record {
+          at_entry = refl;
+          faults_are = refl;
+          before_crash = refl;
+          left = done.store_is;
+          no_change_after = store_spent.changes;
+          pick = sym store_spent.pick;
+          failures = sym store_unfailed.mid;
+        };
+        holds = safe answer.read.text answer.script first second log_faults store_faults answer.read.is_script done.log_long done.store_long;
+      },
+    )

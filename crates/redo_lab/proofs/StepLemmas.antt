@@ -8,7 +8,11 @@ use Rattle.redo_disk.specs.declared.error.DevError.{DevError}
 use Rattle.redo_disk.specs.declared.error.DevError.TheVariants.{Failed, NoMemory}
 use Rattle.model_report.specs.declared.fault.Fault.{Fault}
 use Rattle.model_report.specs.declared.fault.Fault.TheVariants.{LogDevice}
-use Rattle.redo_lab.specs.Steps.{IsQuiet, Steps, log_fault}
+use Rattle.redo_memdisk.specs.declared.fuse.Stage.TheVariants.{Before}
+use Rattle.redo_lab.specs.Steps.{IsEarly, IsQuiet, Steps, log_fault}
+
+pub early_same : (fuse : Fuse) → fuse.stage ≡ Before → IsEarly fuse fuse
+early_same fuse before = record { stage = before; mid = refl; late = refl }
 
 pub quiet_same : (fuse : Fuse) → IsQuiet fuse fuse
 quiet_same fuse = record { stage = refl; limit = refl; pick = refl; early = refl; mid = refl; late = refl; changes = λ before. refl }
@@ -23,6 +27,12 @@ quiet_then old mid new first second = record {
   late = second.late ∙ first.late;
   changes = λ before. second.changes (λ crashed. before (sym first.stage ∙ crashed)) ∙ first.changes before;
 }
+
+pub early_then : (old mid new : Fuse) → (old.stage ≡ Before → IsEarly old mid) → (mid.stage ≡ Before → IsEarly mid new) → old.stage ≡ Before → IsEarly old new
+early_then old mid new first second before =
+    let one = first before in
+    let two = second one.stage in
+    record { stage = two.stage; mid = two.mid ∙ one.mid; late = two.late ∙ one.late }
 
 pub risen_from : (before mid now : ℕ) → before ≤ mid → mid ≤ now → HasRisen mid now → HasRisen before now
 risen_from before mid now le more risen = ⊎_elim
@@ -45,6 +55,7 @@ steps_then {size} {mid_size} {now_size} {before} {mid} {now} {old} {mid_fuse} {n
       same_size = second.same_size ∙ first.same_size;
       later = omega arith;
       limit = second.limit ∙ first.limit;
+      early = early_then old mid_fuse new first.early second.early;
       quiet = λ unfailed. quiet_then old mid_fuse new (first.quiet done) (second.quiet unfailed);
       counted = λ failed. let counted = second.counted failed in
           record { risen = risen_from before mid now le more counted.risen; noted = counted.noted };
@@ -58,6 +69,7 @@ steps_ok {T} {T2} {E} {E2} {value} {value2} {error} {error2} steps = record {
   same_size = steps.same_size;
   later = steps.later;
   limit = steps.limit;
+  early = steps.early;
   quiet = λ unfailed. steps.quiet (ok_is_no_error value error);
   counted = λ failed. absurd (ok_is_no_error value2 error2 failed);
 }
@@ -78,6 +90,7 @@ log_steps_of error fault is steps = record {
   same_size = steps.same_size;
   later = steps.later;
   limit = steps.limit;
+  early = steps.early;
   quiet = λ unfailed. steps.quiet (λ failed. unfailed (ap Err (is ∙ ap log_fault (err_is failed))));
   counted = λ failed. steps.counted (ap Err (is_log_device error (sym is ∙ err_is failed)));
 }

@@ -12,8 +12,9 @@ use Rattle.model_theorem.specs.Crash.{CrashSafe}
 use Rattle.redo_io.specs.Sink.{with_taken, TakesPart}
 use Rattle.redo_memdisk.specs.declared.fuse.Fuse.{Fuse}
 use Rattle.redo_lab.specs.Call.{IsCall, IsDevice}
+use Rattle.redo_lab.specs.Check.{DoFit}
 use Rattle.redo_lab.specs.Outcome.{IsDone, IsCrashFault, IsReportOf}
-use Rattle.redo_lab.specs.Reads.{OnRead}
+use Rattle.redo_lab.specs.Reads.{OnLog}
 use Rattle.redo_lab.specs.Steps.{reads_of}
 use Rattle.redo_lab.specs.Script.{IsScriptOf, IsBadLine, IsLongScript}
 
@@ -21,43 +22,43 @@ use Rattle.redo_lab.specs.Script.{IsScriptOf, IsBadLine, IsLongScript}
 abbrev pub the_command : List (List ℕ)
 the_command = codes "crash" ∷ []
 
--- The words are the command, what the source had left is a script, the text is the report of what is read off the
--- devices now, and on devices that meant this all was done that the call is to do.
+-- The words are the command, what the source had left is a script, the text is the report of what is read off the log
+-- device now, and on devices that meant this all was done that the call is to do.
 pub record IsAnswer (words : List (List ℕ)) (left now : Option (List ℕ)) (log store : Option Disk) (text : List ℕ) (log_now store_now : Option Disk) : Type 0 where
   pub command : words ≡ the_command
   pub script : List ScriptLine
   pub read : IsScriptOf left now script
-  pub reported : OnRead (reads_of log_now) (reads_of store_now) (IsReportOf script text)
+  pub reported : OnLog (reads_of log_now) (IsReportOf script text)
   pub done : (first second : Disk) → log ≡ Some first → store ≡ Some second → IsDone script first second text log_now store_now
 
 -- the words are the command, and what the source had left was read and is a script
 abbrev pub WasScript : List (List ℕ) → Option (List ℕ) → Option (List ℕ) → Type 0
 WasScript words left now = (words ≡ the_command) × (script : List ScriptLine) × IsScriptOf left now script
 
--- Why a call gives no text. A source and the devices are seen by what they told at entry and tell now, by their counts
+-- Why a call gives no text. The source and the log device are seen by what they told at entry and tell now, by their counts
 -- of faults and by the sizes of the devices; a device's failure is counted besides. The first that doesn't hold
 -- decides: the words, the source, the script, the devices. Other words leave the source unread, and until the script
 -- is read and both devices fit, these mean what they did before (same). A failure of the log device ends the call once
 -- that has its header blocks, one of the data device once both fit.
-abbrev pub IsLabFault : List (List ℕ) → Option (List ℕ) → Option (List ℕ) → ℕ → ℕ → Option (List ℕ) → Option (List ℕ) → ℕ → ℕ → Type 0 → Fault → Type 0
-IsLabFault words left now before after log store log_size store_size same Memory = words ≡ the_command
-IsLabFault words left now before after log store log_size store_size same Words =
-    (words ≡ the_command → ⊥) × (now ≡ left) × same
-IsLabFault words left now before after log store log_size store_size same (Script n) =
+abbrev pub IsLabFault : List (List ℕ) → Option (List ℕ) → Option (List ℕ) → ℕ → ℕ → Option (List ℕ) → ℕ → ℕ → Type 0 → Fault → Type 0
+IsLabFault words left now before after log log_size store_size same Memory =
+    (words ≡ the_command) × (same ⊎ (WasScript words left now × DoFit log log_size store_size))
+IsLabFault words left now before after log log_size store_size same Words = (words ≡ the_command → ⊥) × (now ≡ left) × same
+IsLabFault words left now before after log log_size store_size same (Script n) =
     (words ≡ the_command) × IsBadLine left now n × same
-IsLabFault words left now before after log store log_size store_size same Source =
+IsLabFault words left now before after log log_size store_size same Source =
     (words ≡ the_command) × HasRisen before after × same
-IsLabFault words left now before after log store log_size store_size same LogDevice =
-    WasScript words left now × IsCrashFault log store log_size store_size same LogDevice
-IsLabFault words left now before after log store log_size store_size same DataDevice =
-    WasScript words left now × IsCrashFault log store log_size store_size same DataDevice
-IsLabFault words left now before after log store log_size store_size same (Store refusal) =
-    WasScript words left now × IsCrashFault log store log_size store_size same (Store refusal)
-IsLabFault words left now before after log store log_size store_size same (Fit what n) =
+IsLabFault words left now before after log log_size store_size same LogDevice =
+    WasScript words left now × IsCrashFault log log_size store_size same LogDevice
+IsLabFault words left now before after log log_size store_size same DataDevice =
+    WasScript words left now × IsCrashFault log log_size store_size same DataDevice
+IsLabFault words left now before after log log_size store_size same (Store refusal) =
+    WasScript words left now × IsCrashFault log log_size store_size same (Store refusal)
+IsLabFault words left now before after log log_size store_size same (Fit what n) =
     ((words ≡ the_command) × IsLongScript left what n × same)
-    ⊎ (WasScript words left now × IsCrashFault log store log_size store_size same (Fit what n))
-IsLabFault words left now before after log store log_size store_size same Sink = ⊥
-IsLabFault words left now before after log store log_size store_size same (Turns n user) = ⊥
+    ⊎ (WasScript words left now × IsCrashFault log log_size store_size same (Fit what n))
+IsLabFault words left now before after log log_size store_size same Sink = ⊥
+IsLabFault words left now before after log log_size store_size same (Turns n user) = ⊥
 
 -- a call with this status had a text: it ran, and the sink took the text or failed
 abbrev pub HadText : ℕ → Type 0
@@ -77,9 +78,9 @@ IsFaultPrinted fault status taken now before after =
 
 -- What is promised of a crash holds of this call: there are values of which it speaks, which are those of the source,
 -- the sink and the devices at entry and now.
-pub record IsSafe (source : List ℕ) (source_now taken taken_now : Option (List ℕ)) (log : Disk) (log_faults : ℕ) (log_now : Option Disk) (log_fuse : Fuse) (store : Disk) (store_faults : ℕ) (store_now : Option Disk) (store_fuse : Fuse) : Type 0 where
+pub record IsSafe (source : List ℕ) (taken taken_now : Option (List ℕ)) (log : Disk) (log_faults : ℕ) (log_now : Option Disk) (log_fuse : Fuse) (store : Disk) (store_faults : ℕ) (store_now : Option Disk) (store_fuse : Fuse) : Type 0 where
   pub crash : Crash
-  pub call : IsCall source source_now taken taken_now crash
+  pub call : IsCall source taken taken_now crash
   pub log_device : IsDevice log log_faults log_now log_fuse crash.log
   pub store_device : IsDevice store store_faults store_now store_fuse crash.store
   pub holds : CrashSafe first_path_script crash
@@ -90,6 +91,6 @@ abbrev pub IsOutcome : (words : List (List ℕ)) (left now : Option (List ℕ)) 
 IsOutcome words left now before after log store log_size store_size log_now store_now status taken taken_now out_before out_after =
     ((text : List ℕ) × IsAnswer words left now log store text log_now store_now
     × IsTextPrinted text status taken taken_now out_before out_after)
-    ⊎ ((fault : Fault) × IsLabFault words left now before after (reads_of log) (reads_of store) log_size store_size
+    ⊎ ((fault : Fault) × IsLabFault words left now before after (reads_of log) log_size store_size
     ((log_now ≡ log) × (store_now ≡ store)) fault
     × IsFaultPrinted fault status taken taken_now out_before out_after)

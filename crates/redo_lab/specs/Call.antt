@@ -49,12 +49,11 @@ pub record IsDevice (disk : Disk) (faults : ℕ) (now : Option Disk) (fuse : Fus
   pub pick : device.pick ≡ fuse.pick
   pub failures : device.failures ≡ fuse.mid
 
--- The values of the theorem are those of this call: the source had this text left and has this left; the sink had
--- taken this and has taken what was printed besides, where it tells. A call of today formats the devices, with the
+-- The values of the theorem are those of this call: this text was read; the sink had taken this and has taken what was
+-- printed besides, where it tells. A call of today formats the devices, with the
 -- default sizes and blank pages, and crashes them with the pick 0.
-pub record IsCall (text : List ℕ) (text_left taken taken_now : Option (List ℕ)) (crash : Crash) : Type 0 where
+pub record IsCall (text : List ℕ) (taken taken_now : Option (List ℕ)) (crash : Crash) : Type 0 where
   pub source : crash.source ≡ text
-  pub source_left : text_left ≡ Some crash.source_left
   pub printed : IfSome taken (λ bytes. taken_now ≡ Some (bytes ++ crash.printed))
   pub pick : crash.pick ≡ 0
   pub shape : crash.shape ≡ default_shape

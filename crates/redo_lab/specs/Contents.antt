@@ -1,6 +1,7 @@
 -- What formatting, opening and a run leave on the two devices, as a function of what was there.
 use Rattle.std.specs.Prelude.{ℕ, ◌-◌, ◌*◌, List, replicate}
 use Rattle.model_base.specs.Overwrite.{overwritten}
+use Rattle.model_base.specs.Limits.{default_shape}
 use Rattle.model_base.specs.declared.shape.Shape.{Shape}
 use Rattle.model_base.specs.declared.limits.TheConstants.{BLOCK_SIZE, START_LSN}
 use Rattle.model_log.specs.Head.{head_text}
@@ -26,6 +27,10 @@ formatted_log shape bytes =
 -- a formatted data device: slots and places are zeros
 unfoldable pub formatted_store : Shape → List ℕ → List ℕ
 formatted_store shape bytes = zeroed 0 (data_device_length shape) bytes
+
+-- such a data device as far as the default sizes go
+unfoldable pub blank_data : List ℕ
+blank_data = replicate (data_device_length default_shape) 0
 
 -- An opened log device whose run starts at the first data byte of the log: no old block is left, and there is a next
 -- checkpoint where the run starts.

@@ -14,12 +14,12 @@ use Rattle.model_report.specs.declared.fault.Fault.TheVariants.{Memory, Words, S
 use Rattle.redo_memdisk.specs.declared.fuse.Fuse.{Fuse}
 use Rattle.redo_memdisk.specs.declared.fuse.Stage.TheVariants.{Crashed}
 use Rattle.redo_lab.specs.Check.{DoFit, IsTooShort, IsUnused, IsUsedFit}
-use Rattle.redo_lab.specs.Contents.{formatted_store}
+use Rattle.redo_lab.specs.Contents.{blank_data, formatted_store}
 use Rattle.redo_lab.specs.FirstReading.{empty_reading}
-use Rattle.redo_lab.specs.Reads.{OnRead}
+use Rattle.redo_lab.specs.Reads.{OnLog}
 use Rattle.redo_lab.specs.Today.{final_log, final_reading, printed_text}
 
--- the fuse was armed without a stop, the device was crashed with the pick 0, and no write or sync came after the crash
+-- the fuse has no limit, the device was crashed with the pick 0, and no write or sync came after the crash
 pub record IsSpent (fuse : Fuse) : Type 0 where
   pub stage : fuse.stage ≡ Crashed
   pub limit : fuse.limit ≡ None
@@ -36,63 +36,66 @@ pub record IsDone (script : List ScriptLine) (log store : Disk) (text : List ℕ
   pub log_is : log_now ≡ Some (settled (final_log script log.reads))
   pub store_is : store_now ≡ Some (settled (formatted_store default_shape store.reads))
 
--- these bytes aren't read as a store that was just formatted, and are refused so, or as unformatted
-pub record IsNoFreshStore (refusal : Refusal) (log store : List ℕ) : Type 0 where
-  pub other : Reads log store (empty_reading 0) → ⊥
-  pub refused : Refuses log store refusal ⊎ (refusal ≡ NotFormatted)
+-- beside a data device that was just formatted, these bytes of a log device aren't read as a store that was just
+-- formatted, and are refused so, or as unformatted
+pub record IsNoFreshStore (refusal : Refusal) (log : List ℕ) : Type 0 where
+  pub other : Reads log blank_data (empty_reading 0) → ⊥
+  pub refused : Refuses log blank_data refusal ⊎ (refusal ≡ NotFormatted)
 
--- why opening ended: a device failed, or there was no memory, or what was read off the devices isn't a fresh store
-abbrev pub IsOpenFault : Option (List ℕ) → Option (List ℕ) → Fault → Type 0
-IsOpenFault log store Memory = ⊤
-IsOpenFault log store LogDevice = ⊤
-IsOpenFault log store DataDevice = ⊤
-IsOpenFault log store (Store refusal) = OnRead log store (IsNoFreshStore refusal)
-IsOpenFault log store Words = ⊥
-IsOpenFault log store (Script n) = ⊥
-IsOpenFault log store Source = ⊥
-IsOpenFault log store Sink = ⊥
-IsOpenFault log store (Turns n user) = ⊥
-IsOpenFault log store (Fit what n) = ⊥
+-- why opening ended: the log device failed, or there was no memory, or what was read off it isn't a fresh store
+abbrev pub IsOpenFault : Option (List ℕ) → Fault → Type 0
+IsOpenFault log Memory = ⊤
+IsOpenFault log LogDevice = ⊤
+IsOpenFault log (Store refusal) = OnLog log (IsNoFreshStore refusal)
+IsOpenFault log DataDevice = ⊥
+IsOpenFault log Words = ⊥
+IsOpenFault log (Script n) = ⊥
+IsOpenFault log Source = ⊥
+IsOpenFault log Sink = ⊥
+IsOpenFault log (Turns n user) = ⊥
+IsOpenFault log (Fit what n) = ⊥
 
--- the text is the report of the run of the script, and of what is read off these bytes
-abbrev pub IsReportOf : List ScriptLine → List ℕ → List ℕ → List ℕ → Type 0
-IsReportOf script text log store = (reading : Reading) × Reads log store reading × (text ≡ printed_text script reading)
+-- the text is the report of the run of the script, and of what is read off these bytes of a log device, beside a data
+-- device that was just formatted
+abbrev pub IsReportOf : List ScriptLine → List ℕ → List ℕ → Type 0
+IsReportOf script text log =
+    (reading : Reading) × Reads log blank_data reading × (text ≡ printed_text script reading)
 
--- one of two devices doesn't tell what it holds
-abbrev pub DontBothTell : Option (List ℕ) → Option (List ℕ) → Type 0
-DontBothTell None store = ⊤
-DontBothTell (Some log) None = ⊤
-DontBothTell (Some log) (Some store) = ⊥
+-- the device doesn't tell what it holds
+abbrev pub DoesntTell : Option (List ℕ) → Type 0
+DoesntTell None = ⊤
+DoesntTell (Some bytes) = ⊥
 
--- these bytes are refused so as a store, or, being no store that was just formatted, as unformatted
-abbrev pub IsNoStore : Refusal → List ℕ → List ℕ → Type 0
-IsNoStore refusal log store =
-    Refuses log store refusal ⊎ ((refusal ≡ NotFormatted) × (Reads log store (empty_reading 0) → ⊥))
+-- beside a data device that was just formatted, these bytes of a log device are refused so as a store, or, being no
+-- store that was just formatted, as unformatted
+abbrev pub IsNoStore : Refusal → List ℕ → Type 0
+IsNoStore refusal log =
+    Refuses log blank_data refusal ⊎ ((refusal ≡ NotFormatted) × (Reads log blank_data (empty_reading 0) → ⊥))
 
--- A refusal of what was read: it comes only from devices of which one doesn't tell, so that any bytes of the default
--- sizes may have been read. On devices that tell, a call of today reads what it wrote.
-abbrev pub IsUntold : Option (List ℕ) → Option (List ℕ) → Refusal → Type 0
-IsUntold log store refusal = DontBothTell log store × OnRead None None (IsNoStore refusal)
+-- A refusal of what was read: it comes only from a log device that doesn't tell, so that any bytes may have been read.
+-- Off one that tells, a call of today reads what it wrote.
+abbrev pub IsUntold : Option (List ℕ) → Refusal → Type 0
+IsUntold log refusal = DoesntTell log × OnLog None (IsNoStore refusal)
 
--- Why a call ended on devices of these sizes that held this, where they tell; same says that they mean what they did
--- before. The log device is checked first, and until both devices fit nothing is written.
-abbrev pub IsCrashFault : Option (List ℕ) → Option (List ℕ) → ℕ → ℕ → Type 0 → Fault → Type 0
-IsCrashFault log store log_size store_size same Memory = ⊤
-IsCrashFault log store log_size store_size same LogDevice =
-    (HEADER_BLOCKS ≤ log_size) × (same ⊎ DoFit log log_size store_size)
-IsCrashFault log store log_size store_size same DataDevice = DoFit log log_size store_size
-IsCrashFault log store log_size store_size same (Store refusal) =
-    (IsTooShort log log_size store_size refusal × same) ⊎ (DoFit log log_size store_size × IsUntold log store refusal)
-IsCrashFault log store log_size store_size same (Fit what n) = IsUsedFit log log_size what n × same
-IsCrashFault log store log_size store_size same Words = ⊥
-IsCrashFault log store log_size store_size same (Script n) = ⊥
-IsCrashFault log store log_size store_size same Source = ⊥
-IsCrashFault log store log_size store_size same Sink = ⊥
-IsCrashFault log store log_size store_size same (Turns n user) = ⊥
+-- Why a call ended on devices of these sizes, of which the log device held this, where it tells; same says that both mean
+-- what they did before. The log device is checked first, and until both devices fit nothing is written. The data device
+-- is formatted and then left alone.
+abbrev pub IsCrashFault : Option (List ℕ) → ℕ → ℕ → Type 0 → Fault → Type 0
+IsCrashFault log log_size store_size same Memory = same ⊎ DoFit log log_size store_size
+IsCrashFault log log_size store_size same LogDevice = (HEADER_BLOCKS ≤ log_size) × (same ⊎ DoFit log log_size store_size)
+IsCrashFault log log_size store_size same DataDevice = DoFit log log_size store_size
+IsCrashFault log log_size store_size same (Store refusal) =
+    (IsTooShort log log_size store_size refusal × same) ⊎ (DoFit log log_size store_size × IsUntold log refusal)
+IsCrashFault log log_size store_size same (Fit what n) = IsUsedFit log log_size what n × same
+IsCrashFault log log_size store_size same Words = ⊥
+IsCrashFault log log_size store_size same (Script n) = ⊥
+IsCrashFault log log_size store_size same Source = ⊥
+IsCrashFault log log_size store_size same Sink = ⊥
+IsCrashFault log log_size store_size same (Turns n user) = ⊥
 
 -- why the devices weren't formatted
 abbrev pub IsPrepareFault : Option (List ℕ) → ℕ → ℕ → Type 0 → Fault → Type 0
-IsPrepareFault held log store same Memory = ⊤
+IsPrepareFault held log store same Memory = same ⊎ DoFit held log store
 IsPrepareFault held log store same LogDevice = (HEADER_BLOCKS ≤ log) × (same ⊎ DoFit held log store)
 IsPrepareFault held log store same DataDevice = DoFit held log store
 IsPrepareFault held log store same (Store refusal) = IsTooShort held log store refusal × same

@@ -8,7 +8,7 @@ use Rattle.redo_disk.specs.declared.error.DevError.TheVariants.{Failed, NoMemory
 use Rattle.model_report.specs.declared.fault.Fault.{Fault}
 use Rattle.model_report.specs.declared.fault.Fault.TheVariants.{Memory, LogDevice, DataDevice}
 use Rattle.redo_memdisk.specs.declared.fuse.Fuse.{Fuse}
-use Rattle.redo_memdisk.specs.declared.fuse.Stage.TheVariants.{Stopping, Crashed}
+use Rattle.redo_memdisk.specs.declared.fuse.Stage.TheVariants.{Before, Stopping, Crashed}
 
 -- No call answered that the device failed, and the fuse stands where it stood. Writes and syncs are counted where they
 -- come after the crash.
@@ -36,12 +36,24 @@ pub record IsUnfailed (fuse : Fuse) : Type 0 where
   pub mid : fuse.mid ≡ 0
   pub late : fuse.late ≡ 0
 
+-- a fuse that isn't armed counts the failures apart from those behind
+pub record IsEarly (old new : Fuse) : Type 0 where
+  pub stage : new.stage ≡ Before
+  pub mid : new.mid ≡ old.mid
+  pub late : new.late ≡ old.late
+
+-- no call failed since the fuse was armed
+pub record IsLeftAlone (fuse : Fuse) : Type 0 where
+  pub mid : fuse.mid ≡ 0
+  pub late : fuse.late ≡ 0
+
 -- Steps on a device whose size, count of faults and fuse were these and are these. Where they ended because the device
 -- failed, the failure was counted; else no call failed.
 pub record Steps (size now_size before now : ℕ) (old new : Fuse) (failed : Type 0) : Type 0 where
   pub same_size : now_size ≡ size
   pub later : before ≤ now
   pub limit : new.limit ≡ old.limit
+  pub early : old.stage ≡ Before → IsEarly old new
   pub quiet : (failed → ⊥) → IsQuiet old new
   pub counted : failed → IsCounted before now new
 

@@ -12,8 +12,8 @@ ghost use Rattle.redo_memdisk.specs.Fused.{fuse_of, inner_of};
 ghost use Rattle.redo_lab.specs.Check.{DoFit, IsUnused};
 ghost use Rattle.redo_lab.specs.Contents.{formatted_log, formatted_store, started_log};
 ghost use Rattle.redo_lab.specs.Outcome.{IsDone, IsSpent, IsCrashFault, IsPrepareFault, IsReportOf};
-ghost use Rattle.redo_lab.specs.Reads.{OnRead, IsReadFault};
-ghost use Rattle.redo_lab.specs.Steps.{Steps, Side, IsCounted, IsUnfailed, reads_of, settled_as};
+ghost use Rattle.redo_lab.specs.Reads.{OnLog, IsReadFault};
+ghost use Rattle.redo_lab.specs.Steps.{Steps, Side, IsCounted, IsLeftAlone, IsUnfailed, reads_of, settled_as};
 ghost use Rattle.redo_lab.specs.Today.{run_end};
 
 use crate::check::check_devices;
@@ -45,35 +45,26 @@ fn crash_settled<D: Sectors>(device: &mut Fused<D>)
     device.crash(PICK);
 }
 
-/// Reads what is left, and reports it beside the run.
-fn read_back<L: Sectors, D: Sectors>(
+/// Reads what is left on the log device, and reports it beside the run.
+fn read_back<L: Sectors>(
     alloc: Global,
     script: &Script,
     end: u64,
     log: &mut Fused<L>,
-    store: &mut Fused<D>,
 ) -> Result<Vec<u8>, Fault>
     requires end { end ≡ run_end script.now }
-    requires log_long { log_device_length default_shape ≤ L.size (inner_of log.old) }
-    requires store_long { data_device_length default_shape ≤ D.size (inner_of store.old) }
-    requires log_passes { (fuse_of log.old).limit ≡ None }
-    requires store_passes { (fuse_of store.old).limit ≡ None }
-    ensures text { IfOk result (λ text. OnRead (reads_of (L.tells (inner_of log.old)))
-        (reads_of (D.tells (inner_of store.old))) (IsReportOf script.now text.items)) }
-    ensures fault { IfErr result (IsReadFault (reads_of (L.tells (inner_of log.old)))
-        (reads_of (D.tells (inner_of store.old)))) }
-    ensures log_same { L.tells (inner_of log.new) ≡ L.tells (inner_of log.old) }
-    ensures store_same { D.tells (inner_of store.new) ≡ D.tells (inner_of store.old) }
-    ensures log_steps { Steps (L.size (inner_of log.old)) (L.size (inner_of log.new))
+    requires long { log_device_length default_shape ≤ L.size (inner_of log.old) }
+    requires passes { (fuse_of log.old).limit ≡ None }
+    ensures text { IfOk result (λ text. OnLog (reads_of (L.tells (inner_of log.old)))
+        (IsReportOf script.now text.items)) }
+    ensures fault { IfErr result (IsReadFault (reads_of (L.tells (inner_of log.old)))) }
+    ensures same { L.tells (inner_of log.new) ≡ L.tells (inner_of log.old) }
+    ensures steps { Steps (L.size (inner_of log.old)) (L.size (inner_of log.new))
         (L.faults (inner_of log.old)) (L.faults (inner_of log.new))
         (fuse_of log.old) (fuse_of log.new) (IsErrOf result Fault.LogDevice) }
-    ensures store_steps { Steps (D.size (inner_of store.old)) (D.size (inner_of store.new))
-        (D.faults (inner_of store.old)) (D.faults (inner_of store.new))
-        (fuse_of store.old) (fuse_of store.new) (IsErrOf result Fault.DataDevice) }
-    ensures log_changes { (fuse_of log.new).late_changes ≡ (fuse_of log.old).late_changes }
-    ensures store_changes { (fuse_of store.new).late_changes ≡ (fuse_of store.old).late_changes }
+    ensures changes { (fuse_of log.new).late_changes ≡ (fuse_of log.old).late_changes }
 {
-    let read = match recover(alloc, log, store) {
+    let read = match recover(alloc, log) {
         Ok(read) => read,
         Err(fault) => return Err(fault),
     };
@@ -83,7 +74,7 @@ fn read_back<L: Sectors, D: Sectors>(
     }
 }
 
-/// Formats both devices, which have to be long enough and unused, and arms their fuses.
+/// Formats both devices, which have to be long enough, the log device unused, and arms their fuses.
 fn prepare<L: Sectors, D: Sectors>(
     alloc: Global,
     log: &mut Fused<L>,
@@ -110,6 +101,7 @@ fn prepare<L: Sectors, D: Sectors>(
     ensures store_side { Side (D.size (inner_of store.old)) (D.size (inner_of store.new))
         (D.faults (inner_of store.old)) (D.faults (inner_of store.new)) (fuse_of store.new)
         (IsOk result) (IsErrOf result Fault.DataDevice) }
+    ensures left_alone { IsLeftAlone (fuse_of store.new) }
 {
     check_devices(log, store)?;
     match format(alloc, log, store) {
@@ -121,7 +113,7 @@ fn prepare<L: Sectors, D: Sectors>(
     Ok(())
 }
 
-/// Prepares both devices and opens the store on them.
+/// Prepares both devices and opens the store.
 fn begin<L: Sectors, D: Sectors>(
     alloc: Global,
     log: &mut Fused<L>,
@@ -139,7 +131,7 @@ fn begin<L: Sectors, D: Sectors>(
     ensures store_sized { OnOk result (IfSome (D.tells (inner_of store.old)) (HasSize (D.size (inner_of store.old)))) }
     ensures unused { OnOk result (IsUnused (reads_of (L.tells (inner_of log.old)))) }
     ensures fault { IfErr result (IsCrashFault (reads_of (L.tells (inner_of log.old)))
-        (reads_of (D.tells (inner_of store.old))) (L.size (inner_of log.old)) (D.size (inner_of store.old))
+        (L.size (inner_of log.old)) (D.size (inner_of store.old))
         ((L.tells (inner_of log.new) ≡ L.tells (inner_of log.old))
         × (D.tells (inner_of store.new) ≡ D.tells (inner_of store.old)))) }
     ensures log_side { Side (L.size (inner_of log.old)) (L.size (inner_of log.new))
@@ -148,13 +140,14 @@ fn begin<L: Sectors, D: Sectors>(
     ensures store_side { Side (D.size (inner_of store.old)) (D.size (inner_of store.new))
         (D.faults (inner_of store.old)) (D.faults (inner_of store.new)) (fuse_of store.new)
         (IsOk result) (IsErrOf result Fault.DataDevice) }
+    ensures left_alone { IsLeftAlone (fuse_of store.new) }
 {
     fresh_is_read();
     match prepare(alloc, log, store) {
         Ok(()) => {}
         Err(fault) => return Err(fault),
     }
-    match open(alloc, log, store) {
+    match open(alloc, log) {
         Ok(()) => Ok(()),
         Err(fault) => Err(fault),
     }
@@ -173,17 +166,18 @@ pub(crate) fn crash<L: Sectors, D: Sectors>(
     ensures done { IfOk result (λ text. (first second : Disk)
         → L.tells (inner_of log.old) ≡ Some first → D.tells (inner_of store.old) ≡ Some second
         → IsDone script.now first second text.items (L.tells (inner_of log.new)) (D.tells (inner_of store.new))) }
-    ensures reported { IfOk result (λ text. OnRead (reads_of (L.tells (inner_of log.new)))
-        (reads_of (D.tells (inner_of store.new))) (IsReportOf script.now text.items)) }
+    ensures reported { IfOk result (λ text. OnLog (reads_of (L.tells (inner_of log.new)))
+        (IsReportOf script.now text.items)) }
     ensures fits { OnOk result (DoFit (reads_of (L.tells (inner_of log.old))) (L.size (inner_of log.old)) (D.size (inner_of store.old))) }
     ensures log_spent { OnOk result (IsSpent (fuse_of log.new)) }
     ensures store_spent { OnOk result (IsSpent (fuse_of store.new)) }
     ensures fault { IfErr result (IsCrashFault (reads_of (L.tells (inner_of log.old)))
-        (reads_of (D.tells (inner_of store.old))) (L.size (inner_of log.old)) (D.size (inner_of store.old))
+        (L.size (inner_of log.old)) (D.size (inner_of store.old))
         ((L.tells (inner_of log.new) ≡ L.tells (inner_of log.old))
         × (D.tells (inner_of store.new) ≡ D.tells (inner_of store.old)))) }
     ensures log_unfailed { (IsErrOf result Fault.LogDevice → ⊥) → IsUnfailed (fuse_of log.new) }
     ensures store_unfailed { (IsErrOf result Fault.DataDevice → ⊥) → IsUnfailed (fuse_of store.new) }
+    ensures left_alone { IsLeftAlone (fuse_of store.new) }
     ensures log_counted { IsErrOf result Fault.LogDevice
         → IsCounted (L.faults (inner_of log.old)) (L.faults (inner_of log.new)) (fuse_of log.new) }
     ensures store_counted { IsErrOf result Fault.DataDevice
@@ -202,7 +196,7 @@ pub(crate) fn crash<L: Sectors, D: Sectors>(
     };
     crash_settled(log);
     crash_settled(store);
-    match read_back(alloc, script, end, log, store) {
+    match read_back(alloc, script, end, log) {
         Ok(text) => Ok(text),
         Err(fault) => Err(fault),
     }

@@ -11,7 +11,8 @@ ghost use Rattle.redo_memdisk.specs.Fused.{fuse_of, inner_of};
 ghost use Rattle.redo_lab.specs.Answer.{HadText, IsAnswer, IsFaultPrinted, IsLabFault, IsOutcome, IsSafe, IsTextPrinted, the_command};
 ghost use Rattle.redo_lab.specs.Check.{DoFit};
 ghost use Rattle.redo_lab.specs.Outcome.{IsSpent};
-ghost use Rattle.redo_lab.specs.Steps.{IsCounted, IsUnfailed, reads_of};
+ghost use Rattle.redo_lab.specs.Script.{WasRead};
+ghost use Rattle.redo_lab.specs.Steps.{IsCounted, IsLeftAlone, IsUnfailed, reads_of};
 
 use crate::Ended;
 use crate::crash::crash;
@@ -41,10 +42,11 @@ fn answer<S: Source, L: Sectors, D: Sectors>(
     ensures store_spent { OnOk result (IsSpent (fuse_of store.new)) }
     ensures log_unfailed { (IsErrOf result Fault.LogDevice → ⊥) → IsUnfailed (fuse_of log.new) }
     ensures store_unfailed { (IsErrOf result Fault.DataDevice → ⊥) → IsUnfailed (fuse_of store.new) }
+    ensures left_alone { IsLeftAlone (fuse_of store.new) }
     ensures words { map (λ word. string_bytes word) words.now ≢ the_command → IsErrOf result Fault.Words }
     ensures fault { IfErr result (IsLabFault (map (λ word. string_bytes word) words.now) (S.left src.old) (S.left src.new)
         (S.faults src.old) (S.faults src.new) (reads_of (L.tells (inner_of log.old)))
-        (reads_of (D.tells (inner_of store.old))) (L.size (inner_of log.old)) (D.size (inner_of store.old))
+        (L.size (inner_of log.old)) (D.size (inner_of store.old))
         ((L.tells (inner_of log.new) ≡ L.tells (inner_of log.old))
         × (D.tells (inner_of store.new) ≡ D.tells (inner_of store.old)))) }
     ensures log_counted { IsErrOf result Fault.LogDevice
@@ -102,9 +104,10 @@ fn print<O: Sink>(out: &mut O, answer: Result<Vec<u8>, Fault>) -> u8
     }
 }
 
-/// Runs a command on a source, a sink and two devices: `crash` alone today. It formats both devices, which have to be
-/// unused, runs the script of the source, crashes the devices, reads them, and prints what was run and what is left.
-/// Where it ends with a fault it prints the fault's line alone. Both devices come back behind their fuses.
+/// Runs a command on a source, a sink and two devices: `crash` alone today. It formats both devices, of which the log
+/// device has to be unused, runs the script of the source, crashes the devices, reads the log device, and prints what was
+/// run and what is left. The data device is left alone once it is formatted. Where the call ends with a fault it prints
+/// the fault's line alone. Both devices come back behind their fuses.
 pub fn lab<S: Source, O: Sink, L: Sectors, D: Sectors>(
     alloc: Global,
     words: &[String],
@@ -125,13 +128,15 @@ pub fn lab<S: Source, O: Sink, L: Sectors, D: Sectors>(
     ensures store_spent { HadText result.status → IsSpent (fuse_of result.store) }
     ensures log_unfailed { result.status ≢ 6 → IsUnfailed (fuse_of result.log) }
     ensures store_unfailed { result.status ≢ 7 → IsUnfailed (fuse_of result.store) }
+    ensures store_left_alone { IsLeftAlone (fuse_of result.store) }
     ensures log_device { result.status ≡ 6
         → IsCounted (L.faults log) (L.faults (inner_of result.log)) (fuse_of result.log) }
     ensures data_device { result.status ≡ 7
         → IsCounted (D.faults store) (D.faults (inner_of result.store)) (fuse_of result.store) }
-    ensures crash_safe { result.status ≡ 0 → (text : List ℕ) (first second : Disk)
-        → S.left src.old ≡ Some text → L.tells log ≡ Some first → D.tells store ≡ Some second
-        → IsSafe text (S.left src.new) (O.taken out.old) (O.taken out.new)
+    ensures crash_safe { result.status ≡ 0 → (first second : Disk)
+        → L.tells log ≡ Some first → D.tells store ≡ Some second
+        → (text : List ℕ) × WasRead text (S.left src.old) (S.left src.new)
+        × IsSafe text (O.taken out.old) (O.taken out.new)
         first (L.faults log) (L.tells (inner_of result.log)) (fuse_of result.log)
         second (D.faults store) (D.tells (inner_of result.store)) (fuse_of result.store) }
 {

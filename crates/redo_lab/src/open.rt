@@ -3,18 +3,17 @@ ghost use Rattle.std.specs.Prelude.{◌≡◌, ◌≤◌, ◌+◌, ◌%◌, ℕ,
 ghost use Rattle.std.specs.Option.{option_map};
 ghost use Rattle.model_base.specs.Limits.{default_shape};
 ghost use Rattle.model_log.specs.Device.{log_device_length};
-ghost use Rattle.model_page.specs.Copies.{data_device_length};
 ghost use Rattle.redo_memdisk.specs.Fused.{fuse_of, inner_of};
-ghost use Rattle.redo_lab.specs.Contents.{opened_log};
+ghost use Rattle.redo_lab.specs.Contents.{blank_data, opened_log};
 ghost use Rattle.redo_lab.specs.FirstReading.{empty_reading};
 ghost use Rattle.redo_lab.specs.Outcome.{IsOpenFault};
 ghost use Rattle.redo_lab.specs.Steps.{Steps, reads_of, settled_as};
-ghost use Rattle.redo_lab.specs.Reads.{HasFront, OnRead, IsDeviceFault, IsReadFault};
+ghost use Rattle.redo_lab.specs.Reads.{HasFront, OnLog, IsDeviceFault, IsReadFault};
 ghost use Rattle.model_store.specs.Reading.{Reads};
 ghost use Rattle.model_store.specs.Read.{reading_of};
 
 use crate::device::{PIECE, erase, put};
-use crate::format::{LOG_LENGTH, STORE_LENGTH, data_fault, log_fault};
+use crate::format::{LOG_LENGTH, STORE_LENGTH, log_fault};
 use model_base::{BLOCK_SIZE, FIRST_DATA_LSN, START_LSN, Shape};
 use model_log::HEADER_BLOCKS;
 use model_report::Fault;
@@ -22,7 +21,7 @@ use model_store::{Read, Refusal, one_answer, one_reading, read_store};
 use redo_disk::{DevError, Sectors};
 use redo_header::fill_ckpt;
 use redo_memdisk::Fused;
-use std::alloc::Global;
+use std::alloc::{AllocError, Global};
 
 /// Reads one piece behind those read so far.
 fn read_piece<D: Sectors>(
@@ -95,61 +94,39 @@ fn read_log<L: Sectors>(alloc: Global, log: &mut Fused<L>) -> Result<Vec<u8>, Fa
     }
 }
 
-/// Reads the data device as far as the default sizes go.
-fn read_data<D: Sectors>(alloc: Global, store: &mut Fused<D>) -> Result<Vec<u8>, Fault>
-    requires long { data_device_length default_shape ≤ D.size (inner_of store.old) }
-    requires passes { (fuse_of store.old).limit ≡ None }
-    ensures told { IfOk result (λ bytes. HasFront (reads_of (D.tells (inner_of store.old))) bytes.items) }
-    ensures count { IfOk result (λ bytes. length bytes.items ≡ data_device_length default_shape) }
-    ensures fault { IfErr result IsDeviceFault }
-    ensures same { D.tells (inner_of store.new) ≡ D.tells (inner_of store.old) }
-    ensures steps { Steps (D.size (inner_of store.old)) (D.size (inner_of store.new))
-        (D.faults (inner_of store.old)) (D.faults (inner_of store.new))
-        (fuse_of store.old) (fuse_of store.new) (IsErrOf result Fault.DataDevice) }
-    ensures apart { IsErrOf result Fault.LogDevice → ⊥ }
-    ensures changes { (fuse_of store.new).late_changes ≡ (fuse_of store.old).late_changes }
+/// What a data device of the default sizes holds that was just formatted.
+fn blank_data(alloc: Global) -> Result<Vec<u8>, AllocError>
+    ensures { IfOk result (λ bytes. bytes.items ≡ blank_data) }
 {
-    match read_front(alloc, store, STORE_LENGTH) {
-        Ok(bytes) => Ok(bytes),
-        Err(error) => Err(data_fault(error)),
-    }
+    let zeros = vec![in alloc; 0u8; STORE_LENGTH as usize]?;
+    Ok(zeros)
 }
 
-/// Reads what stands on both devices as a store.
-pub(crate) fn recover<L: Sectors, D: Sectors>(
-    alloc: Global,
-    log: &mut Fused<L>,
-    store: &mut Fused<D>,
-) -> Result<Read, Fault>
-    requires log_long { log_device_length default_shape ≤ L.size (inner_of log.old) }
-    requires store_long { data_device_length default_shape ≤ D.size (inner_of store.old) }
-    requires log_passes { (fuse_of log.old).limit ≡ None }
-    requires store_passes { (fuse_of store.old).limit ≡ None }
-    ensures read { IfOk result (λ read. OnRead (reads_of (L.tells (inner_of log.old)))
-        (reads_of (D.tells (inner_of store.old))) (λ log store. Reads log store (reading_of read))) }
-    ensures fault { IfErr result (IsReadFault (reads_of (L.tells (inner_of log.old)))
-        (reads_of (D.tells (inner_of store.old)))) }
-    ensures log_same { L.tells (inner_of log.new) ≡ L.tells (inner_of log.old) }
-    ensures store_same { D.tells (inner_of store.new) ≡ D.tells (inner_of store.old) }
-    ensures log_steps { Steps (L.size (inner_of log.old)) (L.size (inner_of log.new))
+/// Reads what stands on the log device as a store, beside a data device that was just formatted, which is left alone.
+pub(crate) fn recover<L: Sectors>(alloc: Global, log: &mut Fused<L>) -> Result<Read, Fault>
+    requires long { log_device_length default_shape ≤ L.size (inner_of log.old) }
+    requires passes { (fuse_of log.old).limit ≡ None }
+    ensures read { IfOk result (λ read. OnLog (reads_of (L.tells (inner_of log.old)))
+        (λ bytes. Reads bytes blank_data (reading_of read))) }
+    ensures fault { IfErr result (IsReadFault (reads_of (L.tells (inner_of log.old)))) }
+    ensures same { L.tells (inner_of log.new) ≡ L.tells (inner_of log.old) }
+    ensures steps { Steps (L.size (inner_of log.old)) (L.size (inner_of log.new))
         (L.faults (inner_of log.old)) (L.faults (inner_of log.new))
         (fuse_of log.old) (fuse_of log.new) (IsErrOf result Fault.LogDevice) }
-    ensures store_steps { Steps (D.size (inner_of store.old)) (D.size (inner_of store.new))
-        (D.faults (inner_of store.old)) (D.faults (inner_of store.new))
-        (fuse_of store.old) (fuse_of store.new) (IsErrOf result Fault.DataDevice) }
-    ensures log_changes { (fuse_of log.new).late_changes ≡ (fuse_of log.old).late_changes }
-    ensures store_changes { (fuse_of store.new).late_changes ≡ (fuse_of store.old).late_changes }
+    ensures changes { (fuse_of log.new).late_changes ≡ (fuse_of log.old).late_changes }
 {
     let log_bytes = read_log(alloc, log)?;
-    let store_bytes = read_data(alloc, store)?;
-    match read_store(alloc, &log_bytes, &store_bytes) {
+    let Ok(data_bytes) = blank_data(alloc) else {
+        return Err(Fault::Memory);
+    };
+    match read_store(alloc, &log_bytes, &data_bytes) {
         Ok(Ok(read)) => Ok(read),
         Ok(Err(refusal)) => Err(Fault::Store(refusal)),
         Err(_) => Err(Fault::Memory),
     }
 }
 
-/// Whether what was read is a store that was just formatted.
+/// Whether what was read has the shape, the checkpoint and the end of a store that was just formatted.
 fn is_fresh(read: &Read) -> bool
     ensures { reading_of read.now ≡ empty_reading 0 → IsTrue result }
 {
@@ -173,32 +150,21 @@ fn start_log<L: Sectors>(alloc: Global, log: &mut Fused<L>) -> Result<(), DevErr
     put(log, 3 * BLOCK_SIZE, &checkpoint)
 }
 
-/// Opens a store that was just formatted: reads it, takes the log's old blocks away, and writes the next checkpoint.
-/// Devices that don't give back what formatting wrote are refused as unformatted.
-pub(crate) fn open<L: Sectors, D: Sectors>(
-    alloc: Global,
-    log: &mut Fused<L>,
-    store: &mut Fused<D>,
-) -> Result<(), Fault>
-    requires log_long { log_device_length default_shape ≤ L.size (inner_of log.old) }
-    requires store_long { data_device_length default_shape ≤ D.size (inner_of store.old) }
-    requires log_passes { (fuse_of log.old).limit ≡ None }
-    requires store_passes { (fuse_of store.old).limit ≡ None }
-    ensures log_told { OnOk result (L.tells (inner_of log.new)
+/// Opens a store that was just formatted: reads it, takes the log's old blocks away, and writes the next checkpoint. A
+/// log device that gives back another shape, checkpoint or end than formatting wrote is refused as unformatted.
+pub(crate) fn open<L: Sectors>(alloc: Global, log: &mut Fused<L>) -> Result<(), Fault>
+    requires long { log_device_length default_shape ≤ L.size (inner_of log.old) }
+    requires passes { (fuse_of log.old).limit ≡ None }
+    ensures told { OnOk result (L.tells (inner_of log.new)
         ≡ settled_as (option_map (opened_log default_shape) (reads_of (L.tells (inner_of log.old))))) }
-    ensures store_same { D.tells (inner_of store.new) ≡ D.tells (inner_of store.old) }
-    ensures fault { IfErr result (IsOpenFault (reads_of (L.tells (inner_of log.old)))
-        (reads_of (D.tells (inner_of store.old)))) }
-    ensures log_steps { Steps (L.size (inner_of log.old)) (L.size (inner_of log.new))
+    ensures fault { IfErr result (IsOpenFault (reads_of (L.tells (inner_of log.old)))) }
+    ensures steps { Steps (L.size (inner_of log.old)) (L.size (inner_of log.new))
         (L.faults (inner_of log.old)) (L.faults (inner_of log.new))
         (fuse_of log.old) (fuse_of log.new) (IsErrOf result Fault.LogDevice) }
-    ensures store_steps { Steps (D.size (inner_of store.old)) (D.size (inner_of store.new))
-        (D.faults (inner_of store.old)) (D.faults (inner_of store.new))
-        (fuse_of store.old) (fuse_of store.new) (IsErrOf result Fault.DataDevice) }
 {
     one_reading();
     one_answer();
-    let read = match recover(alloc, log, store) {
+    let read = match recover(alloc, log) {
         Ok(read) => read,
         Err(fault) => return Err(fault),
     };

@@ -39,7 +39,13 @@ fn first_block(alloc: Global, line: &ScriptLine) -> Result<([u8; 512], u64), NoM
     let group = line.group(alloc, DEFAULT_SPACE)?;
     let text = encode(alloc, &group)?;
     let mut block = [0; 512];
-    fill(&mut block, START_LSN, text.as_slice(), BLOCK_HEADER as u32, FIRST_NUMBER);
+    fill(
+        &mut block,
+        START_LSN,
+        text.as_slice(),
+        BLOCK_HEADER as u32,
+        FIRST_NUMBER,
+    );
     Ok((block, text.len() as u64))
 }
 

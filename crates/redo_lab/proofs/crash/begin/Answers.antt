@@ -6,8 +6,7 @@ use Rattle.redo_lab.proofs.crash.begin.Goals as goal
 
 pub returns-in-Err-open-clause-fault : goal.returns-in-Err-open-clause-fault
 returns-in-Err-open-clause-fault g c =
-    begin_fault c.fresh_is_read.ensures (g.L.Sectors.tells c.args.log.now.inner) (g.D.Sectors.tells c.args.store.now.inner)
-    (g.L.Sectors.size c.args.log.now.inner) (g.D.Sectors.size c.args.store.now.inner)
-    c.in-Ok.ensures.log_sized c.in-Ok.ensures.store_sized (c.in-Ok.ensures.log_long, c.in-Ok.ensures.unused, c.in-Ok.ensures.store_long) _ _
-    (ap reads_of c.in-Ok.ensures.log_told ∙ reads-settled _) (ap reads_of c.in-Ok.ensures.store_told ∙ reads-settled _)
-    _ c.in-Err-open.fault c.in-Err-open.ensures.fault
+    begin_fault c.fresh_is_read.ensures (g.L.Sectors.tells c.args.log.now.inner)
+    (g.L.Sectors.size c.args.log.now.inner) (g.D.Sectors.size c.args.store.now.inner) c.in-Ok.ensures.log_sized
+    (c.in-Ok.ensures.log_long, c.in-Ok.ensures.unused, c.in-Ok.ensures.store_long) _
+    (ap reads_of c.in-Ok.ensures.log_told ∙ reads-settled _) _ c.in-Err-open.fault c.in-Err-open.ensures.fault

@@ -3,45 +3,38 @@ use Rattle.model_base.specs.Limits.{default_shape}
 use Rattle.model_device.specs.Disk.{Disk}
 use Rattle.redo_lab.specs.Contents.{started_log}
 use Rattle.redo_lab.specs.Outcome.{IsReportOf}
-use Rattle.redo_lab.specs.Reads.{OnRead}
+use Rattle.redo_lab.specs.Reads.{OnLog}
 use Rattle.redo_lab.specs.Steps.{reads_of}
 use Rattle.redo_lab.specs.Today.{logged}
 use Rattle.redo_lab.proofs.Told.{reads-settled, told_then}
 use Rattle.redo_lab.proofs.Whole.{final_fault, is_done}
 use Rattle.redo_lab.proofs.crash.crash.Goals as goal
 
+pub returns-in-Ok-read_back-clause-reported : goal.returns-in-Ok-read_back-clause-reported
+returns-in-Ok-read_back-clause-reported g c =
+    subst (λ (t : Option Disk). OnLog (reads_of t) (IsReportOf c.args.script.now c.in-Ok-read_back.text.items)) (sym c.in-Ok-read_back.ensures.same)
+    c.in-Ok-read_back.ensures.text
+
 pub returns-in-Ok-read_back-clause-done : goal.returns-in-Ok-read_back-clause-done
 returns-in-Ok-read_back-clause-done g c =
     let log_left = c.crash_settled.ensures.same
     ∙ told_then (started_log default_shape) (logged c.args.script.now) _ _ _ c.in-Ok.ensures.log_told c.in-Ok-run.ensures.told in
-    let store_left = c.crash_settled-2.ensures.same ∙ c.in-Ok.ensures.store_told in
     λ first second log_is store_is.
     is_done c.args.script.now
     (λ log store l m. c.final_is_read.ensures.front (c.requires.script.0) log store c.args.script.now (c.requires.script.1) l m)
     c.one_reading.ensures (g.L.Sectors.tells c.args.log.now.inner) (g.D.Sectors.tells c.args.store.now.inner)
     (g.L.Sectors.size c.args.log.now.inner) (g.D.Sectors.size c.args.store.now.inner)
     c.in-Ok.ensures.log_sized c.in-Ok.ensures.store_sized c.in-Ok.ensures.log_long c.in-Ok.ensures.store_long _ _
-    (c.in-Ok-read_back.ensures.log_same ∙ log_left) (c.in-Ok-read_back.ensures.store_same ∙ store_left)
-    c.in-Ok-read_back.text.items
-    (subst (λ (t : Option Disk). OnRead (reads_of t) (reads_of (g.D.Sectors.tells c.read_back.new.store.inner)) (IsReportOf c.args.script.now c.in-Ok-read_back.text.items)) (sym c.in-Ok-read_back.ensures.log_same)
-    (subst (λ (t : Option Disk). OnRead (reads_of (g.L.Sectors.tells c.crash_settled.new.device.inner)) (reads_of t) (IsReportOf c.args.script.now c.in-Ok-read_back.text.items)) (sym c.in-Ok-read_back.ensures.store_same)
-    c.in-Ok-read_back.ensures.text)) c.in-Ok.ensures.unused
-    first second log_is store_is
+    (c.in-Ok-read_back.ensures.same ∙ log_left) (c.crash_settled-2.ensures.same ∙ c.in-Ok.ensures.store_told)
+    c.in-Ok-read_back.text.items (returns-in-Ok-read_back-clause-reported g c) c.in-Ok.ensures.unused first second log_is store_is
 
 pub returns-in-Err-read_back-clause-fault : goal.returns-in-Err-read_back-clause-fault
 returns-in-Err-read_back-clause-fault g c =
     final_fault c.args.script.now
     (λ log store l m. c.final_is_read.ensures.front (c.requires.script.0) log store c.args.script.now (c.requires.script.1) l m)
-    c.one_answer.ensures.read (g.L.Sectors.tells c.args.log.now.inner) (g.D.Sectors.tells c.args.store.now.inner)
-    (g.L.Sectors.size c.args.log.now.inner) (g.D.Sectors.size c.args.store.now.inner)
-    c.in-Ok.ensures.log_sized c.in-Ok.ensures.store_sized (c.in-Ok.ensures.log_long, c.in-Ok.ensures.unused, c.in-Ok.ensures.store_long) _ _
+    c.one_answer.ensures.read (g.L.Sectors.tells c.args.log.now.inner)
+    (g.L.Sectors.size c.args.log.now.inner) (g.D.Sectors.size c.args.store.now.inner) c.in-Ok.ensures.log_sized
+    (c.in-Ok.ensures.log_long, c.in-Ok.ensures.unused, c.in-Ok.ensures.store_long) _
     (ap reads_of (c.crash_settled.ensures.same
     ∙ told_then (started_log default_shape) (logged c.args.script.now) _ _ _ c.in-Ok.ensures.log_told c.in-Ok-run.ensures.told) ∙ reads-settled _)
-    (ap reads_of (c.crash_settled-2.ensures.same ∙ c.in-Ok.ensures.store_told) ∙ reads-settled _)
     _ c.in-Err-read_back.fault c.in-Err-read_back.ensures.fault
-
-pub returns-in-Ok-read_back-clause-reported : goal.returns-in-Ok-read_back-clause-reported
-returns-in-Ok-read_back-clause-reported g c =
-    subst (λ (t : Option Disk). OnRead (reads_of t) (reads_of (g.D.Sectors.tells c.read_back.new.store.inner)) (IsReportOf c.args.script.now c.in-Ok-read_back.text.items)) (sym c.in-Ok-read_back.ensures.log_same)
-    (subst (λ (t : Option Disk). OnRead (reads_of (g.L.Sectors.tells c.crash_settled.new.device.inner)) (reads_of t) (IsReportOf c.args.script.now c.in-Ok-read_back.text.items)) (sym c.in-Ok-read_back.ensures.store_same)
-    c.in-Ok-read_back.ensures.text)

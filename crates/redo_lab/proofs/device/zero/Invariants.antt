@@ -1,7 +1,8 @@
 use Rattle.std.proofs.Common.{◌-◌, ◌≡◌, ◌%◌, ◌≤◌}
 use Rattle.std.specs.Option.{option_map}
 use Rattle.redo_lab.specs.Contents.{zeroed}
-use Rattle.redo_lab.specs.Steps.{IsQuiet, reads_of}
+use Rattle.redo_lab.specs.Steps.{IsEarly, IsQuiet, reads_of}
+use Rattle.redo_memdisk.specs.declared.fuse.Stage.TheVariants.{Before}
 use Rattle.redo_lab.proofs.device.zero.Given as goal
 
 -- the range is zeros as far as the loop has come, and no call failed
@@ -12,6 +13,7 @@ invariant-loop-at g l = record {
   up_to : l.at ≤ l.to;
   size : g.D.Sectors.size l.device.inner ≡ g.D.Sectors.size l.fn.device.inner;
   later : g.D.Sectors.faults l.fn.device.inner ≤ g.D.Sectors.faults l.device.inner;
+  early : l.fn.device.fuse.stage ≡ Before → IsEarly l.fn.device.fuse l.device.fuse;
   quiet : IsQuiet l.fn.device.fuse l.device.fuse;
   told : reads_of (g.D.Sectors.tells l.device.inner) ≡ option_map (zeroed l.fn.from l.at) (reads_of (g.D.Sectors.tells l.fn.device.inner));
 }

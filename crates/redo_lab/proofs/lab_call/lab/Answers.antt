@@ -24,7 +24,7 @@ returns-clause-outcome g c =
     c.answer-answer.ensures.fault c.print-status.ensures.fault))
 
 pub returns-clause-crash_safe : goal.returns-clause-crash_safe
-returns-clause-crash_safe g c = λ zero source first second source_is log_is store_is.
+returns-clause-crash_safe g c = λ zero first second log_is store_is.
     let took = taken_whole (λ text. text.items) _ c.answer-answer.result _ _ _ _ _ c.answer-answer.ensures.text c.print-status.ensures.text c.print-status.ensures.fault zero in
     is_safe c.run_is_safe.ensures _ _ _ _ _ _ _ _ took.1
     c.answer-answer.new.log.fuse c.answer-answer.new.store.fuse
@@ -32,7 +32,7 @@ returns-clause-crash_safe g c = λ zero source first second source_is log_is sto
     (of_ok _ c.answer-answer.result took.0 c.answer-answer.ensures.store_spent took.3)
     (c.answer-answer.ensures.log_unfailed (λ is. ok_is_no_error _ _ (sym took.3 ∙ is)))
     (c.answer-answer.ensures.store_unfailed (λ is. ok_is_no_error _ _ (sym took.3 ∙ is)))
-    _ _ took.2 (g.L.Sectors.faults c.args.log) (g.D.Sectors.faults c.args.store) source first second source_is
+    _ _ took.2 (g.L.Sectors.faults c.args.log) (g.D.Sectors.faults c.args.store) first second
     (ap g.L.Sectors.tells c.plain-log.ensures.inner ∙ log_is) (ap g.D.Sectors.tells c.plain-store.ensures.inner ∙ store_is)
 
 pub returns-clause-log_spent : goal.returns-clause-log_spent

@@ -8,16 +8,16 @@ use Rattle.redo_lab.proofs.open.open.Goals as goal
 
 pub returns-in-Err-clause-fault : goal.returns-in-Err-clause-fault
 returns-in-Err-clause-fault g c =
-    open_fault c.one_answer.ensures.read (reads_of (g.L.Sectors.tells c.args.log.now.inner)) (reads_of (g.D.Sectors.tells c.args.store.now.inner)) c.in-Err.fault c.in-Err.ensures.fault
+    open_fault c.one_answer.ensures.read (reads_of (g.L.Sectors.tells c.args.log.now.inner)) c.in-Err.fault c.in-Err.ensures.fault
 
 pub returns-then-not-is_fresh-clause-fault : goal.returns-then-not-is_fresh-clause-fault
 returns-then-not-is_fresh-clause-fault g c =
-    not_fresh c.one_reading.ensures (reads_of (g.L.Sectors.tells c.args.log.now.inner)) (reads_of (g.D.Sectors.tells c.args.store.now.inner)) (reading_of c.in-Ok.read)
+    not_fresh c.one_reading.ensures (reads_of (g.L.Sectors.tells c.args.log.now.inner)) (reading_of c.in-Ok.read)
     (λ fresh. false≢true (sym c.if-not-is_fresh.true ∙ c.is_fresh.ensures fresh)) c.in-Ok.ensures.read
 
-pub returns-in-Ok-start_log-clause-log_steps : goal.returns-in-Ok-start_log-clause-log_steps
-returns-in-Ok-start_log-clause-log_steps g c = steps_then c.in-Ok.ensures.log_steps (ok_is_no_error _ _) (steps_ok c.in-Ok-start_log.ensures.steps)
+pub returns-in-Ok-start_log-clause-steps : goal.returns-in-Ok-start_log-clause-steps
+returns-in-Ok-start_log-clause-steps g c = steps_then c.in-Ok.ensures.steps (ok_is_no_error _ _) (steps_ok c.in-Ok-start_log.ensures.steps)
 
-pub returns-clause-log_steps : goal.returns-clause-log_steps
-returns-clause-log_steps g c =
-    steps_then c.in-Ok.ensures.log_steps (ok_is_no_error _ _) (log_steps_of c.in-Err-start_log.error c.log_fault.result c.log_fault.ensures c.in-Err-start_log.ensures.steps)
+pub returns-clause-steps : goal.returns-clause-steps
+returns-clause-steps g c =
+    steps_then c.in-Ok.ensures.steps (ok_is_no_error _ _) (log_steps_of c.in-Err-start_log.error c.log_fault.result c.log_fault.ensures c.in-Err-start_log.ensures.steps)

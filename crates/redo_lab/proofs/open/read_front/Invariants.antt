@@ -1,6 +1,7 @@
 use Rattle.std.proofs.Common.{◌≡◌, ◌-◌, ◌%◌, ◌≤◌, length}
 use Rattle.redo_lab.specs.Reads.{HasFront}
-use Rattle.redo_lab.specs.Steps.{IsQuiet, reads_of}
+use Rattle.redo_lab.specs.Steps.{IsEarly, IsQuiet, reads_of}
+use Rattle.redo_memdisk.specs.declared.fuse.Stage.TheVariants.{Before}
 use Rattle.redo_lab.proofs.open.read_front.Given as goal
 
 -- the bytes so far are the device's front, and no call failed
@@ -10,6 +11,7 @@ invariant-pieces g l = record {
   up_to : length l.bytes.items ≤ l.len;
   size : g.D.Sectors.size l.device.inner ≡ g.D.Sectors.size l.fn.device.inner;
   later : g.D.Sectors.faults l.fn.device.inner ≤ g.D.Sectors.faults l.device.inner;
+  early : l.fn.device.fuse.stage ≡ Before → IsEarly l.fn.device.fuse l.device.fuse;
   quiet : IsQuiet l.fn.device.fuse l.device.fuse;
   changes : l.device.fuse.late_changes ≡ l.fn.device.fuse.late_changes;
   same : g.D.Sectors.tells l.device.inner ≡ g.D.Sectors.tells l.fn.device.inner;
