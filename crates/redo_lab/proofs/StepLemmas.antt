@@ -9,13 +9,21 @@ use Rattle.redo_disk.specs.declared.error.DevError.TheVariants.{Failed, NoMemory
 use Rattle.model_report.specs.declared.fault.Fault.{Fault}
 use Rattle.model_report.specs.declared.fault.Fault.TheVariants.{LogDevice}
 use Rattle.redo_memdisk.specs.declared.fuse.Stage.TheVariants.{Before}
-use Rattle.redo_lab.specs.Steps.{IsEarly, IsQuiet, Steps, log_fault}
+use Rattle.redo_lab.specs.Steps.{IsEarly, IsQuiet, IsUnfailed, Steps, log_fault}
 
 pub early_same : (fuse : Fuse) → fuse.stage ≡ Before → IsEarly fuse fuse
 early_same fuse before = record { stage = before; mid = refl; late = refl }
 
 pub quiet_same : (fuse : Fuse) → IsQuiet fuse fuse
 quiet_same fuse = record { stage = refl; limit = refl; pick = refl; early = refl; mid = refl; late = refl; changes = λ before. refl }
+
+-- a device on which nothing failed stays so
+pub unfailed_then : (old new : Fuse) → IsQuiet old new → IsUnfailed old → IsUnfailed new
+unfailed_then old new quiet clean = record {
+  early = quiet.early ∙ clean.early;
+  mid = quiet.mid ∙ clean.mid;
+  late = quiet.late ∙ clean.late;
+}
 
 pub quiet_then : (old mid new : Fuse) → IsQuiet old mid → IsQuiet mid new → IsQuiet old new
 quiet_then old mid new first second = record {
@@ -57,8 +65,9 @@ steps_then {size} {mid_size} {now_size} {before} {mid} {now} {old} {mid_fuse} {n
       limit = second.limit ∙ first.limit;
       early = early_then old mid_fuse new first.early second.early;
       quiet = λ unfailed. quiet_then old mid_fuse new (first.quiet done) (second.quiet unfailed);
-      counted = λ failed. let counted = second.counted failed in
-          record { risen = risen_from before mid now le more counted.risen; noted = counted.noted };
+      unfailed = λ not clean. second.unfailed not (first.unfailed done clean);
+      counted = λ failed clean. let counted = second.counted failed (first.unfailed done clean) in
+          record { risen = risen_from before mid now le more counted.risen; once = counted.once };
     }
 
 -- steps that succeeded, whatever is answered for them in the end
@@ -71,6 +80,7 @@ steps_ok {T} {T2} {E} {E2} {value} {value2} {error} {error2} steps = record {
   limit = steps.limit;
   early = steps.early;
   quiet = λ unfailed. steps.quiet (ok_is_no_error value error);
+  unfailed = λ unfailed. steps.unfailed (ok_is_no_error value error);
   counted = λ failed. absurd (ok_is_no_error value2 error2 failed);
 }
 
@@ -92,5 +102,6 @@ log_steps_of error fault is steps = record {
   limit = steps.limit;
   early = steps.early;
   quiet = λ unfailed. steps.quiet (λ failed. unfailed (ap Err (is ∙ ap log_fault (err_is failed))));
+  unfailed = λ unfailed. steps.unfailed (λ failed. unfailed (ap Err (is ∙ ap log_fault (err_is failed))));
   counted = λ failed. steps.counted (ap Err (is_log_device error (sym is ∙ err_is failed)));
 }

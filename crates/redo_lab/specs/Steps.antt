@@ -1,5 +1,5 @@
 -- What steps on a device that a fuse watches do to it, beside what they do to its bytes.
-use Rattle.std.specs.Prelude.{ℕ, ◌≡◌, ◌≤◌, ◌<◌, ◌⊎◌, Option, None, List}
+use Rattle.std.specs.Prelude.{ℕ, ◌≡◌, ◌≤◌, ◌+◌, Option, None, List}
 use Rattle.std.specs.Option.{option_map}
 use Rattle.model_base.specs.Count.{HasRisen}
 use Rattle.model_device.specs.Disk.{Disk, settled}
@@ -21,14 +21,14 @@ pub record IsQuiet (old new : Fuse) : Type 0 where
   pub late : new.late ≡ old.late
   pub changes : (old.stage ≡ Crashed → ⊥) → new.late_changes ≡ old.late_changes
 
--- some call answered that the device failed
-abbrev pub HasFailed : Fuse → Type 0
-HasFailed fuse = (0 < fuse.early) ⊎ (0 < fuse.mid) ⊎ (0 < fuse.late)
+-- how many calls answered that the device failed
+abbrev pub failures : Fuse → ℕ
+failures fuse = fuse.early + fuse.mid + fuse.late
 
--- what a failure of the device leaves: it is counted by the device and by the fuse
+-- What a failure of the device leaves: it is counted by the device and by the fuse, and it was the only one.
 pub record IsCounted (before now : ℕ) (fuse : Fuse) : Type 0 where
   pub risen : HasRisen before now
-  pub noted : HasFailed fuse
+  pub once : failures fuse ≡ 1
 
 -- no call answered that the device failed
 pub record IsUnfailed (fuse : Fuse) : Type 0 where
@@ -55,7 +55,8 @@ pub record Steps (size now_size before now : ℕ) (old new : Fuse) (failed : Typ
   pub limit : new.limit ≡ old.limit
   pub early : old.stage ≡ Before → IsEarly old new
   pub quiet : (failed → ⊥) → IsQuiet old new
-  pub counted : failed → IsCounted before now new
+  pub unfailed : (failed → ⊥) → IsUnfailed old → IsUnfailed new
+  pub counted : failed → IsUnfailed old → IsCounted before now new
 
 -- what reads give of a device, where it tells
 abbrev pub reads_of : Option Disk → Option (List ℕ)
