@@ -36,14 +36,16 @@ pub record IsUnfailed (fuse : Fuse) : Type 0 where
   pub mid : fuse.mid ≡ 0
   pub late : fuse.late ≡ 0
 
--- a fuse that isn't armed counts the failures apart from those behind
+-- a fuse that isn't armed counts the failures apart from those behind, and no calls
 pub record IsEarly (old new : Fuse) : Type 0 where
   pub stage : new.stage ≡ Before
+  pub passed : new.passed ≡ old.passed
   pub mid : new.mid ≡ old.mid
   pub late : new.late ≡ old.late
 
--- no call failed since the fuse was armed
+-- since the fuse was armed no call was made up to the crash, and none failed
 pub record IsLeftAlone (fuse : Fuse) : Type 0 where
+  pub passed : fuse.passed ≡ 0
   pub mid : fuse.mid ≡ 0
   pub late : fuse.late ≡ 0
 
@@ -53,6 +55,7 @@ pub record Steps (size now_size before now : ℕ) (old new : Fuse) (failed : Typ
   pub same_size : now_size ≡ size
   pub later : before ≤ now
   pub limit : new.limit ≡ old.limit
+  pub passed : old.passed ≤ new.passed
   pub early : old.stage ≡ Before → IsEarly old new
   pub quiet : (failed → ⊥) → IsQuiet old new
   pub unfailed : (failed → ⊥) → IsUnfailed old → IsUnfailed new

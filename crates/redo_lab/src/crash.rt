@@ -141,6 +141,7 @@ fn begin<L: Sectors, D: Sectors>(
         (D.faults (inner_of store.old)) (D.faults (inner_of store.new)) (fuse_of store.new)
         (IsOk result) (IsErrOf result Fault.DataDevice) }
     ensures left_alone { IsLeftAlone (fuse_of store.new) }
+    ensures armed { OnOk result (1 ≤ (fuse_of log.new).passed) }
 {
     fresh_is_read();
     match prepare(alloc, log, store) {
@@ -182,6 +183,7 @@ pub(crate) fn crash<L: Sectors, D: Sectors>(
         → IsCounted (L.faults (inner_of log.old)) (L.faults (inner_of log.new)) (fuse_of log.new) }
     ensures store_counted { IsErrOf result Fault.DataDevice
         → IsCounted (D.faults (inner_of store.old)) (D.faults (inner_of store.new)) (fuse_of store.new) }
+    ensures armed { OnOk result (1 ≤ (fuse_of log.new).passed) }
 {
     final_is_read();
     one_reading();

@@ -4,6 +4,7 @@ ghost use Rattle.std.specs.Option.{option_map};
 ghost use Rattle.model_base.specs.Overwrite.{overwritten};
 ghost use Rattle.redo_disk.specs.Sectors.{IsRange};
 ghost use Rattle.redo_memdisk.specs.Fused.{fuse_of, inner_of};
+ghost use Rattle.redo_memdisk.specs.declared.fuse.Stage.{Stage};
 ghost use Rattle.redo_lab.specs.Contents.{zeroed};
 ghost use Rattle.redo_lab.specs.Steps.{Steps, reads_of, settled_as};
 
@@ -33,6 +34,7 @@ fn sync<D: Sectors>(device: &mut Fused<D>) -> Result<(), DevError>
     ensures steps { Steps (D.size (inner_of device.old)) (D.size (inner_of device.new))
         (D.faults (inner_of device.old)) (D.faults (inner_of device.new))
         (fuse_of device.old) (fuse_of device.new) (IsErrOf result DevError.Failed) }
+    ensures passed { OnOk result ((fuse_of device.old).stage ≡ Stage.Stopping → 1 ≤ (fuse_of device.new).passed) }
 {
     device.sync()
 }
@@ -46,6 +48,7 @@ pub(crate) fn put<D: Sectors>(device: &mut Fused<D>, at: u64, bytes: &[u8]) -> R
     ensures steps { Steps (D.size (inner_of device.old)) (D.size (inner_of device.new))
         (D.faults (inner_of device.old)) (D.faults (inner_of device.new))
         (fuse_of device.old) (fuse_of device.new) (IsErrOf result DevError.Failed) }
+    ensures passed { OnOk result ((fuse_of device.old).stage ≡ Stage.Stopping → 1 ≤ (fuse_of device.new).passed) }
 {
     write(device, at, bytes)?;
     sync(device)

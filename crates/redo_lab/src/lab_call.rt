@@ -42,6 +42,7 @@ fn answer<S: Source, L: Sectors, D: Sectors>(
     ensures store_spent { OnOk result (IsSpent (fuse_of store.new)) }
     ensures log_unfailed { (IsErrOf result Fault.LogDevice → ⊥) → IsUnfailed (fuse_of log.new) }
     ensures store_unfailed { (IsErrOf result Fault.DataDevice → ⊥) → IsUnfailed (fuse_of store.new) }
+    ensures armed { OnOk result (1 ≤ (fuse_of log.new).passed) }
     ensures left_alone { IsLeftAlone (fuse_of store.new) }
     ensures words { map (λ word. string_bytes word) words.now ≢ the_command → IsErrOf result Fault.Words }
     ensures fault { IfErr result (IsLabFault (map (λ word. string_bytes word) words.now) (S.left src.old) (S.left src.new)
@@ -126,6 +127,7 @@ pub fn lab<S: Source, O: Sink, L: Sectors, D: Sectors>(
     ensures fits { HadText result.status → DoFit (reads_of (L.tells log)) (L.size log) (D.size store) }
     ensures log_spent { HadText result.status → IsSpent (fuse_of result.log) }
     ensures store_spent { HadText result.status → IsSpent (fuse_of result.store) }
+    ensures log_armed { HadText result.status → 1 ≤ (fuse_of result.log).passed }
     ensures log_unfailed { result.status ≢ 6 → IsUnfailed (fuse_of result.log) }
     ensures store_unfailed { result.status ≢ 7 → IsUnfailed (fuse_of result.store) }
     ensures store_left_alone { IsLeftAlone (fuse_of result.store) }

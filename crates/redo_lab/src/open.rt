@@ -4,6 +4,7 @@ ghost use Rattle.std.specs.Option.{option_map};
 ghost use Rattle.model_base.specs.Limits.{default_shape};
 ghost use Rattle.model_log.specs.Device.{log_device_length};
 ghost use Rattle.redo_memdisk.specs.Fused.{fuse_of, inner_of};
+ghost use Rattle.redo_memdisk.specs.declared.fuse.Stage.{Stage};
 ghost use Rattle.redo_lab.specs.Contents.{blank_data, opened_log};
 ghost use Rattle.redo_lab.specs.FirstReading.{empty_reading};
 ghost use Rattle.redo_lab.specs.Outcome.{IsOpenFault};
@@ -142,6 +143,7 @@ fn start_log<L: Sectors>(alloc: Global, log: &mut Fused<L>) -> Result<(), DevErr
     ensures steps { Steps (L.size (inner_of log.old)) (L.size (inner_of log.new))
         (L.faults (inner_of log.old)) (L.faults (inner_of log.new))
         (fuse_of log.old) (fuse_of log.new) (IsErrOf result DevError.Failed) }
+    ensures passed { OnOk result ((fuse_of log.old).stage ≡ Stage.Stopping → 1 ≤ (fuse_of log.new).passed) }
 {
     let shape = Shape::default_shape();
     let mut checkpoint = [0; 512];
@@ -161,6 +163,7 @@ pub(crate) fn open<L: Sectors>(alloc: Global, log: &mut Fused<L>) -> Result<(), 
     ensures steps { Steps (L.size (inner_of log.old)) (L.size (inner_of log.new))
         (L.faults (inner_of log.old)) (L.faults (inner_of log.new))
         (fuse_of log.old) (fuse_of log.new) (IsErrOf result Fault.LogDevice) }
+    ensures passed { OnOk result ((fuse_of log.old).stage ≡ Stage.Stopping → 1 ≤ (fuse_of log.new).passed) }
 {
     one_reading();
     one_answer();

@@ -59,3 +59,8 @@ returns-clause-log_unfailed g c = λ other.
 pub returns-clause-store_unfailed : goal.returns-clause-store_unfailed
 returns-clause-store_unfailed g c = λ other.
     c.answer-answer.ensures.store_unfailed (λ is. other (has_status DataDevice c.answer-answer.result _ _ _ _ _ c.print-status.ensures.fault is))
+
+pub returns-clause-log_armed : goal.returns-clause-log_armed
+returns-clause-log_armed g c = λ had.
+    let text = had_text _ (λ none. none) c.answer-answer.result _ _ _ _ _ c.answer-answer.ensures.fault c.print-status.ensures.fault had in
+    of_ok _ c.answer-answer.result text.0 c.answer-answer.ensures.armed text.1

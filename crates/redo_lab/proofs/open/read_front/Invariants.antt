@@ -11,6 +11,7 @@ invariant-pieces g l = record {
   up_to : length l.bytes.items ≤ l.len;
   size : g.D.Sectors.size l.device.inner ≡ g.D.Sectors.size l.fn.device.inner;
   later : g.D.Sectors.faults l.fn.device.inner ≤ g.D.Sectors.faults l.device.inner;
+  passed : l.fn.device.fuse.passed ≤ l.device.fuse.passed;
   early : l.fn.device.fuse.stage ≡ Before → IsEarly l.fn.device.fuse l.device.fuse;
   quiet : IsQuiet l.fn.device.fuse l.device.fuse;
   changes : l.device.fuse.late_changes ≡ l.fn.device.fuse.late_changes;
