@@ -1,4 +1,5 @@
 pub mod Cutting
+pub mod FirstScript
 pub mod FrontLemmas
 pub mod ItemLemmas
 pub mod LineLemmas

@@ -4,6 +4,7 @@
 
 mod cut;
 mod item;
+mod laws;
 mod line;
 mod lines;
 mod number;
@@ -14,6 +15,7 @@ mod script;
 mod today;
 
 pub use item::{Item, Items};
+pub use laws::first_path_is_script;
 pub use parsing::parse;
 pub use script::{Script, ScriptLine};
 pub use today::first_path;
