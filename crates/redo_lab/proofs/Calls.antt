@@ -6,6 +6,7 @@ use Rattle.model_device.specs.Disk.{Disk}
 use Rattle.model_log.specs.Device.{log_device_length}
 use Rattle.model_page.specs.Copies.{data_device_length}
 use Rattle.model_script.specs.FirstPath.{first_path_script}
+use Rattle.model_script.specs.Grammar.{script_of}
 use Rattle.model_script.specs.declared.script.ScriptLine.{ScriptLine}
 use Rattle.model_store.specs.declared.refusal.Refusal.TheVariants.{SmallLog, NotFormatted, BadFormat, SmallData, NoCheckpoint, BadRecord, PageLost, PageAhead}
 use Rattle.model_report.specs.FaultLine.{status_of}
@@ -101,7 +102,7 @@ abbrev pub RunIsSafe : Type 0
 RunIsSafe = (text : List ℕ) (script : List ScriptLine) (log store : Disk) (log_faults store_faults : ℕ)
     → first_path_script text ≡ Ok script
     → log_device_length default_shape ≤ length log.reads → data_device_length default_shape ≤ length store.reads
-    → CrashSafe first_path_script (crash_of text script log log_faults store store_faults)
+    → CrashSafe script_of (crash_of text script log log_faults store store_faults)
 
 pub is_safe : RunIsSafe → (words : List (List ℕ)) (left left_now : Option (List ℕ)) (log store log_now store_now : Option Disk) (text : List ℕ)
     → IsAnswer words left left_now log store text log_now store_now

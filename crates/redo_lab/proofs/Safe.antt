@@ -11,6 +11,8 @@ use Rattle.model_page.specs.Copies.{data_device_length}
 use Rattle.model_page.specs.declared.content.Content.{Content}
 use Rattle.model_record.specs.declared.group.Whole.{Whole}
 use Rattle.model_script.specs.FirstPath.{first_path_script}
+use Rattle.model_script.specs.Grammar.{script_of}
+use Rattle.model_theorem.specs.Values.{Crash}
 use Rattle.model_script.specs.declared.script.ScriptLine.{ScriptLine}
 use Rattle.model_history.specs.Legal.{IsLegal, IsLegalEntry, IsLeft, lines_of_user, wholes_of, count_up_to, group_of_line}
 use Rattle.model_history.specs.declared.entry.Entry.{Entry}
@@ -286,3 +288,20 @@ pub run_safe : SpellingLaws
 run_safe spellings final text script log store log_faults store_faults is_script log_long store_long =
     short_safe spellings text script log store log_faults store_faults (script_short text script is_script) is_script
     (final text log.reads store.reads script is_script log_long store_long)
+
+-- what is promised for the scripts of the first path is promised by the grammar of all scripts
+pub by_grammar : ((text : List ℕ) (script : List ScriptLine) → first_path_script text ≡ Ok script → script_of text ≡ Ok script)
+    → (crash : Crash) → CrashSafe first_path_script crash → CrashSafe script_of crash
+by_grammar are_scripts crash safe = record {
+  every_script = record {
+    all_read = safe.every_script.all_read;
+    is_script = are_scripts crash.source crash.script safe.every_script.is_script;
+    fits = safe.every_script.fits;
+  };
+  prints = safe.prints;
+  in_lsn_order = safe.in_lsn_order;
+  read_from_devices = safe.read_from_devices;
+  first_groups_whole = safe.first_groups_whole;
+  reaching_flushed = safe.reaching_flushed;
+  lost_only_by_failure = safe.lost_only_by_failure;
+}

@@ -2,7 +2,7 @@
 use Rattle.std.specs.Prelude.{ℕ, ◌≡◌, ◌⊎◌, List, [], ◌∷◌, codes, Option, Some}
 use Rattle.model_base.specs.Count.{HasRisen}
 use Rattle.model_device.specs.Disk.{Disk}
-use Rattle.model_script.specs.FirstPath.{first_path_script}
+use Rattle.model_script.specs.Grammar.{script_of}
 use Rattle.model_script.specs.declared.script.ScriptLine.{ScriptLine}
 use Rattle.model_report.specs.FaultLine.{status_of, fault_line}
 use Rattle.model_report.specs.declared.fault.Fault.{Fault}
@@ -83,7 +83,7 @@ pub record IsSafe (source : List ℕ) (taken taken_now : Option (List ℕ)) (log
   pub call : IsCall source taken taken_now crash
   pub log_device : IsDevice log log_faults log_now log_fuse crash.log
   pub store_device : IsDevice store store_faults store_now store_fuse crash.store
-  pub holds : CrashSafe first_path_script crash
+  pub holds : CrashSafe script_of crash
 
 -- What a call comes to: a text that was printed, or a fault whose line was. The source, the sink and the devices are
 -- seen by what they told at entry and tell now, and by their counts of faults.

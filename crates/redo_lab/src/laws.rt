@@ -6,6 +6,7 @@ ghost use Rattle.model_log.specs.Device.{log_device_length};
 ghost use Rattle.model_page.specs.Copies.{data_device_length};
 ghost use Rattle.model_record.specs.Group.{IsGroup, group_length};
 ghost use Rattle.model_script.specs.FirstPath.{first_path_script};
+ghost use Rattle.model_script.specs.Grammar.{script_of};
 ghost use Rattle.model_script.specs.declared.script.ScriptLine.{ScriptLine};
 ghost use Rattle.model_store.specs.Reading.{Reads};
 ghost use Rattle.model_theorem.specs.Crash.{CrashSafe, LineFits};
@@ -16,6 +17,7 @@ ghost use Rattle.redo_lab.specs.Today.{line_group, final_log, final_reading};
 
 use model_log::{block_reads_back, checkpoint_reads_back, head_reads_back};
 use model_number::spelling_lengths;
+use model_script::first_path_is_script;
 
 /// Off two devices that were formatted, up to their layout's length, a store is read whose log is empty.
 pub(crate) fn fresh_is_read()
@@ -59,8 +61,9 @@ pub(crate) fn run_is_safe()
     ensures { (text : List ℕ) (script : List ScriptLine) (log store : Disk) (log_faults store_faults : ℕ)
         → first_path_script text ≡ Ok script
         → log_device_length default_shape ≤ length log.reads → data_device_length default_shape ≤ length store.reads
-        → CrashSafe first_path_script (crash_of text script log log_faults store store_faults) }
+        → CrashSafe script_of (crash_of text script log log_faults store store_faults) }
 {
     final_is_read();
+    first_path_is_script();
     spelling_lengths();
 }
