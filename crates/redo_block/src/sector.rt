@@ -4,10 +4,11 @@ ghost use Rattle.model_number.specs.Field.{padded_to};
 ghost use Rattle.model_log.specs.Block.{with_checksum, fits_checksum};
 
 use byteorder::{BigEndian, ByteOrder};
+use model_log::BLOCK_DATA_END;
 use redo_crc::crc32c;
 
 /// The offset at which the checksum stands.
-const CHECKSUM: usize = 508;
+const CHECKSUM: usize = BLOCK_DATA_END as usize;
 
 /// Puts bytes at an offset and gives the offset behind them. What stands before and behind them stays.
 pub fn put(sector: &mut [u8; 512], at: usize, bytes: &[u8]) -> usize

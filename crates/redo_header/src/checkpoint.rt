@@ -1,5 +1,6 @@
 // The checkpoint blocks.
 ghost use Rattle.std.specs.Prelude.{◌≡◌, ◌≤◌, ◌<◌, ◌^◌};
+ghost use Rattle.model_base.specs.declared.limits.TheConstants.{START_LSN};
 ghost use Rattle.model_log.specs.Checkpoint.{checkpoint_text, read_checkpoint};
 
 use model_log::{RING_SIZE, read_sealed_checkpoint};
@@ -8,7 +9,7 @@ use redo_lsn::{Shape, offset_of};
 
 /// Makes the 512 bytes the checkpoint of this number at this lsn.
 pub fn fill_ckpt(out: &mut [u8; 512], number: u64, lsn: u64, shape: &Shape)
-    requires started { 8192 ≤ lsn }
+    requires started { START_LSN ≤ lsn }
     requires small { lsn < 2 ^ 61 }
     requires many_blocks { 1024 ≤ shape.now.log_blocks }
     requires few_blocks { shape.now.log_blocks ≤ 1048576 }

@@ -128,6 +128,10 @@ fn a_stopped_device_takes_no_second_write(rt: HostRuntime) -> Result<(), Fail> {
     assert_eq!(rt; fill(&mut fused, 1, 2), Err(DevError::Failed));
     assert_eq!(rt; fill(&mut fused, 2, 3), Err(DevError::Failed));
     fused.crash(u64::MAX);
+    assert_eq!(rt; fused.fuse().late_changes, 0);
+    fill(&mut fused, 3, 4)?;
+    fused.sync()?;
+    assert_eq!(rt; fused.fuse().late_changes, 2);
     let mut device = fused.into_inner();
     assert_eq!(rt; first_byte(&mut device, 0)?, 1);
     assert_eq!(rt; first_byte(&mut device, 1)?, 2);
