@@ -12,7 +12,7 @@ use Rattle.redo_memdisk.specs.declared.fuse.Stage.TheVariants.{Before}
 use Rattle.redo_lab.specs.Steps.{IsEarly, IsQuiet, IsUnfailed, Steps, log_fault}
 
 pub early_same : (fuse : Fuse) → fuse.stage ≡ Before → IsEarly fuse fuse
-early_same fuse before = record { stage = before; passed = refl; mid = refl; late = refl }
+early_same fuse before = record { stage = before; passed = refl; mid = refl; late = refl; late_calls = refl }
 
 pub quiet_same : (fuse : Fuse) → IsQuiet fuse fuse
 quiet_same fuse = record { stage = refl; limit = refl; pick = refl; early = refl; mid = refl; late = refl; changes = λ before. refl }
@@ -40,7 +40,7 @@ pub early_then : (old mid new : Fuse) → (old.stage ≡ Before → IsEarly old 
 early_then old mid new first second before =
     let one = first before in
     let two = second one.stage in
-    record { stage = two.stage; passed = two.passed ∙ one.passed; mid = two.mid ∙ one.mid; late = two.late ∙ one.late }
+    record { stage = two.stage; passed = two.passed ∙ one.passed; mid = two.mid ∙ one.mid; late = two.late ∙ one.late; late_calls = two.late_calls ∙ one.late_calls }
 
 pub risen_from : (before mid now : ℕ) → before ≤ mid → mid ≤ now → HasRisen mid now → HasRisen before now
 risen_from before mid now le more risen = ⊎_elim
@@ -63,6 +63,7 @@ steps_then {size} {mid_size} {now_size} {before} {mid} {now} {old} {mid_fuse} {n
       same_size = second.same_size ∙ first.same_size;
       later = omega arith;
       limit = second.limit ∙ first.limit;
+      was_armed = second.was_armed ∙ first.was_armed;
       passed = let one = first.passed in let two = second.passed in omega arith;
       early = early_then old mid_fuse new first.early second.early;
       quiet = λ unfailed. quiet_then old mid_fuse new (first.quiet done) (second.quiet unfailed);
@@ -79,6 +80,7 @@ steps_ok {T} {T2} {E} {E2} {value} {value2} {error} {error2} steps = record {
   same_size = steps.same_size;
   later = steps.later;
   limit = steps.limit;
+  was_armed = steps.was_armed;
   passed = steps.passed;
   early = steps.early;
   quiet = λ unfailed. steps.quiet (ok_is_no_error value error);
@@ -102,6 +104,7 @@ log_steps_of error fault is steps = record {
   same_size = steps.same_size;
   later = steps.later;
   limit = steps.limit;
+  was_armed = steps.was_armed;
   passed = steps.passed;
   early = steps.early;
   quiet = λ unfailed. steps.quiet (λ failed. unfailed (ap Err (is ∙ ap log_fault (err_is failed))));

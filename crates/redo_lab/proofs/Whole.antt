@@ -1,5 +1,5 @@
 -- What a whole call of today comes to.
-use Rattle.std.proofs.Common.{◌≡◌, ℕ, ◌≤◌, List, length, take, Option, Some, None, ap, ◌∙◌, subst, arith, inl, inr, ⊎_elim}
+use Rattle.std.proofs.Common.{◌≡◌, ℕ, ◌≤◌, List, length, take, Option, Some, None, ap, ◌∙◌, subst, arith, inl, inr}
 use Rattle.std.specs.Prelude.{IfSome}
 use Rattle.std.specs.Option.{option_map}
 use Rattle.model_base.specs.Limits.{default_shape}
@@ -15,7 +15,7 @@ use Rattle.redo_disk.specs.Sectors.{HasSize}
 use Rattle.redo_lab.specs.Check.{DoFit, IsUnused}
 use Rattle.redo_lab.specs.Contents.{blank_data, formatted_log, formatted_store}
 use Rattle.redo_lab.specs.FirstReading.{empty_reading}
-use Rattle.redo_lab.specs.Outcome.{DoesntTell, IsOpenFault, IsNoFreshStore, IsNoStore, IsCrashFault, IsDone, IsReportOf}
+use Rattle.redo_lab.specs.Outcome.{DoesntTell, IsOpenFault, IsNoFreshStore, IsCrashFault, IsDone, IsReportOf}
 use Rattle.redo_lab.specs.Reads.{OnLog, IsReadFault}
 use Rattle.redo_lab.specs.Steps.{reads_of, settled_as}
 use Rattle.redo_lab.specs.Today.{final_log, final_reading, printed_text}
@@ -50,10 +50,6 @@ untold_fresh fresh (Some log) log_size sized long refusal none =
     let at = at_front (formatted_log default_shape log.reads) (IsNoFreshStore refusal) none in
     at.other (fresh_beside fresh log.reads (long_of log log_size (log_device_length default_shape) sized long))
 
--- no store, in the words of a call
-no_store : (refusal : Refusal) (log : List ℕ) → IsNoFreshStore refusal log → IsNoStore refusal log
-no_store refusal log is = ⊎_elim (λ refuses. inl refuses) (λ unformatted. inr (unformatted, is.other)) is.refused
-
 -- why opening a fresh store ends, seen from the call
 pub begin_fault : FreshIsRead → (log : Option Disk) (log_size store_size : ℕ) → IfSome log (HasSize log_size) → DoFit (reads_of log) log_size store_size
     → (log_now : Option (List ℕ)) → log_now ≡ option_map (formatted_log default_shape) (reads_of log)
@@ -67,7 +63,7 @@ begin_fault fresh log log_size store_size sized fit log_now log_is same (Store r
       fit,
       (
         untold_fresh fresh log log_size sized fit.0 refusal none,
-        read_untold _ (IsNoStore refusal) (on_log_weaker _ (IsNoFreshStore refusal) (IsNoStore refusal) (no_store refusal) none),
+        read_untold _ (IsNoFreshStore refusal) none,
       ),
     )
 begin_fault fresh log log_size store_size sized fit log_now log_is same Words is = is
@@ -113,7 +109,8 @@ final_fault script final answers log log_size store_size sized fit log_now log_i
       fit,
       (
         untold_final script final answers log log_size sized fit.0 refusal refuses,
-        read_untold _ (IsNoStore refusal) (on_log_weaker _ (λ bytes. Refuses bytes blank_data refusal) (IsNoStore refusal) (λ bytes r. inl r) refuses),
+        read_untold _ (IsNoFreshStore refusal) (on_log_weaker _ (λ bytes. Refuses bytes blank_data refusal) (IsNoFreshStore refusal)
+            (λ bytes r. record { other = λ reads. answers bytes blank_data (empty_reading 0) refusal reads r; refused = inl r }) refuses),
       ),
     )
 final_fault script final answers log log_size store_size sized fit log_now log_is same Words is = is

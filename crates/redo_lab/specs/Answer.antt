@@ -35,8 +35,8 @@ pub record IsAnswer (words : List (List ℕ)) (left now : Option (List ℕ)) (lo
 abbrev pub WasScript : List (List ℕ) → Option (List ℕ) → Option (List ℕ) → Type 0
 WasScript words left now = (words ≡ the_command) × (script : List ScriptLine) × IsScriptOf left now script
 
--- Why a call gives no text. The source and the log device are seen by what they told at entry and tell now, by their counts
--- of faults and by the sizes of the devices; a device's failure is counted besides. The first that doesn't hold
+-- Why a call gives no text. The source is seen by what it told at entry and tells now, and by its counts of faults; the
+-- devices by what the log device held at entry and by their sizes. A device's failure is counted besides. The first that doesn't hold
 -- decides: the words, the source, the script, the devices. Other words leave the source unread, and until the script
 -- is read and both devices fit, these mean what they did before (same). A failure of the log device ends the call once
 -- that has its header blocks, one of the data device once both fit.
@@ -85,8 +85,8 @@ pub record IsSafe (source : List ℕ) (taken taken_now : Option (List ℕ)) (log
   pub store_device : IsDevice store store_faults store_now store_fuse crash.store
   pub holds : CrashSafe script_of crash
 
--- What a call comes to: a text that was printed, or a fault whose line was. The source, the sink and the devices are
--- seen by what they told at entry and tell now, and by their counts of faults.
+-- What a call comes to: a text that was printed, or a fault whose line was. The source and the sink are seen by what they
+-- told at entry and tell now and by their counts of faults, the devices by what they told and tell and by their sizes.
 abbrev pub IsOutcome : (words : List (List ℕ)) (left now : Option (List ℕ)) (before after : ℕ) (log store : Option Disk) (log_size store_size : ℕ) (log_now store_now : Option Disk) (status : ℕ) (taken taken_now : Option (List ℕ)) (out_before out_after : ℕ) → Type 0
 IsOutcome words left now before after log store log_size store_size log_now store_now status taken taken_now out_before out_after =
     ((text : List ℕ) × IsAnswer words left now log store text log_now store_now

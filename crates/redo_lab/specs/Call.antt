@@ -38,8 +38,9 @@ crash_of text script log log_faults store store_faults = record {
 }
 
 -- The device of the theorem's values is the one that was handed in and is given back: what it meant, how often it had
--- failed, what it means, and what its fuse tells. Today nothing is pending at the crash, and no write or sync came
--- after it, so what the device means now is what the run left.
+-- failed, what it means, and what its fuse tells. No write or sync came after the crash, so what the device means now is
+-- what the crash left. What it meant before the crash is taken to be the same: a call of today leaves nothing pending, on
+-- any device, so that the crash has one image to leave.
 pub record IsDevice (disk : Disk) (faults : ℕ) (now : Option Disk) (fuse : Fuse) (device : Device) : Type 0 where
   pub at_entry : device.at_entry ≡ disk
   pub faults_are : device.faults_at_entry ≡ faults

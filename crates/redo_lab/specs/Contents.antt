@@ -33,7 +33,7 @@ unfoldable pub blank_data : List ℕ
 blank_data = replicate (data_device_length default_shape) 0
 
 -- An opened log device whose run starts at the first data byte of the log: no old block is left, and there is a next
--- checkpoint where the run starts.
+-- checkpoint at the block in which the run starts.
 unfoldable pub opened_log : Shape → List ℕ → List ℕ
 opened_log shape bytes =
     with_checkpoint shape 1 START_LSN (zeroed HEADER_BLOCKS (log_device_length shape) bytes)

@@ -1,5 +1,5 @@
 -- What comes of a call of today on the two devices.
-use Rattle.std.specs.Prelude.{ℕ, ◌≡◌, ◌≤◌, ◌⊎◌, List, length, Option, Some, None, ⊤}
+use Rattle.std.specs.Prelude.{ℕ, true, ◌≡◌, ◌≤◌, ◌⊎◌, List, length, Option, Some, None, ⊤}
 use Rattle.model_base.specs.Limits.{default_shape}
 use Rattle.model_log.specs.Device.{log_device_length}
 use Rattle.model_log.specs.declared.layout.TheConstants.{HEADER_BLOCKS}
@@ -19,8 +19,9 @@ use Rattle.redo_lab.specs.FirstReading.{empty_reading}
 use Rattle.redo_lab.specs.Reads.{OnLog}
 use Rattle.redo_lab.specs.Today.{final_log, final_reading, printed_text}
 
--- the fuse has no limit, the device was crashed with the pick 0, and no write or sync came after the crash
+-- the fuse was armed without a limit, the device was crashed with the pick 0, and no write or sync came after the crash
 pub record IsSpent (fuse : Fuse) : Type 0 where
+  pub was_armed : fuse.was_armed ≡ true
   pub stage : fuse.stage ≡ Crashed
   pub limit : fuse.limit ≡ None
   pub pick : fuse.pick ≡ Some 0
@@ -66,16 +67,10 @@ abbrev pub DoesntTell : Option (List ℕ) → Type 0
 DoesntTell None = ⊤
 DoesntTell (Some bytes) = ⊥
 
--- beside a data device that was just formatted, these bytes of a log device are refused so as a store, or, being no
--- store that was just formatted, as unformatted
-abbrev pub IsNoStore : Refusal → List ℕ → Type 0
-IsNoStore refusal log =
-    Refuses log blank_data refusal ⊎ ((refusal ≡ NotFormatted) × (Reads log blank_data (empty_reading 0) → ⊥))
-
 -- A refusal of what was read: it comes only from a log device that doesn't tell, so that any bytes may have been read.
 -- Off one that tells, a call of today reads what it wrote.
 abbrev pub IsUntold : Option (List ℕ) → Refusal → Type 0
-IsUntold log refusal = DoesntTell log × OnLog None (IsNoStore refusal)
+IsUntold log refusal = DoesntTell log × OnLog None (IsNoFreshStore refusal)
 
 -- Why a call ended on devices of these sizes, of which the log device held this, where it tells; same says that both mean
 -- what they did before. The log device is checked first, and until both devices fit nothing is written. The data device

@@ -1,5 +1,5 @@
 -- What steps on a device that a fuse watches do to it, beside what they do to its bytes.
-use Rattle.std.specs.Prelude.{ℕ, ◌≡◌, ◌≤◌, ◌+◌, Option, None, List}
+use Rattle.std.specs.Prelude.{ℕ, true, ◌≡◌, ◌≤◌, ◌+◌, Option, None, List}
 use Rattle.std.specs.Option.{option_map}
 use Rattle.model_base.specs.Count.{HasRisen}
 use Rattle.model_device.specs.Disk.{Disk, settled}
@@ -36,17 +36,19 @@ pub record IsUnfailed (fuse : Fuse) : Type 0 where
   pub mid : fuse.mid ≡ 0
   pub late : fuse.late ≡ 0
 
--- a fuse that isn't armed counts the failures apart from those behind, and no calls
+-- a fuse that isn't armed counts the failures apart from later ones, and no calls
 pub record IsEarly (old new : Fuse) : Type 0 where
   pub stage : new.stage ≡ Before
   pub passed : new.passed ≡ old.passed
   pub mid : new.mid ≡ old.mid
   pub late : new.late ≡ old.late
+  pub late_calls : new.late_calls ≡ old.late_calls
 
--- since the fuse was armed no call was made up to the crash, and none failed
+-- since the fuse was armed no call was made, and none failed
 pub record IsLeftAlone (fuse : Fuse) : Type 0 where
   pub passed : fuse.passed ≡ 0
   pub mid : fuse.mid ≡ 0
+  pub late_calls : fuse.late_calls ≡ 0
   pub late : fuse.late ≡ 0
 
 -- Steps on a device whose size, count of faults and fuse were these and are these. Where they ended because the device
@@ -55,6 +57,7 @@ pub record Steps (size now_size before now : ℕ) (old new : Fuse) (failed : Typ
   pub same_size : now_size ≡ size
   pub later : before ≤ now
   pub limit : new.limit ≡ old.limit
+  pub was_armed : new.was_armed ≡ old.was_armed
   pub passed : old.passed ≤ new.passed
   pub early : old.stage ≡ Before → IsEarly old new
   pub quiet : (failed → ⊥) → IsQuiet old new
@@ -85,6 +88,7 @@ pub record Side (size now_size before now : ℕ) (fuse : Fuse) (succeeded failed
   pub later : before ≤ now
   pub stage : succeeded → fuse.stage ≡ Stopping
   pub limit : succeeded → fuse.limit ≡ None
+  pub was_armed : succeeded → fuse.was_armed ≡ true
   pub changes : succeeded → fuse.late_changes ≡ 0
   pub unfailed : (failed → ⊥) → IsUnfailed fuse
   pub counted : failed → IsCounted before now fuse

@@ -9,6 +9,7 @@ ghost use Rattle.model_script.specs.FirstPath.{first_path_script};
 ghost use Rattle.redo_memdisk.specs.Fuse.{fresh, crashed_with};
 ghost use Rattle.redo_disk.specs.Sectors.{HasSize};
 ghost use Rattle.redo_memdisk.specs.Fused.{fuse_of, inner_of};
+ghost use Rattle.redo_memdisk.specs.declared.fuse.Stage.{Stage};
 ghost use Rattle.redo_lab.specs.Check.{DoFit, IsUnused};
 ghost use Rattle.redo_lab.specs.Contents.{formatted_log, formatted_store, started_log};
 ghost use Rattle.redo_lab.specs.Outcome.{IsDone, IsSpent, IsCrashFault, IsPrepareFault, IsReportOf};
@@ -63,6 +64,7 @@ fn read_back<L: Sectors>(
         (L.faults (inner_of log.old)) (L.faults (inner_of log.new))
         (fuse_of log.old) (fuse_of log.new) (IsErrOf result Fault.LogDevice) }
     ensures changes { (fuse_of log.new).late_changes ≡ (fuse_of log.old).late_changes }
+    ensures called { OnOk result ((fuse_of log.old).stage ≡ Stage.Crashed → 1 ≤ (fuse_of log.new).late_calls) }
 {
     let read = match recover(alloc, log) {
         Ok(read) => read,
@@ -184,6 +186,7 @@ pub(crate) fn crash<L: Sectors, D: Sectors>(
     ensures store_counted { IsErrOf result Fault.DataDevice
         → IsCounted (D.faults (inner_of store.old)) (D.faults (inner_of store.new)) (fuse_of store.new) }
     ensures armed { OnOk result (1 ≤ (fuse_of log.new).passed) }
+    ensures read_back { OnOk result (1 ≤ (fuse_of log.new).late_calls) }
 {
     final_is_read();
     one_reading();

@@ -43,6 +43,7 @@ fn answer<S: Source, L: Sectors, D: Sectors>(
     ensures log_unfailed { (IsErrOf result Fault.LogDevice → ⊥) → IsUnfailed (fuse_of log.new) }
     ensures store_unfailed { (IsErrOf result Fault.DataDevice → ⊥) → IsUnfailed (fuse_of store.new) }
     ensures armed { OnOk result (1 ≤ (fuse_of log.new).passed) }
+    ensures read_back { OnOk result (1 ≤ (fuse_of log.new).late_calls) }
     ensures left_alone { IsLeftAlone (fuse_of store.new) }
     ensures words { map (λ word. string_bytes word) words.now ≢ the_command → IsErrOf result Fault.Words }
     ensures fault { IfErr result (IsLabFault (map (λ word. string_bytes word) words.now) (S.left src.old) (S.left src.new)
@@ -128,6 +129,7 @@ pub fn lab<S: Source, O: Sink, L: Sectors, D: Sectors>(
     ensures log_spent { HadText result.status → IsSpent (fuse_of result.log) }
     ensures store_spent { HadText result.status → IsSpent (fuse_of result.store) }
     ensures log_armed { HadText result.status → 1 ≤ (fuse_of result.log).passed }
+    ensures log_read_back { HadText result.status → 1 ≤ (fuse_of result.log).late_calls }
     ensures log_unfailed { result.status ≢ 6 → IsUnfailed (fuse_of result.log) }
     ensures store_unfailed { result.status ≢ 7 → IsUnfailed (fuse_of result.store) }
     ensures store_left_alone { IsLeftAlone (fuse_of result.store) }

@@ -1,5 +1,5 @@
 // Opening a store that was just formatted, and reading a store.
-ghost use Rattle.std.specs.Prelude.{◌≡◌, ◌≤◌, ◌+◌, ◌%◌, ℕ, List, take, length, IsOk, IsErr, IsErrOf, OnOk, IfOk, IfErr, IsTrue, None};
+ghost use Rattle.std.specs.Prelude.{◌≡◌, ◌≤◌, ◌<◌, ◌+◌, ◌%◌, ℕ, List, take, length, IsOk, IsErr, IsErrOf, OnOk, IfOk, IfErr, IsTrue, None};
 ghost use Rattle.std.specs.Option.{option_map};
 ghost use Rattle.model_base.specs.Limits.{default_shape};
 ghost use Rattle.model_log.specs.Device.{log_device_length};
@@ -43,6 +43,7 @@ fn read_piece<D: Sectors>(
         (D.faults (inner_of device.old)) (D.faults (inner_of device.new))
         (fuse_of device.old) (fuse_of device.new) (IsErrOf result DevError.Failed) }
     ensures changes { (fuse_of device.new).late_changes ≡ (fuse_of device.old).late_changes }
+    ensures called { OnOk result ((fuse_of device.old).stage ≡ Stage.Crashed → 1 ≤ (fuse_of device.new).late_calls) }
 {
     let mut piece = vec![in alloc; 0u8; count]?;
     device.read(bytes.len() as u64, piece.as_mut_slice())?;
@@ -56,6 +57,7 @@ fn read_front<D: Sectors>(
     device: &mut Fused<D>,
     len: u64,
 ) -> Result<Vec<u8>, DevError>
+    requires some { 0 < len }
     requires whole { len % 512 ≡ 0 }
     requires within { len ≤ D.size (inner_of device.old) }
     requires passes { (fuse_of device.old).limit ≡ None }
@@ -66,6 +68,7 @@ fn read_front<D: Sectors>(
         (D.faults (inner_of device.old)) (D.faults (inner_of device.new))
         (fuse_of device.old) (fuse_of device.new) (IsErrOf result DevError.Failed) }
     ensures changes { (fuse_of device.new).late_changes ≡ (fuse_of device.old).late_changes }
+    ensures called { OnOk result ((fuse_of device.old).stage ≡ Stage.Crashed → 1 ≤ (fuse_of device.new).late_calls) }
 {
     let mut bytes = Vec::new(alloc);
     'pieces: while (bytes.len() as u64) < len {
@@ -88,6 +91,7 @@ fn read_log<L: Sectors>(alloc: Global, log: &mut Fused<L>) -> Result<Vec<u8>, Fa
         (fuse_of log.old) (fuse_of log.new) (IsErrOf result Fault.LogDevice) }
     ensures apart { IsErrOf result Fault.DataDevice → ⊥ }
     ensures changes { (fuse_of log.new).late_changes ≡ (fuse_of log.old).late_changes }
+    ensures called { OnOk result ((fuse_of log.old).stage ≡ Stage.Crashed → 1 ≤ (fuse_of log.new).late_calls) }
 {
     match read_front(alloc, log, LOG_LENGTH) {
         Ok(bytes) => Ok(bytes),
@@ -115,6 +119,7 @@ pub(crate) fn recover<L: Sectors>(alloc: Global, log: &mut Fused<L>) -> Result<R
         (L.faults (inner_of log.old)) (L.faults (inner_of log.new))
         (fuse_of log.old) (fuse_of log.new) (IsErrOf result Fault.LogDevice) }
     ensures changes { (fuse_of log.new).late_changes ≡ (fuse_of log.old).late_changes }
+    ensures called { OnOk result ((fuse_of log.old).stage ≡ Stage.Crashed → 1 ≤ (fuse_of log.new).late_calls) }
 {
     let log_bytes = read_log(alloc, log)?;
     let Ok(data_bytes) = blank_data(alloc) else {

@@ -1,4 +1,4 @@
--- A fuse lets so many calls of a device through and fails those behind, from when it is armed to the crash.
+-- A fuse lets so many calls of a device through and fails those after them, from when it is armed to the crash.
 use Rattle.std.specs.Prelude.{ℕ, nat_le, Bool, true, false, if◌then◌else◌, Option, Some, None, Result, Ok, Err}
 use Rattle.redo_memdisk.specs.Count.{counted, counted_if}
 use Rattle.redo_disk.specs.declared.error.DevError.{DevError}
@@ -18,19 +18,21 @@ abbrev pub fresh : Fuse
 fresh = record {
   stage = Before;
   limit = None;
+  was_armed = false;
   passed = 0;
   tripped = false;
   pick = None;
   early = 0;
   mid = 0;
   late = 0;
+  late_calls = 0;
   late_changes = 0;
   own = 0;
 }
 
 -- the fuse as it begins the stop
 abbrev pub armed : Option ℕ → Fuse → Fuse
-armed limit fuse = record fuse { stage = Stopping; limit = limit }
+armed limit fuse = record fuse { stage = Stopping; limit = limit; was_armed = true }
 
 -- a stop at this point has passed as many calls as it is to
 abbrev pub has_passed_all : Stage → Option ℕ → ℕ → Bool
@@ -51,7 +53,7 @@ after_own fuse = record fuse { tripped = true; mid = counted fuse.mid; own = cou
 abbrev pub after_passed : Stage → Fuse → Bool → Fuse
 after_passed Before fuse failed = record fuse { early = counted_if failed fuse.early }
 after_passed Stopping fuse failed = record fuse { passed = counted fuse.passed; mid = counted_if failed fuse.mid }
-after_passed Crashed fuse failed = record fuse { late = counted_if failed fuse.late }
+after_passed Crashed fuse failed = record fuse { late_calls = counted fuse.late_calls; late = counted_if failed fuse.late }
 
 -- the fuse after a call, by whether it answered Failed
 abbrev pub after_call : Fuse → Bool → Fuse

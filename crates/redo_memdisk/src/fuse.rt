@@ -12,7 +12,7 @@ pub enum Stage {
     Before,
     /// Armed, and no crash since.
     Stopping,
-    /// Behind the crash.
+    /// After the crash.
     Crashed,
 }
 
@@ -22,6 +22,8 @@ pub struct Fuse {
     pub stage: Stage,
     /// How many calls it passes from when it is armed to the crash; all of them where there is no limit.
     pub limit: Option<u64>,
+    /// Whether it was armed.
+    pub was_armed: bool,
     /// How many calls it has passed since it was armed, up to the crash.
     pub passed: u64,
     /// Whether it has failed a call itself.
@@ -34,7 +36,9 @@ pub struct Fuse {
     pub mid: u64,
     /// How many calls answered `Failed` after the crash.
     pub late: u64,
-    /// How many writes and syncs came after the crash.
+    /// How many calls came after the crash.
+    pub late_calls: u64,
+    /// How many of these were writes and syncs.
     pub late_changes: u64,
     /// How many calls it has failed itself.
     pub own: u64,
@@ -55,12 +59,14 @@ impl Fuse {
         Fuse {
             stage: Stage::Before,
             limit: None,
+            was_armed: false,
             passed: 0,
             tripped: false,
             pick: None,
             early: 0,
             mid: 0,
             late: 0,
+            late_calls: 0,
             late_changes: 0,
             own: 0,
         }
@@ -83,6 +89,7 @@ impl Fuse {
     {
         self.stage = Stage::Stopping;
         self.limit = limit;
+        self.was_armed = true;
     }
 
     /// Counts a call by whether it answered that the device failed.
@@ -101,7 +108,10 @@ impl Fuse {
                 self.passed = counted(self.passed);
                 self.mid = counted_if(failed, self.mid);
             }
-            Stage::Crashed => self.late = counted_if(failed, self.late),
+            Stage::Crashed => {
+                self.late_calls = counted(self.late_calls);
+                self.late = counted_if(failed, self.late);
+            }
         }
     }
 

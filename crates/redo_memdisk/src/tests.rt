@@ -132,6 +132,7 @@ fn a_stopped_device_takes_no_second_write(rt: HostRuntime) -> Result<(), Fail> {
     fill(&mut fused, 3, 4)?;
     fused.sync()?;
     assert_eq!(rt; fused.fuse().late_changes, 2);
+    assert_eq!(rt; fused.fuse().late_calls, 2);
     let mut device = fused.into_inner();
     assert_eq!(rt; first_byte(&mut device, 0)?, 1);
     assert_eq!(rt; first_byte(&mut device, 1)?, 2);

@@ -1,4 +1,4 @@
-// The laboratory as a program: it runs the script of standard input on two devices in memory, and prints what is left.
+// The program: it runs the script of standard input on two devices in memory, and prints what is left.
 #![tactic(auto)]
 
 use model_report::{FAULT_ROOM, Fault, fault_text};

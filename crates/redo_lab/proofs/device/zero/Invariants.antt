@@ -13,6 +13,7 @@ invariant-loop-at g l = record {
   up_to : l.at ≤ l.to;
   size : g.D.Sectors.size l.device.inner ≡ g.D.Sectors.size l.fn.device.inner;
   later : g.D.Sectors.faults l.fn.device.inner ≤ g.D.Sectors.faults l.device.inner;
+  was_armed : l.device.fuse.was_armed ≡ l.fn.device.fuse.was_armed;
   passed : l.fn.device.fuse.passed ≤ l.device.fuse.passed;
   early : l.fn.device.fuse.stage ≡ Before → IsEarly l.fn.device.fuse l.device.fuse;
   quiet : IsQuiet l.fn.device.fuse l.device.fuse;

@@ -64,3 +64,8 @@ pub returns-clause-log_armed : goal.returns-clause-log_armed
 returns-clause-log_armed g c = λ had.
     let text = had_text _ (λ none. none) c.answer-answer.result _ _ _ _ _ c.answer-answer.ensures.fault c.print-status.ensures.fault had in
     of_ok _ c.answer-answer.result text.0 c.answer-answer.ensures.armed text.1
+
+pub returns-clause-log_read_back : goal.returns-clause-log_read_back
+returns-clause-log_read_back g c = λ had.
+    let text = had_text _ (λ none. none) c.answer-answer.result _ _ _ _ _ c.answer-answer.ensures.fault c.print-status.ensures.fault had in
+    of_ok _ c.answer-answer.result text.0 c.answer-answer.ensures.read_back text.1
