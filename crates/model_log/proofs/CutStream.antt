@@ -71,7 +71,7 @@ before-content : (s k : ℕ) → IsAtDataStart s → sn_of (block_of s + 512 * k
 before-content s k start = grind (arith, nat_tests)
 
 -- so many blocks have a byte before the last
-count-before : (count k : ℕ) → k < (count + 495) / 496 → 496 * k < count
+pub count-before : (count k : ℕ) → k < (count + 495) / 496 → 496 * k < count
 count-before count k below = omega arith
 
 -- the boundary in the block or before it, and behind it
@@ -93,7 +93,8 @@ within-block s m k start =
     (λ behind. let high : min m (block + 512) ≡ block + 512 = omega arith in
     count-behind (sn_of m) (sn_of s) (sn_of block) (sn_of (block + 512)) k before next (sn_of-rises (block + 512) m behind) ∙ ap (λ end. sn_of end - sn_of block) (sym high)) (cases_lt m (block + 512))
 
-reached-block : (s m k : ℕ) → IsAtDataStart s → 496 * k < sn_of m - sn_of s → block_of s + 512 * k + 12 ≤ m
+-- a block that has a byte below the boundary is reached by it
+pub reached-block : (s m k : ℕ) → IsAtDataStart s → 496 * k < sn_of m - sn_of s → block_of s + 512 * k + 12 ≤ m
 reached-block s m k start below =
     ⊎_elim (λ short. let none : sn_of m ≤ sn_of s + 496 * k = subst (λ (n : ℕ). sn_of m ≤ n) (before-content s k start) (sn_of-rises m (block_of s + 512 * k + 11) (omega arith)) in omega arith)
     (λ reached. reached) (cases_lt m (block_of s + 512 * k + 12))

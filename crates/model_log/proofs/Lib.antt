@@ -5,6 +5,7 @@ pub mod BoundaryLengths
 pub mod CheckpointRound
 pub mod Checkpoints
 pub mod Checksums
+pub mod Crossings
 pub mod CutStream
 pub mod HeadRound
 pub mod Heads

@@ -99,7 +99,7 @@ pos-length : (xs : List ℕ) → xs ≢ [] → 0 < length xs
 pos-length [] some = absurd (some refl)
 pos-length (x ∷ xs) some = omega arith
 
-some-length : (xs : List ℕ) → 0 < length xs → xs ≢ []
+pub some-length : (xs : List ℕ) → 0 < length xs → xs ≢ []
 some-length [] some none = omega arith
 some-length (x ∷ xs) some none = cc
 

@@ -1,3 +1,4 @@
 pub mod FrameRound
 pub mod Framings
+pub mod RunFirsts
 pub mod Sectors

@@ -1,7 +1,8 @@
 // A stream cut into blocks, and joined again.
 ghost use Rattle.std.specs.Prelude.{◌≡◌, ◌≤◌, ◌<◌, ◌+◌, ◌*◌, ◌^◌, ℕ, List, length, min, All, IfOk, IsTrue, ◌↔◌};
+ghost use Rattle.model_record.specs.declared.group.Whole.{Whole};
 ghost use Rattle.model_log.specs.Block.{length_of, is_first};
-ghost use Rattle.model_log.specs.Boundary.{framed};
+ghost use Rattle.model_log.specs.Boundary.{stream_between, framed, IsRunTo, AreFirstsOf};
 ghost use Rattle.redo_block.specs.Framing.{AreFirsts, unframed};
 
 use crate::{fill, read};
@@ -87,4 +88,10 @@ pub fn unframe(alloc: Global, blocks: &[u8], from: u64) -> Result<Bytes, NoMemor
 pub fn unframe_of_frame()
     ensures { (stream firsts : List ℕ) (from ckpt : ℕ) → AreFirsts stream firsts → All (λ byte. byte < 256) stream
         → ckpt < 2 ^ 32 → unframed (framed stream from firsts ckpt) from ≡ stream }
+{}
+
+/// The first offsets of a run's blocks fit the stream below a boundary, as `frame` requires.
+pub fn run_firsts_fit()
+    ensures { (s m : ℕ) (wholes : List Whole) (firsts : List ℕ) → IsRunTo s wholes m → AreFirstsOf s wholes m firsts
+        → AreFirsts (stream_between s wholes s m) firsts }
 {}

@@ -9,5 +9,5 @@ pub mod sector;
 mod tests;
 
 pub use block::{fill, read};
-pub use framing::{are_firsts, frame, unframe, unframe_of_frame};
+pub use framing::{are_firsts, frame, run_firsts_fit, unframe, unframe_of_frame};
 pub use model_log::{BlockView, block_reads_back, cut_is_framed};
