@@ -1,5 +1,5 @@
 -- What shapes a store may have.
-use Rattle.std.specs.Prelude.{◌≡◌, ◌≤◌}
+use Rattle.std.specs.Prelude.{ℕ, ◌≡◌, ◌≤◌, ◌<◌, ◌^◌, ◌==◌, ◌&&◌, nat_le, nat_lt, Bool}
 use Rattle.model_base.specs.declared.shape.Shape.{Shape}
 use Rattle.model_base.specs.declared.limits.TheConstants.{PAGE_SIZE, MAX_PAGES, DEFAULT_PAGES, DEFAULT_SPACE, DEFAULT_LOG_BLOCKS, MIN_LOG_BLOCKS, MAX_LOG_BLOCKS, SLOTS}
 
@@ -7,11 +7,23 @@ use Rattle.model_base.specs.declared.limits.TheConstants.{PAGE_SIZE, MAX_PAGES, 
 abbrev pub default_shape : Shape
 default_shape = record { page_size = PAGE_SIZE; pages = DEFAULT_PAGES; space = DEFAULT_SPACE; log_blocks = DEFAULT_LOG_BLOCKS; slots = SLOTS }
 
--- each size is one that a store may have; the space id is free
+-- how many space ids there are: one stands in 4 bytes
+abbrev pub space_limit : ℕ
+space_limit = 2 ^ 32
+
+-- each size is one that a store may have; any space id is
+abbrev pub is_within_limits : Shape → Bool
+is_within_limits shape =
+    shape.page_size == PAGE_SIZE && nat_le 1 shape.pages && nat_le shape.pages MAX_PAGES
+    && nat_lt shape.space space_limit && nat_le MIN_LOG_BLOCKS shape.log_blocks
+    && nat_le shape.log_blocks MAX_LOG_BLOCKS && shape.slots == SLOTS
+
+-- what passing that test says, fact by fact (the law `limits_as_facts`)
 pub record IsWithinLimits (shape : Shape) : Type 0 where
   pub page_size : shape.page_size ≡ PAGE_SIZE
   pub some_pages : 1 ≤ shape.pages
   pub few_pages : shape.pages ≤ MAX_PAGES
+  pub space : shape.space < space_limit
   pub many_blocks : MIN_LOG_BLOCKS ≤ shape.log_blocks
   pub few_blocks : shape.log_blocks ≤ MAX_LOG_BLOCKS
   pub slots : shape.slots ≡ SLOTS

@@ -16,8 +16,8 @@ pub struct Shape {
 }
 
 impl Shape {
-    ghost use Rattle.std.specs.Prelude.{◌≡◌, ◌↔◌, IsTrue};
-    ghost use Rattle.model_base.specs.Limits.{default_shape, IsWithinLimits};
+    ghost use Rattle.std.specs.Prelude.{◌≡◌};
+    ghost use Rattle.model_base.specs.Limits.{default_shape};
 
     /// The shape of a store that is formatted without an option.
     pub fn default_shape() -> Shape
@@ -30,17 +30,5 @@ impl Shape {
             log_blocks: crate::DEFAULT_LOG_BLOCKS,
             slots: crate::SLOTS,
         }
-    }
-
-    /// Whether each size is one that a store may have.
-    pub fn is_within_limits(&self) -> bool
-        ensures { IsTrue result ↔ IsWithinLimits self.now }
-    {
-        self.page_size == crate::PAGE_SIZE
-            && 1 <= self.pages
-            && self.pages <= crate::MAX_PAGES
-            && crate::MIN_LOG_BLOCKS <= self.log_blocks
-            && self.log_blocks <= crate::MAX_LOG_BLOCKS
-            && self.slots == crate::SLOTS
     }
 }

@@ -9,7 +9,7 @@ use Rattle.std.proofs.lemmas.List.Elements.{All-append, All-replicate}
 use Rattle.std.proofs.Math.Nat.{mod-eq_of_lt}
 use Rattle.byteorder.specs.Numbers.{big_number-reads_back}
 use Rattle.model_number.specs.Field.{field, padded_to}
-use Rattle.model_log.specs.Lsn.{number_of}
+use Rattle.model_log.specs.Lsn.{block_number}
 use Rattle.model_log.specs.Block.{with_checksum, length_of, block_text, view_of, fits_number, is_length, is_first, fits_checksum, is_block_at, read_block, data_of}
 use Rattle.model_log.specs.declared.block.BlockView.{BlockView}
 use Rattle.model_log.proofs.Checksums.{IsByte, bytes-bytes_high_first}
@@ -58,10 +58,10 @@ padded-headed number count first ckpt content =
     let room : 508 - length front ≡ 496 - length content = omega (arith, length-headed number count first ckpt content) in
     ap (λ n. front ++ replicate n 0) room ∙ headed-append number count first ckpt content (replicate (496 - length content) 0)
 
-block_text-headed : (lsn : ℕ) (content : List ℕ) (first ckpt : ℕ) → block_text lsn content first ckpt ≡ with_checksum (headed (number_of lsn) (length_of (length content)) first ckpt (filled content))
+block_text-headed : (lsn : ℕ) (content : List ℕ) (first ckpt : ℕ) → block_text lsn content first ckpt ≡ with_checksum (headed (block_number lsn) (length_of (length content)) first ckpt (filled content))
 unfolding block_text headed
 block_text-headed lsn content first ckpt =
-    ap with_checksum (padded-headed (number_of lsn) (length_of (length content)) first ckpt content)
+    ap with_checksum (padded-headed (block_number lsn) (length_of (length content)) first ckpt content)
 
 length-filled : (content : List ℕ) → length content ≤ 496 → length (filled content) ≡ 496
 length-filled content room = omega (arith, length-append content (replicate (496 - length content) 0), length-replicate {A = ℕ} (496 - length content) 0)
@@ -120,11 +120,11 @@ same_view : (length first ckpt l f c : ℕ) → length ≡ l → first ≡ f →
     → let view : BlockView = record { length = length; first = first; ckpt = ckpt } in view ≡ record { length = l; first = f; ckpt = c }
 same_view length first ckpt l f c same_length same_first same_ckpt = cc
 
-read_block-from : (lsn count first ckpt : ℕ) (bytes : List ℕ) → Reads (number_of lsn) count first ckpt bytes → is_length count ≡ true → is_first count first ≡ true
+read_block-from : (lsn count first ckpt : ℕ) (bytes : List ℕ) → Reads (block_number lsn) count first ckpt bytes → is_length count ≡ true → is_first count first ≡ true
     → read_block lsn bytes ≡ Some (record { length = count; first = first; ckpt = ckpt })
 unfolding read_block is_block_at
 read_block-from lsn count first ckpt bytes reads good_length good_first =
-    let number_small : number_of lsn < 2 ^ 31 = omega arith in
+    let number_small : block_number lsn < 2 ^ 31 = omega arith in
     let number : fits_number lsn bytes ≡ true = eq-eqb _ _ (ap (λ n. n % 2 ^ 31) reads.reads_number ∙ mod-eq_of_lt number_small) in
     let length : is_length (field 2 4 bytes) ≡ true = ap is_length reads.reads_count ∙ good_length in
     let start : is_first (field 2 4 bytes) (field 2 6 bytes) ≡ true
@@ -139,8 +139,8 @@ pub view-reads_back : (lsn : ℕ) (content : List ℕ) (first ckpt : ℕ) → le
 view-reads_back lsn content first ckpt room each ckpt_small good_first =
     let count : ℕ = length_of (length content) in
     ap (read_block lsn) (block_text-headed lsn content first ckpt)
-    ∙ read_block-from lsn count first ckpt (with_checksum (headed (number_of lsn) count first ckpt (filled content)))
-    (reads-sealed (number_of lsn) count first ckpt (filled content) (omega arith) (length_of-small (length content) room) (first-small count first good_first) ckpt_small (length-filled content room) (bytes-filled content each))
+    ∙ read_block-from lsn count first ckpt (with_checksum (headed (block_number lsn) count first ckpt (filled content)))
+    (reads-sealed (block_number lsn) count first ckpt (filled content) (omega arith) (length_of-small (length content) room) (first-small count first good_first) ckpt_small (length-filled content room) (bytes-filled content each))
     (is_length-length_of (length content) room) good_first
 
 data-length : (count : ℕ) → count ≤ 496 → min (length_of count) 508 - 12 ≡ count
@@ -151,17 +151,17 @@ pub data-reads_back : (lsn : ℕ) (content : List ℕ) (first ckpt : ℕ) → le
     → data_of (record { length = length_of (length content); first = first; ckpt = ckpt }) (block_text lsn content first ckpt) ≡ content
 data-reads_back lsn content first ckpt room =
     let count : ℕ = length_of (length content) in
-    let bytes : List ℕ = headed (number_of lsn) count first ckpt (filled content) in
-    let long : length bytes ≡ 508 = omega (arith, length-headed (number_of lsn) count first ckpt (filled content), length-filled content room) in
+    let bytes : List ℕ = headed (block_number lsn) count first ckpt (filled content) in
+    let long : length bytes ≡ 508 = omega (arith, length-headed (block_number lsn) count first ckpt (filled content), length-filled content room) in
     ap (λ text. take (min count 508 - 12) (drop 12 text)) (block_text-headed lsn content first ckpt)
     ∙ ap (λ n. take n (drop 12 (with_checksum bytes))) (data-length (length content) room)
     ∙ part-sealed (length content) 12 bytes (omega arith)
-    ∙ ap (take (length content)) (drop-headed (number_of lsn) count first ckpt (filled content))
+    ∙ ap (take (length content)) (drop-headed (block_number lsn) count first ckpt (filled content))
     ∙ take_at content (replicate (496 - length content) 0) (length content) refl
 
 -- a block has 512 bytes
 pub length-block_text : (lsn : ℕ) (content : List ℕ) (first ckpt : ℕ) → length content ≤ 496 → length (block_text lsn content first ckpt) ≡ 512
 length-block_text lsn content first ckpt room =
-    let bytes : List ℕ = headed (number_of lsn) (length_of (length content)) first ckpt (filled content) in
+    let bytes : List ℕ = headed (block_number lsn) (length_of (length content)) first ckpt (filled content) in
     ap length (block_text-headed lsn content first ckpt)
-    ∙ omega (arith, length-sealed bytes, length-headed (number_of lsn) (length_of (length content)) first ckpt (filled content), length-filled content room)
+    ∙ omega (arith, length-sealed bytes, length-headed (block_number lsn) (length_of (length content)) first ckpt (filled content), length-filled content room)

@@ -2,12 +2,12 @@
 use Rattle.std.proofs.Common.{◌≡◌, ℕ, List, ◌++◌, length, ap}
 use Rattle.std.specs.Int.{bytes_high_first}
 use Rattle.model_number.specs.Field.{padded_to}
-use Rattle.model_log.specs.Lsn.{number_of}
+use Rattle.model_log.specs.Lsn.{block_number}
 use Rattle.model_log.specs.Block.{with_checksum, length_of, block_text}
 
 -- the fields of a block and its data, one behind the other, make its text
 pub block_text-from : (lsn : ℕ) (content : List ℕ) (first ckpt : ℕ) (bytes : List ℕ)
-    → bytes ≡ bytes_high_first 4 (number_of lsn) ++ bytes_high_first 2 (length_of (length content)) ++ bytes_high_first 2 first ++ bytes_high_first 4 ckpt ++ content
+    → bytes ≡ bytes_high_first 4 (block_number lsn) ++ bytes_high_first 2 (length_of (length content)) ++ bytes_high_first 2 first ++ bytes_high_first 4 ckpt ++ content
     → with_checksum (padded_to 508 bytes) ≡ block_text lsn content first ckpt
 unfolding block_text
 block_text-from lsn content first ckpt bytes e = ap (λ text. with_checksum (padded_to 508 text)) e

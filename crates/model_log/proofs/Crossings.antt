@@ -1,74 +1,37 @@
--- The places of a run's groups: how far its stream reaches, and where the group ends that crosses into a block.
-use Rattle.std.proofs.Common.{◌≡◌, ◌≤◌, ◌<◌, ◌+◌, ◌%◌, ℕ, Bool, true, false, cond, List, [], ◌∷◌, length, Option, Some, sym, ap, subst, ◌∙◌, ⊎_elim, length-append, arith}
-use Rattle.std.proofs.lemmas.Bool.{cases_Bool}
+-- Where the group ends that crosses into a block, and where the first one starts in it.
+use Rattle.std.proofs.Common.{◌≡◌, ◌≤◌, ◌<◌, ◌+◌, ◌-◌, ◌%◌, ◌==◌, ◌⊎◌, ℕ, inl, inr, Bool, true, false, cond, List, [], ◌∷◌, ◌++◌, Option, Some, None, refl, sym, ap, subst, ◌∙◌, ⊎_elim, arith}
+use Rattle.std.proofs.lemmas.Bool.{cases_Bool, cases_lt}
 use Rattle.std.proofs.lemmas.Bool.Decides.{nat_tests}
 use Rattle.model_record.specs.declared.group.Whole.{Whole}
-use Rattle.model_record.specs.Group.{group_text, group_length, stream_of, groups_of}
-use Rattle.model_log.specs.Lsn.{lsn_of, sn_of, block_of, IsDataLsn}
-use Rattle.model_log.specs.Boundary.{IsTiled, IsBoundary, ends_in, crossing_end}
+use Rattle.model_log.specs.Lsn.{block_of, IsDataLsn, IsAtDataStart}
+use Rattle.model_log.specs.Run.{Span, IsBoundary, end_of, span_of, spans_of, IsRunOf}
+use Rattle.model_log.specs.Boundary.{ends_in, crossing_end, first_at}
+use Rattle.model_log.proofs.Runs.{First, first-of, run-first, boundary-reached, boundary-start, data-start}
 
--- a place of a group's byte, and how many bytes precede it
-lsn_of-data : (sn : ℕ) → IsDataLsn (lsn_of sn)
-lsn_of-data sn = (omega arith, omega arith)
+-- the search for the group that crosses, one group on
+crossing-choice : (b : ℕ) (whole : Whole) (wholes : List Whole) (test : Bool) → ends_in b (span_of whole) ≡ test
+    → crossing_end b (spans_of (whole ∷ wholes)) ≡ cond test (Some whole.end) (crossing_end b (spans_of wholes))
+crossing-choice b whole wholes test is = ap (λ (t : Bool). cond t (Some whole.end) (crossing_end b (spans_of wholes))) is
 
-sn_of-lsn_of : (sn : ℕ) → sn_of (lsn_of sn) ≡ sn
-sn_of-lsn_of sn = grind (arith, nat_tests)
+ends_in-block : (b : ℕ) (span : Span) → ends_in b span ≡ true → block_of span.end ≡ b
+ends_in-block b span is = grind (arith, nat_tests)
 
-lsn_of-rises : (start count : ℕ) → IsDataLsn start → start ≤ lsn_of (sn_of start + count)
-lsn_of-rises start count place = grind (arith, nat_tests)
+ends_in-before : (b : ℕ) (span : Span) → ends_in b span ≡ true → block_of span.start < b
+ends_in-before b span is = grind (arith, nat_tests)
 
--- what the run's tiles say of its first group
-record First (s : ℕ) (whole : Whole) : Type 0 where
-  place : IsDataLsn whole.end
-  rises : s ≤ whole.end
-  count : sn_of whole.end ≡ sn_of s + group_length whole.group
+not-ends_in : (b : ℕ) (span : Span) → b % 512 ≡ 0 → span.start < b → b ≤ span.end → span.end < b + 512 → ends_in b span ≡ true
+not-ends_in b span aligned before from below = grind (arith, nat_tests)
 
-first-tile : (s : ℕ) (whole : Whole) → IsDataLsn s → whole.start ≡ s → whole.end ≡ lsn_of (sn_of whole.start + group_length whole.group) → First s whole
-first-tile s whole place from to =
-    let end : whole.end ≡ lsn_of (sn_of s + group_length whole.group) = to ∙ ap (λ start. lsn_of (sn_of start + group_length whole.group)) from in
-    record {
-      place = subst IsDataLsn (sym end) (lsn_of-data (sn_of s + group_length whole.group));
-      rises = subst (λ (lsn : ℕ). s ≤ lsn) (sym end) (lsn_of-rises s (group_length whole.group) place);
-      count = ap sn_of end ∙ sn_of-lsn_of (sn_of s + group_length whole.group);
-    }
+starts-behind : (b : ℕ) (span : Span) → b % 512 ≡ 0 → b ≤ span.start → ends_in b span ≡ false
+starts-behind b span aligned behind = grind (arith, nat_tests)
 
--- the stream's length, one group on
-length-stream : (whole : Whole) (wholes : List Whole) → length (stream_of (groups_of (whole ∷ wholes))) ≡ group_length whole.group + length (stream_of (groups_of wholes))
-unfolding stream_of
-length-stream whole wholes = length-append (group_text whole.group) (stream_of (groups_of wholes))
-
--- A boundary of a run stands at the place of a byte, no earlier than the run's start, and the stream reaches it.
-pub record IsReached (s : ℕ) (wholes : List Whole) (m : ℕ) : Type 0 where
-  pub place : IsDataLsn m
-  pub behind : s ≤ m
-  pub reaches : sn_of m ≤ sn_of s + length (stream_of (groups_of wholes))
-
-pub boundary-reached : (s : ℕ) (wholes : List Whole) (m : ℕ) → IsDataLsn s → IsTiled s wholes → IsBoundary s wholes m → IsReached s wholes m
-boundary-reached s [] m place tiled boundary =
-    subst (λ (lsn : ℕ). IsReached s [] lsn) (sym boundary) (record { place = place; behind = omega arith; reaches = omega arith })
-boundary-reached s (whole ∷ wholes) m place tiled boundary =
-    ⊎_elim (λ same. subst (λ (lsn : ℕ). IsReached s (whole ∷ wholes) lsn) (sym same) (record { place = place; behind = omega arith; reaches = omega arith }))
-    (λ later.
-    let first : First s whole = first-tile s whole place tiled.0 tiled.1 in
-    let others : IsReached whole.end wholes m = boundary-reached whole.end wholes m first.place tiled.2 later in
-    record {
-      place = others.place;
-      behind = omega arith;
-      reaches = omega (arith, length-stream whole wholes);
-    }) boundary
-
--- a group that starts at the block's start or behind it doesn't cross into it
-starts-behind : (b : ℕ) (whole : Whole) → b % 512 ≡ 0 → b ≤ whole.start → ends_in b whole ≡ false
-starts-behind b whole aligned behind = grind (arith, nat_tests)
-
--- and none of those behind it does
-none-crosses : (s : ℕ) (wholes : List Whole) (b end : ℕ) → IsDataLsn s → IsTiled s wholes → b % 512 ≡ 0 → b ≤ s → crossing_end b wholes ≡ Some end → ⊥
-none-crosses s [] b end place tiled aligned behind found = cc
-none-crosses s (whole ∷ wholes) b end place tiled aligned behind found =
-    let first : First s whole = first-tile s whole place tiled.0 tiled.1 in
-    let passed : ends_in b whole ≡ false = starts-behind b whole aligned (omega arith) in
-    none-crosses whole.end wholes b end first.place tiled.2 aligned (omega arith)
-    (sym (ap (λ test. cond test (Some whole.end) (crossing_end b wholes)) passed) ∙ found)
+-- none crosses into a block that the run starts behind
+pub crosses-none : (s : ℕ) (wholes : List Whole) (b : ℕ) → IsDataLsn s → IsRunOf s wholes → b % 512 ≡ 0 → b ≤ s → crossing_end b (spans_of wholes) ≡ None
+crosses-none s [] b place run aligned low = refl
+crosses-none s (whole ∷ wholes) b place run aligned low =
+    let first : First s whole = first-of s whole wholes place run in
+    crossing-choice b whole wholes false (starts-behind b (span_of whole) aligned (omega (arith, first.start)))
+    ∙ crosses-none whole.end wholes b first.place (run-first run).2 aligned (omega (arith, first.rises))
 
 -- The group that crosses into a block that starts below a boundary ends in it, at the place of a byte, and no later
 -- than the boundary.
@@ -77,34 +40,170 @@ pub record IsCrossing (m b end : ℕ) : Type 0 where
   pub place : IsDataLsn end
   pub below : end ≤ m
 
-crosses-inside : (b : ℕ) (whole : Whole) → ends_in b whole ≡ true → block_of whole.end ≡ b
-crosses-inside b whole crosses = grind (arith, nat_tests)
+first-crosses : (s : ℕ) (whole : Whole) (wholes : List Whole) (m b : ℕ) → IsDataLsn s → IsRunOf s (whole ∷ wholes) → IsBoundary s (spans_of (whole ∷ wholes)) m
+    → b % 512 ≡ 0 → b ≤ m → ends_in b (span_of whole) ≡ true → IsCrossing m b whole.end
+first-crosses s whole wholes m b place run boundary aligned low crosses =
+    let first : First s whole = first-of s whole wholes place run in
+    let before : block_of whole.start < b = ends_in-before b (span_of whole) crosses in
+    record {
+      inside = ends_in-block b (span_of whole) crosses;
+      place = first.place;
+      below = ⊎_elim (λ same. let start : m ≡ s = same in absurd (omega (arith, first.start)))
+          (λ later. (boundary-reached whole.end wholes m first.place (run-first run).2 later).behind) boundary;
+    }
 
-crosses-before : (b : ℕ) (whole : Whole) → ends_in b whole ≡ true → block_of whole.start < b
-crosses-before b whole crosses = grind (arith, nat_tests)
-
--- the run's first group is the one
-first-crosses : (s : ℕ) (whole : Whole) (wholes : List Whole) (m b end : ℕ) → IsDataLsn s → IsTiled s (whole ∷ wholes) → IsBoundary s (whole ∷ wholes) m
-    → b % 512 ≡ 0 → b ≤ m → ends_in b whole ≡ true → whole.end ≡ end → IsCrossing m b end
-first-crosses s whole wholes m b end place tiled boundary aligned low crosses is =
-    let first : First s whole = first-tile s whole place tiled.0 tiled.1 in
-    let inside : block_of whole.end ≡ b = crosses-inside b whole crosses in
-    let before : block_of whole.start < b = crosses-before b whole crosses in
-    let from : whole.start ≡ s = tiled.0 in
-    let below : whole.end ≤ m = ⊎_elim (λ same. let start : m ≡ s = same in absurd (omega arith))
-    (λ later. (boundary-reached whole.end wholes m first.place tiled.2 later).behind) boundary in
-    subst (λ (lsn : ℕ). IsCrossing m b lsn) is (record { inside = inside; place = first.place; below = below })
-
-pub crossing-found : (s : ℕ) (wholes : List Whole) (m b end : ℕ) → IsDataLsn s → IsTiled s wholes → IsBoundary s wholes m
-    → b % 512 ≡ 0 → b ≤ m → crossing_end b wholes ≡ Some end → IsCrossing m b end
-crossing-found s [] m b end place tiled boundary aligned low found = absurd cc
-crossing-found s (whole ∷ wholes) m b end place tiled boundary aligned low found =
-    let first : First s whole = first-tile s whole place tiled.0 tiled.1 in
-    let choice : Bool → Option ℕ = λ test. cond test (Some whole.end) (crossing_end b wholes) in
+pub crossing-found : (s : ℕ) (wholes : List Whole) (m b end : ℕ) → IsDataLsn s → IsRunOf s wholes → IsBoundary s (spans_of wholes) m
+    → b % 512 ≡ 0 → b ≤ m → crossing_end b (spans_of wholes) ≡ Some end → IsCrossing m b end
+crossing-found s [] m b end place run boundary aligned low found = absurd cc
+crossing-found s (whole ∷ wholes) m b end place run boundary aligned low found =
+    let first : First s whole = first-of s whole wholes place run in
+    let rest : IsRunOf whole.end wholes = (run-first run).2 in
     ⊎_elim (λ crosses.
-    let one : Some whole.end ≡ Some end = sym (ap choice crosses) ∙ found in
-    first-crosses s whole wholes m b end place tiled boundary aligned low crosses cc)
+    let one : Some whole.end ≡ Some end = sym (crossing-choice b whole wholes true crosses) ∙ found in
+    let same : whole.end ≡ end = cc in
+    subst (λ (lsn : ℕ). IsCrossing m b lsn) same (first-crosses s whole wholes m b place run boundary aligned low crosses))
     (λ passed.
-    let others : crossing_end b wholes ≡ Some end = sym (ap choice passed) ∙ found in
-    ⊎_elim (λ same. absurd (none-crosses s (whole ∷ wholes) b end place tiled aligned (subst (λ (lsn : ℕ). b ≤ lsn) same low) found))
-    (λ later. crossing-found whole.end wholes m b end first.place tiled.2 later aligned low others) boundary) (cases_Bool (ends_in b whole))
+    let others : crossing_end b (spans_of wholes) ≡ Some end = sym (crossing-choice b whole wholes false passed) ∙ found in
+    ⊎_elim (λ same.
+    let none : crossing_end b (spans_of (whole ∷ wholes)) ≡ None = crosses-none s (whole ∷ wholes) b place run aligned (subst (λ (lsn : ℕ). b ≤ lsn) same low) in
+    absurd cc)
+    (λ later. crossing-found whole.end wholes m b end first.place rest later aligned low others) boundary) (cases_Bool (ends_in b (span_of whole)))
+
+-- WHAT THE FIRST OFFSET OF A BLOCK SAYS
+
+-- the first boundary from b on
+pub record IsLeast (s : ℕ) (wholes : List Whole) (b m : ℕ) : Type 0 where
+  pub boundary : IsBoundary s (spans_of wholes) m
+  pub from : b ≤ m
+  pub least : (n : ℕ) → IsBoundary s (spans_of wholes) n → b ≤ n → m ≤ n
+
+-- no boundary stands in the block at b
+pub record IsEmptyOf (s : ℕ) (wholes : List Whole) (b : ℕ) : Type 0 where
+  pub none : (n : ℕ) → IsBoundary s (spans_of wholes) n → b ≤ n → b + 512 ≤ n
+
+-- the first boundary from b on stands in that block, at this offset
+pub record StartsAt (s : ℕ) (wholes : List Whole) (b first : ℕ) : Type 0 where
+  pub some : 12 ≤ first
+  pub inside : first < 508
+  pub least : IsLeast s wholes b (b + first)
+
+-- what the search for the crossing group finds
+abbrev Crossed : ℕ → List Whole → ℕ → Option ℕ → Type 0
+Crossed s wholes b None = IsEmptyOf s wholes b
+Crossed s wholes b (Some end) = (b ≤ end) × StartsAt s wholes b (end - b)
+
+block-starts : (b end : ℕ) → b % 512 ≡ 0 → block_of end ≡ b → IsDataLsn end → (b ≤ end) × (12 ≤ end - b) × (end - b < 508) × (b + (end - b) ≡ end)
+block-starts b end aligned inside place = (omega arith, omega arith, omega arith, omega arith)
+
+-- the same with the run's first group, which starts before the block
+widen : (s : ℕ) (whole : Whole) (wholes : List Whole) (b : ℕ) (found : Option ℕ) → s < b → Crossed whole.end wholes b found → Crossed s (whole ∷ wholes) b found
+widen s whole wholes b None before empty = record { none = λ n at from. ⊎_elim (λ same. absurd (omega arith)) (λ later. empty.none n later from) at }
+widen s whole wholes b (Some end) before (low, starts) = (
+  low,
+  record {
+    some = starts.some;
+    inside = starts.inside;
+    least = record {
+      boundary = inr starts.least.boundary;
+      from = starts.least.from;
+      least = λ n at from. ⊎_elim (λ same. absurd (omega arith)) (λ later. starts.least.least n later from) at;
+    };
+  },
+)
+
+-- the first group is the one
+crossed-here : (s : ℕ) (whole : Whole) (wholes : List Whole) (b : ℕ) → First s whole → IsRunOf whole.end wholes → b % 512 ≡ 0 → s < b
+    → block_of whole.end ≡ b → Crossed s (whole ∷ wholes) b (Some whole.end)
+crossed-here s whole wholes b first rest aligned before inside =
+    let facts = block-starts b whole.end aligned inside first.place in
+    let is : IsLeast s (whole ∷ wholes) b whole.end = record {
+      boundary = inr (boundary-start whole.end (spans_of wholes));
+      from = facts.0;
+      least = λ n at from. ⊎_elim (λ same. absurd (omega arith))
+          (λ later. (boundary-reached whole.end wholes n first.place rest later).behind) at;
+    } in (
+      facts.0,
+      record { some = facts.1; inside = facts.2; least = subst (λ (m : ℕ). IsLeast s (whole ∷ wholes) b m) (sym facts.3) is },
+    )
+
+-- it ends behind the block
+crossed-late : (s : ℕ) (whole : Whole) (wholes : List Whole) (b : ℕ) → First s whole → IsRunOf whole.end wholes → b % 512 ≡ 0 → s < b
+    → ends_in b (span_of whole) ≡ false → b ≤ whole.end → Crossed s (whole ∷ wholes) b None
+crossed-late s whole wholes b first rest aligned before passed late =
+    let behind : b + 512 ≤ whole.end =
+    ⊎_elim (λ inside. let crosses : ends_in b (span_of whole) ≡ true = not-ends_in b (span_of whole) aligned (omega (arith, first.start)) late inside in absurd cc)
+    (λ h. h) (cases_lt whole.end (b + 512)) in
+    record {
+      none = λ n at from. ⊎_elim (λ same. absurd (omega arith))
+          (λ later. omega (arith, (boundary-reached whole.end wholes n first.place rest later).behind)) at;
+    }
+
+crossing-cases : (s : ℕ) (wholes : List Whole) (b : ℕ) → IsDataLsn s → IsRunOf s wholes → b % 512 ≡ 0 → s < b → Crossed s wholes b (crossing_end b (spans_of wholes))
+crossing-cases s [] b place run aligned before = record { none = λ n is from. absurd (omega arith) }
+crossing-cases s (whole ∷ wholes) b place run aligned before =
+    let first : First s whole = first-of s whole wholes place run in
+    let rest : IsRunOf whole.end wholes = (run-first run).2 in
+    let Found : Option ℕ → Type 0 = λ found. Crossed s (whole ∷ wholes) b found in
+    ⊎_elim (λ crosses.
+    subst Found (sym (crossing-choice b whole wholes true crosses))
+    (crossed-here s whole wholes b first rest aligned before (ends_in-block b (span_of whole) crosses)))
+    (λ passed.
+    subst Found (sym (crossing-choice b whole wholes false passed))
+    (⊎_elim (λ early. widen s whole wholes b (crossing_end b (spans_of wholes)) before (crossing-cases whole.end wholes b first.place rest aligned early))
+    (λ late.
+    subst Found (sym (crosses-none whole.end wholes b first.place rest aligned late))
+    (crossed-late s whole wholes b first rest aligned before passed late))
+    (cases_lt whole.end b))) (cases_Bool (ends_in b (span_of whole)))
+
+-- None of the boundaries stands in the block, or the first one from b on does, at that offset.
+abbrev pub TellsFirst : ℕ → List Whole → ℕ → ℕ → Type 0
+TellsFirst s wholes b first = ((first ≡ 0) × IsEmptyOf s wholes b) ⊎ StartsAt s wholes b first
+
+from-crossed : (s : ℕ) (wholes : List Whole) (b : ℕ) (found : Option ℕ) → Crossed s wholes b found
+    → TellsFirst s wholes b (elim found [ None ↦ 0 | Some end ↦ end - b ])
+from-crossed s wholes b None empty = inl (refl, empty)
+from-crossed s wholes b (Some end) (low, starts) = inr starts
+
+start-of-block : (s b : ℕ) → IsAtDataStart s → (b == block_of s) ≡ true → b + 12 ≡ s
+start-of-block s b start same = grind (arith, nat_tests)
+
+behind-block : (s b : ℕ) → IsAtDataStart s → b % 512 ≡ 0 → block_of s ≤ b → (b == block_of s) ≡ false → s < b
+behind-block s b start aligned from other = grind (arith, nat_tests)
+
+starts-here : (s : ℕ) (wholes : List Whole) (b : ℕ) → IsDataLsn s → IsRunOf s wholes → b + 12 ≡ s → StartsAt s wholes b 12
+starts-here s wholes b place run at =
+    let is : IsLeast s wholes b s = record {
+      boundary = boundary-start s (spans_of wholes);
+      from = omega arith;
+      least = λ n is from. (boundary-reached s wholes n place run is).behind;
+    } in
+    record { some = omega arith; inside = omega arith; least = subst (λ (m : ℕ). IsLeast s wholes b m) (sym at) is }
+
+pub first-tells : (s : ℕ) (wholes : List Whole) (b : ℕ) → IsAtDataStart s → IsRunOf s wholes → b % 512 ≡ 0 → block_of s ≤ b
+    → TellsFirst s wholes b (first_at s (spans_of wholes) b)
+unfolding first_at
+first-tells s wholes b start run aligned from =
+    let place : IsDataLsn s = data-start s start in
+    let other : ℕ = elim (crossing_end b (spans_of wholes)) [ None ↦ 0 | Some end ↦ end - b ] in
+    ⊎_elim (λ same.
+    subst (λ test. TellsFirst s wholes b (cond test 12 other)) (sym same) (inr (starts-here s wholes b place run (start-of-block s b start same))))
+    (λ later.
+    subst (λ test. TellsFirst s wholes b (cond test 12 other)) (sym later)
+    (from-crossed s wholes b (crossing_end b (spans_of wholes)) (crossing-cases s wholes b place run aligned (behind-block s b start aligned from later))))
+    (cases_Bool (b == block_of s))
+
+-- A LONGER RUN
+
+-- the crossing group is found among the old ones
+crossing-longer : (s : ℕ) (wholes more : List Whole) (b : ℕ) → IsDataLsn s → IsRunOf s (wholes ++ more) → b % 512 ≡ 0 → b ≤ end_of s (spans_of wholes)
+    → crossing_end b (spans_of (wholes ++ more)) ≡ crossing_end b (spans_of wholes)
+crossing-longer s [] more b place run aligned low = crosses-none s more b place run aligned low
+crossing-longer s (whole ∷ wholes) more b place run aligned low =
+    let first : First s whole = first-of s whole (wholes ++ more) place run in
+    ap (cond (ends_in b (span_of whole)) (Some whole.end)) (crossing-longer whole.end wholes more b first.place (run-first run).2 aligned low)
+
+pub first_at-longer : (s : ℕ) (wholes more : List Whole) (b : ℕ) → IsDataLsn s → IsRunOf s (wholes ++ more) → b % 512 ≡ 0 → b ≤ end_of s (spans_of wholes)
+    → first_at s (spans_of wholes) b ≡ first_at s (spans_of (wholes ++ more)) b
+unfolding first_at
+first_at-longer s wholes more b place run aligned low =
+    ap (λ (found : Option ℕ). cond (b == block_of s) 12 (elim found [ None ↦ 0 | Some end ↦ end - b ])) (sym (crossing-longer s wholes more b place run aligned low))

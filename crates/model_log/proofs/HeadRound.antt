@@ -7,15 +7,15 @@ use Rattle.std.proofs.lemmas.List.Elements.{All-append, All-weaker}
 use Rattle.std.proofs.lemmas.List.Sums.{AllPass-from_list_all}
 use Rattle.byteorder.specs.Numbers.{big_number-reads_back}
 use Rattle.model_base.specs.declared.shape.Shape.{Shape}
-use Rattle.model_base.specs.Limits.{IsWithinLimits}
+use Rattle.model_base.specs.Limits.{is_within_limits, IsWithinLimits}
 use Rattle.model_number.specs.Field.{field, padded_to}
 use Rattle.model_log.specs.Block.{with_checksum, fits_checksum}
-use Rattle.model_log.specs.Head.{creator, head_text, shape_of, is_within_limits, read_head}
+use Rattle.model_log.specs.Head.{creator, head_text, shape_of, read_head}
 use Rattle.model_log.specs.declared.head.Head.{Head}
 use Rattle.model_log.specs.declared.head.Head.TheVariants.{Good, OtherFormat, Unformatted}
 use Rattle.model_log.proofs.Checksums.{IsByte, bytes-bytes_high_first}
 use Rattle.model_log.proofs.Heads.{head_fields, head_text-from}
-use Rattle.model_log.proofs.Limits.{is_within_limits-true}
+use Rattle.model_base.proofs.ShapeLimits.{is_within_limits_true}
 use Rattle.model_log.proofs.Sealed.{field-padded, length-padded, bytes-padded, fits_checksum-sealed}
 
 length-head_fields : (shape : Shape) → length (head_fields shape) ≡ 68
@@ -88,9 +88,9 @@ good_when sound format_fits start_fits limits_fit read shape other is_sound is_f
     rw (is_sound, is_format, is_start, is_limits, same) refl
 
 -- the header of a store is read as that
-pub head-reads_back : (shape : Shape) → IsWithinLimits shape → shape.space < 2 ^ 32 → read_head (head_text shape) ≡ Good shape
+pub head-reads_back : (shape : Shape) → IsWithinLimits shape → read_head (head_text shape) ≡ Good shape
 unfolding read_head
-head-reads_back shape within space_small =
+head-reads_back shape within =
     let fields : List ℕ = head_fields shape in
     let long : length fields ≡ 68 = length-head_fields shape in
     let bytes : List ℕ = with_checksum (padded_to 508 fields) in
@@ -102,9 +102,9 @@ head-reads_back shape within space_small =
     = same_shape (field 4 48 bytes) (field 4 52 bytes) (field 4 56 bytes) (field 4 60 bytes) (field 4 64 bytes) shape
     (field-padded 4 48 fields (omega arith) (omega arith) ∙ page_size-head_fields shape (omega (arith, within.page_size)))
     (field-padded 4 52 fields (omega arith) (omega arith) ∙ pages-head_fields shape (omega (arith, within.few_pages)))
-    (field-padded 4 56 fields (omega arith) (omega arith) ∙ space-head_fields shape space_small)
+    (field-padded 4 56 fields (omega arith) (omega arith) ∙ space-head_fields shape within.space)
     (field-padded 4 60 fields (omega arith) (omega arith) ∙ log_blocks-head_fields shape (omega (arith, within.few_blocks)))
     (field-padded 4 64 fields (omega arith) (omega arith) ∙ slots-head_fields shape (omega (arith, within.slots))) in
     ap read_head (sym (head_text-from shape fields refl))
     ∙ good_when (fits_checksum bytes) (field 4 0 bytes == 1) (field 8 8 bytes == 8192) (is_within_limits (shape_of bytes)) (shape_of bytes) shape (OtherFormat (field 4 0 bytes))
-    sound (eq-eqb _ _ format) (eq-eqb _ _ start) (ap is_within_limits same ∙ is_within_limits-true shape within) same
+    sound (eq-eqb _ _ format) (eq-eqb _ _ start) (ap is_within_limits same ∙ is_within_limits_true shape within) same

@@ -2,6 +2,7 @@ pub mod BlockRound
 pub mod Blocks
 pub mod Boundaries
 pub mod BoundaryLengths
+pub mod BoundaryRound
 pub mod CheckpointRound
 pub mod Checkpoints
 pub mod Checksums
@@ -9,6 +10,6 @@ pub mod Crossings
 pub mod CutStream
 pub mod HeadRound
 pub mod Heads
-pub mod Limits
+pub mod Runs
 pub mod Sealed
 pub mod Seals

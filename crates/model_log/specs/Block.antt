@@ -6,7 +6,7 @@ use Rattle.std.specs.Int.{bytes_high_first}
 use Rattle.model_base.specs.declared.limits.TheConstants.{BLOCK_SIZE}
 use Rattle.model_number.specs.Crc32c.{crc_of}
 use Rattle.model_number.specs.Field.{field, padded_to}
-use Rattle.model_log.specs.Lsn.{number_of}
+use Rattle.model_log.specs.Lsn.{block_number}
 use Rattle.model_log.specs.declared.layout.TheConstants.{BLOCK_HEADER, BLOCK_DATA, BLOCK_DATA_END}
 use Rattle.model_log.specs.declared.block.BlockView.{BlockView}
 
@@ -21,7 +21,7 @@ length_of count = if count == BLOCK_DATA then BLOCK_SIZE else BLOCK_HEADER + cou
 -- the block at the lsn that holds these data bytes, has this first offset, and was written under this checkpoint
 unfoldable pub block_text : ℕ → List ℕ → ℕ → ℕ → List ℕ
 block_text lsn content first ckpt =
-    with_checksum (padded_to BLOCK_DATA_END (bytes_high_first 4 (number_of lsn)
+    with_checksum (padded_to BLOCK_DATA_END (bytes_high_first 4 (block_number lsn)
     ++ bytes_high_first 2 (length_of (length content)) ++ bytes_high_first 2 first ++ bytes_high_first 4 ckpt
     ++ content))
 
@@ -31,7 +31,7 @@ view_of bytes = record { length = field 2 4 bytes; first = field 2 6 bytes; ckpt
 
 -- the number, without the flush bit, is that of the lsn
 abbrev pub fits_number : ℕ → List ℕ → Bool
-fits_number lsn bytes = field 4 0 bytes % 2 ^ 31 == number_of lsn
+fits_number lsn bytes = field 4 0 bytes % 2 ^ 31 == block_number lsn
 
 -- a block's data ends within its data bytes, or the block is full; this refuses the encryption bit too
 abbrev pub is_length : ℕ → Bool

@@ -1,76 +1,57 @@
--- The stream of a run's groups cut into log blocks. A run starts at the lsn s, at the first data byte of a block; its
--- groups follow one another without a gap. A boundary is s or the end of a group.
-use Rattle.std.specs.Prelude.{ℕ, ◌≡◌, ◌≤◌, ◌<◌, ◌+◌, ◌-◌, ◌*◌, ◌/◌, ◌^◌, ◌==◌, ◌&&◌, ◌⊎◌, min, nat_lt, nat_le, if◌then◌else◌, Bool, List, [], ◌∷◌, ◌++◌, length, take, drop, get_or, Option, Some, None, slice_get}
+-- The stream of a run cut into log blocks. The run starts at the lsn s, at the first data byte of a block; its stream is
+-- the bytes of its pieces, of which spans tell where each starts and ends.
+use Rattle.std.specs.Prelude.{ℕ, ◌≡◌, ◌≤◌, ◌<◌, ◌+◌, ◌-◌, ◌*◌, ◌/◌, ◌%◌, ◌^◌, ◌==◌, ◌&&◌, min, nat_lt, nat_le, if◌then◌else◌, Bool, List, [], ◌∷◌, ◌++◌, length, take, drop, get_or, Option, Some, None}
 use Rattle.model_base.specs.declared.limits.TheConstants.{BLOCK_SIZE}
-use Rattle.model_record.specs.Group.{stream_of, groups_of, group_length}
+use Rattle.model_record.specs.Group.{stream_of, groups_of}
 use Rattle.model_record.specs.declared.group.Whole.{Whole}
-use Rattle.model_log.specs.Lsn.{lsn_of, sn_of, block_of, IsAtDataStart}
+use Rattle.model_log.specs.Lsn.{sn_of, block_of}
+use Rattle.model_log.specs.Run.{Span, IsBoundary, spans_of}
 use Rattle.model_log.specs.Block.{block_text}
 use Rattle.model_log.specs.declared.layout.TheConstants.{BLOCK_HEADER, BLOCK_DATA}
 
--- The groups follow one another from s on: each starts where the one before ends, and ends so many bytes of the
--- stream behind its start as its text has.
-abbrev pub IsTiled : ℕ → List Whole → Type 0
-IsTiled s [] = Unit {0}
-IsTiled s (whole ∷ wholes) =
-    (whole.start ≡ s) × (whole.end ≡ lsn_of (sn_of whole.start + group_length whole.group)) × IsTiled whole.end wholes
-
--- the start of the run, or the end of one of its groups
-abbrev pub IsBoundary : ℕ → List Whole → ℕ → Type 0
-IsBoundary s [] m = m ≡ s
-IsBoundary s (whole ∷ wholes) m = (m ≡ s) ⊎ IsBoundary whole.end wholes m
-
 -- the stream's bytes from the lsn low on and below the lsn high; its first byte has the lsn s
-abbrev pub stream_between : ℕ → List Whole → ℕ → ℕ → List ℕ
-stream_between s wholes low high =
-    take (sn_of high - sn_of low) (drop (sn_of low - sn_of s) (stream_of (groups_of wholes)))
+unfoldable pub stream_between : ℕ → List ℕ → ℕ → ℕ → List ℕ
+stream_between s stream low high = take (sn_of high - sn_of low) (drop (sn_of low - sn_of s) stream)
 
 -- the bytes that the block at b holds of those below m: all of them, or those up to the block's end
-abbrev pub content_at : ℕ → List Whole → ℕ → ℕ → List ℕ
-content_at s wholes m b = stream_between s wholes b (min m (b + BLOCK_SIZE))
+unfoldable pub content_at : ℕ → List ℕ → ℕ → ℕ → List ℕ
+content_at s stream m b = stream_between s stream b (min m (b + BLOCK_SIZE))
 
 -- the data length of the block at b: 512 where m is at or above the first data byte of the next block
 abbrev pub length_at : ℕ → ℕ → ℕ
 length_at m b = if nat_le (b + BLOCK_SIZE + BLOCK_HEADER) m then BLOCK_SIZE else m - b
 
--- the group ends in the block at b and starts in an earlier one
-abbrev pub ends_in : ℕ → Whole → Bool
-ends_in b whole = block_of whole.end == b && nat_lt (block_of whole.start) b
+-- the piece ends in the block at b and starts in an earlier one
+abbrev pub ends_in : ℕ → Span → Bool
+ends_in b span = block_of span.end == b && nat_lt (block_of span.start) b
 
--- the end of the one group that does
-abbrev pub crossing_end : ℕ → List Whole → Option ℕ
+-- the end of the one piece that does
+abbrev pub crossing_end : ℕ → List Span → Option ℕ
 crossing_end b [] = None
-crossing_end b (whole ∷ wholes) = if ends_in b whole then Some whole.end else crossing_end b wholes
+crossing_end b (span ∷ spans) = if ends_in b span then Some span.end else crossing_end b spans
 
--- Where the first group of the block at b starts, as an offset in it: at the first data byte in the run's first
--- block; behind the group that crosses into it; and else nowhere, which is 0.
-abbrev pub first_at : ℕ → List Whole → ℕ → ℕ
-first_at s wholes b =
-    if b == block_of s then BLOCK_HEADER else elim (crossing_end b wholes) [ None ↦ 0 | Some end ↦ end - b ]
+-- Where the first piece of the block at b starts, as an offset in it: at the first data byte in the run's first
+-- block; behind the piece that crosses into it; and else nowhere, which is 0.
+unfoldable pub first_at : ℕ → List Span → ℕ → ℕ
+first_at s spans b =
+    if b == block_of s then BLOCK_HEADER else elim (crossing_end b spans) [ None ↦ 0 | Some end ↦ end - b ]
 
--- a run starts at s with these groups, and m is one of its boundaries
-pub record IsRunTo (s : ℕ) (wholes : List Whole) (m : ℕ) : Type 0 where
-  pub starts : IsAtDataStart s
-  pub tiled : IsTiled s wholes
-  pub boundary : IsBoundary s wholes m
-
--- For a run to m: the 512 bytes are the block at b for the boundary m, which reaches it. Which checkpoint it names is
--- free.
-pub record IsBoundaryBlock (s : ℕ) (wholes : List Whole) (m b : ℕ) (bytes : List ℕ) : Type 0 where
+-- The 512 bytes are the block at b of the stream below m, which reaches it. Which checkpoint it names is free.
+pub record IsBlockBelow (s : ℕ) (stream : List ℕ) (spans : List Span) (m b : ℕ) (bytes : List ℕ) : Type 0 where
+  pub aligned : b % BLOCK_SIZE ≡ 0
   pub from : block_of s ≤ b
   pub reached : b + BLOCK_HEADER ≤ m
   pub ckpt : ℕ
   pub ckpt_small : ckpt < 2 ^ 32
-  pub block : bytes ≡ block_text b (content_at s wholes m b) (first_at s wholes b) ckpt
+  pub block : bytes ≡ block_text b (content_at s stream m b) (first_at s spans b) ckpt
 
--- how many blocks hold a byte below m
-abbrev pub blocks_below : ℕ → ℕ → ℕ
-blocks_below s m = (sn_of m - sn_of s + (BLOCK_DATA - 1)) / BLOCK_DATA
+-- the same for a run of groups, of which m is a boundary
+abbrev pub IsBoundaryBlock : ℕ → List Whole → ℕ → ℕ → List ℕ → Type 0
+IsBoundaryBlock s wholes m b bytes = IsBlockBelow s (stream_of (groups_of wholes)) (spans_of wholes) m b bytes
 
--- For a run to m: the framed stream below m, which is from the block of s on, each block that holds a byte below m.
-pub record IsFramed (s : ℕ) (wholes : List Whole) (m : ℕ) (blocks : List (List ℕ)) : Type 0 where
-  pub count : length blocks ≡ blocks_below s m
-  pub each : (i : ℕ) → (bytes : List ℕ) → slice_get blocks i ≡ Some bytes → IsBoundaryBlock s wholes m (block_of s + BLOCK_SIZE * i) bytes
+-- how many blocks, from that of the lsn low on, hold a byte below the lsn high
+abbrev pub blocks_between : ℕ → ℕ → ℕ
+blocks_between low high = (sn_of high - sn_of (block_of low) + (BLOCK_DATA - 1)) / BLOCK_DATA
 
 -- The blocks of a stream from a data start on, with a first offset for each block, of which there are as many as the
 -- stream fills: the form in which a writer makes them.
@@ -79,7 +60,10 @@ framed stream from [] ckpt = []
 framed stream from (first ∷ firsts) ckpt =
     block_text from (take BLOCK_DATA stream) first ckpt ++ framed (drop BLOCK_DATA stream) (from + BLOCK_SIZE) firsts ckpt
 
--- The first offset of each block of the run to m, which are those under which a writer makes them.
-pub record AreFirstsOf (s : ℕ) (wholes : List Whole) (m : ℕ) (firsts : List ℕ) : Type 0 where
-  pub count : length firsts ≡ blocks_below s m
-  pub each : (i : ℕ) → i < length firsts → get_or firsts i 0 ≡ first_at s wholes (block_of s + BLOCK_SIZE * i)
+-- What a writer hands over, from the block at `from` on: the run's bytes below one of its boundaries, and the first
+-- offset of each block that holds one of them.
+pub record IsGivenTo (s : ℕ) (wholes : List Whole) (from mark : ℕ) (bytes firsts : List ℕ) : Type 0 where
+  pub boundary : IsBoundary s (spans_of wholes) mark
+  pub bytes_are : bytes ≡ stream_between s (stream_of (groups_of wholes)) from mark
+  pub count : length firsts ≡ blocks_between from mark
+  pub firsts_are : (i : ℕ) → i < length firsts → get_or firsts i 0 ≡ first_at s (spans_of wholes) (from + BLOCK_SIZE * i)

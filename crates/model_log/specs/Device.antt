@@ -5,7 +5,7 @@ use Rattle.model_base.specs.declared.shape.Shape.{Shape}
 use Rattle.model_base.specs.declared.limits.TheConstants.{BLOCK_SIZE}
 use Rattle.model_log.specs.Lsn.{offset_of}
 use Rattle.model_log.specs.Checkpoint.{read_checkpoint}
-use Rattle.model_log.specs.declared.layout.TheConstants.{HEADER_BLOCKS}
+use Rattle.model_log.specs.declared.layout.TheConstants.{HEADER_BYTES}
 
 -- the 512 bytes at a device offset
 abbrev pub sector_at : ℕ → List ℕ → List ℕ
@@ -16,12 +16,12 @@ abbrev pub header_block : ℕ → List ℕ → List ℕ
 header_block which image = sector_at (BLOCK_SIZE * which) image
 
 -- the 512 bytes in which the block of the lsn stands
-abbrev pub log_block : Shape → ℕ → List ℕ → List ℕ
+unfoldable pub log_block : Shape → ℕ → List ℕ → List ℕ
 log_block shape lsn image = sector_at (offset_of lsn shape.log_blocks) image
 
 -- how long a log device has to be
 abbrev pub log_device_length : Shape → ℕ
-log_device_length shape = HEADER_BLOCKS + BLOCK_SIZE * shape.log_blocks
+log_device_length shape = HEADER_BYTES + BLOCK_SIZE * shape.log_blocks
 
 -- of two checkpoints the one with the greater number
 abbrev pub newer : Option (ℕ × ℕ) → Option (ℕ × ℕ) → Option (ℕ × ℕ)

@@ -1,10 +1,11 @@
 -- The first block of a log device, the file header: format (4 bytes), zero (4), start lsn (8), creator (32), then this
 -- project's own fields, page size (4), pages (4), space id (4), log blocks (4), doublewrite slots (4), zeros, and the
 -- checksum. The first three fields and the creator are InnoDB's.
-use Rattle.std.specs.Prelude.{ℕ, ◌==◌, ◌&&◌, nat_le, if◌then◌else◌, Bool, List, ◌++◌, codes}
+use Rattle.std.specs.Prelude.{ℕ, ◌==◌, ◌&&◌, if◌then◌else◌, List, ◌++◌, codes}
 use Rattle.std.specs.Int.{bytes_high_first}
 use Rattle.model_base.specs.declared.shape.Shape.{Shape}
-use Rattle.model_base.specs.declared.limits.TheConstants.{START_LSN, PAGE_SIZE, MAX_PAGES, MIN_LOG_BLOCKS, MAX_LOG_BLOCKS, SLOTS}
+use Rattle.model_base.specs.declared.limits.TheConstants.{START_LSN}
+use Rattle.model_base.specs.Limits.{is_within_limits}
 use Rattle.model_number.specs.Field.{field, padded_to}
 use Rattle.model_log.specs.Block.{with_checksum, fits_checksum}
 use Rattle.model_log.specs.declared.layout.TheConstants.{BLOCK_DATA_END}
@@ -36,12 +37,6 @@ shape_of bytes = record {
   log_blocks = field 4 60 bytes;
   slots = field 4 64 bytes;
 }
-
--- each size is one that a store may have
-abbrev pub is_within_limits : Shape → Bool
-is_within_limits shape =
-    shape.page_size == PAGE_SIZE && nat_le 1 shape.pages && nat_le shape.pages MAX_PAGES
-    && nat_le MIN_LOG_BLOCKS shape.log_blocks && nat_le shape.log_blocks MAX_LOG_BLOCKS && shape.slots == SLOTS
 
 -- What 512 bytes say as a file header: the checksum first, then the format, then the start lsn and the sizes. The
 -- creator and the zeros aren't read.

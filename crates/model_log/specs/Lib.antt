@@ -4,3 +4,4 @@ pub mod Checkpoint
 pub mod Device
 pub mod Head
 pub mod Lsn
+pub mod Run

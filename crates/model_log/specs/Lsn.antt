@@ -2,7 +2,7 @@
 -- blocks with their headers and trailers: InnoDB's log_translate_sn_to_lsn and log_translate_lsn_to_sn.
 use Rattle.std.specs.Prelude.{ℕ, ◌+◌, ◌-◌, ◌*◌, ◌/◌, ◌%◌, ◌^◌, ◌==◌, ◌≡◌, ◌≤◌, ◌<◌, nat_lt, if◌then◌else◌}
 use Rattle.model_base.specs.declared.limits.TheConstants.{BLOCK_SIZE, START_LSN}
-use Rattle.model_log.specs.declared.layout.TheConstants.{BLOCK_HEADER, BLOCK_DATA, BLOCK_DATA_END, HEADER_BLOCKS}
+use Rattle.model_log.specs.declared.layout.TheConstants.{BLOCK_HEADER, BLOCK_DATA, BLOCK_DATA_END, HEADER_BYTES}
 
 -- the lsn of the byte that so many bytes of groups precede
 abbrev pub lsn_of : ℕ → ℕ
@@ -27,12 +27,12 @@ abbrev pub block_of : ℕ → ℕ
 block_of lsn = lsn / BLOCK_SIZE * BLOCK_SIZE
 
 -- the number of the block of an lsn: LOG_BLOCK_HDR_NO without the flush bit
-abbrev pub number_of : ℕ → ℕ
-number_of lsn = lsn / BLOCK_SIZE % 2 ^ 30 + 1
+abbrev pub block_number : ℕ → ℕ
+block_number lsn = lsn / BLOCK_SIZE % 2 ^ 30 + 1
 
 -- where on a device of so many log blocks the block of an lsn stands, in bytes: the log goes round
 abbrev pub offset_of : ℕ → ℕ → ℕ
-offset_of lsn log_blocks = HEADER_BLOCKS + (block_of lsn - START_LSN) % (BLOCK_SIZE * log_blocks)
+offset_of lsn log_blocks = HEADER_BYTES + (block_of lsn - START_LSN) % (BLOCK_SIZE * log_blocks)
 
 -- the lsn stands at the first data byte of a block
 abbrev pub IsAtDataStart : ℕ → Type 0

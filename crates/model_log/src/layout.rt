@@ -6,7 +6,7 @@ pub const BLOCK_HEADER: u64 = 12;
 pub const BLOCK_DATA: u64 = 496;
 /// The offset in a log block behind its data, at which its checksum stands.
 pub const BLOCK_DATA_END: u64 = 508;
-/// Bytes of the header blocks that stand before the log blocks on the device.
-pub const HEADER_BLOCKS: u64 = 2048;
+/// Bytes that the header blocks take before the log blocks of a device.
+pub const HEADER_BYTES: u64 = 2048;
 /// The log buffer size that a checkpoint block names, in bytes.
 pub const RING_SIZE: u64 = 65_536;

@@ -7,26 +7,26 @@ use Rattle.model_number.specs.declared.table.Row.{Row}
 use Rattle.model_number.specs.Spelling.{spelling32, spelling64}
 use Rattle.model_number.specs.Table.{spelling_in, IsRow, IsRowOf, HasAllFrom}
 use Rattle.model_number.proofs.ByteLemmas.{AreBytes, AreBytes-of_number, AreBytes-append, length-bytes_high_first, number_onto, number-bytes, pow256_le, drop-bytes_high_first}
-use Rattle.model_number.proofs.TableLemmas.{seven_bits_of, fourteen_bits_of, twenty_one_bits_of, twenty_eight_bits_of, whole_of, low_24_bits_of, low_17_bits_of, low_10_bits_of, seven_bits_from, fourteen_bits_from, twenty_one_bits_from, twenty_eight_bits_from, whole_from, low_24_bits_from, low_17_bits_from, low_10_bits_from, none_from}
+use Rattle.model_number.proofs.TableLemmas.{row_holds, seven_bits, fourteen_bits, twenty_one_bits, twenty_eight_bits, whole, low_24_bits, low_17_bits, low_10_bits, seven_bits_from, fourteen_bits_from, twenty_one_bits_from, twenty_eight_bits_from, whole_from, low_24_bits_from, low_17_bits_from, low_10_bits_from, none_from}
 
 -- each number has a row
 pub row_for : (n : ℕ) → n < 2 ^ 32 → (row : Row) × IsRowOf n row
 row_for n small =
     elim (cases_lt n 0x80) [
-      | inl h0 ↦ (_, seven_bits_of n (omega arith) (omega arith))
+      | inl h0 ↦ (_, row_holds n _ seven_bits (omega arith) (omega arith))
       | inr h0 ↦ elim (cases_lt n 0x4000) [
-        | inl h1 ↦ (_, fourteen_bits_of n (omega arith) (omega arith))
+        | inl h1 ↦ (_, row_holds n _ fourteen_bits (omega arith) (omega arith))
         | inr h1 ↦ elim (cases_lt n 0x20_0000) [
-          | inl h2 ↦ (_, twenty_one_bits_of n (omega arith) (omega arith))
+          | inl h2 ↦ (_, row_holds n _ twenty_one_bits (omega arith) (omega arith))
           | inr h2 ↦ elim (cases_lt n 0x1000_0000) [
-            | inl h3 ↦ (_, twenty_eight_bits_of n (omega arith) (omega arith))
+            | inl h3 ↦ (_, row_holds n _ twenty_eight_bits (omega arith) (omega arith))
             | inr h3 ↦ elim (cases_lt n 0xFF00_0000) [
-              | inl h4 ↦ (_, whole_of n (omega arith) (omega arith))
+              | inl h4 ↦ (_, row_holds n _ whole (omega arith) (omega arith))
               | inr h4 ↦ elim (cases_lt n 0xFFFE_0000) [
-                | inl h5 ↦ (_, low_24_bits_of n (omega arith) (omega arith))
+                | inl h5 ↦ (_, row_holds n _ low_24_bits (omega arith) (omega arith))
                 | inr h5 ↦ elim (cases_lt n 0xFFFF_FC00) [
-                  | inl h6 ↦ (_, low_17_bits_of n (omega arith) (omega arith))
-                  | inr h6 ↦ (_, low_10_bits_of n (omega arith) (omega arith))
+                  | inl h6 ↦ (_, row_holds n _ low_17_bits (omega arith) (omega arith))
+                  | inr h6 ↦ (_, row_holds n _ low_10_bits (omega arith) (omega arith))
                 ]
               ]
             ]

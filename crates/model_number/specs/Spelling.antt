@@ -33,8 +33,8 @@ pub record Spells64 (bytes : List ℕ) (n : ℕ) : Type 0 where
   pub spelled : bytes ≡ spelling64 n
 
 -- the bytes are less than a whole spelling: something can follow with which they are one
-abbrev pub IsUnfinished : (List ℕ → ℕ → Type 0) → List ℕ → Type 0
-IsUnfinished Spells bytes = (rest : List ℕ) × (n : ℕ) × (rest ≢ []) × Spells (bytes ++ rest) n
+abbrev pub IsFrontOf : (List ℕ → ℕ → Type 0) → List ℕ → Type 0
+IsFrontOf Spells bytes = (rest : List ℕ) × (n : ℕ) × (rest ≢ []) × Spells (bytes ++ rest) n
 
 -- so many bytes at the front are a spelling of the number
 abbrev pub BeginsWith : (List ℕ → ℕ → Type 0) → List ℕ → ℕ → ℕ → Type 0
@@ -44,6 +44,6 @@ BeginsWith Spells bytes n len = (len ≤ length bytes) × Spells (take len bytes
 -- bytes have to come, or that no spelling begins so.
 abbrev pub Gives : (List ℕ → ℕ → Type 0) → List ℕ → Got ℕ → Type 0
 Gives Spells bytes (Value n len) = BeginsWith Spells bytes n len
-Gives Spells bytes Short = IsUnfinished Spells bytes
+Gives Spells bytes Short = IsFrontOf Spells bytes
 Gives Spells bytes Bad =
-    ((n len : ℕ) → BeginsWith Spells bytes n len → ⊥) × (IsUnfinished Spells bytes → ⊥)
+    ((n len : ℕ) → BeginsWith Spells bytes n len → ⊥) × (IsFrontOf Spells bytes → ⊥)

@@ -1,4 +1,5 @@
 pub mod BestCopy
 pub mod Checksum
+pub mod Kept
 pub mod PageParts
 pub mod ReadBack

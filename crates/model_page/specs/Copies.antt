@@ -13,7 +13,7 @@ abbrev pub data_device_length : Shape → ℕ
 data_device_length shape = (shape.slots + shape.pages) * shape.page_size
 
 -- the n-th stretch of page size on the device: the slots come first, and then the places
-abbrev pub stretch_at : Shape → ℕ → List ℕ → List ℕ
+unfoldable pub stretch_at : Shape → ℕ → List ℕ → List ℕ
 stretch_at shape n image = take shape.page_size (drop (n * shape.page_size) image)
 
 -- the bytes in a slot of the doublewrite area
@@ -48,6 +48,12 @@ pub record IsBestCopy (shape : Shape) (image : List ℕ) (page slot lsn : ℕ) :
   pub passes : copy_lsn shape image page slot ≡ Some lsn
   pub greatest : (other found : ℕ) → other < shape.slots → copy_lsn shape image page other ≡ Some found → found ≤ lsn
   pub lowest : (other found : ℕ) → other < slot → copy_lsn shape image page other ≡ Some found → found < lsn
+
+-- a slot holds the copy of the page that counts
+pub record HasBestCopy (shape : Shape) (image : List ℕ) (page : ℕ) : Type 0 where
+  pub slot : ℕ
+  pub lsn : ℕ
+  pub best : IsBestCopy shape image page slot lsn
 
 -- no slot holds a copy of the page that passes
 abbrev pub HasNoCopy : Shape → List ℕ → ℕ → Type 0

@@ -1,3 +1,4 @@
+pub mod Blank
 pub mod Copies
 pub mod Fits
 pub mod Page

@@ -5,8 +5,7 @@ use Rattle.std.proofs.lemmas.List.{length-replicate, take_at, drop_at}
 use Rattle.std.proofs.lemmas.List.Elements.{All-replicate}
 use Rattle.model_number.specs.Spelling.{spelling32, spelling64, Spells32}
 use Rattle.model_record.specs.Record.{IsWidth, IsByte, value_text}
-use Rattle.model_record.specs.Reading.{Begins, IsPartOf}
-use Rattle.model_record.specs.Bodies.{IsShort, IsLength, IsBody, IsValue, IsString, IsPlace, IsSpot, IsAfterType, IsRecord}
+use Rattle.model_record.specs.Bodies.{IsShort, IsLength, IsBody, IsValue, IsString, IsPlace, IsSpot, IsAfterType}
 use Rattle.model_record.specs.declared.place.Place.{Place}
 use Rattle.model_record.specs.declared.place.Spot.{Spot}
 use Rattle.model_record.specs.declared.rec.Rec.{Rec}
@@ -226,18 +225,3 @@ then_init = record {
   parted = init_parted;
   goes_on = λ front a p. ([], tt, record { empty = refl });
 }
-
-pub nothing_begins : (rest : List ℕ) → Begins IsNothing rest tt rest
-nothing_begins rest = record { text = []; is_text = record { empty = refl }; parts = refl }
-
--- ---- a whole record
-
--- nothing is the front of a record
-pub record_part : (flag : ℕ) (bytes : List ℕ) → length bytes < 1 → IsPartOf (IsRecord flag) bytes
-record_part flag [] below = record {
-  more = (flag + 59) ∷ (spelling32 0 ++ spelling32 0 ++ []);
-  value = Init 0 0;
-  some = λ e. absurd cc;
-  is_text = record { has_text = (omega arith, omega arith); spelled = refl };
-}
-record_part flag (byte ∷ bytes) below = absurd (omega arith)

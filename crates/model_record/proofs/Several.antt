@@ -8,6 +8,7 @@ use Rattle.model_record.specs.Group.{group_text, IsGroup}
 use Rattle.model_record.specs.Bodies.{IsAfterType, IsRecord}
 use Rattle.model_record.specs.declared.rec.Rec.{Rec}
 use Rattle.model_record.specs.declared.rec.Rec.TheVariants.{Num, Text, Init}
+use Rattle.model_number.proofs.SpellingLemmas.{one_spelling32, one_spelling64}
 use Rattle.model_record.proofs.Sequence.{OneText, both_one}
 use Rattle.model_record.proofs.Records.{OneSpelling, IsNothing, one_place, one_spot, one_string, one_value, then_init, then_num, then_text}
 
@@ -20,6 +21,9 @@ one_nothing s t x y a b p q e = (refl, ap (λ (z : List ℕ). z ++ x) (sym p.emp
 pub record OneOfBoth : Type 0 where
   pub thirty_two : OneSpelling spelling32 (2 ^ 32)
   pub sixty_four : OneSpelling spelling64 (2 ^ 64)
+
+pub one_of_both : OneOfBoth
+one_of_both = record { thirty_two = one_spelling32; sixty_four = one_spelling64 }
 
 one_after : OneOfBoth → (kind : ℕ) → OneText (IsAfterType kind)
 one_after one kind s t x y (Num width space page offset value) b p q e =
@@ -130,3 +134,15 @@ one_group_text one (a ∷ b ∷ g) (c ∷ d ∷ h) x y p q e =
     let ended = at_end w.others x y w.each w.rest_is in
     let recs : List Rec = a ∷ b ∷ g in
     (sym (w.group_is ∙ ap (λ (r : List Rec). recs ++ r) ended.0 ∙ append-nil recs), ended.1)
+
+-- no group's text begins another's
+abbrev pub OneGroup : Type 0
+OneGroup = (g h : List Rec) (x y : List ℕ) → IsGroup g → IsGroup h → group_text g ++ x ≡ group_text h ++ y → (g ≡ h) × (x ≡ y)
+
+pub one_group : OneGroup
+one_group = one_group_text one_of_both
+
+-- nothing is joined of nothing
+pub back_nil : (xs ys : List ℕ) → xs ++ ys ≡ [] → ys ≡ []
+back_nil [] ys e = e
+back_nil (x ∷ xs) ys e = absurd cc

@@ -1,5 +1,4 @@
 pub mod Bodies
 pub mod Fits
 pub mod Group
-pub mod Reading
 pub mod Record

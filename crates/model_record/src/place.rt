@@ -2,14 +2,18 @@
 
 /// A page.
 #[derive(Clone, Copy, Debug, PartialEq, Eq)]
-pub(crate) struct Place {
+pub struct Place {
+    /// The space id.
     pub space: u32,
+    /// The page's number.
     pub page: u32,
 }
 
 /// A place in a page.
 #[derive(Clone, Copy, Debug, PartialEq, Eq)]
-pub(crate) struct Spot {
+pub struct Spot {
+    /// The page.
     pub place: Place,
+    /// The offset of its first byte in the page.
     pub offset: u32,
 }

@@ -2,24 +2,15 @@
 use Rattle.std.proofs.Common.{◌≡◌, ℕ, ◌%◌, ◌^◌, ◌<◌, ◌≤◌, ◌⊎◌, inl, inr, Bool, true, false, cond, ◌&&◌, ltb, leb, eqb, List, Option, Some, None, arith, refl, subst}
 use Rattle.std.proofs.lemmas.Bool.Decides.{nat_tests}
 use Rattle.model_base.specs.declared.shape.Shape.{Shape}
-use Rattle.model_base.specs.Limits.{IsWithinLimits}
+use Rattle.model_base.specs.Limits.{is_within_limits, IsWithinLimits}
+use Rattle.model_base.proofs.ShapeLimits.{is_within_limits_facts}
 use Rattle.model_number.specs.Field.{field}
 use Rattle.model_log.specs.Block.{fits_checksum}
-use Rattle.model_log.specs.Head.{read_head, shape_of, is_within_limits}
+use Rattle.model_log.specs.Head.{read_head, shape_of}
 use Rattle.model_log.specs.declared.head.Head.TheVariants.{Good, OtherFormat, Unformatted}
 use Rattle.model_log.specs.Checkpoint.{place_of, read_checkpoint, is_checkpoint}
 use Rattle.model_log.specs.Lsn.{offset_of}
 use Rattle.model_log.specs.Device.{newer, newest_checkpoint, header_block}
-
-limits_hold : (shape : Shape) → is_within_limits shape ≡ true → IsWithinLimits shape
-limits_hold shape good = record {
-  page_size = grind (arith, nat_tests);
-  some_pages = grind (arith, nat_tests);
-  few_pages = grind (arith, nat_tests);
-  many_blocks = grind (arith, nat_tests);
-  few_blocks = grind (arith, nat_tests);
-  slots = grind (arith, nat_tests);
-}
 
 -- what is good passed every test
 good_parts : (sum format start limits : Bool) (n : ℕ) (found shape : Shape)
@@ -36,7 +27,7 @@ pub good-limits : (bytes : List ℕ) (shape : Shape) → read_head bytes ≡ Goo
 unfolding read_head
 good-limits bytes shape e =
     let parts = good_parts (fits_checksum bytes) (eqb (field 4 0 bytes) 1) (eqb (field 8 8 bytes) 8192) (is_within_limits (shape_of bytes)) (field 4 0 bytes) (shape_of bytes) shape e in
-    subst (λ (s : Shape). IsWithinLimits s) parts.1 (limits_hold (shape_of bytes) parts.0)
+    subst (λ (s : Shape). IsWithinLimits s) parts.1 (is_within_limits_facts (shape_of bytes) parts.0)
 
 checkpoint_parts : (a b : Bool) (lsn : ℕ) (f : Bool) → (a && b && eqb (lsn % 512) 0 && leb 8192 lsn && ltb lsn (2 ^ 60) && f) ≡ true
     → (lsn % 512 ≡ 0) × (8192 ≤ lsn) × (lsn < 2 ^ 60)

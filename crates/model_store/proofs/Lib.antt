@@ -1,12 +1,8 @@
-pub mod Applying
-pub mod Grouping
 pub mod Heads
-pub mod Numbers
-pub mod Paging
 pub mod Places
-pub mod Refusing
-pub mod Scanning
+pub mod Folding
+pub mod Fairness
+pub mod Taking
 pub mod OneScan
-pub mod OneKept
 pub mod OneReading
 pub mod OneAnswer

@@ -6,21 +6,21 @@ use Rattle.model_log.specs.declared.block.BlockView.{BlockView}
 use Rattle.model_log.specs.Device.{newest_checkpoint}
 use Rattle.model_page.specs.declared.content.Content.{Content}
 use Rattle.model_store.specs.Scan.{IsScan}
-use Rattle.model_store.specs.Reading.{Reading, Reads, HasScan, HasHead, IsReadPage, replayed}
-use Rattle.model_store.specs.Pages.{AreReadPages}
+use Rattle.model_store.specs.Reading.{Reading, IsReading, HasScan, HasHead, IsReadPage, replayed}
+use Rattle.model_store.specs.Reading.{AreReadPages}
 use Rattle.model_store.proofs.Places.{same_places, same_some}
 use Rattle.model_store.proofs.OneScan.{OneGroup, same_scan}
-use Rattle.model_store.proofs.OneKept.{same_kept}
+use Rattle.model_page.proofs.Kept.{same_kept}
 
 -- a header names one shape
 pub same_shape : (log : List ℕ) (s t : Shape) → HasHead log s → HasHead log t → s ≡ t
 same_shape log s t a b = cc (a.head, b.head)
 
 -- a page is read in one way
-pub same_page : (shape : Shape) (store : List ℕ) (wholes : List Whole) (end p : ℕ) (x y : Content)
-    → IsReadPage shape store wholes end p x → IsReadPage shape store wholes end p y → x ≡ y
-same_page shape store wholes end p x y a b =
-    let kept : a.kept ≡ b.kept = same_kept shape store p a.kept b.kept a.is_kept b.is_kept in
+pub same_page : (shape : Shape) (data_bytes : List ℕ) (wholes : List Whole) (end p : ℕ) (x y : Content)
+    → IsReadPage shape data_bytes wholes end p x → IsReadPage shape data_bytes wholes end p y → x ≡ y
+same_page shape data_bytes wholes end p x y a b =
+    let kept : a.kept ≡ b.kept = same_kept shape data_bytes p a.kept b.kept a.is_kept b.is_kept in
     a.replay ∙ ap (λ (c : Content). replayed p c.lsn wholes c) kept ∙ sym b.replay
 
 -- what is found on two devices before the pages are read
@@ -33,14 +33,14 @@ pub record Found : Type 0 where
   pub end : ℕ
 
 pub HasFound : List ℕ → List ℕ → Found → Type 0
-HasFound log store found = HasScan log store found.shape found.number found.ckpt found.views found.wholes found.end
+HasFound log data_bytes found = HasScan log data_bytes found.shape found.number found.ckpt found.views found.wholes found.end
 
 -- it is determined
-pub same_found : OneGroup → (log store : List ℕ) (a b : Found) → HasFound log store a → HasFound log store b → a ≡ b
+pub same_found : OneGroup → (log data_bytes : List ℕ) (a b : Found) → HasFound log data_bytes a → HasFound log data_bytes b → a ≡ b
 unfolding HasFound
-same_found one log store a b x y =
+same_found one log data_bytes a b x y =
     let shape = same_shape log a.shape b.shape x.devices.head y.devices.head in
-    let again = subst (λ (s : Shape). HasScan log store s b.number b.ckpt b.views b.wholes b.end) (sym shape) y in
+    let again = subst (λ (s : Shape). HasScan log data_bytes s b.number b.ckpt b.views b.wholes b.end) (sym shape) y in
     let newest = same_some (newest_checkpoint a.shape log) (a.number, a.ckpt) (b.number, b.ckpt) x.checkpoint again.checkpoint in
     let number : a.number ≡ b.number = ap (λ pair. pair.0) newest in
     let ckpt : a.ckpt ≡ b.ckpt = ap (λ pair. pair.1) newest in
@@ -54,23 +54,23 @@ found_of reading = record { shape = reading.shape; number = reading.number; ckpt
 
 -- the pages that are read for it
 abbrev AreFoundPages : List ℕ → Found → List Content → Type 0
-AreFoundPages store found pages = AreReadPages found.shape store found.wholes found.end pages
+AreFoundPages data_bytes found pages = AreReadPages found.shape data_bytes found.wholes found.end pages
 
 -- they are determined
-same_pages : (store : List ℕ) (found : Found) (xs ys : List Content) → AreFoundPages store found xs → AreFoundPages store found ys → xs ≡ ys
-same_pages store found xs ys a b =
+same_pages : (data_bytes : List ℕ) (found : Found) (xs ys : List Content) → AreFoundPages data_bytes found xs → AreFoundPages data_bytes found ys → xs ≡ ys
+same_pages data_bytes found xs ys a b =
     same_places xs ys (a.count ∙ sym b.count)
-    (λ p x y i j. same_page found.shape store found.wholes found.end p x y (a.each p x i) (b.each p y j))
+    (λ p x y i j. same_page found.shape data_bytes found.wholes found.end p x y (a.each p x i) (b.each p y j))
 
 -- what is read off two devices is determined
-pub same_reading : OneGroup → (log store : List ℕ) (first second : Reading) → Reads log store first → Reads log store second → first ≡ second
+pub same_reading : OneGroup → (log data_bytes : List ℕ) (first second : Reading) → IsReading log data_bytes first → IsReading log data_bytes second → first ≡ second
 unfolding HasFound
-same_reading one log store first second a b =
-    let found : found_of first ≡ found_of second = same_found one log store (found_of first) (found_of second) a.scan b.scan in
-    let left : AreFoundPages store (found_of first) first.pages = record { count = a.count; each = a.each } in
-    let right : AreFoundPages store (found_of second) second.pages = record { count = b.count; each = b.each } in
-    let pages = same_pages store (found_of first) first.pages second.pages left
-    (subst (λ (f : Found). AreFoundPages store f second.pages) (sym found) right) in
+same_reading one log data_bytes first second a b =
+    let found : found_of first ≡ found_of second = same_found one log data_bytes (found_of first) (found_of second) a.scan b.scan in
+    let left : AreFoundPages data_bytes (found_of first) first.pages = record { count = a.count; each = a.each } in
+    let right : AreFoundPages data_bytes (found_of second) second.pages = record { count = b.count; each = b.each } in
+    let pages = same_pages data_bytes (found_of first) first.pages second.pages left
+    (subst (λ (f : Found). AreFoundPages data_bytes f second.pages) (sym found) right) in
     λ i. record {
       shape = (found i).shape;
       number = (found i).number;

@@ -9,8 +9,9 @@ use Rattle.model_record.specs.Group.{group_text, stream_of, groups_of, IsGroup, 
 use Rattle.model_log.specs.Lsn.{lsn_of, sn_of}
 use Rattle.model_log.specs.declared.block.BlockView.{BlockView}
 use Rattle.model_log.specs.Block.{is_full}
-use Rattle.model_log.specs.Boundary.{IsTiled}
-use Rattle.model_store.specs.Scan.{AreBlocks, IsGood, AreGroups, AreGroupsOf, IsScan, HasNoGood, end_of, groups_start, data_from}
+use Rattle.model_log.specs.Run.{IsRunOf, spans_of, end_of}
+use Rattle.model_log.proofs.Runs.{run-first}
+use Rattle.model_store.specs.Scan.{AreBlocks, IsStorable, AreGroups, AreGroupsOf, IsScan, HasNoStorable, groups_start, data_from}
 use Rattle.model_store.proofs.Places.{has_place, same_places}
 
 -- where blocks end, no longer row of blocks goes on
@@ -56,14 +57,14 @@ same_whole : (w v : Whole) → w.group ≡ v.group → w.start ≡ v.start → w
 same_whole w v g s e = λ i. record { group = g i; start = s i; end = e i }
 
 -- less than a whole group has no group that fits at its front
-pub front-no_good : OneGroup → (shape : Shape) (rest : List ℕ) → IsFront rest → HasNoGood shape rest
-front-no_good one shape rest front group more is e = unfinished-not_whole one rest front.1 group more is.has_text e
+pub front-no_storable : OneGroup → (shape : Shape) (rest : List ℕ) → IsFront rest → HasNoStorable shape rest
+front-no_storable one shape rest front group more is e = unfinished-not_whole one rest front.1 group more is.has_text e
 
 -- groups that fit and follow one another from a place on, as far as they go, are determined, and so is the rest
 pub same_wholes : OneGroup → (shape : Shape) (start : ℕ) (ws vs : List Whole) (rest tail : List ℕ)
-    → stream_of (groups_of ws) ++ rest ≡ stream_of (groups_of vs) ++ tail → IsTiled start ws → IsTiled start vs
-    → AllByRecursion (IsGood shape) (groups_of ws) → AllByRecursion (IsGood shape) (groups_of vs)
-    → HasNoGood shape rest → HasNoGood shape tail → (ws ≡ vs) × (rest ≡ tail)
+    → stream_of (groups_of ws) ++ rest ≡ stream_of (groups_of vs) ++ tail → IsRunOf start ws → IsRunOf start vs
+    → AllByRecursion (IsStorable shape) (groups_of ws) → AllByRecursion (IsStorable shape) (groups_of vs)
+    → HasNoStorable shape rest → HasNoStorable shape tail → (ws ≡ vs) × (rest ≡ tail)
 unfolding stream_of
 same_wholes one shape start [] [] rest tail e t u a b p q = (refl, e)
 same_wholes one shape start [] (v ∷ vs) rest tail e t u a b p q =
@@ -76,17 +77,17 @@ same_wholes one shape start (w ∷ ws) (v ∷ vs) rest tail e t u a b p q =
     let joined = sym (append_assoc (group_text w.group) (stream_of (groups_of ws)) rest) ∙ e
     ∙ append_assoc (group_text v.group) (stream_of (groups_of vs)) tail in
     let front = one w.group v.group (stream_of (groups_of ws) ++ rest) (stream_of (groups_of vs) ++ tail) a.0.has_text b.0.has_text joined in
-    let from : w.start ≡ v.start = t.0 ∙ sym u.0 in
-    let end : w.end ≡ v.end = t.1 ∙ ap lsn_of (ap₂ ◌+◌ (ap sn_of from) (ap group_length front.0)) ∙ sym u.1 in
-    let others = same_wholes one shape w.end ws vs rest tail front.1 t.2 (subst (λ from. IsTiled from vs) (sym end) u.2) a.1 b.1 p q in
+    let from : w.start ≡ v.start = (run-first t).0 ∙ sym (run-first u).0 in
+    let end : w.end ≡ v.end = (run-first t).1 ∙ ap lsn_of (ap₂ ◌+◌ (ap sn_of from) (ap group_length front.0)) ∙ sym (run-first u).1 in
+    let others = same_wholes one shape w.end ws vs rest tail front.1 (run-first t).2 (subst (λ (from : ℕ). IsRunOf from vs) (sym end) (run-first u).2) a.1 b.1 p q in
     (ap₂ ◌∷◌ (same_whole w v front.0 from end) others.0, others.1)
 
 -- the same of two readings of the same bytes
 pub same_groups : OneGroup → (shape : Shape) (bytes : List ℕ) (start : ℕ) (ws vs : List Whole) (rest tail : List ℕ)
     → AreGroups shape bytes start ws rest → AreGroups shape bytes start vs tail
-    → HasNoGood shape rest → HasNoGood shape tail → (ws ≡ vs) × (rest ≡ tail)
+    → HasNoStorable shape rest → HasNoStorable shape tail → (ws ≡ vs) × (rest ≡ tail)
 same_groups one shape bytes start ws vs rest tail a b p q =
-    same_wholes one shape start ws vs rest tail (sym a.bytes_are ∙ b.bytes_are) a.tiled b.tiled a.each b.each p q
+    same_wholes one shape start ws vs rest tail (sym a.bytes_are ∙ b.bytes_are) a.run b.run a.each b.each p q
 
 -- the groups of blocks that were read are determined, and so is where the log ends
 pub same_groups_of : OneGroup → (shape : Shape) (image : List ℕ) (ckpt : ℕ) (views : List BlockView) (start : Option ℕ) (ws vs : List Whole) (m n : ℕ)
@@ -94,8 +95,8 @@ pub same_groups_of : OneGroup → (shape : Shape) (image : List ℕ) (ckpt : ℕ
 same_groups_of one shape image ckpt views None ws vs m n a b = (a.0 ∙ sym b.0, a.1 ∙ sym b.1)
 same_groups_of one shape image ckpt views (Some start) ws vs m n (rest, a, front, m_is) (tail, b, back, n_is) =
     let same = same_groups one shape (data_from shape image ckpt views start) start ws vs rest tail a b
-    (front-no_good one shape rest front) (front-no_good one shape tail back) in
-    (same.0, m_is ∙ ap (end_of start) same.0 ∙ sym n_is)
+    (front-no_storable one shape rest front) (front-no_storable one shape tail back) in
+    (same.0, m_is ∙ ap (λ (groups : List Whole). end_of start (spans_of groups)) same.0 ∙ sym n_is)
 
 -- the scan of a log image is determined
 pub same_scan : OneGroup → (shape : Shape) (image : List ℕ) (ckpt : ℕ) (views blocks : List BlockView) (ws vs : List Whole) (m n : ℕ)

@@ -1,10 +1,10 @@
 -- What a group that fits the store does to its pages.
-use Rattle.std.specs.Prelude.{ℕ, ◌+◌, ◌-◌, ◌==◌, if◌then◌else◌, Bool, List, [], ◌∷◌, length, replicate}
+use Rattle.std.specs.Prelude.{ℕ, ◌+◌, ◌-◌, ◌==◌, nat_le, if◌then◌else◌, Bool, List, [], ◌∷◌, length, replicate}
 use Rattle.std.specs.List.{list_any}
 use Rattle.std.specs.Int.{bytes_high_first}
 use Rattle.model_base.specs.Overwrite.{overwritten}
 use Rattle.model_base.specs.declared.shape.Shape.{Shape}
-use Rattle.model_base.specs.declared.limits.TheConstants.{USER_START, USER_BYTES}
+use Rattle.model_base.specs.declared.limits.TheConstants.{USER_START}
 use Rattle.model_record.specs.Record.{page_of}
 use Rattle.model_record.specs.declared.rec.Rec.{Rec}
 use Rattle.model_record.specs.declared.rec.Rec.TheVariants.{Num, Text, Init}
@@ -45,10 +45,13 @@ abbrev pub folded : List Content → List Whole → List Content
 folded pages [] = pages
 folded pages (whole ∷ wholes) = folded (applied whole.group whole.end pages) wholes
 
--- a page that was never written
-abbrev pub blank_page : Content
-blank_page = record { lsn = 0; user = replicate USER_BYTES 0 }
+-- page p with all of the groups applied, in order
+abbrev pub page_folded : ℕ → List Whole → Content → Content
+page_folded p [] page = page
+page_folded p (whole ∷ wholes) page = page_folded p wholes (page_after p whole.group whole.end page)
 
--- the pages of a store that was just formatted
-abbrev pub blank_pages : Shape → List Content
-blank_pages shape = replicate shape.pages blank_page
+-- page p with those of the groups applied, in order, that end at or below the lsn q
+abbrev pub upto : ℕ → ℕ → List Whole → Content → Content
+upto p q [] page = page
+upto p q (whole ∷ wholes) page =
+    upto p q wholes (if nat_le whole.end q then page_after p whole.group whole.end page else page)

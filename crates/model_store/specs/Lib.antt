@@ -1,7 +1,5 @@
 pub mod Apply
 pub mod Fair
-pub mod Groups
-pub mod Pages
-pub mod Read
+pub mod Opening
 pub mod Reading
 pub mod Scan

@@ -1,6 +1,7 @@
 -- What is read off the log from a checkpoint on: the blocks, then the groups in them, then where they end.
 use Rattle.std.specs.Prelude.{ℕ, suc, ◌≡◌, ◌≢◌, ◌≤◌, ◌<◌, ◌+◌, ◌-◌, ◌*◌, ◌==◌, ◌⊎◌, nat_lt, if◌then◌else◌, true, false, List, [], ◌∷◌, ◌++◌, length, drop, slice_get, Option, Some, None}
 use Rattle.std.specs.List.{AllByRecursion}
+use Rattle.std.specs.Option.{option_map}
 use Rattle.model_base.specs.declared.shape.Shape.{Shape}
 use Rattle.model_base.specs.declared.limits.TheConstants.{BLOCK_SIZE, LSN_LIMIT, MAX_GROUP}
 use Rattle.model_record.specs.Group.{group_text, stream_of, groups_of, group_length, IsGroup, IsFront}
@@ -9,14 +10,39 @@ use Rattle.model_record.specs.declared.rec.Rec.{Rec}
 use Rattle.model_record.specs.declared.group.Whole.{Whole}
 use Rattle.model_log.specs.Lsn.{sn_of}
 use Rattle.model_log.specs.Block.{read_block, is_full, data_of}
-use Rattle.model_log.specs.Boundary.{IsTiled}
+use Rattle.model_log.specs.Run.{IsRunOf, spans_of, end_of}
 use Rattle.model_log.specs.Device.{log_block}
 use Rattle.model_log.specs.declared.layout.TheConstants.{BLOCK_HEADER}
 use Rattle.model_log.specs.declared.block.BlockView.{BlockView}
 
--- the block of the lsn on the log device; none fits at 2^60 or above
-abbrev pub block_at : Shape → List ℕ → ℕ → Option BlockView
-block_at shape image lsn = if nat_lt lsn LSN_LIMIT then read_block lsn (log_block shape lsn image) else None
+-- a block that the scan takes: what it says of itself, and its data bytes that are in use
+pub record Taken : Type 0 where
+  pub view : BlockView
+  pub bytes : List ℕ
+
+-- a block's view with its data out of the bytes in which it stands
+abbrev pub taken_from : List ℕ → Option BlockView → Option Taken
+taken_from bytes None = None
+taken_from bytes (Some view) = Some (record { view = view; bytes = data_of view bytes })
+
+-- The block that the scan takes at the lsn: the one that stands in its place on the log device, if it fits there. None
+-- is taken at the lsn limit or above.
+abbrev pub taken : Shape → List ℕ → ℕ → Option Taken
+taken shape image lsn =
+    if nat_lt lsn LSN_LIMIT then taken_from (log_block shape lsn image) (read_block lsn (log_block shape lsn image)) else None
+
+-- what the block says of itself that is taken at the lsn
+abbrev pub view_at : Shape → List ℕ → ℕ → Option BlockView
+view_at shape image lsn = option_map (λ (block : Taken). block.view) (taken shape image lsn)
+
+-- the data of a block that is taken; where none is, there is none
+abbrev pub bytes_of : Option Taken → List ℕ
+bytes_of None = []
+bytes_of (Some block) = block.bytes
+
+-- the data of the block that is taken at the lsn
+abbrev pub data_at : Shape → List ℕ → ℕ → List ℕ
+data_at shape image lsn = bytes_of (taken shape image lsn)
 
 -- the lsn of the i-th block from the checkpoint's on
 abbrev pub lsn_at : ℕ → ℕ → ℕ
@@ -28,20 +54,20 @@ abbrev pub IsLastOf : Shape → List ℕ → ℕ → List BlockView → Type 0
 IsLastOf shape image ckpt views =
     (length views ≡ shape.log_blocks)
     ⊎ ((view : BlockView) × (i : ℕ) × (suc i ≡ length views) × (slice_get views i ≡ Some view) × (is_full view ≡ false))
-    ⊎ (block_at shape image (lsn_at ckpt (length views)) ≡ None)
+    ⊎ (view_at shape image (lsn_at ckpt (length views)) ≡ None)
 
 -- The blocks that are read: from the checkpoint's on, whose lsn goes up by 512, while they fit, up to and including
 -- the first that isn't full, at most as many as the log has.
 pub record AreBlocks (shape : Shape) (image : List ℕ) (ckpt : ℕ) (views : List BlockView) : Type 0 where
   pub few : length views ≤ shape.log_blocks
-  pub each : (i : ℕ) (view : BlockView) → slice_get views i ≡ Some view → block_at shape image (lsn_at ckpt i) ≡ Some view
+  pub each : (i : ℕ) (view : BlockView) → slice_get views i ≡ Some view → view_at shape image (lsn_at ckpt i) ≡ Some view
   pub full : (i : ℕ) (view : BlockView) → suc i < length views → slice_get views i ≡ Some view → is_full view ≡ true
   pub last : IsLastOf shape image ckpt views
 
--- the data of blocks that were read, joined; the first of them is at the lsn
+-- the data of as many blocks as there are views, joined; the first of them is at the lsn
 abbrev pub joined : Shape → List ℕ → ℕ → List BlockView → List ℕ
 joined shape image lsn [] = []
-joined shape image lsn (view ∷ views) = data_of view (log_block shape lsn image) ++ joined shape image (lsn + BLOCK_SIZE) views
+joined shape image lsn (view ∷ views) = data_at shape image lsn ++ joined shape image (lsn + BLOCK_SIZE) views
 
 -- where the groups start that are read: at the first offset that isn't 0, in the first block that has one
 abbrev pub groups_start : ℕ → List BlockView → Option ℕ
@@ -52,13 +78,8 @@ groups_start lsn (view ∷ views) = if view.first == 0 then groups_start (lsn + 
 abbrev pub data_from : Shape → List ℕ → ℕ → List BlockView → ℕ → List ℕ
 data_from shape image ckpt views start = drop (sn_of start - sn_of ckpt) (joined shape image ckpt views)
 
--- where the last of the groups ends, or where they start if there is none
-abbrev pub end_of : ℕ → List Whole → ℕ
-end_of start [] = start
-end_of start (whole ∷ wholes) = end_of whole.end wholes
-
 -- a group with a text of at most 8,192 bytes that fits the store
-pub record IsGood (shape : Shape) (group : List Rec) : Type 0 where
+pub record IsStorable (shape : Shape) (group : List Rec) : Type 0 where
   pub has_text : IsGroup group
   pub short : group_length group ≤ MAX_GROUP
   pub fits : GroupFits shape group
@@ -66,12 +87,12 @@ pub record IsGood (shape : Shape) (group : List Rec) : Type 0 where
 -- the bytes are these groups from the lsn on, one after another, and then the rest
 pub record AreGroups (shape : Shape) (bytes : List ℕ) (start : ℕ) (wholes : List Whole) (rest : List ℕ) : Type 0 where
   pub bytes_are : bytes ≡ stream_of (groups_of wholes) ++ rest
-  pub tiled : IsTiled start wholes
-  pub each : AllByRecursion (IsGood shape) (groups_of wholes)
+  pub run : IsRunOf start wholes
+  pub each : AllByRecursion (IsStorable shape) (groups_of wholes)
 
 -- no group that fits stands at the front of the bytes
-abbrev pub HasNoGood : Shape → List ℕ → Type 0
-HasNoGood shape bytes = (group : List Rec) (more : List ℕ) → IsGood shape group → bytes ≢ group_text group ++ more
+abbrev pub HasNoStorable : Shape → List ℕ → Type 0
+HasNoStorable shape bytes = (group : List Rec) (more : List ℕ) → IsStorable shape group → bytes ≢ group_text group ++ more
 
 -- The groups of the log and its end, for the blocks that were read. Behind the last group stands less than a whole
 -- one, or nothing. Where no block has a first offset nothing is
@@ -81,7 +102,7 @@ AreGroupsOf shape image ckpt views None wholes end =
     (wholes ≡ []) × (end ≡ lsn_at ckpt (length views) + BLOCK_HEADER)
 AreGroupsOf shape image ckpt views (Some start) wholes end =
     (rest : List ℕ) × AreGroups shape (data_from shape image ckpt views start) start wholes rest
-    × IsFront rest × (end ≡ end_of start wholes)
+    × IsFront rest × (end ≡ end_of start (spans_of wholes))
 
 -- The scan of a log image from the checkpoint at the lsn `ckpt` on: the blocks, the whole groups, and the end.
 pub record IsScan (shape : Shape) (image : List ℕ) (ckpt : ℕ) (views : List BlockView) (wholes : List Whole) (end : ℕ) : Type 0 where
@@ -98,6 +119,6 @@ pub record IsBadRecord (shape : Shape) (image : List ℕ) (ckpt lsn : ℕ) : Typ
   pub wholes : List Whole
   pub rest : List ℕ
   pub groups : AreGroups shape (data_from shape image ckpt views start) start wholes rest
-  pub no_good : HasNoGood shape rest
+  pub no_storable : HasNoStorable shape rest
   pub no_rest : IsFront rest → ⊥
-  pub at : lsn ≡ end_of start wholes
+  pub at : lsn ≡ end_of start (spans_of wholes)

@@ -1,5 +1,0 @@
-use Rattle.model_log.proofs.HeadRound.{head-reads_back}
-use Rattle.model_log.proofs.head.head_reads_back.Goals as goal
-
-pub returns : goal.returns
-returns c = head-reads_back

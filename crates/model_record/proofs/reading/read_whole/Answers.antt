@@ -1,6 +1,0 @@
-use Rattle.std.proofs.Common.{arith}
-use Rattle.model_record.proofs.Groups.{group_part}
-use Rattle.model_record.proofs.reading.read_whole.Goals as goal
-
-pub returns-in-empty : goal.returns-in-empty
-returns-in-empty c = group_part c.args.bytes.now (omega arith)

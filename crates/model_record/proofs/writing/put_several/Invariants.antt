@@ -1,7 +1,0 @@
-use Rattle.std.proofs.Common.{◌≡◌, ◌++◌, take}
-use Rattle.std.specs.List.{flat_map}
-use Rattle.model_record.specs.Record.{record_text}
-use Rattle.model_record.proofs.writing.put_several.Given as goal
-
-abbrev pub invariant-loop-rec : goal.invariant-loop-rec
-invariant-loop-rec l = l.out.items ≡ l.fn.out.items ++ flat_map record_text (take l.rec-index l.recs)

@@ -1,9 +1,0 @@
-use Rattle.std.proofs.Common.{length}
-use Rattle.model_store.proofs.Grouping.{AreGroupsSoFar}
-use Rattle.model_store.proofs.groups.scan_groups.Given as goal
-
-abbrev pub invariant-groups : goal.invariant-groups
-invariant-groups l = AreGroupsSoFar l.shape l.bytes l.start l.wholes.items l.end l.rest
-
-abbrev pub decreases-groups : goal.decreases-groups
-decreases-groups l = length l.rest

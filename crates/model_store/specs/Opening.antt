@@ -1,0 +1,33 @@
+-- What a store is opened as: formatted by the command, where its log device is unused, or read.
+use Rattle.std.specs.Prelude.{ℕ, ◌≡◌, ◌⊎◌, List, take, replicate}
+use Rattle.model_base.specs.declared.limits.TheConstants.{BLOCK_SIZE, FIRST_DATA_LSN}
+use Rattle.model_base.specs.declared.shape.Shape.{Shape}
+use Rattle.model_base.specs.Limits.{default_shape}
+use Rattle.model_page.specs.declared.content.Content.{Content}
+use Rattle.model_page.specs.Blank.{blank_pages}
+use Rattle.model_store.specs.Reading.{Reading, IsOrderly}
+
+-- the first block of the log device is all zero
+abbrev pub IsUnused : List ℕ → Type 0
+IsUnused log_bytes = take BLOCK_SIZE log_bytes ≡ replicate BLOCK_SIZE 0
+
+-- The log device is unused, so the command formats both: the sizes are the default ones, the pages blank, and the log
+-- ends where its first group will start.
+pub record OpensUnused (log_bytes : List ℕ) (shape : Shape) (pages : List Content) (end : ℕ) : Type 0 where
+  pub unused : IsUnused log_bytes
+  pub shape_is : shape ≡ default_shape
+  pub pages_are : pages ≡ blank_pages default_shape
+  pub end_is : end ≡ FIRST_DATA_LSN
+
+-- the store is in order, and its reading has this shape, these pages and this end
+pub record OpensOrderly (log_bytes data_bytes : List ℕ) (shape : Shape) (pages : List Content) (end : ℕ) : Type 0 where
+  pub reading : Reading
+  pub orderly : IsOrderly log_bytes data_bytes reading
+  pub shape_is : shape ≡ reading.shape
+  pub pages_are : pages ≡ reading.pages
+  pub end_is : end ≡ reading.end
+
+-- a store whose devices hold these bytes is opened with this shape, these pages, and a log that ends there
+abbrev pub Opens : List ℕ → List ℕ → Shape → List Content → ℕ → Type 0
+Opens log_bytes data_bytes shape pages end =
+    OpensUnused log_bytes shape pages end ⊎ OpensOrderly log_bytes data_bytes shape pages end
