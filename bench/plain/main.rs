@@ -4,6 +4,7 @@
 mod checksum;
 mod decoder;
 mod generator;
+mod log;
 
 use decoder::{Got, Rec, decode};
 use std::hint::black_box;
@@ -27,6 +28,9 @@ fn time() -> io::Result<()> {
     let stream = fs::read(GROUPS_FILE)?;
     let (best, tally) = fastest(|| decode_all(black_box(&stream)));
     report("decode", stream.len(), best, &tally);
+    let mut device = log::Device::new();
+    let (best, ()) = fastest(|| log::write_all(black_box(&mut device), black_box(&noise)));
+    report("write_to", log::MARK * log::MARKS, best, &format!("{:08x}", device.sum()));
     Ok(())
 }
 

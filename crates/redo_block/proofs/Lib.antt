@@ -1,4 +1,3 @@
-pub mod FrameRound
-pub mod Framings
-pub mod RunFirsts
-pub mod Sectors
+mod FrameRound
+mod Framings
+mod RunFirsts

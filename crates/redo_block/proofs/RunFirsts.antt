@@ -1,14 +1,17 @@
 -- The first offsets of a run's blocks fit the blocks that are cut from the run's bytes.
-use Rattle.std.proofs.Common.{◌≡◌, ◌≤◌, ◌<◌, ◌+◌, ◌-◌, ◌*◌, ◌/◌, ◌%◌, ◌==◌, ℕ, suc, min, cond, List, [], ◌∷◌, length, get_or, drop, Option, Some, None, refl, sym, ap, subst, ◌∙◌, ⊎_elim, length-take, length-drop, arith, IsTrue}
-use Rattle.std.proofs.lemmas.Bool.{cases_Bool}
-use Rattle.std.proofs.lemmas.Bool.Decides.{nat_tests}
+use Rattle.std.proofs.Common.{◌≡◌, ◌≤◌, ◌<◌, ◌+◌, ◌-◌, ◌*◌, ◌/◌, ◌%◌, ℕ, suc, min, List, [], ◌∷◌, length, get_or, drop, refl, sym, ap, subst, ◌∙◌, ⊎_elim, length-take, length-drop, arith, IsTrue}
+use Rattle.std.proofs.lemmas.Bool.{cases_lt}
 use Rattle.model_record.specs.declared.group.Whole.{Whole}
 use Rattle.model_record.specs.Group.{stream_of, groups_of}
-use Rattle.model_log.specs.Lsn.{sn_of, block_of, IsAtDataStart, IsDataLsn}
+use Rattle.model_log.specs.Lsn.{sn_of, block_of, IsAtDataStart}
+use Rattle.model_log.specs.Run.{IsRunOf, spans_of}
 use Rattle.model_log.specs.Block.{length_of, is_first}
-use Rattle.model_log.specs.Boundary.{crossing_end, first_at, stream_between, IsRunTo, AreFirstsOf}
-use Rattle.model_log.proofs.Crossings.{IsReached, boundary-reached, IsCrossing, crossing-found}
-use Rattle.model_log.proofs.CutStream.{count-before, reached-block}
+use Rattle.model_log.specs.Boundary.{first_at, length_at, IsGivenTo}
+use Rattle.model_log.proofs.Runs.{IsReached, boundary-reached, data-start}
+use Rattle.model_log.proofs.Crossings.{TellsFirst, first-tells}
+use Rattle.model_log.proofs.BoundaryLengths.{sn_of-rises, sn_of-start, sn_of-block, length-stream_between, length-reached, length_of-behind}
+use Rattle.model_log.proofs.BoundaryRound.{first-fits}
+use Rattle.model_log.proofs.CutStream.{count-below, some-below, least-count}
 use Rattle.redo_block.specs.Framing.{AreFirsts}
 use Rattle.redo_block.proofs.Framings.{some-length}
 
@@ -44,65 +47,49 @@ all-fit stream (first ∷ firsts) each whole =
           (omega arith),
     )
 
--- the offsets that a block's first group may have: that of its first data byte, none, and the end of a group that
--- crosses into it, which is no later than the boundary
-header-fits : (count : ℕ) → IsTrue (is_first (length_of count) 12)
-header-fits count = grind (arith, nat_tests)
-
-none-fits : (length : ℕ) → IsTrue (is_first length 0)
-none-fits length = refl
-
-crossing-fits : (s m k end : ℕ) → IsAtDataStart s → IsDataLsn m → block_of end ≡ block_of s + 512 * k → IsDataLsn end → end ≤ m
-    → IsTrue (is_first (length_of (min 496 (sn_of m - sn_of s - 496 * k))) (end - (block_of s + 512 * k)))
-crossing-fits s m k end start boundary inside place below = grind (arith, nat_tests)
-
-data-start : (s : ℕ) → IsAtDataStart s → IsDataLsn s
-data-start s start = (omega arith, omega arith)
-
-found-fits : (s m k : ℕ) (found : Option ℕ) → IsAtDataStart s → IsDataLsn m → ((end : ℕ) → found ≡ Some end → IsCrossing m (block_of s + 512 * k) end)
-    → IsTrue (is_first (length_of (min 496 (sn_of m - sn_of s - 496 * k))) (elim found [ None ↦ 0 | Some end ↦ end - (block_of s + 512 * k) ]))
-found-fits s m k None start boundary each = none-fits (length_of (min 496 (sn_of m - sn_of s - 496 * k)))
-found-fits s m k (Some end) start boundary each =
-    let crossing : IsCrossing m (block_of s + 512 * k) end = each end refl in
-    crossing-fits s m k end start boundary crossing.inside crossing.place crossing.below
-
-aligned-block : (s k : ℕ) → (block_of s + 512 * k) % 512 ≡ 0
-aligned-block s k = omega arith
-
--- the first offset of the k-th block of the run
-first-fits : (s m k : ℕ) (wholes : List Whole) → IsRunTo s wholes m → IsDataLsn m → block_of s + 512 * k + 12 ≤ m
-    → IsTrue (is_first (length_of (min 496 (sn_of m - sn_of s - 496 * k))) (first_at s wholes (block_of s + 512 * k)))
-first-fits s m k wholes run boundary low =
-    let block : ℕ = block_of s + 512 * k in
-    let count : ℕ = min 496 (sn_of m - sn_of s - 496 * k) in
-    let place : IsDataLsn s = data-start s run.starts in
-    let other : ℕ = elim (crossing_end block wholes) [ None ↦ 0 | Some end ↦ end - block ] in
-    ⊎_elim (λ same. subst (λ test. IsTrue (is_first (length_of count) (cond test 12 other))) (sym same) (header-fits count))
-    (λ later. subst (λ test. IsTrue (is_first (length_of count) (cond test 12 other))) (sym later)
-    (found-fits s m k (crossing_end block wholes) run.starts boundary
-    (λ end found. crossing-found s wholes m block end place run.tiled run.boundary (aligned-block s k) (omega arith) found)))
-    (cases_Bool (block == block_of s))
-
--- the run's bytes below the boundary, and how many blocks they fill
-length-run : (s m : ℕ) (wholes : List Whole) → sn_of m ≤ sn_of s + length (stream_of (groups_of wholes)) → length (stream_between s wholes s m) ≡ sn_of m - sn_of s
-length-run s m wholes reaches =
-    omega (arith, length-take (sn_of m - sn_of s) (drop (sn_of s - sn_of s) (stream_of (groups_of wholes))), length-drop (sn_of s - sn_of s) (stream_of (groups_of wholes)))
+-- so many bytes, from an aligned lsn on, does the block have that begins below the boundary
+first-of_block : (s from m k : ℕ) (wholes : List Whole) → IsAtDataStart s → IsRunOf s wholes → IsReached s wholes m → block_of s ≤ from → from % 512 ≡ 0
+    → (bytes firsts : List ℕ) → IsGivenTo s wholes from m bytes firsts → k < length firsts
+    → IsTrue (is_first (length_of (min 496 (sn_of m - sn_of from - 496 * k))) (get_or firsts k 0))
+first-of_block s from m k wholes start run reached low aligned bytes firsts given below =
+    let b : ℕ = from + 512 * k in
+    let first : ℕ = first_at s (spans_of wholes) b in
+    let whole : b % 512 ≡ 0 = omega arith in
+    let some : b + 12 < m = some-below from m k aligned (count-below from m k aligned (subst (λ (n : ℕ). k < n) given.count below)) in
+    let here : sn_of b ≡ sn_of from + 496 * k = sn_of-block from k aligned in
+    let rest : sn_of m - sn_of from - 496 * k ≡ sn_of m - sn_of b = omega arith in
+    let tells : TellsFirst s wholes b first = first-tells s wholes b start run whole (omega arith) in
+    let long : length_of (min 496 (sn_of m - sn_of from - 496 * k)) ≡ length_at m b
+    = ap (λ n. length_of (min 496 n)) rest ∙ ap length_of (least-count m b whole) ∙ length_of-behind m b reached.place whole some in
+    subst (λ (n : ℕ). IsTrue (is_first (length_of (min 496 (sn_of m - sn_of from - 496 * k))) n)) (sym (given.firsts_are k below))
+    (subst (λ (n : ℕ). IsTrue (is_first n first)) (sym long) (first-fits s wholes m b first tells given.boundary some))
 
 all-of : (count blocks : ℕ) → blocks ≡ (count + 495) / 496 → count ≤ 496 * blocks
 all-of count blocks is = omega arith
 
-pub run-firsts_fit : (s m : ℕ) (wholes : List Whole) (firsts : List ℕ) → IsRunTo s wholes m → AreFirstsOf s wholes m firsts → AreFirsts (stream_between s wholes s m) firsts
-run-firsts_fit s m wholes firsts run firsts_of =
-    let reached : IsReached s wholes m = boundary-reached s wholes m (data-start s run.starts) run.tiled run.boundary in
-    let count : length (stream_between s wholes s m) ≡ sn_of m - sn_of s = length-run s m wholes reached.reaches in
-    let blocks : length firsts ≡ (sn_of m - sn_of s + 495) / 496 = firsts_of.count in
-    all-fit (stream_between s wholes s m) firsts
-    (λ k below.
-    let some : 496 * k < sn_of m - sn_of s = count-before (sn_of m - sn_of s) k (subst (λ (n : ℕ). k < n) blocks below) in
-    let fits : IsTrue (is_first (length_of (min 496 (sn_of m - sn_of s - 496 * k))) (first_at s wholes (block_of s + 512 * k)))
-    = first-fits s m k wholes run reached.place (reached-block s m k run.starts some) in
-    subst (λ (n : ℕ). FitsAt n k (get_or firsts k 0)) (sym count) (record {
-      some = some;
-      fits = subst (λ (first : ℕ). IsTrue (is_first (length_of (min 496 (sn_of m - sn_of s - 496 * k))) first)) (sym (firsts_of.each k below)) fits;
+-- the bytes that a writer is given are as many as their places tell
+pub length-given : (s from m : ℕ) (wholes : List Whole) → IsAtDataStart s → IsRunOf s wholes → block_of s ≤ from → (bytes firsts : List ℕ)
+    → IsGivenTo s wholes from m bytes firsts → length bytes ≡ sn_of m - sn_of from
+length-given s from m wholes start run low bytes firsts given =
+    let reached : IsReached s wholes m = boundary-reached s wholes m (data-start s start) run given.boundary in
+    let stream : List ℕ = stream_of (groups_of wholes) in
+    ⊎_elim (λ none.
+    let rises : sn_of m ≤ sn_of from = sn_of-rises m from (omega arith) in
+    omega (arith, ap length given.bytes_are, length-stream_between s stream from m))
+    (λ some. ap length given.bytes_are
+    ∙ length-reached s stream from m (sn_of-start s from start low) (sn_of-rises from m some) reached.reaches)
+    (cases_lt m from)
+
+pub run-firsts_fit : (s from m : ℕ) (wholes : List Whole) (bytes firsts : List ℕ) → IsAtDataStart s → IsRunOf s wholes → block_of s ≤ from → from % 512 ≡ 0
+    → IsGivenTo s wholes from m bytes firsts → AreFirsts bytes firsts
+run-firsts_fit s from m wholes bytes firsts start run low aligned given =
+    let reached : IsReached s wholes m = boundary-reached s wholes m (data-start s start) run given.boundary in
+    let count : length bytes ≡ sn_of m - sn_of from = length-given s from m wholes start run low bytes firsts given in
+    let block : block_of from ≡ from = omega arith in
+    let blocks : length firsts ≡ (sn_of m - sn_of from + 495) / 496 = given.count ∙ ap (λ n. (sn_of m - sn_of n + 495) / 496) block in
+    all-fit bytes firsts
+    (λ k below. subst (λ (n : ℕ). FitsAt n k (get_or firsts k 0)) (sym count) (record {
+      some = count-below from m k aligned (subst (λ (n : ℕ). k < n) given.count below);
+      fits = first-of_block s from m k wholes start run reached low aligned bytes firsts given below;
     }))
-    (subst (λ (n : ℕ). n ≤ 496 * length firsts) (sym count) (all-of (sn_of m - sn_of s) (length firsts) blocks))
+    (subst (λ (n : ℕ). n ≤ 496 * length firsts) (sym count) (all-of (sn_of m - sn_of from) (length firsts) blocks))

@@ -1,13 +1,15 @@
 // A stream cut into blocks, and joined again.
-ghost use Rattle.std.specs.Prelude.{◌≡◌, ◌≤◌, ◌<◌, ◌+◌, ◌*◌, ◌^◌, ℕ, List, length, min, All, IfOk, IsTrue, ◌↔◌};
+ghost use Rattle.std.specs.Prelude.{◌≡◌, ◌≤◌, ◌<◌, ◌+◌, ◌*◌, ◌%◌, ◌^◌, ℕ, List, length, min, All, IfOk, IsTrue, ◌↔◌};
 ghost use Rattle.model_record.specs.declared.group.Whole.{Whole};
+ghost use Rattle.model_log.specs.Lsn.{block_of, IsAtDataStart};
+ghost use Rattle.model_log.specs.Run.{IsRunOf};
 ghost use Rattle.model_log.specs.Block.{length_of, is_first};
-ghost use Rattle.model_log.specs.Boundary.{stream_between, framed, IsRunTo, AreFirstsOf};
+ghost use Rattle.model_log.specs.Boundary.{framed, IsGivenTo};
 ghost use Rattle.redo_block.specs.Framing.{AreFirsts, unframed};
 
-use crate::{fill, read};
+use crate::{block_data, frame_into, is_first, length_of, read};
 use model_base::BLOCK_SIZE;
-use model_log::{BLOCK_DATA, block_data, is_first, length_of};
+use model_log::BLOCK_DATA;
 use redo_lsn::{Bytes, NoMemory};
 use std::alloc::Global;
 
@@ -43,28 +45,19 @@ pub fn frame(
     firsts: &[u32],
     ckpt: u32,
 ) -> Result<Bytes, NoMemory>
-    requires small { from + 512 * length firsts.now < 2 ^ 61 + 512 }
+    requires small { from + BLOCK_SIZE * length firsts.now < 2 ^ 61 + BLOCK_SIZE }
     requires each { AreFirsts stream.now firsts.now }
     ensures { IfOk result (λ blocks. blocks ≡ framed stream.now from firsts.now ckpt) }
 {
-    let mut text = Vec::with_capacity(alloc, BLOCK_SIZE as usize * firsts.len())?;
-    let mut block = [0; 512];
-    let mut rest = stream;
-    let mut lsn = from;
-    for first in firsts {
-        let (bytes, others) = rest.split_at((BLOCK_DATA as usize).min(rest.len()));
-        fill(&mut block, lsn, bytes, *first, ckpt);
-        text.extend_from_slice(&block)?;
-        rest = others;
-        lsn += BLOCK_SIZE;
-    }
+    let mut text = vec![in alloc; 0; BLOCK_SIZE as usize * firsts.len()]?;
+    frame_into(&mut text, stream, from, firsts, ckpt);
     Ok(Bytes::new(text))
 }
 
 /// Joins the data of the blocks, the first of which stands at the lsn `from`, through the first that isn't full or up
 /// to the first that isn't read. It fails only where memory runs out.
 pub fn unframe(alloc: Global, blocks: &[u8], from: u64) -> Result<Bytes, NoMemory>
-    requires { from + length blocks.now < 2 ^ 61 + 512 }
+    requires { from + length blocks.now < 2 ^ 61 + BLOCK_SIZE }
     ensures { IfOk result (λ stream. stream ≡ unframed blocks.now from) }
 {
     let mut stream = Vec::new(alloc);
@@ -90,8 +83,8 @@ pub fn unframe_of_frame()
         → ckpt < 2 ^ 32 → unframed (framed stream from firsts ckpt) from ≡ stream }
 {}
 
-/// The first offsets of a run's blocks fit the stream below a boundary, as `frame` requires.
+/// What a writer is given of a run has a first offset for each block, which fits it, as `frame` requires.
 pub fn run_firsts_fit()
-    ensures { (s m : ℕ) (wholes : List Whole) (firsts : List ℕ) → IsRunTo s wholes m → AreFirstsOf s wholes m firsts
-        → AreFirsts (stream_between s wholes s m) firsts }
+    ensures { (s from m : ℕ) (wholes : List Whole) (bytes firsts : List ℕ) → IsAtDataStart s → IsRunOf s wholes
+        → block_of s ≤ from → from % BLOCK_SIZE ≡ 0 → IsGivenTo s wholes from m bytes firsts → AreFirsts bytes firsts }
 {}

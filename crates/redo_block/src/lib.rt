@@ -3,11 +3,12 @@
 #![tactic(auto)]
 
 mod block;
+mod filling;
 mod framing;
-pub mod sector;
 #[cfg(test)]
 mod tests;
 
-pub use block::{fill, read};
+pub use block::{block_data, fill, is_first, length_of, read};
+pub use filling::frame_into;
 pub use framing::{are_firsts, frame, run_firsts_fit, unframe, unframe_of_frame};
-pub use model_log::{BlockView, block_reads_back, cut_is_framed};
+pub use model_log::{BlockView, block_reads_back, given_is_framed};

@@ -1,11 +1,10 @@
 // Blocks worked out by hand.
-use crate::sector::{put, seal};
-use crate::{BlockView, are_firsts, fill, frame, read, unframe};
-use model_log::{block_bytes, is_first, length_of, read_block};
+use crate::{BlockView, are_firsts, fill, frame, frame_into, is_first, length_of, read, unframe};
+use redo_crc::sector::{put, seal};
 use std::test::Fail;
 
 #[test]
-fn block_of_one_group(rt: HostRuntime) -> Result<(), Fail> {
+fn block_of_one_group(rt: HostRuntime) {
     let mut block = [0xFF; 512];
     fill(&mut block, 8192, b"\x81\x01\x03\0\x64\x07", 12, 1);
     assert_eq!(rt;
@@ -15,7 +14,6 @@ fn block_of_one_group(rt: HostRuntime) -> Result<(), Fail> {
     assert_eq!(rt; block[507], 0);
     assert_eq!(rt; read(&block, 8192), view(18, 12, 1));
     assert_eq!(rt; read(&block, 8704), None, "at another lsn");
-    Ok(())
 }
 
 fn view(length: u32, first: u32, ckpt: u32) -> Option<BlockView> {
@@ -27,7 +25,7 @@ fn view(length: u32, first: u32, ckpt: u32) -> Option<BlockView> {
 }
 
 #[test]
-fn blocks_of_each_length(rt: HostRuntime) -> Result<(), Fail> {
+fn blocks_of_each_length(rt: HostRuntime) {
     let stream = [b'x'; 496];
     for (count, first, length) in [
         (0, 0, 12),
@@ -46,12 +44,14 @@ fn blocks_of_each_length(rt: HostRuntime) -> Result<(), Fail> {
         assert!(rt; is_first(u32::from(length_of(count)), first));
         let mut block = [0xFF; 512];
         fill(&mut block, 9216, content, first, 0x0102_0304);
-        let plain = block_bytes(rt.alloc(), 9216, content, first, 0x0102_0304)?;
-        assert_eq!(rt; block.as_slice(), plain.as_slice(), "{count} bytes");
+        assert_eq!(rt; &block[..4], b"\0\0\0\x13".as_slice(), "{count} bytes");
+        assert_eq!(rt;
+            &block[8..12],
+            b"\x01\x02\x03\x04".as_slice(),
+            "{count} bytes"
+        );
         assert_eq!(rt; read(&block, 9216), view(length, first, 0x0102_0304));
-        assert_eq!(rt; read_block(&block, 9216), view(length, first, 0x0102_0304));
     }
-    Ok(())
 }
 
 // What is read of a block of six bytes after other bytes were written at an offset and the checksum made to fit again.
@@ -103,20 +103,13 @@ fn damaged_blocks(rt: HostRuntime) {
         let mut damaged = block;
         put(&mut damaged, at, bytes);
         assert_eq!(rt; read(&damaged, 8192), None, "{what}");
-        assert_eq!(rt; read_block(&damaged, 8192), None, "{what}");
         seal(&mut damaged, 508);
         assert_eq!(rt; read(&damaged, 8192), want, "{what}");
-        assert_eq!(rt; read_block(&damaged, 8192), want, "{what}");
     }
     for at in 508..512 {
         let mut damaged = block;
         damaged[at] ^= 1;
         assert_eq!(rt; read(&damaged, 8192), None, "a checksum's byte at {at}");
-        assert_eq!(rt;
-            read_block(&damaged, 8192),
-            None,
-            "a checksum's byte at {at}"
-        );
     }
 }
 
@@ -137,6 +130,9 @@ fn three_blocks(rt: HostRuntime) -> Result<(), Fail> {
         assert_eq!(rt; read(block, lsn), view(length, first, 1), "at {lsn}");
         rest = others;
     }
+    let mut room = [0xFF; 1536];
+    frame_into(&mut room, &stream, 8204, &firsts, 1);
+    assert_eq!(rt; room.as_slice(), blocks);
     let joined = unframe(rt.alloc(), blocks, 8204)?;
     assert_eq!(rt; joined.as_slice(), stream.as_slice());
     let (front, back) = blocks.split_at(1023);

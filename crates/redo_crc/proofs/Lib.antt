@@ -1,1 +1,2 @@
-pub mod TableLemmas
+mod Sectors
+mod TableLemmas

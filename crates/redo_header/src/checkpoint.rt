@@ -1,18 +1,20 @@
 // The checkpoint blocks.
-ghost use Rattle.std.specs.Prelude.{◌≡◌, ◌≤◌, ◌<◌, ◌^◌};
-ghost use Rattle.model_base.specs.declared.limits.TheConstants.{START_LSN};
-ghost use Rattle.model_log.specs.Checkpoint.{checkpoint_text, read_checkpoint};
+ghost use Rattle.std.specs.Prelude.{◌≡◌, ◌≤◌, ◌<◌, ◌^◌, IsTrue};
+ghost use Rattle.model_log.specs.Block.{fits_checksum};
+ghost use Rattle.model_log.specs.Checkpoint.{place_of, checkpoint_text, is_checkpoint, read_checkpoint};
+ghost use Rattle.model_log.specs.Device.{newer};
 
-use model_log::{RING_SIZE, read_sealed_checkpoint};
-use redo_block::sector::{is_sealed, put, seal};
+use model_base::{BLOCK_SIZE, LSN_LIMIT, MAX_LOG_BLOCKS, MIN_LOG_BLOCKS, START_LSN};
+use model_log::RING_SIZE;
+use redo_crc::sector::{field_u64, is_sealed, put, seal};
 use redo_lsn::{Shape, offset_of};
 
 /// Makes the 512 bytes the checkpoint of this number at this lsn.
 pub fn fill_ckpt(out: &mut [u8; 512], number: u64, lsn: u64, shape: &Shape)
     requires started { START_LSN ≤ lsn }
     requires small { lsn < 2 ^ 61 }
-    requires many_blocks { 1024 ≤ shape.now.log_blocks }
-    requires few_blocks { shape.now.log_blocks ≤ 1048576 }
+    requires many_blocks { MIN_LOG_BLOCKS ≤ shape.now.log_blocks }
+    requires few_blocks { shape.now.log_blocks ≤ MAX_LOG_BLOCKS }
     ensures { out.new ≡ checkpoint_text number lsn shape.now }
 {
     let at = put(out, 0, &number.to_be_bytes());
@@ -25,13 +27,52 @@ pub fn fill_ckpt(out: &mut [u8; 512], number: u64, lsn: u64, shape: &Shape)
 /// The number and the lsn of the checkpoint in header block `which`, which is 1 or 3; nothing where none passes.
 #[tactic(auto, unfolding(model_log::specs::Checkpoint::read_checkpoint))]
 pub fn read_ckpt(bytes: &[u8; 512], which: u32, shape: &Shape) -> Option<(u64, u64)>
-    requires many_blocks { 1024 ≤ shape.now.log_blocks }
-    requires few_blocks { shape.now.log_blocks ≤ 1048576 }
+    requires many_blocks { MIN_LOG_BLOCKS ≤ shape.now.log_blocks }
+    requires few_blocks { shape.now.log_blocks ≤ MAX_LOG_BLOCKS }
     ensures { result ≡ read_checkpoint which shape.now bytes.now }
 {
-    if is_sealed(bytes) {
-        read_sealed_checkpoint(bytes, which, shape)
+    if is_sealed(bytes) && is_checkpoint(bytes, which, shape) {
+        Some((field_u64(bytes, 0), field_u64(bytes, 8)))
     } else {
         None
+    }
+}
+
+// Whether the fields of 512 bytes, whose checksum fits, fit those of a checkpoint in this header block.
+fn is_checkpoint(bytes: &[u8; 512], which: u32, shape: &Shape) -> bool
+    requires sealed { IsTrue (fits_checksum bytes.now) }
+    requires many_blocks { MIN_LOG_BLOCKS ≤ shape.now.log_blocks }
+    requires few_blocks { shape.now.log_blocks ≤ MAX_LOG_BLOCKS }
+    ensures { result ≡ is_checkpoint which shape.now bytes.now }
+{
+    let lsn = field_u64(bytes, 8);
+    place_of(field_u64(bytes, 0)) == which
+        && lsn % BLOCK_SIZE == 0
+        && START_LSN <= lsn
+        && lsn < LSN_LIMIT
+        && field_u64(bytes, 16) == offset_of(lsn, shape.log_blocks)
+}
+
+/// Which header block a checkpoint stands in, 1 or 3, by the parity of its number.
+pub fn place_of(number: u64) -> u32
+    ensures { result ≡ place_of number }
+{
+    if number % 2 == 0 { 1 } else { 3 }
+}
+
+/// Of two checkpoints, each its number and its lsn, the one with the greater number.
+pub fn newer(first: Option<(u64, u64)>, second: Option<(u64, u64)>) -> Option<(u64, u64)>
+    ensures { result ≡ newer first second }
+{
+    match (first, second) {
+        (None, second) => second,
+        (Some(first), None) => Some(first),
+        (Some(first), Some(second)) => {
+            if first.0 < second.0 {
+                Some(second)
+            } else {
+                Some(first)
+            }
+        }
     }
 }

@@ -1,11 +1,17 @@
 // The file header.
-ghost use Rattle.std.specs.Prelude.{◌≡◌};
-ghost use Rattle.model_log.specs.Head.{head_text, read_head};
+ghost use Rattle.std.specs.Prelude.{◌≡◌, IsTrue};
+ghost use Rattle.model_log.specs.Block.{fits_checksum};
+ghost use Rattle.model_log.specs.Head.{head_text, shape_of, read_head};
 
 use model_base::START_LSN;
-use model_log::{CREATOR, FORMAT, Head, read_sealed_head};
-use redo_block::sector::{is_sealed, put, seal};
-use redo_lsn::Shape;
+use model_log::Head;
+use redo_crc::sector::{field_u32, field_u64, is_sealed, put, seal};
+use redo_lsn::{Limits, Shape};
+
+/// The number of the format that is written and read.
+const FORMAT: u32 = 1;
+/// Who made the store.
+const CREATOR: &[u8; 32] = b"redolab 1\0\0\0\0\0\0\0\0\0\0\0\0\0\0\0\0\0\0\0\0\0\0\0";
 
 /// Makes the 512 bytes the header of a store of this shape.
 pub fn fill_head(out: &mut [u8; 512], shape: &Shape)
@@ -32,5 +38,36 @@ pub fn read_head(bytes: &[u8; 512]) -> Head
         read_sealed_head(bytes)
     } else {
         Head::Unformatted
+    }
+}
+
+// The same, once the checksum was found to fit.
+#[tactic(auto, unfolding(model_log::specs::Head::read_head))]
+fn read_sealed_head(bytes: &[u8; 512]) -> Head
+    requires { IsTrue (fits_checksum bytes.now) }
+    ensures { result ≡ read_head bytes.now }
+{
+    let format = field_u32(bytes, 0);
+    if format != FORMAT {
+        return Head::OtherFormat(format);
+    }
+    let shape = shape_of(bytes);
+    if field_u64(bytes, 8) == START_LSN && shape.is_within_limits() {
+        Head::Good(shape)
+    } else {
+        Head::Unformatted
+    }
+}
+
+// The sizes that the fields of a header name.
+fn shape_of(bytes: &[u8; 512]) -> Shape
+    ensures { result ≡ shape_of bytes.now }
+{
+    Shape {
+        page_size: field_u32(bytes, 48),
+        pages: field_u32(bytes, 52),
+        space: field_u32(bytes, 56),
+        log_blocks: field_u32(bytes, 60),
+        slots: field_u32(bytes, 64),
     }
 }

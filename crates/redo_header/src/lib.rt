@@ -7,6 +7,6 @@ mod head;
 #[cfg(test)]
 mod tests;
 
-pub use checkpoint::{fill_ckpt, read_ckpt};
+pub use checkpoint::{fill_ckpt, newer, place_of, read_ckpt};
 pub use head::{fill_head, read_head};
 pub use model_log::{Head, checkpoint_reads_back, head_reads_back};

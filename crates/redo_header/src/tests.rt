@@ -1,9 +1,7 @@
 // Header blocks worked out by hand, and their fields damaged one by one.
-use crate::{Head, fill_ckpt, fill_head, read_ckpt, read_head};
-use model_log::{checkpoint_bytes, head_bytes, read_checkpoint};
-use redo_block::sector::{put, seal};
+use crate::{Head, fill_ckpt, fill_head, newer, place_of, read_ckpt, read_head};
+use redo_crc::sector::{put, seal};
 use redo_lsn::Shape;
-use std::test::Fail;
 
 const SHAPE: Shape = Shape {
     page_size: 4096,
@@ -19,13 +17,9 @@ fn has_at(block: &[u8; 512], at: usize, bytes: &[u8]) -> bool {
 }
 
 #[test]
-fn filled_blocks(rt: HostRuntime) -> Result<(), Fail> {
+fn filled_blocks(rt: HostRuntime) {
     let mut block = [0xFF; 512];
     fill_head(&mut block, &SHAPE);
-    assert_eq!(rt;
-        block.as_slice(),
-        head_bytes(rt.alloc(), &SHAPE)?.as_slice()
-    );
     assert!(rt;
         has_at(
             &block,
@@ -47,15 +41,14 @@ fn filled_blocks(rt: HostRuntime) -> Result<(), Fail> {
         (u64::MAX, (1 << 60) - 512),
     ] {
         fill_ckpt(&mut block, number, lsn, &SHAPE);
-        let plain = checkpoint_bytes(rt.alloc(), number, lsn, &SHAPE)?;
-        assert_eq!(rt; block.as_slice(), plain.as_slice(), "checkpoint {number}");
-        let which = if number % 2 == 0 { 1 } else { 3 };
-        assert_eq!(rt; read_ckpt(&block, which, &SHAPE), Some((number, lsn)));
+        assert_eq!(rt;
+            read_ckpt(&block, place_of(number), &SHAPE),
+            Some((number, lsn))
+        );
     }
     fill_ckpt(&mut block, 4, 8704, &SHAPE);
     let numbers = b"\0\0\0\0\0\0\0\x04\0\0\0\0\0\0\x22\0\0\0\0\0\0\0\x0A\0\0\0\0\0\0\x01\0\0\0";
     assert!(rt; has_at(&block, 0, numbers));
-    Ok(())
 }
 
 // What is read of the header of a store after other bytes were written at an offset and the checksum made to fit again.
@@ -144,10 +137,8 @@ fn damaged_heads(rt: HostRuntime) {
         let mut damaged = block;
         put(&mut damaged, at, bytes);
         assert_eq!(rt; read_head(&damaged), Head::Unformatted, "{what}");
-        assert_eq!(rt; model_log::read_head(&damaged), Head::Unformatted, "{what}");
         seal(&mut damaged, 508);
         assert_eq!(rt; read_head(&damaged), want, "{what}");
-        assert_eq!(rt; model_log::read_head(&damaged), want, "{what}");
     }
     assert_eq!(rt; read_head(&block), Head::Good(SHAPE));
     block[511] ^= 1;
@@ -230,12 +221,26 @@ fn damaged_checkpoints(rt: HostRuntime) {
         let mut damaged = block;
         put(&mut damaged, at, bytes);
         assert_eq!(rt; read_ckpt(&damaged, which, &SHAPE), None, "{what}");
-        assert_eq!(rt; read_checkpoint(&damaged, which, &SHAPE), None, "{what}");
         seal(&mut damaged, 508);
         assert_eq!(rt; read_ckpt(&damaged, which, &SHAPE), want, "{what}");
-        assert_eq!(rt; read_checkpoint(&damaged, which, &SHAPE), want, "{what}");
     }
     assert_eq!(rt; read_ckpt(&block, 1, &SHAPE), Some((4, 8704)));
     block[511] ^= 1;
     assert_eq!(rt; read_ckpt(&block, 1, &SHAPE), None, "a wrong checksum");
+}
+
+#[test]
+fn newer_of_two(rt: HostRuntime) {
+    let old = Some((3, 8192));
+    let new = Some((4, 8704));
+    for (first, second, want) in [
+        (None, None, None),
+        (None, old, old),
+        (new, None, new),
+        (new, old, new),
+        (old, new, new),
+    ] {
+        assert_eq!(rt; newer(first, second), want, "{first:?} and {second:?}");
+    }
+    assert_eq!(rt; (place_of(0), place_of(4), place_of(3)), (1, 1, 3));
 }

@@ -1,13 +1,15 @@
-//! Where bytes of the log stand: lsn, sn and block, without memory. Beside them the types that the crates of the log
-//! share.
+//! Where bytes of the log stand: lsn, sn and block, and which shapes a store may have, all without memory. Beside them
+//! the types that the crates of the log share.
 #![tactic(auto)]
 
+mod limits;
+mod lsn;
 mod memory;
 #[cfg(test)]
 mod tests;
 
+pub use limits::Limits;
+pub use lsn::{block_of, is_data_lsn, lsn_of, number_of, offset_of, sn_of, start_after};
 pub use memory::NoMemory;
 pub use model_base::{Bytes, Shape};
-pub use model_log::{
-    block_of, is_data_lsn, lsn_and_sn, lsn_of, number_of, offset_of, sn_of, start_after,
-};
+pub use model_log::lsn_and_sn;

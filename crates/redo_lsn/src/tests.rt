@@ -1,5 +1,7 @@
 // Places worked out by hand.
-use crate::{block_of, is_data_lsn, lsn_of, number_of, offset_of, sn_of, start_after};
+use crate::{
+    Limits, Shape, block_of, is_data_lsn, lsn_of, number_of, offset_of, sn_of, start_after,
+};
 
 #[test]
 fn lsn_and_sn_of_each_other(rt: HostRuntime) {
@@ -81,5 +83,59 @@ fn offsets(rt: HostRuntime) {
         assert!(rt; 8192 <= lsn && lsn < 1 << 61);
         assert!(rt; 1024 <= log_blocks && log_blocks <= 1_048_576);
         assert_eq!(rt; offset_of(lsn, log_blocks), offset, "{lsn} in {log_blocks}");
+    }
+}
+
+#[test]
+fn limits(rt: HostRuntime) {
+    let shape = Shape::default_shape();
+    for (what, other, is_within) in [
+        ("default", shape, true),
+        (
+            "page size 8192",
+            Shape {
+                page_size: 8192,
+                ..shape
+            },
+            false,
+        ),
+        ("no page", Shape { pages: 0, ..shape }, false),
+        ("64 pages", Shape { pages: 64, ..shape }, true),
+        ("65 pages", Shape { pages: 65, ..shape }, false),
+        (
+            "space 2^32 - 1",
+            Shape {
+                space: u32::MAX,
+                ..shape
+            },
+            true,
+        ),
+        (
+            "1,023 blocks",
+            Shape {
+                log_blocks: 1023,
+                ..shape
+            },
+            false,
+        ),
+        (
+            "1,024 blocks",
+            Shape {
+                log_blocks: 1024,
+                ..shape
+            },
+            true,
+        ),
+        (
+            "1,048,577 blocks",
+            Shape {
+                log_blocks: 1_048_577,
+                ..shape
+            },
+            false,
+        ),
+        ("7 slots", Shape { slots: 7, ..shape }, false),
+    ] {
+        assert_eq!(rt; other.is_within_limits(), is_within, "{what}");
     }
 }

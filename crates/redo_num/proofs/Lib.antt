@@ -1,1 +1,3 @@
-pub mod PutLemmas
+mod HalfLemmas
+mod PutLemmas
+mod ReadLemmas

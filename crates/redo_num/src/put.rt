@@ -3,10 +3,8 @@ ghost use Rattle.std.specs.Prelude.{◌≡◌, ◌+◌, ◌≤◌, length};
 ghost use Rattle.model_base.specs.Overwrite.{overwritten};
 ghost use Rattle.model_number.specs.Spelling.{spelling32, spelling64};
 
-use model_number::row_of;
-
-// A number of 64 bits is its high half times this, and its low half.
-const HALF: u64 = 1 << 32;
+use crate::HALF;
+use crate::table::row_of;
 
 /// Writes the spelling of a number of 32 bits from the offset on, and gives its length, at most five bytes.
 pub fn put32(out: &mut [u8], at: usize, n: u32) -> usize

@@ -1,1 +1,4 @@
-pub mod Reading
+mod Groups
+mod Leaves
+mod Limit
+mod Sequence

@@ -6,8 +6,10 @@ ghost use Rattle.model_number.specs.Spelling.{spelling32, spelling64};
 ghost use Rattle.model_record.specs.Record.{HasText, HasSpelling, after_type, record_text, type_of, value_text};
 ghost use Rattle.model_record.specs.Group.{IsGroup, group_length, group_text};
 
+use crate::measuring::Length;
+use crate::types::{END_MARK, SINGLE, type_byte};
 use model_base::MAX_GROUP;
-use model_record::{END_MARK, Group, Rec, SINGLE};
+use model_record::{Group, Rec};
 use redo_lsn::{Bytes, NoMemory};
 use redo_num::{put32, put64};
 use std::alloc::{AllocError, Global};
@@ -53,11 +55,11 @@ fn append_several(text: &mut Vec<u8>, recs: &[Rec]) -> Result<(), AllocError>
 
 fn append_record(text: &mut Vec<u8>, flag: u8, rec: &Rec) -> Result<(), AllocError>
     requires has_text { HasText rec.now }
-    requires flag { flag ≤ 128 }
+    requires flag { flag ≤ SINGLE }
     ensures { OnOk result
         (text.new.items ≡ text.old.items ++ (flag + type_of rec.now) ∷ after_type rec.now) }
 {
-    text.push(flag + rec.type_byte())?;
+    text.push(flag + type_byte(rec))?;
     match rec {
         Rec::Num {
             width,

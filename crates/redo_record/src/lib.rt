@@ -1,14 +1,22 @@
-//! The texts of groups, written with one allocation of their length and read in one pass. What a group's text is, how
-//! long it is and when a group fits a store stand in `model_record`.
+//! The texts of groups, written with one allocation of their length and read in one pass; how long a text is, and
+//! which groups have one and fit a store.
 #![tactic(auto)]
 
+mod bodies;
 mod decoding;
 mod encoding;
-mod laws;
+mod fields;
+mod fitting;
+mod measuring;
+mod spelled;
+mod stop;
 #[cfg(test)]
 mod tests;
+mod types;
 
 pub use decoding::decode;
 pub use encoding::encode;
-pub use laws::decode_of_encode;
-pub use model_record::{Group, Rec, has_text, one_group};
+pub use fitting::Fits;
+pub use measuring::Length;
+pub use model_record::{Group, Rec, group_reads_back, one_group};
+pub use spelled::has_text;

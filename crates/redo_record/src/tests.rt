@@ -1,6 +1,6 @@
 use super::*;
-use model_base::{Bytes, MAX_GROUP};
-use model_record::group_bytes;
+use model_base::MAX_GROUP;
+use redo_lsn::{Bytes, Shape};
 use redo_num::Got;
 use std::alloc::{AllocError, Global};
 use std::process::Abort;
@@ -177,20 +177,28 @@ fn texts_of_8192_bytes(rt: HostRuntime) -> Result<(), Fail> {
     Ok(())
 }
 
+// One byte more than a group may have: a string of 8,186 bytes alone, and one of 8,182 with an `Init` and the end mark.
 #[test]
 fn texts_of_8193_bytes(rt: HostRuntime) -> Result<(), Fail> {
-    let alloc = rt.alloc();
-    let groups = [
-        alone(alloc, string(alloc, 38, 8186)?)?,
-        with_second(alloc, string(alloc, 38, 8182)?)?,
-    ];
-    for group in &groups {
-        assert!(rt; has_text(group));
-        let text = group_bytes(alloc, group)?;
+    for (front_bytes, count, behind) in [
+        (
+            [0x9E, 1, 3, 0, 38, 0x1F, 0xFA].as_slice(),
+            8186,
+            [].as_slice(),
+        ),
+        (
+            [30, 1, 3, 0, 38, 0x1F, 0xF6].as_slice(),
+            8182,
+            [59, 1, 3, 31].as_slice(),
+        ),
+    ] {
+        let mut text = Vec::from_slice(rt.alloc(), front_bytes)?;
+        text.extend_from_slice(&vec![in rt.alloc(); 7; count]?)?;
+        text.extend_from_slice(behind)?;
         assert_eq!(rt; text.len(), 8193);
         for (count, expected) in [(8193, Got::Bad), (8192, Got::Bad), (8191, Got::Short)] {
             assert_eq!(rt;
-                taken(alloc, front(&text, count))?,
+                taken(rt.alloc(), front(&text, count))?,
                 expected,
                 "{count} bytes"
             );
@@ -199,77 +207,44 @@ fn texts_of_8193_bytes(rt: HostRuntime) -> Result<(), Fail> {
     Ok(())
 }
 
-/// Checks that the plain program gives the same text.
-fn expect_agreement(rt: &impl Abort, alloc: Global, group: &Group) -> Result<(), Fail> {
-    assert!(rt; has_text(group));
-    let text = group_bytes(alloc, group)?;
-    expect_text(rt, alloc, group, &text)
-}
-
-/// Zero, the greatest number, and each number from which on spellings have another length, with its neighbours.
-fn edges(alloc: Global) -> Result<Vec<u32>, AllocError> {
-    let borders = [
-        0x80,
-        0x4000,
-        0x20_0000,
-        0x1000_0000,
-        0xFF00_0000,
-        0xFFFE_0000,
-        0xFFFF_FC00,
-    ];
-    let mut numbers = vec![in alloc; 0, u32::MAX]?;
-    for border in borders {
-        numbers.extend_from_slice(&[border - 1, border, border + 1])?;
-    }
-    Ok(numbers)
-}
-
-/// Records in which the number stands in each place of its own.
-fn records_with(edge: u32) -> [Rec; 7] {
-    let wide = u64::from(edge);
-    [
-        number(4, 3, 38, wide),
-        number(8, 3, 0, wide),
-        number(8, 3, 65535, wide << 32),
-        number(8, 3, 38, wide << 32 | wide),
-        number(2, edge, 38, 1),
-        Rec::Num {
-            width: 1,
-            space: edge,
-            page: 3,
-            offset: 38,
-            value: 1,
-        },
-        Rec::Init {
-            space: edge,
-            page: edge,
-        },
-    ]
-}
-
 #[test]
-fn agrees_with_the_plain_program_at_edges(rt: HostRuntime) -> Result<(), Fail> {
+fn what_fits(rt: HostRuntime) -> Result<(), Fail> {
     let alloc = rt.alloc();
-    for edge in edges(alloc)? {
-        for rec in records_with(edge) {
-            expect_agreement(&rt, alloc, &alone(alloc, rec)?)?;
-        }
-        for rec in records_with(edge) {
-            expect_agreement(&rt, alloc, &with_second(alloc, rec)?)?;
-        }
+    let shape = Shape::default_shape();
+    for (rec, expected) in [
+        (number(1, 3, 4087, 255), true),
+        (number(1, 3, 4087, 256), false),
+        (number(1, 3, 4088, 7), false),
+        (number(1, 3, 37, 7), false),
+        (number(1, 8, 100, 7), false),
+        (number(3, 7, 4085, 0xFF_FFFF), true),
+        (number(3, 7, 4085, 0x100_0000), false),
+        (number(0, 0, 38, 0), true),
+        (number(0, 0, 38, 1), false),
+        (number(9, 0, 4079, u64::MAX), true),
+        (number(u32::MAX, 0, u32::MAX, 0), false),
+        (string(alloc, 38, 4050)?, true),
+        (string(alloc, 38, 4051)?, false),
+        (Rec::Init { space: 1, page: 7 }, true),
+        (Rec::Init { space: 2, page: 7 }, false),
+    ] {
+        assert_eq!(rt; alone(alloc, rec)?.fits(&shape), expected);
     }
     Ok(())
 }
 
 #[test]
-fn agrees_with_the_plain_program_at_strings(rt: HostRuntime) -> Result<(), Fail> {
+fn groups_without_text(rt: HostRuntime) -> Result<(), Fail> {
     let alloc = rt.alloc();
-    for offset in [0, 38, 65535] {
-        for count in [1, 65, 493] {
-            expect_agreement(&rt, alloc, &alone(alloc, string(alloc, offset, count)?)?)?;
-            let two = with_second(alloc, string(alloc, offset, count)?)?;
-            expect_agreement(&rt, alloc, &two)?;
-        }
+    assert!(rt; !has_text(&Group(Vec::new(alloc))));
+    for rec in [
+        number(3, 3, 100, 7),
+        number(1, 3, 65536, 7),
+        number(4, 3, 100, 1 << 32),
+        string(alloc, 38, 0)?,
+        string(alloc, 38, 65536)?,
+    ] {
+        assert!(rt; !has_text(&alone(alloc, rec)?));
     }
     Ok(())
 }

@@ -1,0 +1,26 @@
+use Rattle.std.proofs.Common.{◌≡◌, ◌≤◌, ◌+◌, ◌-◌, ℕ, List, ◌++◌, length, take, drop, sym, ap, ◌∙◌, append_assoc, length-append, arith}
+use Rattle.std.proofs.lemmas.List.{drop_at, drop-drop, length-take-le}
+use borrow.Rule.Slice.PartMut.{put_mid}
+use Rattle.redo_page.proofs.text.put.Goals as goal
+
+-- what stands behind bytes that were put
+drop-put_mid : (at count k : ℕ) (bytes old : List ℕ) → count ≡ length bytes → at ≤ length old → at + length bytes ≤ k
+    → drop k (put_mid at count old bytes) ≡ drop k old
+drop-put_mid at count k bytes old same within behind =
+    let head : List ℕ = take at old ++ bytes in
+    let size : length head ≡ at + length bytes = length-append (take at old) bytes ∙ ap (λ (n : ℕ). n + length bytes) (length-take-le at old within) in
+    let here : drop (at + length bytes) (put_mid at count old bytes) ≡ drop (at + length bytes) old =
+    ap (drop (at + length bytes)) (sym (append_assoc (take at old) bytes (drop count (drop at old))))
+    ∙ drop_at head (drop count (drop at old)) (at + length bytes) size
+    ∙ drop-drop count at old
+    ∙ ap (λ (n : ℕ). drop (at + n) old) same in
+    let more : at + length bytes + (k - (at + length bytes)) ≡ k = omega arith in
+    ap (λ n. drop n (put_mid at count old bytes)) (sym more)
+    ∙ sym (drop-drop (k - (at + length bytes)) (at + length bytes) (put_mid at count old bytes))
+    ∙ ap (drop (k - (at + length bytes))) here
+    ∙ drop-drop (k - (at + length bytes)) (at + length bytes) old
+    ∙ ap (λ n. drop n old) more
+
+pub returns-clause-behind : goal.returns-clause-behind
+returns-clause-behind c k behind =
+    rw c.copy_from_slice.ensures.after (drop-put_mid c.args.at (c.args.at + length c.args.bytes.now - c.args.at) k c.args.bytes.now c.args.page.now (omega arith) (omega (arith, c.requires)) behind)

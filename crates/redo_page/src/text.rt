@@ -1,0 +1,38 @@
+// The fields and the checksums of a page, put round its user bytes.
+ghost use Rattle.std.specs.Prelude.{◌≡◌, ◌≤◌, ◌+◌, ◌++◌, ℕ, length, take, drop};
+ghost use Rattle.model_page.specs.Page.{frame_length, page_text, user_part};
+
+use model_page::{NUMBER_START, TRAILER_LENGTH};
+use redo_crc::crc32c;
+
+/// Puts bytes at an offset and gives the offset behind them. What stands before and behind them stays.
+fn put(page: &mut [u8], at: usize, bytes: &[u8]) -> usize
+    requires { at + length bytes.now ≤ length page.old }
+    ensures next { result ≡ at + length bytes.now }
+    ensures front { take result page.new ≡ take at page.old ++ bytes.now }
+    ensures behind { (k : ℕ) → result ≤ k → drop k page.new ≡ drop k page.old }
+{
+    let end = at + bytes.len();
+    page[at..end].copy_from_slice(bytes);
+    end
+}
+
+/// Makes a page of bytes that have its user bytes in their place: the fields and the checksums go round them. What is
+/// left passes the check where its lsn is above 0; at lsn 0 it may be all zero, which is blank.
+pub fn seal(page: &mut [u8], number: u32, space: u32, lsn: u64)
+    requires { frame_length ≤ length page.old }
+    ensures { page.new ≡ page_text number space lsn (user_part page.old) }
+{
+    let at = put(page, NUMBER_START as usize, &number.to_be_bytes());
+    let at = put(page, at, &[0; 8]);
+    let at = put(page, at, &lsn.to_be_bytes());
+    let at = put(page, at, &[0; 2]);
+    let at = put(page, at, &[0; 8]);
+    put(page, at, &space.to_be_bytes());
+    let trailer = page.len() - TRAILER_LENGTH as usize;
+    let checksum = crc32c(&page[NUMBER_START as usize..trailer]).to_be_bytes();
+    let low_half = (lsn % (1 << 32)) as u32;
+    put(page, 0, &checksum);
+    let at = put(page, trailer, &checksum);
+    put(page, at, &low_half.to_be_bytes());
+}
