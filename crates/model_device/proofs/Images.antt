@@ -34,12 +34,12 @@ IsImage-after_write disk image write sectors puts is_image =
       ];
     }
 
-IsWrittenBy-append_left : (writes more : List Write) (k : ℕ) (bytes : List ℕ) → IsWrittenBy writes k bytes → IsWrittenBy (writes ++ more) k bytes
+pub IsWrittenBy-append_left : (writes more : List Write) (k : ℕ) (bytes : List ℕ) → IsWrittenBy writes k bytes → IsWrittenBy (writes ++ more) k bytes
 IsWrittenBy-append_left [] more k bytes h = absurd h
 IsWrittenBy-append_left (write ∷ writes) more k bytes h =
     elim h [ inl here ↦ inl here | inr there ↦ inr (IsWrittenBy-append_left writes more k bytes there) ]
 
-IsWrittenBy-push : (writes : List Write) (write : Write) (k : ℕ) → Covers write k → IsWrittenBy (writes ++ write ∷ []) k (written_sector write k)
+pub IsWrittenBy-push : (writes : List Write) (write : Write) (k : ℕ) → Covers write k → IsWrittenBy (writes ++ write ∷ []) k (written_sector write k)
 IsWrittenBy-push [] write k covers = inl (covers, refl)
 IsWrittenBy-push (first ∷ writes) write k covers = inr (IsWrittenBy-push writes write k covers)
 

@@ -1,5 +1,5 @@
 pub mod CrashParts
 pub mod Images
+pub mod MayHold
 pub mod Overwritten
-pub mod Survivors
-pub mod Writers
+pub mod Valid

@@ -1,5 +1,6 @@
 pub mod Calls
 pub mod Crash
 pub mod Disk
+pub mod MayHold
 pub mod Valid
 pub mod Within

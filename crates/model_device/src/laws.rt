@@ -1,8 +1,11 @@
 // What holds of every device. Each law is the contract of a function that does nothing.
-ghost use Rattle.std.specs.Prelude.{ℕ, List, ◌≡◌, length};
-ghost use Rattle.model_device.specs.Disk.{Disk, IsImage, HasOneImage, settled};
-ghost use Rattle.model_device.specs.Calls.{written};
+ghost use Rattle.std.specs.Prelude.{ℕ, List, ◌≡◌, ◌+◌, ◌*◌, ◌%◌, ◌<◌, ◌≤◌, length};
+ghost use Rattle.model_base.specs.declared.limits.TheConstants.{BLOCK_SIZE};
+ghost use Rattle.model_device.specs.Calls.{Crashes, FailsWrite, synced, written};
 ghost use Rattle.model_device.specs.Crash.{crash_image};
+ghost use Rattle.model_device.specs.Disk.{Covers, Disk, HasOneImage, IsImage, sector, settled, written_sector};
+ghost use Rattle.model_device.specs.MayHold.{Adds, MayHold};
+ghost use Rattle.model_device.specs.Valid.{IsValid};
 ghost use Rattle.model_device.specs.Within.{IsSectorWrite, AreSectorWrites};
 ghost use Rattle.model_device.specs.declared.write.Write.{Write};
 
@@ -17,9 +20,40 @@ pub fn settled_has_one_image()
     ensures { (bytes : List ℕ) → IsImage (settled bytes) bytes × HasOneImage (settled bytes) bytes }
 {}
 
-/// What reads give is an image of the device, also after a write of whole sectors.
-pub fn written_reads_an_image()
-    ensures { (disk : Disk) (write : Write) → IsImage disk disk.reads
-        → IsSectorWrite (length disk.base) write
-        → IsImage (written disk write) (written disk write).reads }
+/// A device that is valid stays so through every call: a good write, a failed one, a good sync and a crash. A failed
+/// sync changes nothing.
+pub fn calls_keep_a_device_valid()
+    ensures settled { (bytes : List ℕ) → length bytes % BLOCK_SIZE ≡ 0 → IsValid (settled bytes) }
+    ensures write { (disk : Disk) (write : Write) → IsValid disk → IsSectorWrite (length disk.base) write
+        → IsValid (written disk write) }
+    ensures failed_write { (old new : Disk) (write : Write) → IsValid old → IsSectorWrite (length old.base) write
+        → FailsWrite write old new → IsValid new }
+    ensures sync { (disk : Disk) → IsValid disk → IsValid (synced disk) }
+    ensures crash { (old new : Disk) → IsValid old → Crashes old new → IsValid new }
+{}
+
+/// The images of a device, sector by sector: each sector of an image holds what the sector may hold, and whatever holds
+/// in each sector something that the sector may hold is an image. Of a valid device each such choice stands in an image.
+pub fn images_are_made_of_sectors()
+    ensures holds { (disk : Disk) (image : List ℕ) (k : ℕ) → IsImage disk image → BLOCK_SIZE * k < length disk.base
+        → MayHold disk k (sector k image) }
+    ensures made { (disk : Disk) (image : List ℕ) → length image ≡ length disk.base
+        → ((k : ℕ) → BLOCK_SIZE * k < length disk.base → MayHold disk k (sector k image)) → IsImage disk image }
+    ensures stands { (disk : Disk) (k : ℕ) (bytes : List ℕ) → IsValid disk → BLOCK_SIZE * k + BLOCK_SIZE ≤ length disk.base
+        → MayHold disk k bytes → (image : List ℕ) × IsImage disk image × (sector k image ≡ bytes) }
+{}
+
+/// What the calls do to what a sector may hold. A good write adds what it puts there, a failed one adds that at the most,
+/// and behind a good sync only what reads give is left.
+pub fn calls_add_to_sectors()
+    ensures adds { (disk : Disk) (write : Write) → Adds write disk (written disk write) }
+    ensures keeps { (disk : Disk) (write : Write) (k : ℕ) (bytes : List ℕ) → MayHold disk k bytes
+        → MayHold (written disk write) k bytes }
+    ensures puts { (disk : Disk) (write : Write) (k : ℕ) → Covers write k
+        → MayHold (written disk write) k (written_sector write k) }
+    ensures failed { (old new : Disk) (write : Write) → FailsWrite write old new → Adds write old new }
+    ensures synced { (disk : Disk) (k : ℕ) (bytes : List ℕ) → MayHold (synced disk) k bytes
+        → bytes ≡ sector k disk.reads }
+    ensures one_image { (disk : Disk) (k : ℕ) (bytes : List ℕ) → IsValid disk → HasOneImage disk disk.reads
+        → BLOCK_SIZE * k + BLOCK_SIZE ≤ length disk.base → MayHold disk k bytes → bytes ≡ sector k disk.reads }
 {}

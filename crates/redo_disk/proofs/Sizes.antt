@@ -3,7 +3,7 @@ use Rattle.std.proofs.Common.{ℕ, List, length, sym, ap, subst, ◌∙◌, arit
 use Rattle.model_device.specs.Disk.{Disk}
 use Rattle.model_device.specs.Calls.{Crashes, FailsWrite, synced, written}
 use Rattle.model_device.proofs.Overwritten.{length-overwritten}
-use Rattle.redo_disk.specs.Sectors.{HasSize, IsRange, write_at}
+use Rattle.redo_disk.specs.Seen.{HasSize, IsRange, write_at}
 
 pub HasSize-written : (size at : ℕ) (bytes : List ℕ) (disk : Disk) → IsRange size at (length bytes) → HasSize size disk → HasSize size (written disk (write_at at bytes))
 HasSize-written size at bytes disk range sized = record {

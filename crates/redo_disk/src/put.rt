@@ -1,18 +1,20 @@
 // A write that survives any crash.
-ghost use Rattle.std.specs.Prelude.{◌≡◌, length, IfSome, OnOk};
+ghost use Rattle.std.specs.Prelude.{◌≡◌, length, OnOk};
 ghost use Rattle.model_base.specs.Overwrite.{overwritten};
 ghost use Rattle.model_device.specs.Disk.{HasOneImage};
-ghost use Rattle.redo_disk.specs.Sectors.{IsRange, HasCause, OnTold};
+ghost use Rattle.redo_disk.specs.Put.{WritesAndSyncs};
+ghost use Rattle.redo_disk.specs.Seen.{IsRange, HasCause, OnTold, write_at};
 
 use crate::{DevError, Sectors};
 
 /// Writes bytes from an offset on, so that they survive every crash after it.
 pub fn write_and_sync<D: Sectors>(device: &mut D, at: u64, bytes: &[u8]) -> Result<(), DevError>
-    requires { IsRange (D.size device.old) at (length bytes.now) }
-    ensures ok { OnOk result (OnTold (D.tells device.old) (D.tells device.new)
+    requires { IsRange (D.seen device.old).size at (length bytes.now) }
+    ensures ok { OnOk result (OnTold (D.seen device.old).tells (D.seen device.new).tells
         (λ old new. HasOneImage new (overwritten at bytes.now old.reads))) }
-    ensures size { D.size device.new ≡ D.size device.old }
-    ensures cause { HasCause (D.faults device.old) (D.faults device.new) result }
+    ensures size { (D.seen device.new).size ≡ (D.seen device.old).size }
+    ensures cause { HasCause (D.seen device.old).faults (D.seen device.new).faults result }
+    ensures calls { WritesAndSyncs D.write_gives D.sync_gives (write_at at bytes.now) device.old result device.new }
 {
     device.write(at, bytes)?;
     device.sync()

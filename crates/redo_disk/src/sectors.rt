@@ -1,67 +1,60 @@
 // The calls of a device, and what they say of it.
-ghost use Rattle.std.specs.Prelude.{◌≡◌, ◌≤◌, ℕ, length, Option, Result, IfSome, OnOk, OnErr};
-ghost use Rattle.model_device.specs.Disk.{Disk};
-ghost use Rattle.model_device.specs.Calls.{written, FailsWrite, synced, Crashes};
+ghost use Rattle.std.specs.Prelude.{◌≡◌, ℕ, List, length, Result, IfSome};
 ghost use Rattle.model_device.specs.declared.write.Write.{Write};
 ghost use Rattle.redo_disk.specs.declared.error.DevError.{DevError};
-ghost use Rattle.redo_disk.specs.Sectors.{IsRange, HasSize, HasCause, OnTold, part, write_at};
+ghost use Rattle.redo_disk.specs.Seen.{Seen, IsRange, HasSize, ReadStep, WriteStep, SyncStep, CrashStep, write_at};
 
 use crate::DevError;
 
 /// A device of sectors of 512 bytes. A good write is seen by every read after it, and survives a crash for sure only
 /// once a good sync has followed.
+///
+/// The ghost members whose names end in `_gives` are all that the device's own contract says of one call: the device
+/// before, what the call was given and gave, and the device after. A wrapper that hands such a relation on has passed
+/// the call on, once and as it was.
 pub trait Sectors {
-    /// How many bytes it has; no call changes it.
-    ghost size: { Self → ℕ };
+    /// What a reader of the device sees of it. Its size never changes, and its count of faults never falls.
+    ghost seen: { Self → Seen };
 
-    /// What the device means, where it tells.
-    ghost tells: { Self → Option Disk };
+    /// What a read gives: the device before, the offset, the buffer before, the answer, the buffer after and the
+    /// device after.
+    ghost read_gives: { Self → ℕ → List ℕ → Result (Unit {0}) DevError → List ℕ → Self → Type 0 } = { λ _ _ _ _ _ _. Unit {0} };
 
-    /// How often it has failed. It never falls.
-    ghost faults: { Self → ℕ };
-
-    /// All that the device's own contract says of a write: the device before, the write, the answer and the device
-    /// after. So a wrapper can say that it passed a write on.
+    /// What a write gives.
     ghost write_gives: { Self → Write → Result (Unit {0}) DevError → Self → Type 0 } = { λ _ _ _ _. Unit {0} };
+
+    /// What a sync gives.
+    ghost sync_gives: { Self → Result (Unit {0}) DevError → Self → Type 0 } = { λ _ _ _. Unit {0} };
+
+    /// What a crash with this pick gives.
+    ghost crash_gives: { Self → ℕ → Self → Type 0 } = { λ _ _ _. Unit {0} };
 
     /// How many bytes it has.
     fn len(&self) -> u64
-        ensures size { result ≡ size self.now }
+        ensures size { result ≡ (seen self.now).size }
         // what stood there at the last good sync and what reads give are that long
-        ensures told { IfSome (tells self.now) (HasSize (size self.now)) };
+        ensures told { IfSome (seen self.now).tells (HasSize (seen self.now).size) };
 
     /// Reads the bytes from an offset on. Where it fails, `out` holds any bytes.
     fn read(&mut self, at: u64, out: &mut [u8]) -> Result<(), DevError>
-        requires { IsRange (size self.old) at (length out.old) }
-        ensures bytes { OnOk result (IfSome (tells self.old)
-            (λ disk. out.new ≡ part disk.reads at (length out.old))) }
-        ensures same { tells self.new ≡ tells self.old }
-        ensures size { size self.new ≡ size self.old }
-        ensures cause { HasCause (faults self.old) (faults self.new) result };
+        requires { IsRange (seen self.old).size at (length out.old) }
+        ensures step { ReadStep at (length out.old) (seen self.old) result out.new (seen self.new) }
+        ensures gives { read_gives self.old at out.old result out.new self.new };
 
     /// Writes bytes from an offset on. Where it fails, the write may be done all the same, whole or in part.
     fn write(&mut self, at: u64, bytes: &[u8]) -> Result<(), DevError>
-        requires { IsRange (size self.old) at (length bytes.now) }
-        ensures ok { OnOk result (OnTold (tells self.old) (tells self.new)
-            (λ old new. new ≡ written old (write_at at bytes.now))) }
-        ensures err { OnErr result (OnTold (tells self.old) (tells self.new)
-            (FailsWrite (write_at at bytes.now))) }
-        ensures gives { write_gives self.old (write_at at bytes.now) result self.new }
-        ensures size { size self.new ≡ size self.old }
-        ensures cause { HasCause (faults self.old) (faults self.new) result };
+        requires { IsRange (seen self.old).size at (length bytes.now) }
+        ensures step { WriteStep (write_at at bytes.now) (seen self.old) result (seen self.new) }
+        ensures gives { write_gives self.old (write_at at bytes.now) result self.new };
 
     /// Makes every write before it survive a crash.
     fn sync(&mut self) -> Result<(), DevError>
-        ensures ok { OnOk result (OnTold (tells self.old) (tells self.new)
-            (λ old new. new ≡ synced old)) }
-        ensures err { OnErr result (tells self.new ≡ tells self.old) }
-        ensures size { size self.new ≡ size self.old }
-        ensures cause { HasCause (faults self.old) (faults self.new) result };
+        ensures step { SyncStep (seen self.old) result (seen self.new) }
+        ensures gives { sync_gives self.old result self.new };
 
     /// A crash, and the start after it. The pick says which of the writes since the last good sync survive, where the
     /// device can choose.
     fn crash(&mut self, pick: u64)
-        ensures left { OnTold (tells self.old) (tells self.new) Crashes }
-        ensures size { size self.new ≡ size self.old }
-        ensures later { faults self.old ≤ faults self.new };
+        ensures step { CrashStep (seen self.old) (seen self.new) }
+        ensures gives { crash_gives self.old pick self.new };
 }

@@ -1,10 +1,17 @@
 -- How far a loop of writes or of reads has come.
-use Rattle.std.proofs.Common.{◌≡◌, ℕ, ◌+◌, ◌-◌, ◌≤◌, List, ◌++◌, length, take, drop, [], Option, None, Some, IfSome, refl, sym, ap, ◌∙◌, arith, append_assoc}
+use Rattle.std.proofs.Common.{◌≡◌, ℕ, ◌+◌, ◌-◌, ◌≤◌, ◌<◌, List, ◌++◌, length, take, drop, [], Option, None, Some, IfSome, Result, Ok, Err, IfOk, ◌∷◌, refl, sym, ap, subst, ◌∙◌, arith, append_assoc}
 use Rattle.std.proofs.lemmas.Option.{none-some, same_Some}
 use Rattle.std.proofs.Math.Seq.{take-add}
 use Rattle.std.proofs.lemmas.List.{length-drop, length-take-le, length-append, drop-drop, take_all}
+use Rattle.std.proofs.lemmas.Fn.{FoldsTo-push}
+use Rattle.std.proofs.lemmas.List.{append-nil}
+use Rattle.std.specs.List.{FoldsTo, concat}
+use Rattle.std.proofs.lemmas.List.Folds.{concat-append}
+use Rattle.redo_io.specs.Reads.{Reading, GivesPiece, LastRead, IsReadThrough}
 use Rattle.redo_io.specs.Sink.{with_taken}
+use Rattle.redo_io.specs.Writes.{TakesSome, Writing}
 use Rattle.redo_io.specs.Source.{TakesFront}
+use Rattle.redo_io.specs.declared.fault.ReadFault.{ReadFault}
 
 -- a sink has taken all of the bytes but the rest
 pub record HasWritten (old : Option (List ℕ)) (bytes rest : List ℕ) (now : Option (List ℕ)) : Type 0 where
@@ -64,3 +71,53 @@ TakesFront_all (Some bytes) (Some rest) text first end =
     let none : length (drop (length text) bytes) ≡ 0 = ap length (sym is ∙ end) in
     let long : length bytes - length text ≡ 0 = sym (length-drop (length text) bytes) ∙ none in
     sym (take_all _ text (omega arith)) ∙ first.1 ∙ take_all _ bytes (omega arith)
+
+-- reads of pieces gave this text so far
+pub record HasRead {S : Type 0} (gives : Reading S) (room : ℕ) (old : S) (text : List ℕ) (now : S) : Type 0 where
+  pub pieces : List (List ℕ)
+  pub reads : FoldsTo (GivesPiece gives room) old pieces now
+  pub text_is : text ≡ concat pieces
+
+-- one more piece
+pub HasRead-more : {S : Type 0} (gives : Reading S) (room length_of_buffer : ℕ) (old now new : S) (text out : List ℕ) (n : ℕ) → length_of_buffer ≡ room
+    → HasRead gives room old text now → n ≤ length out → 0 < n → gives now length_of_buffer (Ok n) out new → HasRead gives room old (text ++ take n out) new
+HasRead-more {S} gives room length_of_buffer old now new text out n room_is read fits some given =
+    let piece = take n out in
+    let long : length piece ≡ n = length-take-le n out fits in
+    let here = subst (λ k. gives now k (Ok (length piece)) out new) room_is (subst (λ k. gives now length_of_buffer (Ok k) out new) (sym long) given) in
+    record {
+      pieces = read.pieces ++ piece ∷ [];
+      reads = FoldsTo-push (GivesPiece gives room) old read.pieces now piece new read.reads (out, here, ap (λ k. take k out) (sym long), omega arith);
+      text_is = ap (λ xs. xs ++ piece) read.text_is ∙ sym (concat-append read.pieces (piece ∷ []) ∙ ap (λ xs. concat read.pieces ++ xs) (append-nil piece));
+    }
+
+-- the reads are over
+pub IsReadThrough-from : {S : Type 0} (gives : Reading S) (room : ℕ) (old now new : S) (text : List ℕ) (result : Result (List ℕ) ReadFault) → HasRead gives room old text now
+    → LastRead gives room now result new → IfOk result (λ whole. whole ≡ text) → IsReadThrough gives room old result new
+IsReadThrough-from gives room old now new text (Ok whole) read last same = record {
+  pieces = read.pieces;
+  before_last = now;
+  reads = read.reads;
+  last = last;
+  text = same ∙ read.text_is;
+}
+IsReadThrough-from gives room old now new text (Err _) read last same = record {
+  pieces = read.pieces;
+  before_last = now;
+  reads = read.reads;
+  last = last;
+  text = tt;
+}
+
+-- writes took all of the bytes but the rest
+pub record HasPut {S : Type 0} (gives : Writing S) (old : S) (bytes : List ℕ) (now : S) (rest : List ℕ) : Type 0 where
+  pub counts : List ℕ
+  pub writes : FoldsTo (TakesSome gives) (old, bytes) counts (now, rest)
+
+-- one more write
+pub HasPut-more : {S : Type 0} (gives : Writing S) (old now new : S) (bytes rest : List ℕ) (n : ℕ) → HasPut gives old bytes now rest → gives now rest (Ok n) new → 0 < n
+    → HasPut gives old bytes new (drop n rest)
+HasPut-more gives old now new bytes rest n put given some = record {
+  counts = put.counts ++ n ∷ [];
+  writes = FoldsTo-push (TakesSome gives) (old, bytes) put.counts (now, rest) n (new, drop n rest) put.writes (given, refl, some);
+}

@@ -1,5 +1,6 @@
 //! The edge for text: where bytes come from, where they go, and the lines of a text. A source and a sink count their
-//! faults, so that a contract can tell an error that was met from one that was made up.
+//! faults, so that a contract can tell an error that was met from one that was made up. What stands in memory fails the
+//! calls of a plan.
 #![tactic(auto)]
 
 mod fault;
@@ -21,6 +22,7 @@ pub use lines::Lines;
 pub use mem_sink::MemSink;
 pub use mem_source::MemSource;
 pub use model_base::Bytes as Text;
+pub use plan::Plan;
 pub use put::put_all;
 pub use read::{PIECE, read_all};
 pub use reader_source::ReaderSource;

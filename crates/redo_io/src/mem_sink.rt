@@ -1,7 +1,8 @@
 // A sink in memory, for tests of what is above.
-ghost use Rattle.std.specs.Prelude.{◌≡◌, ◌≤◌, ◌<◌, [], ◌++◌, length, take, IfOk, OnOk, OnErr, Some, IsErr, Contains};
-ghost use Rattle.model_base.specs.Count.{HasRisen};
-ghost use Rattle.redo_io.specs.Memory.{next_count};
+ghost use Rattle.std.specs.Prelude.{◌≡◌, []};
+ghost use Rattle.redo_io.specs.Memory.{WritesStore, store_seen};
+ghost use Rattle.redo_io.specs.Plan.{unused};
+ghost use Rattle.redo_io.specs.Sink.{SinkStep};
 
 use crate::plan::Plan;
 use crate::{IoFault, Sink};
@@ -20,25 +21,20 @@ impl Model for MemSink {
 
     ghost Value = { Store };
 
-    ghost view = { λ sink. record {
-      taken = sink.bytes.items;
-      calls = sink.plan.calls;
-      failing = sink.plan.failing.items;
-      faults = sink.plan.faults;
-    } };
+    ghost view = { λ sink. record { taken = sink.bytes.items; plan = sink.plan } };
 }
 
 impl MemSink {
     /// An empty sink that fails only for want of memory.
     pub fn new(alloc: Global) -> Self
-        ensures { result ≡ record { taken = []; calls = 0; failing = []; faults = 0 } }
+        ensures { result ≡ record { taken = []; plan = unused [] } }
     {
         MemSink::failing(alloc, Vec::new(alloc))
     }
 
     /// An empty sink that fails at these writes too, which are numbered from 0. A write that fails takes no byte.
     pub fn failing(alloc: Global, calls: Vec<u64>) -> Self
-        ensures { result ≡ record { taken = []; calls = 0; failing = calls.items; faults = 0 } }
+        ensures { result ≡ record { taken = []; plan = unused calls.items } }
     {
         MemSink {
             bytes: Vec::new(alloc),
@@ -55,29 +51,21 @@ impl MemSink {
 }
 
 impl Sink for MemSink {
-    ghost taken = { λ sink. Some sink.taken };
+    ghost seen = { store_seen };
 
-    ghost faults = { λ sink. sink.faults };
+    ghost write_gives = { WritesStore };
 
     fn write(&mut self, bytes: &[u8]) -> Result<usize, IoFault>
-        ensures count { IfOk result (λ n. n ≤ length bytes.now) }
-        ensures some { IfOk result (λ n. 0 < length bytes.now → 0 < n) }
-        ensures bytes { IfOk result (λ n. self.new.taken ≡ self.old.taken ++ take n bytes.now) }
-        ensures err { OnErr result (self.new.taken ≡ self.old.taken) }
-        ensures counts { self.old.faults ≤ self.new.faults }
-        ensures cause { OnErr result (HasRisen self.old.faults self.new.faults) }
-
-        ensures fails { Contains self.old.failing self.old.calls → IsErr result }
-        ensures takes { IfOk result (λ n. n ≡ length bytes.now) }
-        ensures after_ok { OnOk result (self.new ≡
-            record self.old { taken = self.old.taken ++ bytes.now; calls = next_count self.old.calls }) }
-        ensures after_err { OnErr result (self.new ≡
-            record self.old { calls = next_count self.old.calls; faults = next_count self.old.faults }) }
+        ensures step { SinkStep bytes.now (store_seen self.old) result (store_seen self.new) }
+        ensures gives { WritesStore self.old bytes.now result self.new }
     {
-        self.plan.call()?;
-        match self.bytes.extend_from_slice(bytes) {
-            Ok(()) => Ok(bytes.len()),
-            Err(_) => Err(self.plan.fault()),
+        if self.plan.fails() {
+            return Err(IoFault::Failed);
         }
+        if self.bytes.extend_from_slice(bytes).is_err() {
+            self.plan.add_fault();
+            return Err(IoFault::Failed);
+        }
+        Ok(bytes.len())
     }
 }

@@ -1,8 +1,8 @@
 // A source in memory, for tests of what is above.
-ghost use Rattle.std.specs.Prelude.{◌≡◌, ◌≤◌, ◌<◌, ◌-◌, ◌^◌, ◌↔◌, [], min, length, drop, IfOk, OnErr, Some, IsErr, Contains};
-ghost use Rattle.model_base.specs.Count.{HasRisen};
-ghost use Rattle.redo_io.specs.Source.{TakesFront};
-ghost use Rattle.redo_io.specs.Memory.{next_count};
+ghost use Rattle.std.specs.Prelude.{◌≡◌, ◌<◌, [], length};
+ghost use Rattle.redo_io.specs.Memory.{ReadsSupply, supply_seen};
+ghost use Rattle.redo_io.specs.Plan.{unused};
+ghost use Rattle.redo_io.specs.Source.{SourceStep};
 
 use crate::plan::Plan;
 use crate::{IoFault, Source};
@@ -26,9 +26,7 @@ impl Model for MemSource {
     ghost view = { λ source. record {
       left = drop source.at source.bytes.items;
       piece = source.piece;
-      calls = source.plan.calls;
-      failing = source.plan.failing.items;
-      faults = source.plan.faults;
+      plan = source.plan;
     } };
 
     ghost invariant = { λ source. (source.at ≤ length source.bytes.items) × (0 < source.piece) };
@@ -37,13 +35,7 @@ impl Model for MemSource {
 impl MemSource {
     /// A source that gives as many bytes as a read has room for, and doesn't fail.
     pub fn new(bytes: Vec<u8>) -> Self
-        ensures { result ≡ record {
-          left = bytes.items;
-          piece = 2 ^ 64 - 1;
-          calls = 0;
-          failing = [];
-          faults = 0;
-        } }
+        ensures { result ≡ record { left = bytes.items; piece = usize.MAX; plan = unused [] } }
     {
         let none = Vec::new(*bytes.allocator());
         MemSource::failing(bytes, none)
@@ -51,13 +43,7 @@ impl MemSource {
 
     /// A source that fails at exactly these reads, which are numbered from 0. A read that fails takes no byte.
     pub fn failing(bytes: Vec<u8>, calls: Vec<u64>) -> Self
-        ensures { result ≡ record {
-          left = bytes.items;
-          piece = 2 ^ 64 - 1;
-          calls = 0;
-          failing = calls.items;
-          faults = 0;
-        } }
+        ensures { result ≡ record { left = bytes.items; piece = usize.MAX; plan = unused calls.items } }
     {
         MemSource {
             bytes,
@@ -70,13 +56,7 @@ impl MemSource {
     /// A source that gives at most so many bytes a read, and doesn't fail.
     pub fn in_pieces(bytes: Vec<u8>, piece: usize) -> Self
         requires { 0 < piece }
-        ensures { result ≡ record {
-          left = bytes.items;
-          piece = piece;
-          calls = 0;
-          failing = [];
-          faults = 0;
-        } }
+        ensures { result ≡ record { left = bytes.items; piece = piece; plan = unused [] } }
     {
         let none = Vec::new(*bytes.allocator());
         MemSource {
@@ -89,26 +69,17 @@ impl MemSource {
 }
 
 impl Source for MemSource {
-    ghost left = { λ source. Some source.left };
+    ghost seen = { supply_seen };
 
-    ghost faults = { λ source. source.faults };
+    ghost read_gives = { ReadsSupply };
 
     fn read(&mut self, out: &mut [u8]) -> Result<usize, IoFault>
-        ensures count { IfOk result (λ n. n ≤ length out.old) }
-        ensures bytes { IfOk result (λ n. TakesFront (Some self.old.left) (Some self.new.left) n out.new) }
-        ensures end { IfOk result (λ n. n ≡ 0 → 0 < length out.old → self.old.left ≡ []) }
-        ensures err { OnErr result (self.new.left ≡ self.old.left) }
-        ensures counts { self.old.faults ≤ self.new.faults }
-        ensures cause { OnErr result (HasRisen self.old.faults self.new.faults) }
-
-        ensures fails { IsErr result ↔ Contains self.old.failing self.old.calls }
-        ensures gives { IfOk result (λ n. n ≡ min self.old.piece (min (length self.old.left) (length out.old))) }
-        ensures after_ok { IfOk result (λ n. self.new ≡
-            record self.old { left = drop n self.old.left; calls = next_count self.old.calls }) }
-        ensures after_err { OnErr result (self.new ≡
-            record self.old { calls = next_count self.old.calls; faults = next_count self.old.faults }) }
+        ensures step { SourceStep (length out.old) (supply_seen self.old) result out.new (supply_seen self.new) }
+        ensures gives { ReadsSupply self.old (length out.old) result out.new self.new }
     {
-        self.plan.call()?;
+        if self.plan.fails() {
+            return Err(IoFault::Failed);
+        }
         let rest = &self.bytes[self.at..];
         let count = rest.len().min(out.len()).min(self.piece);
         out[..count].copy_from_slice(&rest[..count]);

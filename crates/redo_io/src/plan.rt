@@ -1,22 +1,31 @@
-// Which calls of a source or a sink in memory fail.
-ghost use Rattle.std.specs.Prelude.{◌≡◌, ◌≤◌, ◌↔◌, OnOk, OnErr, IsErr, Contains};
+// Which calls of something in memory fail.
+ghost use Rattle.std.specs.Prelude.{◌≡◌, ◌≤◌, IsTrue};
 ghost use Rattle.model_base.specs.Count.{HasRisen};
-ghost use Rattle.redo_io.specs.Memory.{next_count};
+ghost use Rattle.redo_io.specs.Plan.{after_call, fails_now, unused, with_fault};
 
-use crate::IoFault;
+use std::marker::Model;
 
-/// The numbers of the calls that fail, and how many calls and faults there were. Both counts stand still at the last
-/// value that 64 bits hold.
+/// The numbers of the calls that fail, counted from 0, and how many calls and faults there were. Both counts stand still
+/// at the last value that 64 bits hold.
 #[derive(Debug, Drop)]
-pub(crate) struct Plan {
-    pub(crate) failing: Vec<u64>,
-    pub(crate) calls: u64,
-    pub(crate) faults: u64,
+pub struct Plan {
+    failing: Vec<u64>,
+    calls: u64,
+    faults: u64,
+}
+
+impl Model for Plan {
+    ghost use Rattle.redo_io.specs.Plan.{Planned};
+
+    ghost Value = { Planned };
+
+    ghost view = { λ plan. record { failing = plan.failing.items; calls = plan.calls; faults = plan.faults } };
 }
 
 impl Plan {
-    pub(crate) fn new(failing: Vec<u64>) -> Self
-        ensures { result ≡ record { failing = failing; calls = 0; faults = 0 } }
+    /// A plan that fails these calls.
+    pub fn new(failing: Vec<u64>) -> Self
+        ensures { result ≡ unused failing.items }
     {
         Plan {
             failing,
@@ -25,27 +34,27 @@ impl Plan {
         }
     }
 
-    /// Counts a call, which fails if the plan says so.
-    pub(crate) fn call(&mut self) -> Result<(), IoFault>
-        ensures fails { IsErr result ↔ Contains self.old.failing.items self.old.calls }
-        ensures ok { OnOk result (self.new ≡ record self.old { calls = next_count self.old.calls }) }
-        ensures err { OnErr result (self.new ≡
-            record self.old { calls = next_count self.old.calls; faults = next_count self.old.faults }) }
-        ensures counts { self.old.faults ≤ self.new.faults }
-        ensures cause { OnErr result (HasRisen self.old.faults self.new.faults) }
+    /// Counts a call, and says whether it fails, which is a fault.
+    pub fn fails(&mut self) -> bool
+        ensures named { result ≡ fails_now self.old }
+        ensures after { self.new ≡ after_call self.old }
+        ensures later { self.old.faults ≤ self.new.faults }
+        ensures cause { IsTrue result → HasRisen self.old.faults self.new.faults }
     {
         let fails = self.failing.contains(&self.calls);
         self.calls = self.calls.saturating_add(1);
-        if fails { Err(self.fault()) } else { Ok(()) }
+        if fails {
+            self.faults = self.faults.saturating_add(1);
+        }
+        fails
     }
 
-    /// Counts a fault, and gives it.
-    pub(crate) fn fault(&mut self) -> IoFault
-        ensures after { self.new ≡ record self.old { faults = next_count self.old.faults } }
-        ensures counts { self.old.faults ≤ self.new.faults }
+    /// Counts a fault that the plan doesn't name.
+    pub fn add_fault(&mut self)
+        ensures after { self.new ≡ with_fault self.old }
+        ensures later { self.old.faults ≤ self.new.faults }
         ensures cause { HasRisen self.old.faults self.new.faults }
     {
         self.faults = self.faults.saturating_add(1);
-        IoFault::Failed
     }
 }

@@ -1,6 +1,7 @@
 // Reading a text whole.
 ghost use Rattle.std.specs.Prelude.{◌≡◌, ◌≤◌, ◌<◌, ◌+◌, ◌^◌, [], length, IfOk, OnOk, IfSome, IsErrOf, vec_len};
 ghost use Rattle.model_base.specs.Count.{HasRisen};
+ghost use Rattle.redo_io.specs.Reads.{IsReadThrough};
 ghost use Rattle.redo_io.specs.Source.{TakesAtMost};
 
 use crate::{ReadFault, Source, Text};
@@ -18,14 +19,15 @@ fn empty_piece(alloc: Global) -> Result<Vec<u8>, AllocError>
 /// Reads all that is left, if that is at most `limit` bytes. After an error some bytes are gone from the source.
 pub fn read_all<S: Source>(alloc: Global, src: &mut S, limit: usize) -> Result<Text, ReadFault>
     requires { limit ≤ 2 ^ 32 }
-    ensures all { IfOk result (λ text. IfSome (S.left src.old) (λ bytes. text ≡ bytes)) }
-    ensures none_left { OnOk result (IfSome (S.left src.new) (λ bytes. bytes ≡ [])) }
+    ensures all { IfOk result (λ text. IfSome (S.seen src.old).left (λ bytes. text ≡ bytes)) }
+    ensures none_left { OnOk result (IfSome (S.seen src.new).left (λ bytes. bytes ≡ [])) }
     ensures short { IfOk result (λ text. length text ≤ limit) }
-    ensures fault { IsErrOf result ReadFault.Fault → HasRisen (S.faults src.old) (S.faults src.new) }
+    ensures fault { IsErrOf result ReadFault.Fault → HasRisen (S.seen src.old).faults (S.seen src.new).faults }
     ensures too_long { IsErrOf result ReadFault.TooLong →
-        IfSome (S.left src.old) (λ bytes. limit < length bytes) }
-    ensures taken { TakesAtMost (limit + PIECE) (S.left src.old) (S.left src.new) }
-    ensures counts { S.faults src.old ≤ S.faults src.new }
+        IfSome (S.seen src.old).left (λ bytes. limit < length bytes) }
+    ensures taken { TakesAtMost (limit + PIECE) (S.seen src.old).left (S.seen src.new).left }
+    ensures later { (S.seen src.old).faults ≤ (S.seen src.new).faults }
+    ensures reads { IsReadThrough S.read_gives PIECE src.old result src.new }
 {
     let mut text = Vec::new(alloc);
     let mut piece = empty_piece(alloc)?;

@@ -31,9 +31,7 @@ impl<R> ReaderSource<R> {
 }
 
 impl<R: Read> Source for ReaderSource<R> {
-    ghost left = { λ _. None };
-
-    ghost faults = { λ faults. faults };
+    ghost seen = { λ faults. record { left = None; faults = faults } };
 
     fn read(&mut self, out: &mut [u8]) -> Result<usize, IoFault> {
         match self.reader.read(out) {

@@ -1,24 +1,23 @@
 // Where bytes go.
-ghost use Rattle.std.specs.Prelude.{◌≡◌, ◌≤◌, ◌<◌, ℕ, List, length, take, Option, IfOk, OnErr};
-ghost use Rattle.model_base.specs.Count.{HasRisen};
-ghost use Rattle.redo_io.specs.Sink.{with_taken};
+ghost use Rattle.std.specs.Prelude.{ℕ, List, Result};
+ghost use Rattle.redo_io.specs.declared.fault.IoFault.{IoFault};
+ghost use Rattle.redo_io.specs.Sink.{SinkSeen, SinkStep};
 
 use crate::IoFault;
 
 /// What bytes are written to.
+///
+/// The ghost member `write_gives` is all that the sink's own contract says of one write. A caller that hands it on has
+/// made that write, once.
 pub trait Sink {
-    /// The bytes taken so far, where the sink tells.
-    ghost taken: { Self → Option (List ℕ) };
+    /// What a writer to the sink sees of it. Its count of faults never falls.
+    ghost seen: { Self → SinkSeen };
 
-    /// How often it has failed.
-    ghost faults: { Self → ℕ };
+    /// What a write gives: the sink before, the bytes, the answer and the sink after.
+    ghost write_gives: { Self → List ℕ → Result ℕ IoFault → Self → Type 0 } = { λ _ _ _ _. Unit {0} };
 
     /// Takes some bytes off the front, and says how many. To take none of a slice that isn't empty is a fault.
     fn write(&mut self, bytes: &[u8]) -> Result<usize, IoFault>
-        ensures count { IfOk result (λ n. n ≤ length bytes.now) }
-        ensures some { IfOk result (λ n. 0 < length bytes.now → 0 < n) }
-        ensures bytes { IfOk result (λ n. taken self.new ≡ with_taken (taken self.old) (take n bytes.now)) }
-        ensures err { OnErr result (taken self.new ≡ taken self.old) }
-        ensures counts { faults self.old ≤ faults self.new }
-        ensures cause { OnErr result (HasRisen (faults self.old) (faults self.new)) };
+        ensures step { SinkStep bytes.now (seen self.old) result (seen self.new) }
+        ensures gives { write_gives self.old bytes.now result self.new };
 }

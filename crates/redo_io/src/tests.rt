@@ -3,7 +3,29 @@ use crate::{
     IoFault, Lines, MemSink, MemSource, PIECE, ReadFault, ReaderSource, WriterSink, put_all,
     read_all,
 };
+use std::io;
+use std::io::{ErrorKind, Read};
 use std::test::Fail;
+
+/// A reader that gives one byte at its first read, fails at its second, and is at its end after that.
+#[derive(Drop)]
+struct Halting {
+    calls: u8,
+}
+
+impl Read for Halting {
+    fn read(&mut self, out: &mut [u8]) -> io::Result<usize> {
+        self.calls = self.calls.saturating_add(1);
+        if self.calls == 2 {
+            return Err(io::Error::from(ErrorKind::WouldBlock));
+        }
+        if self.calls > 2 || out.is_empty() {
+            return Ok(0);
+        }
+        out[0] = b'7';
+        Ok(1)
+    }
+}
 
 #[test]
 fn reads_texts_whole(rt: HostRuntime) -> Result<(), Fail> {
@@ -72,6 +94,10 @@ fn stands_over_readers_and_writers(rt: HostRuntime) -> Result<(), Fail> {
         read_all(alloc, &mut source, 5)?.as_slice(),
         b"0 b0\n".as_slice()
     );
+
+    // a read that fails isn't the end
+    let halted = read_all(alloc, &mut ReaderSource::new(Halting { calls: 0 }), 5);
+    assert_eq!(rt; halted.err(), Some(ReadFault::Fault));
 
     let mut held = Vec::new(alloc);
     put_all(&mut WriterSink::new(&mut held), b"0 b0\n")?;

@@ -31,9 +31,7 @@ impl<W> WriterSink<W> {
 }
 
 impl<W: Write> Sink for WriterSink<W> {
-    ghost taken = { λ _. None };
-
-    ghost faults = { λ faults. faults };
+    ghost seen = { λ faults. record { taken = None; faults = faults } };
 
     fn write(&mut self, bytes: &[u8]) -> Result<usize, IoFault> {
         match self.writer.write(bytes) {

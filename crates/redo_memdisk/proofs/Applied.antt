@@ -5,7 +5,7 @@ use Rattle.std.proofs.lemmas.List.Sums.{fold_more}
 use Rattle.model_device.specs.Disk.{after_write, after_writes}
 use Rattle.model_device.specs.Within.{AreSectorWrites, AreWithin, IsSectorWrite, IsWithin}
 use Rattle.model_device.specs.declared.write.Write.{Write}
-use Rattle.redo_disk.specs.Sectors.{HasSize}
+use Rattle.redo_disk.specs.Seen.{HasSize}
 use Rattle.model_device.proofs.Overwritten.{length-overwritten}
 
 pub length-after_writes : (row : List ℕ) (writes : List Write) → AreWithin (length row) writes → length (after_writes row writes) ≡ length row

@@ -1,24 +1,17 @@
--- A count of faults that is made of two.
-use Rattle.std.proofs.Common.{Bool, true, refl, ap, sym, ◌∙◌, ◌≡◌, ◌+◌, ◌<◌, ◌≤◌, ℕ, Result, inl, inr, ⊎_elim, arith}
+-- A count of faults that is made of two: a device's own, and that of the fuse round it.
+use Rattle.std.proofs.Common.{Bool, true, false, refl, ap, ◌∙◌, ◌≡◌, ◌+◌, ◌≤◌, ℕ, Result, inl, inr, ⊎_elim, arith}
 use Rattle.std.proofs.lemmas.Bool.{cases_lt}
-use Rattle.std.proofs.lemmas.Bool.Decides.{nat_tests}
 use Rattle.model_base.specs.Count.{HasRisen, last_count}
+use Rattle.redo_io.specs.Plan.{next_count}
 use Rattle.redo_disk.specs.declared.error.DevError.{DevError}
-use Rattle.redo_disk.specs.Sectors.{HasCause}
+use Rattle.redo_disk.specs.Seen.{HasCause}
 use Rattle.redo_memdisk.specs.declared.fuse.Fuse.{Fuse}
-use Rattle.redo_memdisk.specs.Count.{counted}
-use Rattle.redo_memdisk.specs.Fuse.{after_call, after_change, fails_next, with_change}
+use Rattle.redo_memdisk.specs.Fuse.{after_call, after_change, after_passed, fails_next, with_change}
 use Rattle.redo_memdisk.specs.declared.fuse.Stage.{Stage}
 use Rattle.redo_memdisk.specs.declared.fuse.Stage.TheVariants.{Before, Stopping, Crashed}
 
-pub counted_later : (count : ℕ) → count ≤ counted count
-counted_later count = grind (arith, nat_tests)
-
-counted_below : (count : ℕ) → count < last_count → counted count ≡ count + 1
-counted_below count below = grind (arith, nat_tests)
-
-pub HasRisen-counted : (count : ℕ) → HasRisen count (counted count)
-HasRisen-counted count = ⊎_elim (λ below. inl (omega (arith, counted_below count below))) (λ stands. inr stands) (cases_lt count last_count)
+HasRisen-next_count : (count : ℕ) → HasRisen count (next_count count)
+HasRisen-next_count count = ⊎_elim (λ below. inl (omega arith)) (λ stands. inr stands) (cases_lt count last_count)
 
 -- a sum of two counts rises with the first
 HasRisen-left : (before now own own' : ℕ) → own ≤ own' → HasRisen before now → HasRisen (before + own) (now + own')
@@ -29,25 +22,33 @@ HasRisen-right : (before now own own' : ℕ) → before ≤ now → HasRisen own
 HasRisen-right before now own own' keeps risen = ⊎_elim (λ rises. inl (omega arith)) (λ stands. inr (omega arith)) risen
 
 -- a failure of the fuse itself
-pub HasCause-own : {T : Type 0} (before now own own' : ℕ) (result : Result T DevError) → before ≤ now → own' ≡ counted own
-    → HasCause (before + own) (now + own') result
-HasCause-own before now own own' result later same = record {
-  later = omega (arith, counted_later own);
-  failed = λ _. HasRisen-right before now own own' later (rw same (HasRisen-counted own));
+pub HasCause-own : {T : Type 0} (before now own own' : ℕ) (result : Result T DevError) → before ≤ now → own' ≡ next_count own
+    → own ≤ own' → HasCause (before + own) (now + own') result
+HasCause-own before now own own' result later same rises = record {
+  later = omega arith;
+  failed = λ _. HasRisen-right before now own own' later (rw same (HasRisen-next_count own));
 }
 
 -- a call that was passed on
-pub HasCause-passed : {T : Type 0} (before now own : ℕ) (result : Result T DevError) → HasCause before now result
-    → HasCause (before + own) (now + own) result
-HasCause-passed before now own result cause = record {
+pub HasCause-passed : {T : Type 0} (before now own own' : ℕ) (result : Result T DevError) → own' ≡ own → HasCause before now result
+    → HasCause (before + own) (now + own') result
+HasCause-passed before now own own' result same cause = record {
   later = omega (arith, cause.later);
-  failed = λ failed. HasRisen-left before now own own (omega arith) (cause.failed failed);
+  failed = λ failed. HasRisen-left before now own own' (omega arith) (cause.failed failed);
 }
 
+own-after_passed : (stage : Stage) (fuse : Fuse) (failed : Bool) → (after_passed stage fuse failed).own ≡ fuse.own
+own-after_passed Before fuse failed = refl
+own-after_passed Stopping fuse failed = refl
+own-after_passed Crashed fuse failed = refl
+
 -- the fuse counts a failure of its own
-pub own-after_call : (fuse new : Fuse) (stops failed : Bool) → stops ≡ fails_next fuse → stops ≡ true → new ≡ after_call fuse failed
-    → new.own ≡ counted fuse.own
-own-after_call fuse new stops failed stops_is true_is new_is = ap (λ (f : Fuse). f.own) new_is ∙ rw (sym stops_is ∙ true_is) refl
+pub own-after_failed_call : (fuse new : Fuse) (failed : Bool) → fails_next fuse ≡ true → new ≡ after_call fuse failed → new.own ≡ next_count fuse.own
+own-after_failed_call fuse new failed fails new_is = ap (λ (f : Fuse). f.own) new_is ∙ rw fails refl
+
+-- and none where it passes the call on
+pub own-after_passed_call : (fuse new : Fuse) (failed : Bool) → fails_next fuse ≡ false → new ≡ after_call fuse failed → new.own ≡ fuse.own
+own-after_passed_call fuse new failed passes new_is = ap (λ (f : Fuse). f.own) new_is ∙ rw passes (own-after_passed fuse.stage fuse failed)
 
 -- counting a change changes nothing of what the fuse fails
 same-fails_next : (stage : Stage) (fuse : Fuse) → fails_next (with_change stage fuse) ≡ fails_next fuse
@@ -60,9 +61,11 @@ same-own Before fuse = refl
 same-own Stopping fuse = refl
 same-own Crashed fuse = refl
 
--- so it does at a write or a sync
-pub own-after_change : (fuse new : Fuse) (stops failed : Bool) → stops ≡ fails_next fuse → stops ≡ true → new ≡ after_change fuse failed
-    → new.own ≡ counted fuse.own
-own-after_change fuse new stops failed stops_is true_is new_is =
-    own-after_call (with_change fuse.stage fuse) new stops failed (stops_is ∙ sym (same-fails_next fuse.stage fuse)) true_is new_is
-    ∙ ap counted (same-own fuse.stage fuse)
+-- so it is at a write or a sync
+pub own-after_failed_change : (fuse new : Fuse) (failed : Bool) → fails_next fuse ≡ true → new ≡ after_change fuse failed → new.own ≡ next_count fuse.own
+own-after_failed_change fuse new failed fails new_is =
+    own-after_failed_call (with_change fuse.stage fuse) new failed (same-fails_next fuse.stage fuse ∙ fails) new_is ∙ ap next_count (same-own fuse.stage fuse)
+
+pub own-after_passed_change : (fuse new : Fuse) (failed : Bool) → fails_next fuse ≡ false → new ≡ after_change fuse failed → new.own ≡ fuse.own
+own-after_passed_change fuse new failed passes new_is =
+    own-after_passed_call (with_change fuse.stage fuse) new failed (same-fails_next fuse.stage fuse ∙ passes) new_is ∙ same-own fuse.stage fuse

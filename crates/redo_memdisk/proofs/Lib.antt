@@ -1,6 +1,8 @@
-pub mod Counts
-pub mod Writes
 pub mod Answered
-pub mod Overlay
 pub mod Applied
+pub mod Counts
 pub mod Crashed
+pub mod Overlay
+pub mod Survivors
+pub mod Writers
+pub mod Writes

@@ -2,7 +2,7 @@
 use Rattle.std.proofs.Common.{◌≡◌, ◌+◌, ◌-◌, ◌<◌, ◌≤◌, ℕ, List, length, get_or, take, drop, max, min, ap, ◌∙◌, arith, rules}
 use Rattle.std.proofs.lemmas.List.{places, same_lists, get_or-take, get_or-drop}
 use Rattle.model_base.specs.Overwrite.{overwritten}
-use Rattle.redo_disk.specs.Sectors.{part}
+use Rattle.redo_disk.specs.Seen.{part}
 use borrow.Rule.Slice.PartMut.{put_mid}
 
 -- the part and the write have something in common, from one offset up to another

@@ -6,7 +6,7 @@ use Rattle.model_device.specs.Within.{IsSectorWrite}
 use Rattle.model_device.specs.declared.write.Write.{Write}
 use Rattle.model_device.proofs.Images.{sector-after_write}
 use Rattle.model_device.proofs.Overwritten.{length-overwritten}
-use Rattle.redo_disk.specs.Sectors.{IsRange, HasSize, write_at}
+use Rattle.redo_disk.specs.Seen.{IsRange, HasSize, write_at}
 
 -- a write that is done whole changes the sectors that it covers
 IsMixed-after_write : (write : Write) (old : List ℕ) → IsSectorWrite (length old) write → IsMixed write old (after_write old write)

@@ -1,7 +1,13 @@
 -- What a device in a file shows.
-use Rattle.std.specs.Prelude.{ℕ}
+use Rattle.std.specs.Prelude.{ℕ, None}
+use Rattle.redo_disk.specs.Seen.{Seen}
 use Rattle.redo_memdisk.specs.declared.file.FileDisk.{FileDisk}
+use Rattle.redo_memdisk.specs.declared.file.TheConstants.{FILE_DISK_LEN}
 
 -- how often its calls have failed
 abbrev pub file_faults : {R F D : Type 0} → FileDisk R F D → ℕ
 file_faults device = device.faults
+
+-- The device, as its readers see it. It tells nothing of what it holds.
+abbrev pub file_seen : {R F D : Type 0} → FileDisk R F D → Seen
+file_seen device = record { size = FILE_DISK_LEN; tells = None; crashed_from = None; faults = device.faults }

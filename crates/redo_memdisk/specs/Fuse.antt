@@ -1,6 +1,6 @@
 -- A fuse lets so many calls of a device through and fails those after them, from when it is armed to the crash.
 use Rattle.std.specs.Prelude.{ℕ, nat_le, Bool, true, false, if◌then◌else◌, Option, Some, None, Result, Ok, Err}
-use Rattle.redo_memdisk.specs.Count.{counted, counted_if}
+use Rattle.redo_io.specs.Plan.{next_count, next_count_if}
 use Rattle.redo_disk.specs.declared.error.DevError.{DevError}
 use Rattle.redo_disk.specs.declared.error.DevError.TheVariants.{Failed, NoMemory}
 use Rattle.redo_memdisk.specs.declared.fuse.Fuse.{Fuse}
@@ -18,21 +18,19 @@ abbrev pub fresh : Fuse
 fresh = record {
   stage = Before;
   limit = None;
-  was_armed = false;
   passed = 0;
-  tripped = false;
+  own = 0;
   pick = None;
+  early_calls = 0;
   early = 0;
   mid = 0;
   late = 0;
-  late_calls = 0;
   late_changes = 0;
-  own = 0;
 }
 
 -- the fuse as it begins the stop
 abbrev pub armed : Option ℕ → Fuse → Fuse
-armed limit fuse = record fuse { stage = Stopping; limit = limit; was_armed = true }
+armed limit fuse = record fuse { stage = Stopping; limit = limit }
 
 -- a stop at this point has passed as many calls as it is to
 abbrev pub has_passed_all : Stage → Option ℕ → ℕ → Bool
@@ -47,28 +45,28 @@ fails_next fuse = has_passed_all fuse.stage fuse.limit fuse.passed
 
 -- the fuse after it failed a call itself
 abbrev pub after_own : Fuse → Fuse
-after_own fuse = record fuse { tripped = true; mid = counted fuse.mid; own = counted fuse.own }
+after_own fuse = record fuse { mid = next_count fuse.mid; own = next_count fuse.own }
 
--- the fuse after it passed a call on
+-- the fuse after it passed a call on, by whether that answered Failed
 abbrev pub after_passed : Stage → Fuse → Bool → Fuse
-after_passed Before fuse failed = record fuse { early = counted_if failed fuse.early }
-after_passed Stopping fuse failed = record fuse { passed = counted fuse.passed; mid = counted_if failed fuse.mid }
-after_passed Crashed fuse failed = record fuse { late_calls = counted fuse.late_calls; late = counted_if failed fuse.late }
+after_passed Before fuse failed = record fuse { early_calls = next_count fuse.early_calls; early = next_count_if failed fuse.early }
+after_passed Stopping fuse failed = record fuse { passed = next_count fuse.passed; mid = next_count_if failed fuse.mid }
+after_passed Crashed fuse failed = record fuse { late = next_count_if failed fuse.late }
 
 -- the fuse after a call, by whether it answered Failed
 abbrev pub after_call : Fuse → Bool → Fuse
 after_call fuse failed = if fails_next fuse then after_own fuse else after_passed fuse.stage fuse failed
 
--- a write or a sync is counted where it comes after the crash
+-- a write, a sync or a further crash is counted where it comes after the crash
 abbrev pub with_change : Stage → Fuse → Fuse
 with_change Before fuse = fuse
 with_change Stopping fuse = fuse
-with_change Crashed fuse = record fuse { late_changes = counted fuse.late_changes }
+with_change Crashed fuse = record fuse { late_changes = next_count fuse.late_changes }
 
 -- the fuse after a write or a sync, by whether it answered Failed
 abbrev pub after_change : Fuse → Bool → Fuse
 after_change fuse failed = after_call (with_change fuse.stage fuse) failed
 
--- the fuse after a crash with this pick
+-- the fuse after a crash with this pick; a crash that follows another is a change like any other
 abbrev pub crashed_with : ℕ → Fuse → Fuse
-crashed_with pick fuse = record fuse { stage = Crashed; pick = Some pick }
+crashed_with pick fuse = record (with_change fuse.stage fuse) { stage = Crashed; pick = Some pick }

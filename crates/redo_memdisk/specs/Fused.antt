@@ -1,4 +1,12 @@
--- What a device with a fuse shows.
+-- What a device with a fuse shows, and what its calls are of the calls of the device behind the fuse: each is passed on,
+-- once and as it is, or the fuse fails it and the device doesn't notice, but for the first such call where that is a
+-- write.
+use Rattle.std.specs.Prelude.{ℕ, ◌≡◌, ◌<◌, ◌+◌, List, length, false, IsTrue, Result, Err}
+use Rattle.model_device.specs.declared.write.Write.{Write}
+use Rattle.redo_disk.specs.Seen.{Seen, ReadStep, WriteStep, SyncStep, CrashStep}
+use Rattle.redo_disk.specs.declared.error.DevError.{DevError}
+use Rattle.redo_disk.specs.declared.error.DevError.TheVariants.{Failed}
+use Rattle.redo_memdisk.specs.Fuse.{after_call, after_change, crashed_with, fails_next, is_failed}
 use Rattle.redo_memdisk.specs.declared.fuse.Fuse.{Fuse}
 use Rattle.redo_memdisk.specs.declared.fused.Fused.{Fused}
 
@@ -9,3 +17,49 @@ inner_of fused = fused.inner
 -- what its fuse was to do, and what it did
 abbrev pub fuse_of : {D : Type 0} → Fused D → Fuse
 fuse_of fused = fused.fuse
+
+-- The device with its fuse, as its readers see it. The fuse's own failures count as the device's.
+abbrev pub seen_through : {D : Type 0} → (D → Seen) → Fused D → Seen
+seen_through seen fused = record {
+  size = (seen fused.inner).size;
+  tells = (seen fused.inner).tells;
+  crashed_from = (seen fused.inner).crashed_from;
+  faults = (seen fused.inner).faults + fused.fuse.own;
+}
+
+-- a read through the fuse
+pub record ReadsThrough {D : Type 0} (seen : D → Seen) (gives : D → ℕ → List ℕ → Result (Unit {0}) DevError → List ℕ → D → Type 0)
+    (old : Fused D) (at : ℕ) (before : List ℕ) (result : Result (Unit {0}) DevError) (out : List ℕ) (new : Fused D) : Type 0 where
+  pub passed : fails_next old.fuse ≡ false → gives old.inner at before result out new.inner
+  pub passed_step : fails_next old.fuse ≡ false → ReadStep at (length before) (seen old.inner) result out (seen new.inner)
+  pub failed : IsTrue (fails_next old.fuse) → result ≡ Err Failed
+  pub same_out : IsTrue (fails_next old.fuse) → out ≡ before
+  pub same_inner : IsTrue (fails_next old.fuse) → new.inner ≡ old.inner
+  pub counts : new.fuse ≡ after_call old.fuse (is_failed result)
+
+-- A write through the fuse. The first call that the fuse fails still reaches the device if it is a write, and nobody
+-- hears the answer.
+pub record WritesThrough {D : Type 0} (seen : D → Seen) (gives : D → Write → Result (Unit {0}) DevError → D → Type 0)
+    (old : Fused D) (write : Write) (result : Result (Unit {0}) DevError) (new : Fused D) : Type 0 where
+  pub passed : fails_next old.fuse ≡ false → gives old.inner write result new.inner
+  pub passed_step : fails_next old.fuse ≡ false → WriteStep write (seen old.inner) result (seen new.inner)
+  pub failed : IsTrue (fails_next old.fuse) → result ≡ Err Failed
+  pub first : IsTrue (fails_next old.fuse) → old.fuse.own ≡ 0 →
+      (unheard : Result (Unit {0}) DevError) × gives old.inner write unheard new.inner × WriteStep write (seen old.inner) unheard (seen new.inner)
+  pub later : IsTrue (fails_next old.fuse) → 0 < old.fuse.own → new.inner ≡ old.inner
+  pub counts : new.fuse ≡ after_change old.fuse (is_failed result)
+
+-- a sync through the fuse
+pub record SyncsThrough {D : Type 0} (seen : D → Seen) (gives : D → Result (Unit {0}) DevError → D → Type 0)
+    (old : Fused D) (result : Result (Unit {0}) DevError) (new : Fused D) : Type 0 where
+  pub passed : fails_next old.fuse ≡ false → gives old.inner result new.inner
+  pub passed_step : fails_next old.fuse ≡ false → SyncStep (seen old.inner) result (seen new.inner)
+  pub failed : IsTrue (fails_next old.fuse) → result ≡ Err Failed
+  pub same_inner : IsTrue (fails_next old.fuse) → new.inner ≡ old.inner
+  pub counts : new.fuse ≡ after_change old.fuse (is_failed result)
+
+-- A crash, with the same pick. It ends the stop.
+pub record CrashesThrough {D : Type 0} (seen : D → Seen) (gives : D → ℕ → D → Type 0) (old : Fused D) (pick : ℕ) (new : Fused D) : Type 0 where
+  pub passed : gives old.inner pick new.inner
+  pub passed_step : CrashStep (seen old.inner) (seen new.inner)
+  pub notes : new.fuse ≡ crashed_with pick old.fuse

@@ -1,5 +1,4 @@
-pub mod Count
+pub mod File
 pub mod Fuse
 pub mod Fused
 pub mod Memory
-pub mod File

@@ -1,50 +1,57 @@
 -- A device in memory: what it means, and what its calls do to it.
-use Rattle.std.specs.Prelude.{ℕ, ◌≡◌, ◌==◌, Bool, if◌then◌else◌, List, Result, Ok, Err}
-use Rattle.std.specs.List.{list_any}
-use Rattle.model_device.specs.Disk.{Disk}
+use Rattle.std.specs.Prelude.{ℕ, ◌≡◌, if◌then◌else◌, List, length, Option, Some, Result, Ok, Err, OnOk, OnErr}
+use Rattle.model_device.specs.Disk.{Disk, after_writes}
 use Rattle.model_device.specs.Calls.{written, synced}
 use Rattle.model_device.specs.Crash.{crashed}
 use Rattle.model_device.specs.declared.write.Write.{Write}
+use Rattle.redo_io.specs.Plan.{Planned, after_call, fails_now}
+use Rattle.redo_disk.specs.Seen.{Seen, part}
 use Rattle.redo_disk.specs.declared.error.DevError.{DevError}
 use Rattle.redo_disk.specs.declared.error.DevError.TheVariants.{Failed, NoMemory}
-use Rattle.redo_memdisk.specs.Count.{counted, counted_if}
 
 -- what a device in memory shows
 pub record MemState : Type 0 where
   pub disk : Disk
-  -- the numbers of the calls that fail
-  pub failing : List ℕ
-  -- the number of the next call; reads, writes and syncs are numbered together, from 0
-  pub calls : ℕ
-  -- how many calls have failed
-  pub faults : ℕ
+  -- what it meant just before its last crash
+  pub crashed_from : Option Disk
+  -- which calls fail; reads, writes and syncs are numbered together
+  pub plan : Planned
 
--- the number is one of these
-abbrev pub names : List ℕ → ℕ → Bool
-names failing number = list_any (λ name. name == number) failing
+-- the device, as its readers see it
+abbrev pub mem_seen : MemState → Seen
+mem_seen state = record {
+  size = length state.disk.base;
+  tells = Some state.disk;
+  crashed_from = state.crashed_from;
+  faults = state.plan.faults;
+}
 
--- the next call fails
-abbrev pub fails_now : MemState → Bool
-fails_now state = names state.failing state.calls
+-- what these bytes at the last good sync and these writes since mean
+abbrev pub pending_disk : List ℕ → List Write → Disk
+pending_disk base writes = record { base = base; writes = writes; reads = after_writes base writes }
 
--- what a call answers that fails or not
-abbrev pub answer_where : Bool → Result (Unit {0}) DevError
-answer_where fails = if fails then Err Failed else Ok tt
+-- what the next call answers
+abbrev pub next_answer : Planned → Result (Unit {0}) DevError
+next_answer plan = if fails_now plan then Err Failed else Ok tt
 
--- the state with one more call made
-abbrev pub after_call : MemState → MemState
-after_call state = record state { calls = counted state.calls; faults = counted_if (fails_now state) state.faults }
+-- a read, which leaves the buffer as it was where it fails
+pub record ReadsMemory (old : MemState) (at : ℕ) (before : List ℕ) (result : Result (Unit {0}) DevError) (out : List ℕ) (new : MemState) : Type 0 where
+  pub answer : result ≡ next_answer old.plan
+  pub ok : OnOk result (out ≡ part old.disk.reads at (length before))
+  pub err : OnErr result (out ≡ before)
+  pub after : new ≡ record old { plan = after_call old.plan }
 
 -- A write that finds no memory changes nothing. Any other is pending, whether it fails or not.
-abbrev pub Writes : Write → MemState → Result (Unit {0}) DevError → MemState → Type 0
-Writes write old (Err NoMemory) new = new ≡ old
-Writes write old answer new =
-    (answer ≡ answer_where (fails_now old)) × (new ≡ record (after_call old) { disk = written old.disk write })
+abbrev pub WritesMemory : MemState → Write → Result (Unit {0}) DevError → MemState → Type 0
+WritesMemory old write (Err NoMemory) new = new ≡ old
+WritesMemory old write answer new =
+    (answer ≡ next_answer old.plan) × (new ≡ record old { disk = written old.disk write; plan = after_call old.plan })
 
--- the state after a sync, which does nothing where it fails
-abbrev pub after_sync : MemState → MemState
-after_sync state = record (after_call state) { disk = if fails_now state then state.disk else synced state.disk }
+-- a sync, which does nothing where it fails
+pub record SyncsMemory (old : MemState) (result : Result (Unit {0}) DevError) (new : MemState) : Type 0 where
+  pub answer : result ≡ next_answer old.plan
+  pub after : new ≡ record old { disk = if fails_now old.plan then old.disk else synced old.disk; plan = after_call old.plan }
 
--- the state after a crash with this pick
-abbrev pub after_crash : ℕ → MemState → MemState
-after_crash pick state = record state { disk = crashed pick state.disk }
+-- a crash with this pick
+abbrev pub CrashesMemory : MemState → ℕ → MemState → Type 0
+CrashesMemory old pick new = new ≡ record old { disk = crashed pick old.disk; crashed_from = Some old.disk }

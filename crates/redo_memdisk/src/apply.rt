@@ -1,14 +1,15 @@
 // Writes that are put into a row of bytes, and a crash that keeps some of their sectors.
-ghost use Rattle.std.specs.Prelude.{ℕ, List, ◌≡◌, ◌+◌, ◌≤◌, ◌<◌, ◌^◌, ◌%◌, length};
+ghost use Rattle.std.specs.Prelude.{ℕ, List, ◌≡◌, ◌+◌, ◌≤◌, ◌<◌, ◌^◌, ◌%◌, length, IfOk};
 ghost use Rattle.std.specs.List.{flat_map};
 ghost use Rattle.model_base.specs.Overwrite.{overwritten};
 ghost use Rattle.model_device.specs.Crash.{sector_writes, survivors};
 ghost use Rattle.model_device.specs.Disk.{after_write, after_writes};
 ghost use Rattle.model_device.specs.Within.{AreWithin, IsWithin};
-ghost use Rattle.redo_disk.specs.Sectors.{part};
+ghost use Rattle.redo_disk.specs.Seen.{part};
 
 use crate::SECTOR;
 use model_device::Write;
+use std::alloc::{AllocError, Global};
 
 fn put(row: &mut [u8], at: usize, bytes: &[u8])
     requires { at + length bytes.now ≤ length row.old }
@@ -25,6 +26,16 @@ pub(crate) fn apply_all(row: &mut [u8], writes: &[Write])
     for write in writes {
         put(row, write.at as usize, write.bytes.as_slice());
     }
+}
+
+/// What a row of bytes holds after these writes.
+pub fn apply_writes(alloc: Global, base: &[u8], writes: &[Write]) -> Result<Vec<u8>, AllocError>
+    requires { AreWithin (length base.now) writes.now }
+    ensures { IfOk result (λ bytes. bytes.items ≡ after_writes base.now writes.now) }
+{
+    let mut row = base.to_vec(alloc)?;
+    apply_all(&mut row, writes);
+    Ok(row)
 }
 
 /// Puts into a part of a row, from the offset on, what a write into the row puts there.

@@ -1,9 +1,8 @@
 // A device in a file.
-ghost use Rattle.std.specs.Prelude.{◌≡◌, ◌^◌, None, List, ℕ};
-ghost use Rattle.redo_disk.specs.Sectors.{HasCause};
-ghost use Rattle.redo_memdisk.specs.File.{file_faults};
+ghost use Rattle.std.specs.Prelude.{◌≡◌};
+ghost use Rattle.redo_disk.specs.Seen.{HasCause};
+ghost use Rattle.redo_memdisk.specs.File.{file_faults, file_seen};
 
-use crate::count::counted;
 use redo_disk::{DevError, Sectors};
 use std::fs::{OpenFile, OpenOptions};
 use std::io;
@@ -59,7 +58,7 @@ impl<R: Files> FileDisk<R> {
         if self.try_with_file(act).is_ok() {
             return Ok(());
         }
-        self.faults = counted(self.faults);
+        self.faults = self.faults.saturating_add(1);
         Err(DevError::Failed)
     }
 
@@ -105,11 +104,7 @@ fn write_at<F: Write + Seek>(file: &mut F, at: u64, bytes: &[u8]) -> io::Result<
 }
 
 impl<R: Files> Sectors for FileDisk<R> {
-    ghost size = { λ _. 2 ^ 40 };
-
-    ghost tells = { λ _. None };
-
-    ghost faults = { λ device. file_faults device };
+    ghost seen = { file_seen };
 
     fn len(&self) -> u64 {
         FILE_DISK_LEN

@@ -1,8 +1,8 @@
 // The plan of a stop, and what came of it.
-ghost use Rattle.std.specs.Prelude.{◌≡◌};
-ghost use Rattle.redo_memdisk.specs.Fuse.{after_call, after_change, armed, crashed_with, fails_next, fresh, is_failed};
+ghost use Rattle.std.specs.Prelude.{◌≡◌, ◌≤◌};
+ghost use Rattle.redo_io.specs.Plan.{next_count_if};
+ghost use Rattle.redo_memdisk.specs.Fuse.{after_call, after_change, armed, crashed_with, fails_next, fresh, is_failed, with_change};
 
-use crate::count::{counted, counted_if};
 use redo_disk::DevError;
 
 /// Where a fuse is in its run.
@@ -22,26 +22,24 @@ pub struct Fuse {
     pub stage: Stage,
     /// How many calls it passes from when it is armed to the crash; all of them where there is no limit.
     pub limit: Option<u64>,
-    /// Whether it was armed.
-    pub was_armed: bool,
     /// How many calls it has passed since it was armed, up to the crash.
     pub passed: u64,
-    /// Whether it has failed a call itself.
-    pub tripped: bool,
+    /// How many calls it has failed itself.
+    pub own: u64,
     /// What the last crash picked.
     pub pick: Option<u64>,
+    /// How many calls came before it was armed. Who knows how many calls the formatting made can tell by it that the
+    /// next call came under the stop.
+    pub early_calls: u64,
     /// How many calls answered `Failed` before it was armed.
     pub early: u64,
     /// How many calls answered `Failed` from then to the crash.
     pub mid: u64,
     /// How many calls answered `Failed` after the crash.
     pub late: u64,
-    /// How many calls came after the crash.
-    pub late_calls: u64,
-    /// How many of these were writes and syncs.
+    /// How many writes, syncs and further crashes came after the crash. Where it is 0, what the device means is what the
+    /// one crash left.
     pub late_changes: u64,
-    /// How many calls it has failed itself.
-    pub own: u64,
 }
 
 /// Whether a call answered that the device failed.
@@ -49,6 +47,17 @@ pub(crate) fn is_failed(answer: &Result<(), DevError>) -> bool
     ensures { result ≡ is_failed answer.now }
 {
     matches!(answer, Err(DevError::Failed))
+}
+
+/// The count after one more that counts or not.
+fn next_count_if(counts: bool, count: u64) -> u64
+    ensures { result ≡ next_count_if counts count }
+{
+    if counts {
+        count.saturating_add(1)
+    } else {
+        count
+    }
 }
 
 impl Fuse {
@@ -59,16 +68,14 @@ impl Fuse {
         Fuse {
             stage: Stage::Before,
             limit: None,
-            was_armed: false,
             passed: 0,
-            tripped: false,
+            own: 0,
             pick: None,
+            early_calls: 0,
             early: 0,
             mid: 0,
             late: 0,
-            late_calls: 0,
             late_changes: 0,
-            own: 0,
         }
     }
 
@@ -89,39 +96,46 @@ impl Fuse {
     {
         self.stage = Stage::Stopping;
         self.limit = limit;
-        self.was_armed = true;
     }
 
     /// Counts a call by whether it answered that the device failed.
     pub(crate) fn note_call(&mut self, failed: bool)
-        ensures { self.new ≡ after_call self.old failed }
+        ensures after { self.new ≡ after_call self.old failed }
+        ensures later { self.old.own ≤ self.new.own }
     {
         if self.fails_next() {
-            self.tripped = true;
-            self.mid = counted(self.mid);
-            self.own = counted(self.own);
+            self.mid = self.mid.saturating_add(1);
+            self.own = self.own.saturating_add(1);
             return;
         }
         match self.stage {
-            Stage::Before => self.early = counted_if(failed, self.early),
+            Stage::Before => {
+                self.early_calls = self.early_calls.saturating_add(1);
+                self.early = next_count_if(failed, self.early);
+            }
             Stage::Stopping => {
-                self.passed = counted(self.passed);
-                self.mid = counted_if(failed, self.mid);
+                self.passed = self.passed.saturating_add(1);
+                self.mid = next_count_if(failed, self.mid);
             }
-            Stage::Crashed => {
-                self.late_calls = counted(self.late_calls);
-                self.late = counted_if(failed, self.late);
-            }
+            Stage::Crashed => self.late = next_count_if(failed, self.late),
+        }
+    }
+
+    /// Counts what changes a device after its crash.
+    fn note_late_change(&mut self)
+        ensures { self.new ≡ with_change self.old.stage self.old }
+    {
+        if self.stage == Stage::Crashed {
+            self.late_changes = self.late_changes.saturating_add(1);
         }
     }
 
     /// Counts a write or a sync by whether it answered that the device failed.
     pub(crate) fn note_change(&mut self, failed: bool)
-        ensures { self.new ≡ after_change self.old failed }
+        ensures after { self.new ≡ after_change self.old failed }
+        ensures later { self.old.own ≤ self.new.own }
     {
-        if self.stage == Stage::Crashed {
-            self.late_changes = counted(self.late_changes);
-        }
+        self.note_late_change();
         self.note_call(failed);
     }
 
@@ -129,6 +143,7 @@ impl Fuse {
     pub(crate) fn note_crash(&mut self, pick: u64)
         ensures { self.new ≡ crashed_with pick self.old }
     {
+        self.note_late_change();
         self.stage = Stage::Crashed;
         self.pick = Some(pick);
     }

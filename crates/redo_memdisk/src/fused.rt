@@ -1,10 +1,8 @@
 // A device that a fuse stops.
-ghost use Rattle.std.specs.Prelude.{◌≡◌, ◌+◌, ◌≤◌, length, IsTrue, true, false, Option, Some, None, IfSome, OnOk, OnErr};
-ghost use Rattle.model_device.specs.Calls.{written, FailsWrite, synced, Crashes};
-ghost use Rattle.redo_disk.specs.Sectors.{IsRange, HasSize, HasCause, OnTold, part, write_at};
-ghost use Rattle.redo_memdisk.specs.Fuse.{after_call, after_change, armed, crashed_with, fails_next, fresh, is_failed};
+ghost use Rattle.std.specs.Prelude.{◌≡◌, Option};
+ghost use Rattle.redo_memdisk.specs.Fuse.{armed, fresh};
 ghost use Rattle.redo_memdisk.specs.declared.fuse.Stage.{Stage};
-ghost use Rattle.redo_memdisk.specs.Fused.{fuse_of, inner_of};
+ghost use Rattle.redo_memdisk.specs.Fused.{CrashesThrough, ReadsThrough, SyncsThrough, WritesThrough, fuse_of, inner_of, seen_through};
 
 use crate::Fuse;
 use crate::cut::cut_write;
@@ -67,32 +65,21 @@ impl<D> Fused<D> {
 }
 
 impl<D: Sectors> Sectors for Fused<D> {
-    ghost size = { λ fused. D.size (inner_of fused) };
+    ghost seen = { seen_through D.seen };
 
-    ghost tells = { λ fused. D.tells (inner_of fused) };
+    ghost read_gives = { ReadsThrough D.seen D.read_gives };
 
-    ghost faults = { λ fused. D.faults (inner_of fused) + (fuse_of fused).own };
+    ghost write_gives = { WritesThrough D.seen D.write_gives };
+
+    ghost sync_gives = { SyncsThrough D.seen D.sync_gives };
+
+    ghost crash_gives = { CrashesThrough D.seen D.crash_gives };
 
     fn len(&self) -> u64 {
         self.inner.len()
     }
 
-    fn read(&mut self, at: u64, out: &mut [u8]) -> Result<(), DevError>
-        requires { IsRange (D.size (inner_of self.old)) at (length out.old) }
-
-        ensures bytes { OnOk result (IfSome (D.tells (inner_of self.old))
-            (λ disk. out.new ≡ part disk.reads at (length out.old))) }
-        ensures same { D.tells (inner_of self.new) ≡ D.tells (inner_of self.old) }
-        ensures size { D.size (inner_of self.new) ≡ D.size (inner_of self.old) }
-        ensures cause { HasCause (D.faults (inner_of self.old) + (fuse_of self.old).own)
-            (D.faults (inner_of self.new) + (fuse_of self.new).own) result }
-
-        ensures fuse { fuse_of self.new ≡ after_call (fuse_of self.old) (is_failed result) }
-        ensures stopped { IsTrue (fails_next (fuse_of self.old)) → result ≡ Err DevError.Failed }
-        ensures kept { IsTrue (fails_next (fuse_of self.old)) → inner_of self.new ≡ inner_of self.old }
-        ensures inner { fails_next (fuse_of self.old) ≡ false
-            → HasCause (D.faults (inner_of self.old)) (D.faults (inner_of self.new)) result }
-    {
+    fn read(&mut self, at: u64, out: &mut [u8]) -> Result<(), DevError> {
         if self.fuse.fails_next() {
             self.fuse.note_call(true);
             return Err(DevError::Failed);
@@ -102,32 +89,9 @@ impl<D: Sectors> Sectors for Fused<D> {
         answer
     }
 
-    fn write(&mut self, at: u64, bytes: &[u8]) -> Result<(), DevError>
-        requires { IsRange (D.size (inner_of self.old)) at (length bytes.now) }
-
-        ensures ok { OnOk result (OnTold (D.tells (inner_of self.old)) (D.tells (inner_of self.new))
-            (λ old new. new ≡ written old (write_at at bytes.now))) }
-        ensures err { OnErr result (OnTold (D.tells (inner_of self.old)) (D.tells (inner_of self.new))
-            (FailsWrite (write_at at bytes.now))) }
-        ensures size { D.size (inner_of self.new) ≡ D.size (inner_of self.old) }
-        ensures cause { HasCause (D.faults (inner_of self.old) + (fuse_of self.old).own)
-            (D.faults (inner_of self.new) + (fuse_of self.new).own) result }
-
-        ensures fuse { fuse_of self.new ≡ after_change (fuse_of self.old) (is_failed result) }
-        ensures stopped { IsTrue (fails_next (fuse_of self.old)) → result ≡ Err DevError.Failed }
-        // the first call that it fails is passed on
-        ensures cut { IsTrue (fails_next (fuse_of self.old)) → (fuse_of self.old).tripped ≡ false
-            → (answer : _) × D.write_gives (inner_of self.old) (write_at at bytes.now) answer (inner_of self.new) }
-        ensures kept { IsTrue (fails_next (fuse_of self.old)) → (fuse_of self.old).tripped ≡ true
-            → inner_of self.new ≡ inner_of self.old }
-        ensures passed_on { fails_next (fuse_of self.old) ≡ false
-            → D.write_gives (inner_of self.old) (write_at at bytes.now) result (inner_of self.new) }
-        ensures later { D.faults (inner_of self.old) ≤ D.faults (inner_of self.new) }
-        ensures inner { fails_next (fuse_of self.old) ≡ false
-            → HasCause (D.faults (inner_of self.old)) (D.faults (inner_of self.new)) result }
-    {
+    fn write(&mut self, at: u64, bytes: &[u8]) -> Result<(), DevError> {
         if self.fuse.fails_next() {
-            if !self.fuse.tripped {
+            if self.fuse.own == 0 {
                 cut_write(&mut self.inner, at, bytes);
             }
             self.fuse.note_change(true);
@@ -138,20 +102,7 @@ impl<D: Sectors> Sectors for Fused<D> {
         answer
     }
 
-    fn sync(&mut self) -> Result<(), DevError>
-        ensures ok { OnOk result (OnTold (D.tells (inner_of self.old)) (D.tells (inner_of self.new))
-            (λ old new. new ≡ synced old)) }
-        ensures err { OnErr result (D.tells (inner_of self.new) ≡ D.tells (inner_of self.old)) }
-        ensures size { D.size (inner_of self.new) ≡ D.size (inner_of self.old) }
-        ensures cause { HasCause (D.faults (inner_of self.old) + (fuse_of self.old).own)
-            (D.faults (inner_of self.new) + (fuse_of self.new).own) result }
-
-        ensures fuse { fuse_of self.new ≡ after_change (fuse_of self.old) (is_failed result) }
-        ensures stopped { IsTrue (fails_next (fuse_of self.old)) → result ≡ Err DevError.Failed }
-        ensures kept { IsTrue (fails_next (fuse_of self.old)) → inner_of self.new ≡ inner_of self.old }
-        ensures inner { fails_next (fuse_of self.old) ≡ false
-            → HasCause (D.faults (inner_of self.old)) (D.faults (inner_of self.new)) result }
-    {
+    fn sync(&mut self) -> Result<(), DevError> {
         if self.fuse.fails_next() {
             self.fuse.note_change(true);
             return Err(DevError::Failed);
@@ -161,15 +112,7 @@ impl<D: Sectors> Sectors for Fused<D> {
         answer
     }
 
-    fn crash(&mut self, pick: u64)
-        ensures left { OnTold (D.tells (inner_of self.old)) (D.tells (inner_of self.new)) Crashes }
-        ensures size { D.size (inner_of self.new) ≡ D.size (inner_of self.old) }
-        ensures later { D.faults (inner_of self.old) + (fuse_of self.old).own
-            ≤ D.faults (inner_of self.new) + (fuse_of self.new).own }
-
-        ensures fuse { fuse_of self.new ≡ crashed_with pick (fuse_of self.old) }
-        ensures inner_later { D.faults (inner_of self.old) ≤ D.faults (inner_of self.new) }
-    {
+    fn crash(&mut self, pick: u64) {
         self.inner.crash(pick);
         self.fuse.note_crash(pick);
     }

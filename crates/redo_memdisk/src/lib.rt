@@ -1,19 +1,22 @@
 //! Devices to run on: one in memory that crashes as it is told, one in a file, and a fuse round a device that stops it
-//! at a planned call.
+//! at a planned call. Beside them stands the test by which the definition of an image is tried out.
 #![tactic(auto)]
 
 mod apply;
-mod count;
 mod cut;
 mod file;
 mod fuse;
 mod fused;
+mod image;
+mod medium;
 mod memory;
 mod plan;
 
+pub use apply::apply_writes;
 pub use file::{FILE_DISK_LEN, FileDisk};
 pub use fuse::{Fuse, Stage};
 pub use fused::Fused;
+pub use image::is_image;
 pub use memory::MemDisk;
 
 /// Bytes of a sector.

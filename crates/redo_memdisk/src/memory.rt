@@ -1,49 +1,47 @@
 // A device in memory.
-ghost use Rattle.std.specs.Prelude.{◌≡◌, ◌≤◌, ◌%◌, [], length, replicate, IfSome, IfOk, OnOk, OnErr, Some};
-ghost use Rattle.model_device.specs.Calls.{written, FailsWrite, synced, Crashes};
-ghost use Rattle.model_device.specs.Crash.{crashed};
+ghost use Rattle.std.specs.Prelude.{◌≡◌, ◌%◌, [], length, replicate, IfOk, None};
 ghost use Rattle.model_device.specs.Disk.{settled};
-ghost use Rattle.redo_disk.specs.Sectors.{IsRange, HasSize, HasCause, OnTold, part, write_at};
-ghost use Rattle.redo_memdisk.specs.Memory.{after_call, after_crash, after_sync, answer_where, fails_now, Writes};
+ghost use Rattle.redo_io.specs.Plan.{unused};
+ghost use Rattle.redo_disk.specs.Seen.{IsRange, ReadStep, WriteStep, SyncStep, CrashStep, write_at};
+ghost use Rattle.redo_memdisk.specs.Memory.{CrashesMemory, ReadsMemory, SyncsMemory, WritesMemory, mem_seen};
 
 use crate::apply::{apply_all, apply_survivors, read_through};
-use crate::plan::Plan;
+use crate::medium::Medium;
+use crate::plan::count_call;
 use model_base::{BLOCK_SIZE, Bytes};
 use model_device::Write;
 use redo_disk::{DevError, Sectors};
+use redo_io::Plan;
 use std::alloc::{AllocError, Global};
 use std::marker::Model;
+use std::snapshot::Snapshot;
 
 /// A device in memory. It fails the calls that it is told to fail, and a crash keeps those of the sector writes since
 /// the last good sync that the pick names. A write that fails is pending like one that does not.
 #[derive(Drop)]
 pub struct MemDisk {
     alloc: Global,
-    base: Vec<u8>,
-    pending: Vec<Write>,
+    medium: Medium,
+    /// What the last crash found, which only clauses read.
+    crashed_from: Option<Snapshot<Medium>>,
     plan: Plan,
 }
 
 impl Model for MemDisk {
     ghost use Rattle.std.specs.Prelude.{length};
-    ghost use Rattle.model_device.specs.Disk.{after_writes};
+    ghost use Rattle.std.specs.Option.{option_map};
     ghost use Rattle.model_device.specs.Within.{AreSectorWrites};
-    ghost use Rattle.redo_memdisk.specs.Memory.{MemState};
+    ghost use Rattle.redo_memdisk.specs.Memory.{MemState, pending_disk};
 
     ghost Value = { MemState };
 
     ghost view = { λ memory. record {
-      disk = record {
-        base = memory.base.items;
-        writes = memory.pending.items;
-        reads = after_writes memory.base.items memory.pending.items;
-      };
-      failing = memory.plan.failing.items;
-      calls = memory.plan.calls;
-      faults = memory.plan.faults;
+      disk = pending_disk memory.medium.base.items memory.medium.pending.items;
+      crashed_from = option_map (λ found. pending_disk found.value.base.items found.value.pending.items) memory.crashed_from;
+      plan = memory.plan;
     } };
 
-    ghost invariant = { λ memory. AreSectorWrites (length memory.base.items) memory.pending.items };
+    ghost invariant = { λ memory. AreSectorWrites (length memory.medium.base.items) memory.medium.pending.items };
 }
 
 impl MemDisk {
@@ -51,7 +49,7 @@ impl MemDisk {
     pub fn new(alloc: Global, len: u64) -> Result<Self, AllocError>
         requires { len % BLOCK_SIZE ≡ 0 }
         ensures { IfOk result (λ memory. memory
-            ≡ record { disk = settled (replicate len 0); failing = []; calls = 0; faults = 0 }) }
+            ≡ record { disk = settled (replicate len 0); crashed_from = None; plan = unused [] }) }
     {
         MemDisk::failing(alloc, len, Vec::new(alloc))
     }
@@ -61,80 +59,71 @@ impl MemDisk {
     pub fn failing(alloc: Global, len: u64, calls: Vec<u64>) -> Result<Self, AllocError>
         requires { len % BLOCK_SIZE ≡ 0 }
         ensures { IfOk result (λ memory. memory
-            ≡ record { disk = settled (replicate len 0); failing = calls.items; calls = 0; faults = 0 }) }
+            ≡ record { disk = settled (replicate len 0); crashed_from = None; plan = unused calls.items }) }
     {
         Ok(MemDisk {
             alloc,
-            base: vec![in alloc; 0; len as usize]?,
-            pending: Vec::new(alloc),
+            medium: Medium {
+                base: vec![in alloc; 0; len as usize]?,
+                pending: Vec::new(alloc),
+            },
+            crashed_from: None,
             plan: Plan::new(calls),
         })
     }
 }
 
 impl Sectors for MemDisk {
-    ghost size = { λ state. length state.disk.base };
+    ghost seen = { mem_seen };
 
-    ghost tells = { λ state. Some state.disk };
+    ghost read_gives = { ReadsMemory };
 
-    ghost faults = { λ state. state.faults };
+    ghost write_gives = { WritesMemory };
 
-    ghost write_gives = { λ old write answer new. Writes write old answer new };
+    ghost sync_gives = { SyncsMemory };
+
+    ghost crash_gives = { CrashesMemory };
 
     fn len(&self) -> u64 {
-        self.base.len() as u64
+        self.medium.base.len() as u64
     }
 
     fn read(&mut self, at: u64, out: &mut [u8]) -> Result<(), DevError>
         requires { IsRange (length self.old.disk.base) at (length out.old) }
-
-        ensures bytes { OnOk result (out.new ≡ part self.old.disk.reads at (length out.old)) }
-        ensures cause { HasCause self.old.faults self.new.faults result }
-
-        ensures answer { result ≡ answer_where (fails_now self.old) }
-        ensures kept { OnErr result (out.new ≡ out.old) }
-        ensures after { self.new ≡ after_call self.old }
+        ensures step { ReadStep at (length out.old) (mem_seen self.old) result out.new (mem_seen self.new) }
+        ensures gives { ReadsMemory self.old at out.old result out.new self.new }
     {
-        self.plan.count_call()?;
-        read_through(&self.base, &self.pending, at as usize, out);
+        count_call(&mut self.plan)?;
+        read_through(&self.medium.base, &self.medium.pending, at as usize, out);
         Ok(())
     }
 
     fn write(&mut self, at: u64, bytes: &[u8]) -> Result<(), DevError>
         requires { IsRange (length self.old.disk.base) at (length bytes.now) }
-
-        ensures ok { OnOk result (self.new.disk ≡ written self.old.disk (write_at at bytes.now)) }
-        ensures err { OnErr result (FailsWrite (write_at at bytes.now) self.old.disk self.new.disk) }
-        ensures size { length self.new.disk.base ≡ length self.old.disk.base }
-        ensures cause { HasCause self.old.faults self.new.faults result }
-
-        ensures gives { Writes (write_at at bytes.now) self.old result self.new }
+        ensures step { WriteStep (write_at at bytes.now) (mem_seen self.old) result (mem_seen self.new) }
+        ensures gives { WritesMemory self.old (write_at at bytes.now) result self.new }
     {
         let copy = Bytes::new(bytes.to_vec(self.alloc)?);
-        self.pending.push(Write { at, bytes: copy })?;
-        self.plan.count_call()
+        self.medium.pending.push(Write { at, bytes: copy })?;
+        count_call(&mut self.plan)
     }
 
     fn sync(&mut self) -> Result<(), DevError>
-        ensures cause { HasCause self.old.faults self.new.faults result }
-        ensures size { length self.new.disk.base ≡ length self.old.disk.base }
-
-        ensures answer { result ≡ answer_where (fails_now self.old) }
-        ensures after { self.new ≡ after_sync self.old }
+        ensures step { SyncStep (mem_seen self.old) result (mem_seen self.new) }
+        ensures gives { SyncsMemory self.old result self.new }
     {
-        self.plan.count_call()?;
-        apply_all(&mut self.base, &self.pending);
-        self.pending.clear();
+        count_call(&mut self.plan)?;
+        apply_all(&mut self.medium.base, &self.medium.pending);
+        self.medium.pending.clear();
         Ok(())
     }
 
     fn crash(&mut self, pick: u64)
-        ensures left { Crashes self.old.disk self.new.disk }
-        ensures size { length self.new.disk.base ≡ length self.old.disk.base }
-
-        ensures after { self.new ≡ after_crash pick self.old }
+        ensures step { CrashStep (mem_seen self.old) (mem_seen self.new) }
+        ensures gives { CrashesMemory self.old pick self.new }
     {
-        apply_survivors(&mut self.base, &self.pending, pick);
-        self.pending.clear();
+        self.crashed_from = Some(Snapshot::of(&self.medium));
+        apply_survivors(&mut self.medium.base, &self.medium.pending, pick);
+        self.medium.pending.clear();
     }
 }

@@ -1,43 +1,21 @@
-// Which calls of a device fail.
+// The calls of a device that are planned to fail.
 ghost use Rattle.std.specs.Prelude.{◌≡◌};
-ghost use Rattle.redo_memdisk.specs.Count.{counted, counted_if};
-ghost use Rattle.redo_memdisk.specs.Memory.{answer_where, names};
+ghost use Rattle.redo_io.specs.Plan.{after_call};
+ghost use Rattle.redo_disk.specs.Seen.{HasCause};
+ghost use Rattle.redo_memdisk.specs.Memory.{next_answer};
 
-use crate::count::{counted, counted_if};
 use redo_disk::DevError;
+use redo_io::Plan;
 
-/// The numbers of the calls that fail, and how far the calls have come.
-#[derive(Drop)]
-pub(crate) struct Plan {
-    pub failing: Vec<u64>,
-    /// The number of the next call.
-    pub calls: u64,
-    pub faults: u64,
-}
-
-impl Plan {
-    pub fn new(failing: Vec<u64>) -> Self
-        ensures failing { result.failing ≡ failing }
-        ensures calls { result.calls ≡ 0 }
-        ensures faults { result.faults ≡ 0 }
-    {
-        Plan {
-            failing,
-            calls: 0,
-            faults: 0,
-        }
-    }
-
-    /// Counts a call, and fails it if the plan names its number.
-    pub fn count_call(&mut self) -> Result<(), DevError>
-        ensures answer { result ≡ answer_where (names self.old.failing.items self.old.calls) }
-        ensures failing { self.new.failing ≡ self.old.failing }
-        ensures calls { self.new.calls ≡ counted self.old.calls }
-        ensures faults { self.new.faults ≡ counted_if (names self.old.failing.items self.old.calls) self.old.faults }
-    {
-        let fails = self.failing.contains(&self.calls);
-        self.calls = counted(self.calls);
-        self.faults = counted_if(fails, self.faults);
-        if fails { Err(DevError::Failed) } else { Ok(()) }
+/// Counts a call of a device, and fails it if the plan says so.
+pub(crate) fn count_call(plan: &mut Plan) -> Result<(), DevError>
+    ensures answer { result ≡ next_answer plan.old }
+    ensures after { plan.new ≡ after_call plan.old }
+    ensures cause { HasCause plan.old.faults plan.new.faults result }
+{
+    if plan.fails() {
+        Err(DevError::Failed)
+    } else {
+        Ok(())
     }
 }

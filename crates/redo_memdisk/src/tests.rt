@@ -1,24 +1,34 @@
 // Crashes, stops and failures of small devices, call by call.
-ghost use Rattle.std.specs.Prelude.{◌≡◌, ◌+◌, ◌*◌, ◌≤◌};
+ghost use Rattle.std.specs.Prelude.{◌≡◌, ◌+◌, ◌*◌, ◌≤◌, length};
+ghost use Rattle.std.specs.Bool.{OnTrue};
+ghost use Rattle.model_device.specs.Within.{AreWithin};
+
+mod counted_file;
 
 use super::*;
+use counted_file::CountedFiles;
+use model_base::Bytes;
+use model_device::Write;
 use redo_disk::{DevError, Sectors, write_and_sync};
+use std::alloc::{AllocError, Global};
+use std::cell::Cell;
 use std::fs;
+use std::rc::Rc;
 use std::test::Fail;
 
 const SECTORS: u64 = 4;
 
 fn fill<D: Sectors>(device: &mut D, sector: u64, byte: u8) -> Result<(), DevError>
-    requires { 512 * sector + 512 ≤ D.size device.old }
-    ensures { D.size device.new ≡ D.size device.old }
+    requires { 512 * sector + 512 ≤ (D.seen device.old).size }
+    ensures { (D.seen device.new).size ≡ (D.seen device.old).size }
 {
     let _len = device.len();
     device.write(512 * sector, &[byte; 512])
 }
 
 fn first_byte<D: Sectors>(device: &mut D, sector: u64) -> Result<u8, DevError>
-    requires { 512 * sector + 512 ≤ D.size device.old }
-    ensures { D.size device.new ≡ D.size device.old }
+    requires { 512 * sector + 512 ≤ (D.seen device.old).size }
+    ensures { (D.seen device.new).size ≡ (D.seen device.old).size }
 {
     let _len = device.len();
     let mut out = [9; 512];
@@ -114,7 +124,7 @@ fn a_fuse_stops_a_device(rt: HostRuntime) -> Result<(), Fail> {
         assert_eq!(rt; first_byte(&mut fused, 0)?, left, "at the limit {limit:?}");
         let fuse = fused.fuse();
         assert_eq!(rt; fuse.mid, mid, "at the limit {limit:?}");
-        assert_eq!(rt; fuse.tripped, mid > 0, "at the limit {limit:?}");
+        assert_eq!(rt; fuse.own, mid, "at the limit {limit:?}");
         assert_eq!(rt; fuse.pick, Some(u64::MAX));
     }
     Ok(())
@@ -132,7 +142,7 @@ fn a_stopped_device_takes_no_second_write(rt: HostRuntime) -> Result<(), Fail> {
     fill(&mut fused, 3, 4)?;
     fused.sync()?;
     assert_eq!(rt; fused.fuse().late_changes, 2);
-    assert_eq!(rt; fused.fuse().late_calls, 2);
+    assert_eq!(rt; fused.fuse().early_calls, 1);
     let mut device = fused.into_inner();
     assert_eq!(rt; first_byte(&mut device, 0)?, 1);
     assert_eq!(rt; first_byte(&mut device, 1)?, 2);
@@ -159,5 +169,73 @@ fn a_file_keeps_what_was_written(rt: HostRuntime) -> Result<(), Fail> {
     let mut nowhere = FileDisk::new(rt.clone()?, String::from_str(rt.alloc(), "no/folder")?);
     assert_eq!(rt; first_byte(&mut nowhere, 0), Err(DevError::Failed));
     fs::remove_file(&rt, path)?;
+    Ok(())
+}
+
+/// Two sectors of one byte each.
+fn two_sectors(alloc: Global, first: u8, second: u8) -> Result<Vec<u8>, AllocError> {
+    let mut row = vec![in alloc; first; SECTOR]?;
+    row.extend_from_slice([second; SECTOR].as_slice())?;
+    Ok(row)
+}
+
+/// Whether each write lies within so many bytes.
+fn are_within(size: usize, writes: &[Write]) -> bool
+    ensures { OnTrue result (AreWithin size writes.now) }
+{
+    writes.iter().all(|write| write.at as usize <= size
+        && write.bytes.len() <= size - write.at as usize)
+}
+
+#[test]
+fn an_image_has_whole_sectors(rt: HostRuntime) -> Result<(), Fail> {
+    let alloc = rt.alloc();
+    let base = two_sectors(alloc, 0, 7)?;
+    assert_eq!(rt; base.len(), 1024);
+    let mut writes = Vec::new(alloc);
+    for byte in [1, 2] {
+        let bytes = Bytes::new(vec![in alloc; byte; SECTOR]?);
+        writes.push(Write { at: 0, bytes })?;
+    }
+    assert!(rt; are_within(base.len(), writes.as_slice()));
+    let after = apply_writes(alloc, base.as_slice(), writes.as_slice())?;
+    assert_eq!(rt; after.as_slice(), two_sectors(alloc, 2, 7)?.as_slice());
+
+    // what stands at the two offsets in the first sector, and whether that is an image
+    let cases = [
+        (0, 0, true),
+        (1, 1, true),
+        (2, 2, true),
+        (1, 0, false),
+        (1, 2, false),
+        (3, 3, false),
+    ];
+    for (front, back, want) in cases {
+        let mut image = two_sectors(alloc, front, 7)?;
+        assert_eq!(rt; image.len(), base.len());
+        image[256..512].fill(back);
+        assert_eq!(rt;
+            is_image(base.as_slice(), writes.as_slice(), image.as_slice()),
+            want,
+            "{front} and {back}"
+        );
+    }
+    Ok(())
+}
+
+#[test]
+fn a_sync_reaches_the_file(rt: HostRuntime) -> Result<(), Fail> {
+    let syncs = Rc::new(rt.alloc(), Cell::new(0))?;
+    let files = CountedFiles {
+        syncs: syncs.clone()?,
+    };
+    let mut device = FileDisk::new(files, String::from_str(rt.alloc(), "counted")?);
+    fill(&mut device, 0, 1)?;
+    assert_eq!(rt; syncs.get(), 0);
+    device.sync()?;
+    assert_eq!(rt; syncs.get(), 1);
+    device.crash(0);
+    device.sync()?;
+    assert_eq!(rt; syncs.get(), 2);
     Ok(())
 }

@@ -3,7 +3,7 @@ use Rattle.std.proofs.lemmas.Result.{on_ok_weaker}
 use Rattle.model_base.specs.Overwrite.{overwritten}
 use Rattle.model_device.specs.Disk.{Disk, HasOneImage, after_write}
 use Rattle.model_device.specs.Calls.{written, synced}
-use Rattle.redo_disk.specs.Sectors.{write_at}
+use Rattle.redo_disk.specs.Seen.{write_at}
 use Rattle.model_device.proofs.Images.{settled_images}
 use Rattle.redo_disk.proofs.Told.{OnTold-then}
 use Rattle.redo_disk.proofs.put.write_and_sync.Goals as goal
@@ -17,5 +17,5 @@ returns-clause-ok g c =
     (λ a b d first second.
     let same : d ≡ synced (written a write) = second ∙ ap synced first in
     subst (λ (disk : Disk). HasOneImage disk (after_write a.reads write)) (sym same) (settled_images (after_write a.reads write)).1)
-    c.in_ok-write.ensures.ok)
-    c.sync.ensures.ok
+    c.in_ok-write.ensures.step.ok)
+    c.sync.ensures.step.ok

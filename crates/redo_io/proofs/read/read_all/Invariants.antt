@@ -1,5 +1,6 @@
 use Rattle.std.proofs.Common.{◌≡◌, ◌≤◌, ◌-◌, length, vec_len}
 use Rattle.redo_io.specs.Source.{TakesFront}
+use Rattle.redo_io.proofs.Progress.{HasRead}
 use Rattle.redo_io.specs.declared.read.TheConstants.{PIECE}
 use Rattle.redo_io.proofs.read.read_all.Given as goal
 
@@ -7,8 +8,9 @@ abbrev pub invariant-loop-piece : goal.invariant-loop-piece
 invariant-loop-piece g l = record {
   piece : vec_len l.piece ≡ PIECE;
   short : vec_len l.text ≤ l.limit;
-  taken : TakesFront (g.S.Source.left l.fn.src) (g.S.Source.left l.src) (length l.text.items) l.text.items;
-  counts : g.S.Source.faults l.fn.src ≤ g.S.Source.faults l.src;
+  taken : TakesFront (g.S.Source.seen l.fn.src).left (g.S.Source.seen l.src).left (length l.text.items) l.text.items;
+  later : (g.S.Source.seen l.fn.src).faults ≤ (g.S.Source.seen l.src).faults;
+  reads : HasRead g.S.Source.read_gives PIECE l.fn.src l.text.items l.src;
 }
 
 abbrev pub decreases-loop-piece : goal.decreases-loop-piece

@@ -1,8 +1,9 @@
-use Rattle.std.proofs.Common.{arith}
-use Rattle.redo_memdisk.proofs.Counts.{HasCause-own, own-after_call}
+use Rattle.std.proofs.Common.{refl, sym, ◌∙◌, arith}
+use Rattle.redo_memdisk.proofs.Counts.{HasCause-own, own-after_failed_call}
 use Rattle.redo_memdisk.proofs.fused.FusedSectors.read.Goals as goal
 
-pub returns-then-fails_next-clause-cause : goal.returns-then-fails_next-clause-cause
-returns-then-fails_next-clause-cause g c =
-    HasCause-own _ _ c.args.self.now.fuse.own _ _ (omega arith)
-    (own-after_call c.args.self.now.fuse c.note_call.new.self c.fails_next.result _ c.fails_next.ensures c.if-fails_next.true c.note_call.ensures)
+pub returns-then-fails_next-clause-step : goal.returns-then-fails_next-clause-step
+returns-then-fails_next-clause-step g c =
+    let fuse = c.args.self.now.fuse in
+    let counted = own-after_failed_call fuse c.note_call.new.self _ (sym c.fails_next.ensures ∙ c.if-fails_next.true) c.note_call.ensures.after in
+    record { bytes = tt; same = refl; same_crash = refl; size = refl; cause = HasCause-own _ _ fuse.own _ _ (omega arith) counted c.note_call.ensures.later }

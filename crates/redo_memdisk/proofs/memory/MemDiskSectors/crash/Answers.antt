@@ -1,10 +1,10 @@
-use Rattle.std.proofs.Common.{ap, arith}
+use Rattle.std.proofs.Common.{refl, arith}
 use Rattle.std.proofs.lemmas.Grind.{common_steps}
-use Rattle.redo_memdisk.specs.Memory.{MemState}
-use Rattle.redo_memdisk.proofs.Crashed.{Crashes-pending}
+use Rattle.redo_memdisk.proofs.Crashed.{CrashStep-pending}
 use Rattle.redo_memdisk.proofs.memory.MemDiskSectors.crash.Goals as goal
 
-pub returns-clause-left : goal.returns-clause-left
-returns-clause-left c =
-    Crashes-pending c.args.pick c.self.inside.base.items c.self.inside.pending.items _ _ c.self.invariant (ap (λ (s : MemState). s.disk) c.self.view_is)
-    (grind (arith, common_steps))
+pub returns-clause-step : goal.returns-clause-step
+returns-clause-step c =
+    let base = c.self.inside.medium.base.items in
+    let writes = c.self.inside.medium.pending.items in
+    rw (← c.self.view_is) (CrashStep-pending c.args.pick base writes _ _ _ c.self.inside.plan.faults c.self.invariant (grind (arith, common_steps)) (rw c.of.ensures refl))
