@@ -1,0 +1,11 @@
+pub mod Bytes
+pub mod Checkpoints
+pub mod Crash
+pub mod Fresh
+pub mod Images
+pub mod Places
+pub mod Rows
+pub mod Scans
+pub mod Splits
+pub mod Windows
+pub mod Writing

@@ -1,0 +1,4 @@
+pub mod Fresh
+pub mod Held
+pub mod Marks
+pub mod Reads

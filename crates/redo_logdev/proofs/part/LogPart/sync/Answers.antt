@@ -1,0 +1,16 @@
+use Rattle.std.proofs.Common.{◌≡◌, ap, subst, sym, ◌∙◌}
+use Rattle.model_device.specs.Disk.{Disk}
+use Rattle.model_device.specs.Calls.{synced}
+use Rattle.model_logdev.specs.Marks.{after_synced}
+use Rattle.redo_logdev.specs.Part.{Part, PartHolds, DiskHolds}
+use Rattle.redo_logdev.proofs.Told.{told-step}
+use Rattle.redo_logdev.proofs.Parts.{sync-ok}
+use Rattle.redo_logdev.proofs.part.LogPart.sync.Goals as goal
+
+pub returns-in-Ok-clause-holds : goal.returns-in-Ok-clause-holds
+returns-in-Ok-clause-holds g c s wholes known =
+    let part = c.self.inside in
+    let before = subst (λ (p : Part _). PartHolds g.L.Sectors.seen s wholes p) (sym c.self.view_is) known in
+    told-step _ _ (DiskHolds part.shape s wholes part.marks part.failed) (DiskHolds part.shape s wholes (after_synced part.marks) part.failed)
+    (λ (old new : Disk). new ≡ synced old)
+    (λ a b before is. sync-ok part.shape s wholes part.marks part.failed a b (ap (λ (p : Part _). p.failed) c.self.view_is ∙ c.requires) before is) before c.in-Ok.ensures.step.ok

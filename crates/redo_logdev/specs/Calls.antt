@@ -1,0 +1,68 @@
+-- What two device calls in a row do to a device.
+use Rattle.std.specs.Prelude.{ℕ, ◌≡◌, ◌-◌, ◌*◌, ◌⊎◌, min, List, [], ◌∷◌, length, take, drop, Result, Ok, Err}
+use Rattle.model_base.specs.declared.shape.Shape.{Shape}
+use Rattle.model_device.specs.Disk.{Disk}
+use Rattle.model_device.specs.Calls.{written, FailsWrite}
+use Rattle.model_device.specs.declared.write.Write.{Write}
+use Rattle.model_log.specs.Lsn.{offset_of}
+use Rattle.model_log.specs.Device.{log_device_length}
+use Rattle.model_log.specs.declared.layout.TheConstants.{HEADER_BYTES}
+use Rattle.model_base.specs.declared.limits.TheConstants.{BLOCK_SIZE}
+use Rattle.model_log.specs.Checkpoint.{checkpoint_text, place_of}
+use Rattle.redo_disk.specs.Seen.{write_at}
+use Rattle.redo_disk.specs.declared.error.DevError.{DevError}
+
+-- a write of no bytes isn't made
+abbrev pub written_if : ℕ → List ℕ → Disk → Disk
+written_if at [] disk = disk
+written_if at (byte ∷ bytes) disk = written disk (write_at at (byte ∷ bytes))
+
+-- how many bytes of the log there are from the block's place on, up to the log's end
+abbrev pub rest_of_round : Shape → ℕ → ℕ
+rest_of_round shape b = log_device_length shape - offset_of b shape.log_blocks
+
+-- of bytes for the log from the block's place on, those up to the log's end, and the others
+abbrev pub front_of : Shape → ℕ → List ℕ → List ℕ
+front_of shape b bytes = take (min (length bytes) (rest_of_round shape b)) bytes
+
+abbrev pub back_of : Shape → ℕ → List ℕ → List ℕ
+back_of shape b bytes = drop (min (length bytes) (rest_of_round shape b)) bytes
+
+-- The bytes are written from the block's place on: up to the log's end, and what is left at the log's start.
+abbrev pub written_round : Shape → ℕ → List ℕ → Disk → Disk
+written_round shape b bytes old =
+    written_if HEADER_BYTES (back_of shape b bytes) (written_if (offset_of b shape.log_blocks) (front_of shape b bytes) old)
+
+-- one of these two writes failed
+abbrev pub FailsRound : Shape → ℕ → List ℕ → Disk → Disk → Type 0
+FailsRound shape b bytes old new =
+    FailsWrite (write_at (offset_of b shape.log_blocks) (front_of shape b bytes)) old new
+    ⊎ FailsWrite (write_at HEADER_BYTES (back_of shape b bytes)) (written_if (offset_of b shape.log_blocks) (front_of shape b bytes) old) new
+
+-- a write with a sync behind it, one of which failed: the write did, or it is pending
+abbrev pub IsPutOrNot : Write → Disk → Disk → Type 0
+IsPutOrNot write old new = FailsWrite write old new ⊎ (new ≡ written old write)
+
+-- the write of the checkpoint of this number at this lsn
+abbrev pub checkpoint_write : Shape → ℕ → ℕ → Write
+checkpoint_write shape number lsn = write_at (BLOCK_SIZE * place_of number) (checkpoint_text number lsn shape)
+
+-- what the device's own contract says of a write of these bytes, if there are any
+abbrev pub WritesSome : {L : Type 0} → (L → Write → Result (Unit {0}) DevError → L → Type 0) → ℕ → List ℕ → L
+    → Result (Unit {0}) DevError → L → Type 0
+WritesSome gives at [] old result new = (result ≡ Ok tt) × (new ≡ old)
+WritesSome gives at (byte ∷ bytes) old result new = gives old (write_at at (byte ∷ bytes)) result new
+
+-- the write at the log's start behind one that answered Ok; behind one that failed there is none
+abbrev pub WritesAfter : {L : Type 0} → (L → Write → Result (Unit {0}) DevError → L → Type 0) → List ℕ → L
+    → Result (Unit {0}) DevError → Result (Unit {0}) DevError → L → Type 0
+WritesAfter gives back middle (Ok done) result new = WritesSome gives HEADER_BYTES back middle result new
+WritesAfter gives back middle (Err fault) result new = (result ≡ Err fault) × (new ≡ middle)
+
+-- The device took one write up to the log's end, and one at the log's start if bytes are left, and nothing else.
+pub record WritesRound {L : Type 0} (gives : L → Write → Result (Unit {0}) DevError → L → Type 0) (shape : Shape) (b : ℕ)
+    (bytes : List ℕ) (old : L) (result : Result (Unit {0}) DevError) (new : L) : Type 0 where
+  pub middle : L
+  pub answer : Result (Unit {0}) DevError
+  pub front : WritesSome gives (offset_of b shape.log_blocks) (front_of shape b bytes) old answer middle
+  pub back : WritesAfter gives (back_of shape b bytes) middle answer result new

@@ -1,0 +1,88 @@
+-- What callers see of a log part, and what its calls ask for and keep.
+use Rattle.std.specs.Prelude.{ℕ, ◌≡◌, ◌≤◌, ◌<◌, ◌+◌, ◌-◌, ◌%◌, ◌^◌, List, length, Option, Some, None, Result, Ok, Err, IfSome}
+use Rattle.model_base.specs.declared.shape.Shape.{Shape}
+use Rattle.model_base.specs.declared.limits.TheConstants.{BLOCK_SIZE, START_LSN, MIN_LOG_BLOCKS, MAX_LOG_BLOCKS}
+use Rattle.model_record.specs.declared.group.Whole.{Whole}
+use Rattle.model_device.specs.Disk.{Disk}
+use Rattle.model_log.specs.Lsn.{sn_of, block_of, IsDataLsn}
+use Rattle.model_log.specs.Boundary.{IsGivenTo}
+use Rattle.model_log.specs.Device.{log_device_length}
+use Rattle.model_log.specs.declared.layout.TheConstants.{RING_SIZE}
+use Rattle.model_logdev.specs.Held.{LogHolds, IsWritten, round_of}
+use Rattle.model_logdev.specs.Marks.{HasNextNumber}
+use Rattle.model_logdev.specs.declared.marks.LogMarks.{LogMarks}
+use Rattle.redo_block.specs.Framing.{AreFirsts}
+use Rattle.redo_disk.specs.Seen.{Seen, HasCause}
+use Rattle.redo_disk.specs.declared.error.DevError.{DevError}
+
+-- a log part, over a device of any type
+pub record Part (L : Type 0) : Type 0 where
+  pub dev : L
+  pub shape : Shape
+  pub marks : LogMarks
+  -- what the call answered that failed
+  pub failed : Option DevError
+
+-- what holds of each part, whatever its device tells
+pub record IsSound (size : ℕ) (shape : Shape) (marks : LogMarks) (room_for : ℕ) : Type 0 where
+  pub many_blocks : MIN_LOG_BLOCKS ≤ shape.log_blocks
+  pub few_blocks : shape.log_blocks ≤ MAX_LOG_BLOCKS
+  pub long : log_device_length shape ≤ size
+  pub buffer : room_for ≡ RING_SIZE
+  pub written_place : IsDataLsn marks.written
+  pub ckpt_aligned : marks.ckpt % BLOCK_SIZE ≡ 0
+  pub ckpt_started : START_LSN ≤ marks.ckpt
+  pub ckpt_asked : marks.ckpt ≤ marks.asked
+  pub asked_stable : marks.asked ≤ marks.stable
+  pub stable_written : marks.stable ≤ marks.written
+  pub room : marks.written ≤ marks.ckpt + round_of shape
+  pub small : marks.written < 2 ^ 61
+
+-- what the device of a part holds of a run: more as long as no call has failed
+pub record DiskHolds (shape : Shape) (s : ℕ) (wholes : List Whole) (marks : LogMarks) (failed : Option DevError) (disk : Disk) : Type 0 where
+  pub holds : LogHolds shape s wholes marks disk
+  pub live : failed ≡ None → IsWritten shape s wholes marks disk
+
+-- the same, where the device tells what it means
+abbrev pub PartHolds : {L : Type 0} → (L → Seen) → ℕ → List Whole → Part L → Type 0
+PartHolds seen s wholes part = IfSome (seen part.dev).tells (DiskHolds part.shape s wholes part.marks part.failed)
+
+-- what a call leaves as the part's failure
+abbrev pub error_of : {T : Type 0} → Result T DevError → Option DevError
+error_of (Ok value) = None
+error_of (Err error) = Some error
+
+-- What each call leaves, whatever it answers: the shape and the device's size are as before, the device failed if the
+-- call says so, and the part tells what the call answered.
+pub record Stays {L : Type 0} (seen : L → Seen) (old : Part L) (result : Result (Unit {0}) DevError) (new : Part L) : Type 0 where
+  pub shape : new.shape ≡ old.shape
+  pub size : (seen new.dev).size ≡ (seen old.dev).size
+  pub cause : HasCause (seen old.dev).faults (seen new.dev).faults result
+  pub failed : new.failed ≡ error_of result
+
+-- What may be given to `write_to`: a mark that is the place of a byte, from the written one up to a round past the
+-- checkpoint, and less than the ring past the block of the written one; the bytes from that block on, and a first
+-- offset for each block.
+pub record MayWrite {L : Type 0} (part : Part L) (mark : ℕ) (bytes firsts : List ℕ) : Type 0 where
+  pub live : part.failed ≡ None
+  pub place : IsDataLsn mark
+  pub later : part.marks.written ≤ mark
+  pub near : mark < block_of part.marks.written + RING_SIZE
+  pub room : mark ≤ part.marks.ckpt + round_of part.shape
+  pub small : mark < 2 ^ 61
+  pub count : length bytes ≡ sn_of mark - sn_of (block_of part.marks.written)
+  pub fit : AreFirsts bytes firsts
+
+-- What a part's device holds after `write_to`, Ok or not, if what was given is of the run.
+abbrev pub KeepsWriting : {L : Type 0} → (L → Seen) → Part L → ℕ → List ℕ → List ℕ → Part L → Type 0
+KeepsWriting seen old mark bytes firsts new =
+    (s : ℕ) (wholes : List Whole) → PartHolds seen s wholes old
+    → IsGivenTo s wholes (block_of old.marks.written) mark bytes firsts → PartHolds seen s wholes new
+
+-- the same after a sync
+abbrev pub KeepsHolding : {L : Type 0} → (L → Seen) → Part L → Part L → Type 0
+KeepsHolding seen old new = (s : ℕ) (wholes : List Whole) → PartHolds seen s wholes old → PartHolds seen s wholes new
+
+-- the same after a checkpoint, until the number goes round
+abbrev pub KeepsNumbered : {L : Type 0} → (L → Seen) → Part L → Part L → Type 0
+KeepsNumbered seen old new = HasNextNumber old.marks → KeepsHolding seen old new

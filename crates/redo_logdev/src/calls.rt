@@ -1,0 +1,76 @@
+// Device calls in a row.
+ghost use Rattle.std.specs.Prelude.{◌≡◌, ◌≤◌, ◌<◌, ◌%◌, ◌^◌, length, OnOk, OnErr};
+ghost use Rattle.model_base.specs.declared.limits.TheConstants.{BLOCK_SIZE, START_LSN, MIN_LOG_BLOCKS, MAX_LOG_BLOCKS};
+ghost use Rattle.model_device.specs.Calls.{written, FailsWrite, synced};
+ghost use Rattle.model_log.specs.Device.{log_device_length};
+ghost use Rattle.model_logdev.specs.Held.{round_of};
+ghost use Rattle.redo_disk.specs.Put.{WritesAndSyncs};
+ghost use Rattle.redo_disk.specs.Seen.{IsRange, HasCause, OnTold, write_at};
+ghost use Rattle.redo_logdev.specs.Calls.{written_if, written_round, FailsRound, IsPutOrNot, WritesRound, WritesSome};
+
+use model_base::{BLOCK_SIZE, Shape};
+use model_log::HEADER_BYTES;
+use redo_disk::{DevError, Sectors};
+use redo_lsn::offset_of;
+
+/// Writes bytes, if there are any.
+fn write_some<L: Sectors>(device: &mut L, at: u64, bytes: &[u8]) -> Result<(), DevError>
+    requires { IsRange (L.seen device.old).size at (length bytes.now) }
+    ensures ok { OnOk result (OnTold (L.seen device.old).tells (L.seen device.new).tells
+        (λ old new. new ≡ written_if at bytes.now old)) }
+    ensures err { OnErr result (OnTold (L.seen device.old).tells (L.seen device.new).tells
+        (FailsWrite (write_at at bytes.now))) }
+    ensures size { (L.seen device.new).size ≡ (L.seen device.old).size }
+    ensures calls { WritesSome L.write_gives at bytes.now device.old result device.new }
+    ensures cause { HasCause (L.seen device.old).faults (L.seen device.new).faults result }
+{
+    if bytes.is_empty() {
+        return Ok(());
+    }
+    device.write(at, bytes)
+}
+
+/// Writes bytes from the place of the block at `from` on: up to the end of the log, and what is left at its start.
+pub fn write_round<L: Sectors>(
+    device: &mut L,
+    shape: &Shape,
+    from: u64,
+    bytes: &[u8],
+) -> Result<(), DevError>
+    requires aligned { from % BLOCK_SIZE ≡ 0 }
+    requires started { START_LSN ≤ from }
+    requires small { from < 2 ^ 61 }
+    requires many_blocks { MIN_LOG_BLOCKS ≤ shape.now.log_blocks }
+    requires few_blocks { shape.now.log_blocks ≤ MAX_LOG_BLOCKS }
+    requires long { log_device_length shape.now ≤ (L.seen device.old).size }
+    requires whole { length bytes.now % BLOCK_SIZE ≡ 0 }
+    requires room { length bytes.now ≤ round_of shape.now }
+    ensures ok { OnOk result (OnTold (L.seen device.old).tells (L.seen device.new).tells
+        (λ old new. new ≡ written_round shape.now from bytes.now old)) }
+    ensures err { OnErr result (OnTold (L.seen device.old).tells (L.seen device.new).tells
+        (FailsRound shape.now from bytes.now)) }
+    ensures size { (L.seen device.new).size ≡ (L.seen device.old).size }
+    ensures calls { WritesRound L.write_gives shape.now from bytes.now device.old result device.new }
+    ensures cause { HasCause (L.seen device.old).faults (L.seen device.new).faults result }
+{
+    let at = offset_of(from, shape.log_blocks);
+    let end = HEADER_BYTES + BLOCK_SIZE * u64::from(shape.log_blocks);
+    let (front, back) = bytes.split_at(bytes.len().min((end - at) as usize));
+    write_some(device, at, front)?;
+    write_some(device, HEADER_BYTES, back)
+}
+
+/// Writes bytes, and makes them stay.
+pub fn put_sector<L: Sectors>(device: &mut L, at: u64, bytes: &[u8]) -> Result<(), DevError>
+    requires { IsRange (L.seen device.old).size at (length bytes.now) }
+    ensures ok { OnOk result (OnTold (L.seen device.old).tells (L.seen device.new).tells
+        (λ old new. new ≡ synced (written old (write_at at bytes.now)))) }
+    ensures err { OnErr result (OnTold (L.seen device.old).tells (L.seen device.new).tells
+        (IsPutOrNot (write_at at bytes.now))) }
+    ensures size { (L.seen device.new).size ≡ (L.seen device.old).size }
+    ensures calls { WritesAndSyncs L.write_gives L.sync_gives (write_at at bytes.now) device.old result device.new }
+    ensures cause { HasCause (L.seen device.old).faults (L.seen device.new).faults result }
+{
+    device.write(at, bytes)?;
+    device.sync()
+}

@@ -1,0 +1,13 @@
+//! The log device as one part of the store: it writes the blocks of a run up to a mark, makes them stable, and moves the
+//! checkpoint. The layer above may rely on this: whatever a crash leaves of the device at any moment reads as the run's
+//! groups up to a boundary from the stable mark up to the last mark given.
+#![tactic(auto)]
+
+mod blocks;
+mod calls;
+mod part;
+#[cfg(test)]
+mod tests;
+
+pub use model_logdev::LogMarks;
+pub use part::LogPart;

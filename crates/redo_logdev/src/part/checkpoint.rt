@@ -1,0 +1,51 @@
+// The next checkpoint.
+ghost use Rattle.std.specs.Prelude.{◌≡◌, None, OnOk, OnErr};
+ghost use Rattle.model_log.specs.Checkpoint.{place_of};
+ghost use Rattle.model_logdev.specs.Marks.{MayBeNext, next_number, after_checkpoint, after_asked};
+ghost use Rattle.redo_disk.specs.Put.{WritesAndSyncs};
+ghost use Rattle.redo_logdev.specs.Calls.{checkpoint_write};
+ghost use Rattle.redo_logdev.specs.Part.{Stays, KeepsNumbered};
+
+use crate::LogPart;
+use crate::calls::put_sector;
+use model_base::BLOCK_SIZE;
+use redo_disk::{DevError, Sectors};
+use redo_header::fill_ckpt;
+
+/// Which header block the checkpoint of this number stands in.
+fn place_of(number: u64) -> u64
+    ensures { result ≡ place_of number }
+{
+    if number % 2 == 0 { 1 } else { 3 }
+}
+
+impl<L: Sectors> LogPart<L> {
+    /// Writes the next checkpoint, at this lsn, and makes it stay. Its number goes round behind the greatest.
+    pub fn checkpoint(&mut self, lsn: u64) -> Result<(), DevError>
+        requires live { self.old.failed ≡ None }
+        requires next { MayBeNext self.old.marks lsn }
+        ensures ok { OnOk result (self.new.marks
+            ≡ after_checkpoint (next_number self.old.marks.number) lsn self.old.marks) }
+        ensures err { OnErr result (self.new.marks ≡ after_asked lsn self.old.marks) }
+        ensures stays { Stays L.seen self.old result self.new }
+        ensures calls { WritesAndSyncs L.write_gives L.sync_gives (checkpoint_write self.old.shape (next_number self.old.marks.number) lsn) self.old.dev result self.new.dev }
+        ensures holds { KeepsNumbered L.seen self.old self.new }
+    {
+        let number = self.marks.number.wrapping_add(1);
+        let mut block = [0; 512];
+        fill_ckpt(&mut block, number, lsn, &self.shape);
+        let at = BLOCK_SIZE * place_of(number);
+        self.marks.asked = lsn;
+        match put_sector(&mut self.dev, at, &block) {
+            Ok(()) => {
+                self.marks.number = number;
+                self.marks.ckpt = lsn;
+                Ok(())
+            }
+            Err(error) => {
+                self.failed = Some(error);
+                Err(error)
+            }
+        }
+    }
+}

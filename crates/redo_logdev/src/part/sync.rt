@@ -1,0 +1,30 @@
+// Making stable what is written.
+ghost use Rattle.std.specs.Prelude.{◌≡◌, None, OnOk, OnErr};
+ghost use Rattle.model_logdev.specs.Marks.{after_synced};
+ghost use Rattle.redo_logdev.specs.Part.{Stays, KeepsHolding};
+
+use crate::LogPart;
+use redo_disk::{DevError, Sectors};
+
+impl<L: Sectors> LogPart<L> {
+    /// Makes all that is written stable.
+    pub fn sync(&mut self) -> Result<(), DevError>
+        requires { self.old.failed ≡ None }
+        ensures ok { OnOk result (self.new.marks ≡ after_synced self.old.marks) }
+        ensures err { OnErr result (self.new.marks ≡ self.old.marks) }
+        ensures stays { Stays L.seen self.old result self.new }
+        ensures calls { L.sync_gives self.old.dev result self.new.dev }
+        ensures holds { KeepsHolding L.seen self.old self.new }
+    {
+        match self.dev.sync() {
+            Ok(()) => {
+                self.marks.stable = self.marks.written;
+                Ok(())
+            }
+            Err(error) => {
+                self.failed = Some(error);
+                Err(error)
+            }
+        }
+    }
+}
