@@ -1,0 +1,12 @@
+pub mod Batches
+pub mod Crashes
+pub mod Images
+pub mod Joined
+pub mod Kept
+pub mod Orderly
+pub mod Parts
+pub mod Repairs
+pub mod Stretches
+pub mod Writes
+pub mod Written
+pub mod Zeros

@@ -1,0 +1,156 @@
+-- What a stretch of page size holds after writes that go round it or over all of it, and what a fair image has there.
+use Rattle.std.proofs.Common.{◌≡◌, ◌≢◌, ◌≤◌, ◌<◌, ◌+◌, ◌-◌, ◌*◌, ◌/◌, ◌%◌, ◌⊎◌, ℕ, zero, suc, inl, inr, List, [], ◌∷◌, length, take, drop, get_or, refl, sym, ap, subst, ◌∙◌, ⊎_elim, length-take, length-drop, arith}
+use Rattle.std.proofs.lemmas.List.{same_lists, get_or-take, get_or-drop}
+use Rattle.model_base.specs.declared.shape.Shape.{Shape}
+use Rattle.model_page.specs.Page.{page_check}
+use Rattle.model_page.specs.Copies.{stretch_at}
+use Rattle.model_page.specs.declared.page.PageState.{PageState}
+use Rattle.model_page.specs.declared.page.PageState.TheVariants.{Blank, Sound, Broken}
+use Rattle.model_device.specs.Disk.{Disk, IsImage, IsWrittenBy, sector, after_write, after_writes}
+use Rattle.model_device.specs.declared.write.Write.{Write}
+use Rattle.model_device.proofs.Overwritten.{length-overwritten, part-overwritten_before, part-overwritten_behind, part-overwritten_inside}
+use Rattle.model_store.specs.Fair.{IsFair, IsWholeContent}
+
+-- the page size of bytes from an offset on
+abbrev pub piece : ℕ → List ℕ → List ℕ
+piece o bytes = take 4096 (drop o bytes)
+
+-- the write, on a device of that length, touches no byte of the stretch
+pub record IsApart (o long : ℕ) (write : Write) : Type 0 where
+  pub within : write.at + length write.bytes ≤ long
+  pub beside : (o + 4096 ≤ write.at) ⊎ (write.at + length write.bytes ≤ o)
+
+-- the write makes the stretch these bytes
+pub record IsPut (o long : ℕ) (text : List ℕ) (write : Write) : Type 0 where
+  pub within : write.at + length write.bytes ≤ long
+  pub from : write.at ≤ o
+  pub up_to : o + 4096 ≤ write.at + length write.bytes
+  pub same : take 4096 (drop (o - write.at) write.bytes) ≡ text
+
+abbrev pub AreApart : ℕ → ℕ → List Write → Type 0
+AreApart o long [] = Unit {0}
+AreApart o long (write ∷ writes) = IsApart o long write × AreApart o long writes
+
+-- each write leaves the stretch alone, or makes it these bytes
+abbrev pub ArePut : ℕ → ℕ → List ℕ → List Write → Type 0
+ArePut o long text [] = Unit {0}
+ArePut o long text (write ∷ writes) = (IsApart o long write ⊎ IsPut o long text write) × ArePut o long text writes
+
+-- one of the writes makes the stretch these bytes
+abbrev pub HasPut : ℕ → ℕ → List ℕ → List Write → Type 0
+HasPut o long text [] = ⊥
+HasPut o long text (write ∷ writes) = IsPut o long text write ⊎ HasPut o long text writes
+
+piece-apart : (o : ℕ) (bytes : List ℕ) (write : Write) → IsApart o (length bytes) write → piece o (after_write bytes write) ≡ piece o bytes
+piece-apart o bytes write apart =
+    ⊎_elim (λ before. part-overwritten_before 4096 o write.at write.bytes bytes (omega arith) apart.within)
+    (λ behind. part-overwritten_behind 4096 o write.at write.bytes bytes behind apart.within) apart.beside
+
+piece-put : (o : ℕ) (bytes text : List ℕ) (write : Write) → IsPut o (length bytes) text write → piece o (after_write bytes write) ≡ text
+piece-put o bytes text write put =
+    part-overwritten_inside 4096 o write.at write.bytes bytes put.from put.up_to put.within ∙ put.same
+
+within-apart : (o long : ℕ) (text : List ℕ) (write : Write) → IsApart o long write ⊎ IsPut o long text write → write.at + length write.bytes ≤ long
+within-apart o long text write is = ⊎_elim (λ apart. apart.within) (λ put. put.within) is
+
+pub apart-put : (o long : ℕ) (text : List ℕ) (writes : List Write) → AreApart o long writes → ArePut o long text writes
+apart-put o long text [] are = tt
+apart-put o long text (write ∷ writes) are = (inl are.0, apart-put o long text writes are.1)
+
+pub take-apart : (o long n : ℕ) (writes : List Write) → AreApart o long writes → AreApart o long (take n writes)
+take-apart o long zero writes are = tt
+take-apart o long (suc n) [] are = tt
+take-apart o long (suc n) (write ∷ writes) are = (are.0, take-apart o long n writes are.1)
+
+pub take-put : (o long n : ℕ) (text : List ℕ) (writes : List Write) → ArePut o long text writes → ArePut o long text (take n writes)
+take-put o long zero text writes are = tt
+take-put o long (suc n) text [] are = tt
+take-put o long (suc n) text (write ∷ writes) are = (are.0, take-put o long n text writes are.1)
+
+pub pieces-apart : (o : ℕ) (bytes : List ℕ) (writes : List Write) (long : ℕ) → long ≡ length bytes → AreApart o long writes → piece o (after_writes bytes writes) ≡ piece o bytes
+pieces-apart o bytes [] long is are = refl
+pieces-apart o bytes (write ∷ writes) long is are =
+    let here : IsApart o (length bytes) write = subst (λ (n : ℕ). IsApart o n write) is are.0 in
+    pieces-apart o (after_write bytes write) writes long (is ∙ sym (length-overwritten write.at write.bytes bytes here.within)) are.1
+    ∙ piece-apart o bytes write here
+
+pub pieces-put : (o : ℕ) (bytes text : List ℕ) (writes : List Write) (long : ℕ) → long ≡ length bytes → ArePut o long text writes
+    → (piece o (after_writes bytes writes) ≡ piece o bytes) ⊎ (piece o (after_writes bytes writes) ≡ text)
+pieces-put o bytes text [] long is are = inl refl
+pieces-put o bytes text (write ∷ writes) long is are =
+    let within : write.at + length write.bytes ≤ length bytes = subst (λ (n : ℕ). write.at + length write.bytes ≤ n) is (within-apart o long text write are.0) in
+    let rest : (piece o (after_writes (after_write bytes write) writes) ≡ piece o (after_write bytes write)) ⊎ (piece o (after_writes (after_write bytes write) writes) ≡ text) =
+    pieces-put o (after_write bytes write) text writes long (is ∙ sym (length-overwritten write.at write.bytes bytes within)) are.1 in
+    ⊎_elim (λ old. ⊎_elim (λ apart. inl (old ∙ piece-apart o bytes write (subst (λ (n : ℕ). IsApart o n write) is apart)))
+    (λ put. inr (old ∙ piece-put o bytes text write (subst (λ (n : ℕ). IsPut o n text write) is put))) are.0)
+    (λ new. inr new) rest
+
+pub pieces-has : (o : ℕ) (bytes text : List ℕ) (writes : List Write) (long : ℕ) → long ≡ length bytes → ArePut o long text writes
+    → HasPut o long text writes ⊎ (piece o bytes ≡ text) → piece o (after_writes bytes writes) ≡ text
+pieces-has o bytes text [] long is are has = ⊎_elim (λ none. absurd none) (λ already. already) has
+pieces-has o bytes text (write ∷ writes) long is are has =
+    let within : write.at + length write.bytes ≤ length bytes = subst (λ (n : ℕ). write.at + length write.bytes ≤ n) is (within-apart o long text write are.0) in
+    let put : IsPut o long text write → HasPut o long text writes ⊎ (piece o (after_write bytes write) ≡ text) =
+    λ here. inr (piece-put o bytes text write (subst (λ (n : ℕ). IsPut o n text write) is here)) in
+    pieces-has o (after_write bytes write) text writes long (is ∙ sym (length-overwritten write.at write.bytes bytes within)) are.1
+    (⊎_elim (λ some. ⊎_elim put (λ later. inl later) some)
+    (λ already. ⊎_elim (λ apart. inr (piece-apart o bytes write (subst (λ (n : ℕ). IsApart o n write) is apart) ∙ already)) put are.0) has)
+
+pub length-after : (o : ℕ) (bytes text : List ℕ) (writes : List Write) (long : ℕ) → long ≡ length bytes → ArePut o long text writes → length (after_writes bytes writes) ≡ length bytes
+length-after o bytes text [] long is are = refl
+length-after o bytes text (write ∷ writes) long is are =
+    let within : write.at + length write.bytes ≤ length bytes = subst (λ (n : ℕ). write.at + length write.bytes ≤ n) is (within-apart o long text write are.0) in
+    let same : length (after_write bytes write) ≡ length bytes = length-overwritten write.at write.bytes bytes within in
+    length-after o (after_write bytes write) text writes long (is ∙ sym same) are.1 ∙ same
+
+piece-sectors : (o : ℕ) (xs ys : List ℕ) → length xs ≡ length ys → o % 512 ≡ 0
+    → ((k : ℕ) → o ≤ 512 * k → 512 * k < o + 4096 → 512 * k < length ys → sector k xs ≡ sector k ys) → piece o xs ≡ piece o ys
+piece-sectors o xs ys same aligned each =
+    same_lists (piece o xs) (piece o ys) (omega (arith, length-take 4096 (drop o xs), length-take 4096 (drop o ys), length-drop o xs, length-drop o ys)) (λ i d inside.
+    let below : i < 4096 = omega (arith, length-take 4096 (drop o xs)) in
+    let short : o + i < length ys = omega (arith, length-take 4096 (drop o xs), length-drop o xs) in
+    let k = (o + i) / 512 in
+    let r = (o + i) % 512 in
+    let split : 512 * k + r ≡ o + i = omega arith in
+    let small : r < 512 = omega arith in
+    let here : (zs : List ℕ) → get_or (piece o zs) i d ≡ get_or (sector k zs) r d = λ zs.
+    get_or-take 4096 (drop o zs) i d below ∙ get_or-drop o zs i d ∙ ap (λ n. get_or zs n d) (sym split)
+    ∙ sym (get_or-drop (512 * k) zs r d) ∙ sym (get_or-take 512 (drop (512 * k) zs) r d small) in
+    here xs ∙ ap (λ s. get_or s r d) (each k (omega arith) (omega arith) (omega arith)) ∙ sym (here ys))
+
+not-written : (o long k : ℕ) (bytes : List ℕ) (writes : List Write) → AreApart o long writes → o ≤ 512 * k → 512 * k < o + 4096 → IsWrittenBy writes k bytes → ⊥
+not-written o long k bytes [] are from below is = is
+not-written o long k bytes (write ∷ writes) are from below is =
+    ⊎_elim (λ here. ⊎_elim (λ before. absurd (omega (arith, here.0.from))) (λ behind. absurd (omega (arith, here.0.from, here.0.up_to))) are.0.beside)
+    (λ there. not-written o long k bytes writes are.1 from below there) is
+
+pub image-apart : (o : ℕ) (disk : Disk) (image : List ℕ) → o % 512 ≡ 0 → AreApart o (length disk.base) disk.writes → IsImage disk image → piece o image ≡ piece o disk.base
+image-apart o disk image aligned are is =
+    piece-sectors o image disk.base is.same_length aligned (λ k from below inside.
+    ⊎_elim (λ base. base) (λ new. absurd (not-written o (length disk.base) k (sector k image) disk.writes are from below new)) (is.each k inside))
+
+pub stretch-piece : (shape : Shape) (n : ℕ) (bytes : List ℕ) → shape.page_size ≡ 4096 → stretch_at shape n bytes ≡ piece (n * 4096) bytes
+unfolding stretch_at
+stretch-piece shape n bytes size = ap (λ s. take s (drop (n * s) bytes)) size
+
+broken-or : (state : PageState) → (state ≡ Broken) ⊎ (state ≢ Broken)
+broken-or Blank = inr (λ is. absurd cc)
+broken-or (Sound number space lsn) = inr (λ is. absurd cc)
+broken-or Broken = inl refl
+
+pub fair-apart : (shape : Shape) (n : ℕ) (disk : Disk) (image : List ℕ) → shape.page_size ≡ 4096 → AreApart (n * 4096) (length disk.base) disk.writes → IsImage disk image
+    → stretch_at shape n image ≡ stretch_at shape n disk.base
+fair-apart shape n disk image size are is =
+    stretch-piece shape n image size ∙ image-apart (n * 4096) disk image (omega arith) are is ∙ sym (stretch-piece shape n disk.base size)
+
+pub fair-put : (shape : Shape) (n : ℕ) (disk : Disk) (image text : List ℕ) → shape.page_size ≡ 4096 → n < shape.slots + shape.pages
+    → ArePut (n * 4096) (length disk.base) text disk.writes → IsFair shape disk image
+    → (page_check (stretch_at shape n image) ≡ Broken) ⊎ (stretch_at shape n image ≡ stretch_at shape n disk.base) ⊎ (stretch_at shape n image ≡ text)
+fair-put shape n disk image text size below are fair =
+    ⊎_elim (λ broken. inl broken) (λ whole.
+    let content : IsWholeContent shape disk n (stretch_at shape n image) = fair.each n below whole in
+    let to_piece : stretch_at shape n image ≡ piece (n * 4096) (after_writes disk.base (take content.count disk.writes)) =
+    content.same ∙ stretch-piece shape n (after_writes disk.base (take content.count disk.writes)) size in
+    ⊎_elim (λ old. inr (inl (to_piece ∙ old ∙ sym (stretch-piece shape n disk.base size)))) (λ new. inr (inr (to_piece ∙ new)))
+    (pieces-put (n * 4096) disk.base text (take content.count disk.writes) (length disk.base) refl (take-put (n * 4096) (length disk.base) content.count text disk.writes are)))
+    (broken-or (page_check (stretch_at shape n image)))

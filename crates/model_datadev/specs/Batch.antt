@@ -1,0 +1,77 @@
+-- The pages of a batch, and how they are written: side by side into the slots, then each into its place.
+use Rattle.std.specs.Prelude.{ℕ, ◌≡◌, ◌≤◌, ◌<◌, ◌+◌, ◌*◌, ◌^◌, ◌==◌, if◌then◌else◌, List, [], ◌∷◌, ◌++◌, length, take, drop, map, Some, slice_get, slice_index}
+use Rattle.model_base.specs.declared.shape.Shape.{Shape}
+use Rattle.model_base.specs.declared.limits.TheConstants.{USER_BYTES}
+use Rattle.model_page.specs.Page.{page_text}
+use Rattle.model_page.specs.declared.content.Content.{Content}
+use Rattle.model_device.specs.declared.write.Write.{Write}
+
+-- a page with what it is to hold
+pub record Fresh : Type 0 where
+  pub page : ℕ
+  pub content : Content
+
+-- the batch of these pairs of page and lsn, the user bytes being joined
+abbrev pub batch_of : List (ℕ × ℕ) → List ℕ → List Fresh
+batch_of [] users = []
+batch_of (pair ∷ pairs) users =
+    (record { page = pair.0; content = record { lsn = pair.1; user = take USER_BYTES users } }) ∷ batch_of pairs (drop USER_BYTES users)
+
+-- the batch has this for the page
+pub record IsNew (batch : List Fresh) (p : ℕ) (content : Content) : Type 0 where
+  pub i : ℕ
+  pub at : slice_get batch i ≡ Some (record { page = p; content = content })
+
+-- the pages once the batch is written
+abbrev pub after_batch : List Fresh → (ℕ → Content) → ℕ → Content
+after_batch [] was p = was p
+after_batch (new ∷ batch) was p = if new.page == p then new.content else after_batch batch was p
+
+-- the page is one of the store's, and what it is to hold fits it; its lsn is that of a group
+pub record IsFreshPage (shape : Shape) (new : Fresh) : Type 0 where
+  pub below : new.page < shape.pages
+  pub some_lsn : 0 < new.content.lsn
+  pub small_lsn : new.content.lsn < 2 ^ 64
+  pub long : length new.content.user ≡ USER_BYTES
+  pub bytes : (i : ℕ) → slice_index new.content.user i < 256
+
+-- a batch that one call can write
+pub record IsBatch (shape : Shape) (batch : List Fresh) : Type 0 where
+  pub few : length batch ≤ shape.slots
+  pub each : (i : ℕ) (new : Fresh) → slice_get batch i ≡ Some new → IsFreshPage shape new
+  pub different : (i j : ℕ) (new other : Fresh) → slice_get batch i ≡ Some new → slice_get batch j ≡ Some other
+      → new.page ≡ other.page → i ≡ j
+
+-- what is asked of the pairs of page and lsn and of the user bytes
+pub record IsWritable (shape : Shape) (pairs : List (ℕ × ℕ)) (users : List ℕ) : Type 0 where
+  pub few : length pairs ≤ shape.slots
+  pub count : length users ≡ USER_BYTES * length pairs
+  pub below : (i : ℕ) (pair : ℕ × ℕ) → slice_get pairs i ≡ Some pair → pair.0 < shape.pages
+  pub some_lsn : (i : ℕ) (pair : ℕ × ℕ) → slice_get pairs i ≡ Some pair → 0 < pair.1
+  pub small_lsn : (i : ℕ) (pair : ℕ × ℕ) → slice_get pairs i ≡ Some pair → pair.1 < 2 ^ 61
+  pub different : (i j : ℕ) (pair other : ℕ × ℕ) → slice_get pairs i ≡ Some pair → slice_get pairs j ≡ Some other → pair.0 ≡ other.0 → i ≡ j
+
+-- the bytes of a page that is to be written
+abbrev pub new_text : Shape → Fresh → List ℕ
+new_text shape new = page_text new.page shape.space new.content.lsn new.content.user
+
+-- the bytes of all of them, joined
+abbrev pub batch_text : Shape → List Fresh → List ℕ
+batch_text shape [] = []
+batch_text shape (new ∷ batch) = new_text shape new ++ batch_text shape batch
+
+-- the write of the slots
+abbrev pub slots_write : Shape → List Fresh → Write
+slots_write shape batch = record { at = 0; bytes = batch_text shape batch }
+
+-- where the place of a page is
+abbrev pub place_at : Shape → ℕ → ℕ
+place_at shape page = (shape.slots + page) * shape.page_size
+
+-- the write of a place
+abbrev pub place_write : Shape → Fresh → Write
+place_write shape new = record { at = place_at shape new.page; bytes = new_text shape new }
+
+-- the writes of the places, in the batch's order
+abbrev pub place_writes : Shape → List Fresh → List Write
+place_writes shape batch = map (place_write shape) batch

@@ -1,0 +1,4 @@
+pub mod Batch
+pub mod Repair
+pub mod Steps
+pub mod Stored

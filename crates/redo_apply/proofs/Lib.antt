@@ -1,0 +1,5 @@
+pub mod Applied
+pub mod Frames
+pub mod Grouped
+pub mod Numbers
+pub mod Records

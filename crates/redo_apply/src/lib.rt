@@ -1,0 +1,12 @@
+//! The pages of a store in memory, and what groups do to them. A layer above may rely on `apply` meeting the definition
+//! of a group's effect, and on no call but `blank` taking memory.
+#![tactic(auto)]
+
+mod pages;
+mod record;
+
+pub use model_page::Content;
+pub use pages::Pages;
+
+#[cfg(test)]
+mod tests;

@@ -1,0 +1,3 @@
+pub mod Bests
+pub mod SideBySide
+pub mod Tells

@@ -1,0 +1,9 @@
+use Rattle.std.proofs.Common.{◌≡◌, ◌*◌, length, take}
+use Rattle.model_datadev.specs.Batch.{batch_of, batch_text}
+use Rattle.redo_dblwr.proofs.texts.fill_texts.Given as goal
+
+abbrev pub invariant-loop-i : goal.invariant-loop-i
+invariant-loop-i l = record {
+  long : length l.out ≡ length l.fn.out;
+  so_far : take (4096 * l.i) l.out ≡ batch_text l.shape (take l.i (batch_of l.batch l.users));
+}

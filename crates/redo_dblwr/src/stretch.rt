@@ -1,0 +1,56 @@
+// One stretch of page size on the data device: a slot of the doublewrite area, or the place of a page.
+ghost use Rattle.std.specs.Prelude.{◌≡◌, ◌≤◌, ◌<◌, ◌*◌, ◌+◌, length, IfSome, OnOk, OnErr};
+ghost use Rattle.model_base.specs.Limits.{IsWithinLimits};
+ghost use Rattle.model_datadev.specs.Batch.{place_at};
+ghost use Rattle.model_datadev.specs.Steps.{IsPutOrNot};
+ghost use Rattle.model_device.specs.Calls.{written, synced};
+ghost use Rattle.model_page.specs.Copies.{data_device_length, stretch_at};
+ghost use Rattle.redo_disk.specs.Put.{WritesAndSyncs};
+ghost use Rattle.redo_disk.specs.Seen.{IsRange, HasCause, OnTold, write_at};
+
+use model_base::{PAGE_SIZE, Shape};
+use redo_disk::{DevError, Sectors};
+
+/// Where the place of a page begins.
+pub fn place_at(shape: &Shape, page: u32) -> u64
+    requires limits { IsWithinLimits shape.now }
+    requires page { page < shape.now.pages }
+    ensures { result ≡ place_at shape.now page }
+{
+    (u64::from(shape.slots) + u64::from(page)) * u64::from(shape.page_size)
+}
+
+/// Reads a slot or a place, of which the slots come first.
+#[tactic(auto, unfolding(model_page::specs::Copies::stretch_at))]
+pub fn read_stretch<D: Sectors>(
+    device: &mut D,
+    shape: &Shape,
+    n: u32,
+    out: &mut [u8],
+) -> Result<(), DevError>
+    requires limits { IsWithinLimits shape.now }
+    requires long { data_device_length shape.now ≤ (D.seen device.old).size }
+    requires inside { n < shape.now.slots + shape.now.pages }
+    requires out { length out.old ≡ PAGE_SIZE }
+    ensures bytes { OnOk result (IfSome (D.seen device.old).tells (λ disk. out.new ≡ stretch_at shape.now n disk.reads)) }
+    ensures same { (D.seen device.new).tells ≡ (D.seen device.old).tells }
+    ensures size { (D.seen device.new).size ≡ (D.seen device.old).size }
+    ensures cause { HasCause (D.seen device.old).faults (D.seen device.new).faults result }
+{
+    device.read(u64::from(n) * u64::from(shape.page_size), out)
+}
+
+/// Writes bytes, and makes them stay.
+pub fn put_bytes<D: Sectors>(device: &mut D, at: u64, bytes: &[u8]) -> Result<(), DevError>
+    requires { IsRange (D.seen device.old).size at (length bytes.now) }
+    ensures ok { OnOk result (OnTold (D.seen device.old).tells (D.seen device.new).tells
+        (λ old new. new ≡ synced (written old (write_at at bytes.now)))) }
+    ensures err { OnErr result (OnTold (D.seen device.old).tells (D.seen device.new).tells
+        (IsPutOrNot (write_at at bytes.now))) }
+    ensures size { (D.seen device.new).size ≡ (D.seen device.old).size }
+    ensures calls { WritesAndSyncs D.write_gives D.sync_gives (write_at at bytes.now) device.old result device.new }
+    ensures cause { HasCause (D.seen device.old).faults (D.seen device.new).faults result }
+{
+    device.write(at, bytes)?;
+    device.sync()
+}

@@ -1,0 +1,64 @@
+-- What the texts of a batch in the buffer make of the calls.
+use Rattle.std.proofs.Common.{◌≡◌, ◌<◌, ◌++◌, ℕ, Bool, false, List, length, take, drop, Option, None, is_some, sym, ap, subst, ◌∙◌, get_or}
+use Rattle.std.proofs.lemmas.List.{take_at}
+use Rattle.model_base.specs.Limits.{IsWithinLimits}
+use Rattle.model_base.specs.declared.shape.Shape.{Shape}
+use Rattle.model_page.specs.declared.content.Content.{Content}
+use Rattle.model_device.specs.Calls.{written, synced}
+use Rattle.model_device.specs.Disk.{Disk}
+use Rattle.model_device.specs.declared.write.Write.{Write}
+use Rattle.model_datadev.specs.Batch.{Fresh, IsBatch, IsWritable, batch_of, batch_text, slots_write, place_writes}
+use Rattle.model_datadev.specs.Steps.{IsPutOrNot, after_both, FailsBoth}
+use Rattle.model_datadev.specs.Stored.{Stored, IsUpTo}
+use Rattle.model_datadev.proofs.Joined.{batch-from}
+use Rattle.redo_disk.specs.Seen.{write_at}
+use Rattle.redo_disk.specs.declared.error.DevError.{DevError}
+use Rattle.redo_store.specs.Places.{text_writes}
+use Rattle.redo_store.proofs.TextWrites.{text_writes-batch}
+
+-- the texts in the buffer are those of the batch
+pub record AreTexts (shape : Shape) (pairs : List (ℕ × ℕ)) (users texts : List ℕ) : Type 0 where
+  pub shape_is : IsWithinLimits shape
+  pub batch_is : IsBatch shape (batch_of pairs users)
+  pub slots : (let w : Write = write_at 0 texts in w) ≡ slots_write shape (batch_of pairs users)
+  pub places : text_writes shape pairs texts ≡ place_writes shape (batch_of pairs users)
+
+pub texts-from : (shape : Shape) (pairs : List (ℕ × ℕ)) (users texts : List ℕ) → IsWithinLimits shape → IsWritable shape pairs users → ((j : ℕ) → get_or users j 0 < 256)
+    → texts ≡ batch_text shape (batch_of pairs users) → AreTexts shape pairs users texts
+texts-from shape pairs users texts limits writable bytes same =
+    let batch_is : IsBatch shape (batch_of pairs users) = batch-from shape pairs users limits.slots writable bytes in
+    record {
+      shape_is = limits;
+      batch_is = batch_is;
+      slots = ap (write_at 0) same;
+      places = ap (text_writes shape pairs) same ∙ text_writes-batch shape pairs users limits.page_size batch_is.each;
+    }
+
+pub both-is : (shape : Shape) (pairs : List (ℕ × ℕ)) (users texts : List ℕ) (old new : Disk) → AreTexts shape pairs users texts → new ≡ after_both (write_at 0 texts) (text_writes shape pairs texts) old
+    → new ≡ after_both (slots_write shape (batch_of pairs users)) (place_writes shape (batch_of pairs users)) old
+both-is shape pairs users texts old new are done =
+    done ∙ ap (λ (w : Write). after_both w (text_writes shape pairs texts) old) are.slots ∙ ap (λ (ws : List Write). after_both (slots_write shape (batch_of pairs users)) ws old) are.places
+
+pub fails-is : (shape : Shape) (pairs : List (ℕ × ℕ)) (users texts : List ℕ) (old new : Disk) → AreTexts shape pairs users texts → FailsBoth (write_at 0 texts) (text_writes shape pairs texts) old new
+    → FailsBoth (slots_write shape (batch_of pairs users)) (place_writes shape (batch_of pairs users)) old new
+fails-is shape pairs users texts old new are fails =
+    subst (λ (ws : List Write). FailsBoth (slots_write shape (batch_of pairs users)) ws old new) are.places (subst (λ (w : Write). FailsBoth w (text_writes shape pairs texts) old new) are.slots fails)
+
+pub live-stored : (shape : Shape) (top was : ℕ → Content) (batch : List Fresh) (failed : Option DevError) (disk : Disk) → failed ≡ None
+    → Stored shape (IsUpTo top) was batch (is_some failed) disk → Stored shape (IsUpTo top) was batch false disk
+live-stored shape top was batch failed disk live stored = subst (λ (b : Bool). Stored shape (IsUpTo top) was batch b disk) (ap (λ (f : Option DevError). is_some f) live) stored
+
+pub back-stored : (shape : Shape) (top was : ℕ → Content) (batch : List Fresh) (failed : Option DevError) (disk : Disk) → failed ≡ None
+    → Stored shape (IsUpTo top) was batch false disk → Stored shape (IsUpTo top) was batch (is_some failed) disk
+back-stored shape top was batch failed disk live stored = subst (λ (b : Bool). Stored shape (IsUpTo top) was batch b disk) (sym (ap (λ (f : Option DevError). is_some f) live)) stored
+
+-- what the buffer holds is lent as it was filled
+pub lent-texts : (shape : Shape) (batch : List Fresh) (out rest lent : List ℕ) (n count len : ℕ) → lent ≡ take len (out ++ drop count rest) → len ≡ length out → take n out ≡ batch_text shape batch → take n lent ≡ batch_text shape batch
+lent-texts shape batch out rest lent n count len lent_is long filled =
+    ap (take n) (lent_is ∙ take_at out (drop count rest) len (sym long)) ∙ filled
+
+pub put-is : (shape : Shape) (pairs : List (ℕ × ℕ)) (users texts : List ℕ) (old new : Disk) → AreTexts shape pairs users texts → new ≡ synced (written old (write_at 0 texts)) → new ≡ synced (written old (slots_write shape (batch_of pairs users)))
+put-is shape pairs users texts old new are done = done ∙ ap (λ (w : Write). synced (written old w)) are.slots
+
+pub put_fails-is : (shape : Shape) (pairs : List (ℕ × ℕ)) (users texts : List ℕ) (old new : Disk) → AreTexts shape pairs users texts → IsPutOrNot (write_at 0 texts) old new → IsPutOrNot (slots_write shape (batch_of pairs users)) old new
+put_fails-is shape pairs users texts old new are fails = subst (λ (w : Write). IsPutOrNot w old new) are.slots fails

@@ -1,0 +1,49 @@
+-- A page that is found broken, with a copy that passes, may be repaired.
+use Rattle.std.proofs.Common.{◌≡◌, ◌≤◌, ℕ, List, Option, Some, None, IfSome, MatchOption, length, sym, ap, subst, ◌∙◌}
+use Rattle.model_base.specs.declared.shape.Shape.{Shape}
+use Rattle.model_page.specs.Copies.{IsBestCopy, HasNoCopy, place_bytes, place_lsn_by, data_device_length}
+use Rattle.model_page.specs.Page.{page_check}
+use Rattle.model_page.specs.declared.page.PageState.TheVariants.{Broken}
+use Rattle.model_device.specs.Disk.{Disk, settled}
+use Rattle.model_datadev.specs.Repair.{IsRepairable}
+use Rattle.redo_store.proofs.tests.repair_broken.Goals as goal
+
+repairable : (shape : Shape) (page : ℕ) (told : Option Disk) (out : List ℕ) (best : ℕ × ℕ)
+    → IfSome told (λ (disk : Disk). data_device_length shape ≤ length disk.base) → IfSome told (λ (disk : Disk). disk ≡ settled disk.base)
+    → IfSome told (λ (disk : Disk). out ≡ place_bytes shape page disk.reads) → page_check out ≡ Broken
+    → IfSome told (λ (disk : Disk). IsBestCopy shape disk.reads page best.0 best.1) → IfSome told (IsRepairable shape page)
+repairable shape page None out best long settled_is bytes broken found = tt
+repairable shape page (Some disk) out best long settled_is bytes broken found =
+    let reads : disk.reads ≡ disk.base = ap (λ (d : Disk). d.reads) settled_is in
+    record {
+      long = long;
+      nothing_pending = settled_is;
+      broken = ap (place_lsn_by shape page) (ap page_check (sym (bytes ∙ ap (place_bytes shape page) reads)) ∙ broken);
+      slot = best.0;
+      lsn = best.1;
+      best = subst (λ (image : List ℕ). IsBestCopy shape image page best.0 best.1) reads found;
+    }
+
+best-found : (old new : Shape) (told_old told_new : Option Disk) (page : ℕ) (found : Option (ℕ × ℕ)) (best : ℕ × ℕ) → new ≡ old → told_new ≡ told_old → found ≡ Some best
+    → IfSome told_new (λ (disk : Disk). MatchOption found (HasNoCopy new disk.reads page) (λ (b : ℕ × ℕ). IsBestCopy new disk.reads page b.0 b.1))
+    → IfSome told_old (λ (disk : Disk). IsBestCopy old disk.reads page best.0 best.1)
+best-found old new told_old told_new page found best same_shape same_told is known =
+    subst (λ (s : Shape). IfSome told_old (λ (disk : Disk). IsBestCopy s disk.reads page best.0 best.1)) same_shape
+    (subst (λ (o : Option Disk). IfSome o (λ (disk : Disk). IsBestCopy new disk.reads page best.0 best.1)) same_told
+    (subst (λ (f : Option (ℕ × ℕ)). IfSome told_new (λ (disk : Disk). MatchOption f (HasNoCopy new disk.reads page) (λ (b : ℕ × ℕ). IsBestCopy new disk.reads page b.0 b.1))) is known))
+
+pub repair-requires-clause-repairable : goal.repair-requires-clause-repairable
+repair-requires-clause-repairable g c =
+    let before = c.args.part.now in
+    let middle = c.read_page.new.self in
+    let after = c.best_copy.new.self in
+    let page = c.args.page in
+    let best = c.in-Broken-Some.field-0-1 in
+    let shape_then : middle.shape ≡ before.shape = c.in_ok-read_page.ensures.step.shape in
+    let told_then : (g.D.Sectors.seen middle.dev).tells ≡ (g.D.Sectors.seen before.dev).tells = c.in_ok-read_page.ensures.same in
+    let shape_now : after.shape ≡ middle.shape = c.in_ok-best_copy.ensures.step.shape in
+    let told_now : (g.D.Sectors.seen after.dev).tells ≡ (g.D.Sectors.seen middle.dev).tells = c.in_ok-best_copy.ensures.same in
+    subst (λ (s : Shape). IfSome (g.D.Sectors.seen after.dev).tells (IsRepairable s page)) (sym (shape_now ∙ shape_then))
+    (subst (λ (o : Option Disk). IfSome o (IsRepairable before.shape page)) (sym (told_now ∙ told_then))
+    (repairable before.shape page (g.D.Sectors.seen before.dev).tells c.read_page.new.out best c.requires.long c.requires.nothing_pending c.in_ok-read_page.ensures.bytes (sym c.in-Broken-Some.ensures)
+    (best-found before.shape middle.shape (g.D.Sectors.seen before.dev).tells (g.D.Sectors.seen middle.dev).tells page c.in_ok-best_copy.field-0 best shape_then told_then c.in-Broken-Some.is-1 c.in_ok-best_copy.ensures.found)))

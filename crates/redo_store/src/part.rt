@@ -1,0 +1,212 @@
+// The data part.
+ghost use Rattle.std.specs.Prelude.{◌≡◌, ◌≤◌, ◌<◌, ◌*◌, ℕ, List, [], length, None, IfOk, MatchResult, MatchOption, IfSome, OnOk, vec_len};
+ghost use Rattle.model_base.specs.Limits.{IsWithinLimits};
+ghost use Rattle.model_datadev.specs.Batch.{Fresh, batch_of, after_batch, slots_write, IsWritable};
+ghost use Rattle.model_datadev.specs.Repair.{IsPutBack, IsRepairable, KeepsAll, IsRepaired};
+ghost use Rattle.model_datadev.specs.Stored.{IsLater, IsOpened, IsBefore, IsSteady, KeepsPages};
+ghost use Rattle.model_device.specs.Calls.{written, synced};
+ghost use Rattle.model_page.specs.Copies.{data_device_length, place_bytes, IsBestCopy, HasNoCopy};
+ghost use Rattle.model_page.specs.declared.content.Content.{Content};
+ghost use Rattle.redo_disk.specs.Put.{WritesAndSyncs};
+ghost use Rattle.redo_disk.specs.Seen.{OnTold};
+ghost use Rattle.redo_store.specs.Part.{PartStep, PartStores, PartKeeps};
+
+use crate::mend::put_back;
+use crate::places::{PAGE, put_both};
+use model_base::Shape;
+use redo_dblwr::{fill_texts, find_copy, put_bytes, read_stretch};
+use redo_disk::{DevError, Sectors};
+use redo_lsn::NoMemory;
+use std::alloc::{AllocError, Global};
+use std::marker::Model;
+
+/// The data part. It keeps the pages of a store, each in its place, and the slots through which they are written, so that
+/// a torn place has a copy. A part whose call failed takes no more calls. Only `new` takes memory.
+#[derive(Drop)]
+pub struct DataPart<D: Sectors> {
+    dev: D,
+    shape: Shape,
+    // room for the pages of a batch
+    buffer: Vec<u8>,
+    // room for one copy
+    page: Vec<u8>,
+    failed: Option<DevError>,
+}
+
+impl<D: Sectors> Model for DataPart<D> {
+    ghost use Rattle.std.specs.Prelude.{vec_len};
+    ghost use Rattle.redo_store.specs.Part.{Part, IsFitted};
+
+    ghost Value = { Part D };
+
+    ghost view = { λ part. record { dev = part.dev; shape = part.shape; failed = part.failed } };
+
+    ghost invariant = { λ part. IsFitted D.seen part.dev part.shape (vec_len part.buffer) (vec_len part.page) };
+}
+
+/// The room for a batch, and for one copy.
+fn make_room(alloc: Global, shape: &Shape) -> Result<(Vec<u8>, Vec<u8>), AllocError>
+    requires limits { IsWithinLimits shape.now }
+    ensures batch { IfOk result (λ room. vec_len room.0 ≡ shape.now.slots * shape.now.page_size) }
+    ensures copy { IfOk result (λ room. vec_len room.1 ≡ shape.now.page_size) }
+{
+    let page = shape.page_size as usize;
+    let buffer = vec![in alloc; 0u8; shape.slots as usize * page]?;
+    let copy = vec![in alloc; 0u8; page]?;
+    Ok((buffer, copy))
+}
+
+impl<D: Sectors> DataPart<D> {
+    /// A part over this device. It takes the room for a batch.
+    pub fn new(alloc: Global, dev: D, shape: &Shape) -> Result<DataPart<D>, (NoMemory, D)>
+        requires limits { IsWithinLimits shape.now }
+        requires long { data_device_length shape.now ≤ (D.seen dev).size }
+        ensures part { IfOk result (λ part. part ≡ record { dev = dev; shape = shape.now; failed = None }) }
+        ensures stores { (top was : ℕ → Content) → IfSome (D.seen dev).tells (IsOpened shape.now top was)
+            → IfOk result (PartStores D.seen top was []) }
+        ensures dev { MatchResult result (λ part. part.dev ≡ dev) (λ error. error.1 ≡ dev) }
+    {
+        let shape = *shape;
+        match make_room(alloc, &shape) {
+            Ok((buffer, page)) => Ok(DataPart {
+                dev,
+                shape,
+                buffer,
+                page,
+                failed: None,
+            }),
+            Err(_) => Err((NoMemory, dev)),
+        }
+    }
+
+    /// Writes the pages of a batch into the slots, and makes them stay there. Their places are as they were.
+    pub fn put_batch(&mut self, batch: &[(u32, u64)], frames: &[u8]) -> Result<(), DevError>
+        requires live { self.old.failed ≡ None }
+        requires batch { IsWritable self.old.shape batch.now frames.now }
+        ensures stores { (top was : ℕ → Content) → PartStores D.seen top was [] self.old
+            → PartStores D.seen top was (batch_of batch.now frames.now) self.new }
+        ensures slots { OnOk result (OnTold (D.seen self.old.dev).tells (D.seen self.new.dev).tells
+            (λ old new. new ≡ synced (written old (slots_write self.old.shape (batch_of batch.now frames.now))))) }
+        ensures calls { WritesAndSyncs D.write_gives D.sync_gives (slots_write self.old.shape (batch_of batch.now frames.now)) self.old.dev result self.new.dev }
+        ensures step { PartStep D.seen self.old result self.new }
+    {
+        let len = PAGE * batch.len();
+        fill_texts(&mut self.buffer, &self.shape, batch, frames);
+        match put_bytes(&mut self.dev, 0, &self.buffer[..len]) {
+            Ok(()) => Ok(()),
+            Err(error) => {
+                self.failed = Some(error);
+                Err(error)
+            }
+        }
+    }
+
+    /// Writes the pages of a batch: into the slots, and once they stay there each into its place.
+    pub fn write_batch(&mut self, batch: &[(u32, u64)], frames: &[u8]) -> Result<(), DevError>
+        requires live { self.old.failed ≡ None }
+        requires batch { IsWritable self.old.shape batch.now frames.now }
+        ensures keeps { (top was : ℕ → Content) → PartStores D.seen top was [] self.old
+            → IsLater top (batch_of batch.now frames.now)
+            → PartKeeps D.seen top was (batch_of batch.now frames.now) self.new }
+        ensures ok { (top was : ℕ → Content) → PartStores D.seen top was [] self.old
+            → IsLater top (batch_of batch.now frames.now)
+            → OnOk result (PartStores D.seen (after_batch (batch_of batch.now frames.now) top)
+            (after_batch (batch_of batch.now frames.now) was) [] self.new) }
+        ensures pages { (was : ℕ → Content)
+            → IfSome (D.seen self.old.dev).tells (IsBefore self.old.shape was (batch_of batch.now frames.now))
+            → IfSome (D.seen self.new.dev).tells (KeepsPages self.old.shape was (batch_of batch.now frames.now)) }
+        ensures done { (was : ℕ → Content)
+            → IfSome (D.seen self.old.dev).tells (IsBefore self.old.shape was (batch_of batch.now frames.now))
+            → OnOk result (IfSome (D.seen self.new.dev).tells
+            (IsSteady self.old.shape (after_batch (batch_of batch.now frames.now) was))) }
+        ensures step { PartStep D.seen self.old result self.new }
+    {
+        let len = PAGE * batch.len();
+        fill_texts(&mut self.buffer, &self.shape, batch, frames);
+        match put_both(&mut self.dev, &self.shape, batch, &self.buffer[..len]) {
+            Ok(()) => Ok(()),
+            Err(error) => {
+                self.failed = Some(error);
+                Err(error)
+            }
+        }
+    }
+
+    /// Reads the place of a page.
+    pub fn read_page(&mut self, page: u32, out: &mut [u8]) -> Result<(), DevError>
+        requires live { self.old.failed ≡ None }
+        requires page { page < self.old.shape.pages }
+        requires out { length out.old ≡ self.old.shape.page_size }
+        ensures bytes { OnOk result (IfSome (D.seen self.old.dev).tells
+            (λ disk. out.new ≡ place_bytes self.old.shape page disk.reads)) }
+        ensures stores { (top was : ℕ → Content) (batch : List Fresh)
+            → PartStores D.seen top was batch self.old → PartStores D.seen top was batch self.new }
+        ensures same { (D.seen self.new.dev).tells ≡ (D.seen self.old.dev).tells }
+        ensures step { PartStep D.seen self.old result self.new }
+    {
+        match read_stretch(&mut self.dev, &self.shape, self.shape.slots + page, out) {
+            Ok(()) => Ok(()),
+            Err(error) => {
+                self.failed = Some(error);
+                Err(error)
+            }
+        }
+    }
+
+    /// The slot and the lsn of the copy of a page that counts, where one passes.
+    pub fn best_copy(&mut self, page: u32) -> Result<Option<(u32, u64)>, DevError>
+        requires live { self.old.failed ≡ None }
+        ensures found { IfOk result (λ found. IfSome (D.seen self.old.dev).tells (λ disk. MatchOption found
+            (HasNoCopy self.old.shape disk.reads page)
+            (λ best. IsBestCopy self.old.shape disk.reads page best.0 best.1))) }
+        ensures within { IfOk result (λ found. IfSome found (λ best. best.0 < self.old.shape.slots)) }
+        ensures stores { (top was : ℕ → Content) (batch : List Fresh)
+            → PartStores D.seen top was batch self.old → PartStores D.seen top was batch self.new }
+        ensures same { (D.seen self.new.dev).tells ≡ (D.seen self.old.dev).tells }
+        ensures step { PartStep D.seen self.old result self.new }
+    {
+        match find_copy(&mut self.dev, &self.shape, page, &mut self.page) {
+            Ok(found) => Ok(found),
+            Err(error) => {
+                self.failed = Some(error);
+                Err(error)
+            }
+        }
+    }
+
+    /// Puts the copy of a page that counts into its place, and makes it stay.
+    pub fn repair(&mut self, page: u32) -> Result<(), DevError>
+        requires live { self.old.failed ≡ None }
+        requires page { page < self.old.shape.pages }
+        requires repairable { IfSome (D.seen self.old.dev).tells (IsRepairable self.old.shape page) }
+        ensures keeps { OnTold (D.seen self.old.dev).tells (D.seen self.new.dev).tells (KeepsAll self.old.shape) }
+        ensures put { OnOk result (OnTold (D.seen self.old.dev).tells (D.seen self.new.dev).tells
+            (IsPutBack self.old.shape page)) }
+        ensures ok { OnOk result (OnTold (D.seen self.old.dev).tells (D.seen self.new.dev).tells
+            (IsRepaired self.old.shape page)) }
+        ensures step { PartStep D.seen self.old result self.new }
+    {
+        match put_back(&mut self.dev, &self.shape, page, &mut self.page) {
+            Ok(()) => Ok(()),
+            Err(error) => {
+                self.failed = Some(error);
+                Err(error)
+            }
+        }
+    }
+
+    /// What the call answered that failed.
+    pub fn failed(&self) -> Option<DevError>
+        ensures { result ≡ self.now.failed }
+    {
+        self.failed
+    }
+
+    /// The device.
+    pub fn into_dev(self) -> D
+        ensures { result ≡ self.dev }
+    {
+        let DataPart { dev, .. } = self;
+        dev
+    }
+}
