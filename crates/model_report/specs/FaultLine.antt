@@ -3,11 +3,11 @@ use Rattle.std.specs.Prelude.{ℕ, List, [], ◌∷◌, codes}
 use Rattle.std.specs.Fmt.{decimal}
 use Rattle.model_store.specs.declared.refusal.Refusal.{Refusal}
 use Rattle.model_store.specs.declared.refusal.Refusal.TheVariants.{SmallLog, NotFormatted, BadFormat, SmallData, NoCheckpoint, BadRecord, PageLost, PageAhead}
-use Rattle.model_report.specs.Report.{line_of}
+use Rattle.model_script.specs.declared.misfit.Quantity.{Quantity}
+use Rattle.model_script.specs.declared.misfit.Quantity.TheVariants as quantity
+use Rattle.model_report.specs.Line.{line_text}
 use Rattle.model_report.specs.declared.fault.Fault.{Fault}
 use Rattle.model_report.specs.declared.fault.Fault.TheVariants as fault
-use Rattle.model_report.specs.declared.fault.Quantity.{Quantity}
-use Rattle.model_report.specs.declared.fault.Quantity.TheVariants as quantity
 
 -- a store that is refused has status 8; a device that is too short is a quantity that doesn't fit, with status 10
 abbrev pub refusal_status : Refusal → ℕ
@@ -30,10 +30,12 @@ status_of fault.LogDevice = 6
 status_of fault.DataDevice = 7
 status_of (fault.Store refusal) = refusal_status refusal
 status_of (fault.Turns n user) = 9
-status_of (fault.Fit what n) = 10
+status_of (fault.Fit misfit) = 10
 
 abbrev pub quantity_word : Quantity → List ℕ
 quantity_word quantity.Script = codes "script"
+quantity_word quantity.Log = codes "log"
+quantity_word quantity.Store = codes "store"
 quantity_word quantity.Used = codes "used"
 quantity_word quantity.User = codes "user"
 quantity_word quantity.Page = codes "page"
@@ -42,12 +44,16 @@ quantity_word quantity.Group = codes "group"
 quantity_word quantity.Lsn = codes "lsn"
 quantity_word quantity.Total = codes "total"
 
+-- the words for a quantity that doesn't fit, behind `fault`
+abbrev pub misfit_words : Quantity → ℕ → List (List ℕ)
+misfit_words what n = codes "fit" ∷ quantity_word what ∷ decimal n ∷ []
+
 -- the words of a refusal's line behind `fault`
 abbrev pub refusal_words : Refusal → List (List ℕ)
-refusal_words (SmallLog n) = codes "fit" ∷ codes "log" ∷ decimal n ∷ []
+refusal_words (SmallLog n) = misfit_words quantity.Log n
 refusal_words NotFormatted = codes "store" ∷ codes "unformatted" ∷ []
 refusal_words (BadFormat n) = codes "store" ∷ codes "format" ∷ decimal n ∷ []
-refusal_words (SmallData n) = codes "fit" ∷ codes "store" ∷ decimal n ∷ []
+refusal_words (SmallData n) = misfit_words quantity.Store n
 refusal_words NoCheckpoint = codes "store" ∷ codes "checkpoint" ∷ []
 refusal_words (BadRecord lsn) = codes "store" ∷ codes "record" ∷ decimal lsn ∷ []
 refusal_words (PageLost p) = codes "store" ∷ codes "lost" ∷ decimal p ∷ []
@@ -64,9 +70,9 @@ fault_words fault.LogDevice = codes "log" ∷ codes "device" ∷ []
 fault_words fault.DataDevice = codes "data" ∷ codes "device" ∷ []
 fault_words (fault.Store refusal) = refusal_words refusal
 fault_words (fault.Turns n user) = codes "turns" ∷ decimal n ∷ codes "user" ∷ decimal user ∷ []
-fault_words (fault.Fit what n) = codes "fit" ∷ quantity_word what ∷ decimal n ∷ []
+fault_words (fault.Fit misfit) = misfit_words misfit.quantity misfit.number
 
 -- the line that is printed for a fault; a sink that failed gets none
 unfoldable pub fault_line : Fault → List ℕ
 fault_line fault.Sink = []
-fault_line cause = line_of (codes "fault" ∷ fault_words cause)
+fault_line cause = line_text (codes "fault" ∷ fault_words cause)

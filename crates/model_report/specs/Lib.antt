@@ -1,3 +1,5 @@
 pub mod FaultLine
-pub mod Read
+pub mod Line
+pub mod Listing
+pub mod Pages
 pub mod Report

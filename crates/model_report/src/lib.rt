@@ -1,16 +1,7 @@
-//! What the program prints: the report of a run and a crash, the page lines, and the fault lines with their statuses.
+//! What the program prints: the report of a run and a crash, the listing of a store, the page lines, and the fault
+//! lines with their statuses. Nothing runs here.
 #![tactic(auto)]
 
 mod fault;
-mod fault_line;
-mod lines;
-mod page;
-mod report;
 
-pub use fault::{Fault, Quantity};
-pub use fault_line::{FAULT_ROOM, fault_bytes, fault_text};
-pub use page::page_lines_bytes;
-pub use report::report_bytes;
-
-#[cfg(test)]
-mod tests;
+pub use fault::Fault;

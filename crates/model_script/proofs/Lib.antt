@@ -1,8 +1,1 @@
-pub mod Cutting
-pub mod FirstScript
-pub mod FrontLemmas
-pub mod ItemLemmas
-pub mod LineLemmas
-pub mod NumberLemmas
-pub mod WordLemmas
-pub mod ScriptLemmas
+pub mod Fitting

@@ -2,7 +2,7 @@
 -- spaces. MODE is f, w or n. OP is `b1|b2|b4|b8 PAGE OFFSET VALUE`, `s PAGE OFFSET HEX` or `i PAGE`. An empty line and a
 -- line that begins with # are skipped but counted.
 use Rattle.std.specs.Prelude.{ℕ, ◌+◌, ◌-◌, ◌*◌, ◌^◌, ◌==◌, ◌&&◌, nat_lt, nat_le, if◌then◌else◌, Bool, true, List, [], ◌∷◌, length, fold, codes, Option, Some, None, option_and_then, Result, Ok, Err}
-use Rattle.std.specs.List.{slice_split, list_all}
+use Rattle.std.specs.List.{enumerate_from, slice_split, list_all}
 use Rattle.std.specs.Char.{is_ascii_digit}
 use Rattle.std.specs.Str.{bytes_eq}
 use Rattle.std.specs.Result.{result_ok}
@@ -91,8 +91,8 @@ line_of_parts (user ∷ mode ∷ words) texts = line_from user mode words texts
 line_of_parts words texts = None
 
 -- what the text of a line says
-unfoldable pub line_of : List ℕ → Option ScriptLine
-line_of text = elim (operations_of text) [ [] ↦ None | first ∷ texts ↦ line_of_parts (words_of first) texts ]
+unfoldable pub script_line_of : List ℕ → Option ScriptLine
+script_line_of text = elim (operations_of text) [ [] ↦ None | first ∷ texts ↦ line_of_parts (words_of first) texts ]
 
 -- an empty line, or a comment
 abbrev pub is_skipped : List ℕ → Bool
@@ -104,13 +104,13 @@ abbrev pub with_line : ScriptLine → Result (List ScriptLine) ℕ → Result (L
 with_line line (Ok lines) = Ok (line ∷ lines)
 with_line line (Err n) = Err n
 
--- the lines of these texts, of which the first has the number n; or the number of the first that is no line
-abbrev pub script_from : ℕ → List (List ℕ) → Result (List ScriptLine) ℕ
-script_from n [] = Ok []
-script_from n (text ∷ texts) =
-    if is_skipped text then script_from (n + 1) texts
-    else elim (line_of text) [ None ↦ Err n | Some line ↦ with_line line (script_from (n + 1) texts) ]
+-- the lines of these texts, each of which stands behind its number; or the number of the first that is no line
+abbrev pub script_from : List (ℕ × List ℕ) → Result (List ScriptLine) ℕ
+script_from [] = Ok []
+script_from (text ∷ texts) =
+    if is_skipped text.1 then script_from texts
+    else elim (script_line_of text.1) [ None ↦ Err text.0 | Some line ↦ with_line line (script_from texts) ]
 
--- The script that a text is, or the number of its first bad line.
+-- The script that a text is, or the number of its first bad line, counted from 1.
 unfoldable pub script_of : List ℕ → Result (List ScriptLine) ℕ
-script_of text = script_from 1 (lines_of text)
+script_of text = script_from (enumerate_from 1 (lines_of text))

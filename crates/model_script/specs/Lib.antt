@@ -1,5 +1,6 @@
-pub mod Cut
-pub mod FirstPath
+pub mod Fit
+pub mod Generator
 pub mod Grammar
 pub mod LineGroup
-pub mod Progress
+pub mod Ranges
+pub mod Spelling

@@ -1,24 +1,13 @@
-//! The grammar of scripts: which text is a script, and what its lines say. Beside the definitions stand the programs
-//! that read a script.
+//! What a script is: which text is one and what its lines say, how a line is printed, which script a seed generates,
+//! the group that a line logs, and what of a script doesn't fit a store. Nothing runs here.
 #![tactic(auto)]
 
-mod cut;
 mod item;
 mod laws;
-mod line;
-mod lines;
-mod number;
-mod operation;
-mod parsing;
-mod records;
+mod misfit;
 mod script;
-mod today;
 
 pub use item::{Item, Items};
-pub use laws::first_path_is_script;
-pub use parsing::parse;
+pub use laws::fitting_script;
+pub use misfit::{MARGIN, MAX_USERS, Misfit, Quantity};
 pub use script::{Script, ScriptLine};
-pub use today::first_path;
-
-#[cfg(test)]
-mod tests;

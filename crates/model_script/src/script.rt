@@ -1,8 +1,5 @@
 // The lines of a script.
 use crate::Items;
-use crate::records::records_of;
-use model_record::Group;
-use std::alloc::{AllocError, Global};
 use std::marker::Model;
 
 /// One line of a script: one mini-transaction of a user.
@@ -14,18 +11,6 @@ pub struct ScriptLine {
     /// once.
     pub mode: u32,
     pub items: Items,
-}
-
-impl ScriptLine {
-    ghost use Rattle.std.specs.Prelude.{◌≡◌, IfOk};
-    ghost use Rattle.model_script.specs.LineGroup.{group_of};
-
-    /// The group that the line logs on a store with this space id: one record for each operation, in order.
-    pub fn group(&self, alloc: Global, space: u32) -> Result<Group, AllocError>
-        ensures { IfOk result (λ group. group ≡ group_of space self.now) }
-    {
-        Ok(Group(records_of(alloc, space, self.items.0.as_slice())?))
-    }
 }
 
 /// The lines of a script that aren't skipped, in order. Contracts see it as the list of them.

@@ -1,0 +1,87 @@
+-- What `dump` prints of a store that was read: its shape, the newest checkpoint, each scanned block, each group with
+-- its records, and where the log ends. And the lines of `format`, `recover` and `gen --run`.
+use Rattle.std.specs.Prelude.{ℕ, ◌+◌, List, [], ◌∷◌, ◌++◌, codes, length}
+use Rattle.std.specs.Int.{bytes_high_first}
+use Rattle.std.specs.List.{flat_map}
+use Rattle.std.specs.Fmt.{decimal}
+use Rattle.hex.specs.Hex.{encode_lower}
+use Rattle.model_base.specs.declared.shape.Shape.{Shape}
+use Rattle.model_base.specs.declared.limits.TheConstants.{BLOCK_SIZE, START_LSN}
+use Rattle.model_number.specs.Crc32c.{crc_of}
+use Rattle.model_record.specs.declared.group.Whole.{Whole}
+use Rattle.model_record.specs.declared.rec.Rec.{Rec}
+use Rattle.model_record.specs.declared.rec.Rec.TheVariants as rec
+use Rattle.model_log.specs.Lsn.{block_number}
+use Rattle.model_log.specs.declared.block.BlockView.{BlockView}
+use Rattle.model_page.specs.declared.content.Content.{Content}
+use Rattle.model_store.specs.Reading.{Reading}
+use Rattle.model_script.specs.Spelling.{item_text}
+use Rattle.model_script.specs.declared.item.Item.{Item}
+use Rattle.model_script.specs.declared.item.Item.TheVariants.{Num, Text, Init}
+use Rattle.model_report.specs.Line.{line_text}
+use Rattle.model_report.specs.Pages.{page_lines}
+
+abbrev pub store_line : Shape → List ℕ
+store_line shape =
+    line_text (codes "store" ∷ decimal shape.page_size ∷ decimal shape.pages ∷ decimal shape.space ∷ decimal shape.log_blocks ∷ decimal shape.slots ∷ [])
+
+abbrev pub checkpoint_line : ℕ → ℕ → List ℕ
+checkpoint_line number lsn = line_text (codes "checkpoint" ∷ decimal number ∷ decimal lsn ∷ [])
+
+-- a block with the lsn at which it begins
+abbrev pub block_line : ℕ → BlockView → List ℕ
+block_line lsn view =
+    line_text (codes "block" ∷ decimal lsn ∷ decimal (block_number lsn) ∷ decimal view.length ∷ decimal view.first ∷ decimal view.ckpt ∷ [])
+
+-- blocks that stand one behind another, the first at this lsn
+abbrev pub block_lines : ℕ → List BlockView → List ℕ
+block_lines lsn [] = []
+block_lines lsn (view ∷ views) = block_line lsn view ++ block_lines (lsn + BLOCK_SIZE) views
+
+-- the operation of a script that logs the record
+abbrev pub item_of_record : Rec → Item
+item_of_record (rec.Num width space page offset value) = Num width page offset value
+item_of_record (rec.Text space page offset bytes) = Text page offset bytes
+item_of_record (rec.Init space page) = Init page
+
+abbrev pub record_line : Rec → List ℕ
+record_line logged = line_text (codes "rec" ∷ item_text (item_of_record logged) ∷ [])
+
+-- a group, and under it its records
+abbrev pub whole_lines : Whole → List ℕ
+whole_lines whole =
+    line_text (codes "group" ∷ decimal whole.start ∷ decimal whole.end ∷ decimal (length whole.group) ∷ [])
+    ++ flat_map record_line whole.group
+
+abbrev pub end_line : ℕ → List ℕ
+end_line lsn = line_text (codes "end" ∷ decimal lsn ∷ [])
+
+-- The listing of a store: its shape, the number and the lsn of the newest checkpoint, the blocks from there on, the
+-- groups, and the log's end.
+unfoldable pub listing_text : (shape : Shape) (number ckpt : ℕ) → List BlockView → List Whole → (end : ℕ) → List ℕ
+listing_text shape number ckpt views wholes end =
+    store_line shape ++ checkpoint_line number ckpt ++ block_lines ckpt views ++ flat_map whole_lines wholes ++ end_line end
+
+-- how many groups were scanned, and where the log ends
+abbrev pub read_line : ℕ → ℕ → List ℕ
+read_line count end = line_text (codes "read" ∷ decimal count ∷ decimal end ∷ [])
+
+-- The text of `dump`.
+abbrev pub dump_text : Reading → List ℕ
+dump_text reading =
+    listing_text reading.shape reading.number reading.ckpt reading.views reading.wholes reading.end
+
+-- The text of `recover`: the scanned groups, the log's end, and the pages.
+abbrev pub recover_text : Reading → List ℕ
+recover_text reading = read_line (length reading.wholes) reading.end ++ page_lines reading.pages
+
+-- The text of `format`: the lsn at which the log starts.
+unfoldable pub format_text : List ℕ
+format_text = line_text (codes "formatted" ∷ decimal START_LSN ∷ [])
+
+-- The text of `gen --run`: how many groups were reserved, the flushed mark and the checkpoint at the end of the run,
+-- and the CRC-32C of the lines of the pages as they are read afterwards.
+unfoldable pub summary_text : (groups flushed ckpt : ℕ) → List Content → List ℕ
+summary_text groups flushed ckpt pages =
+    line_text (codes "summary" ∷ decimal groups ∷ decimal flushed ∷ decimal ckpt
+    ∷ encode_lower (bytes_high_first 4 (crc_of (page_lines pages))) ∷ [])

@@ -1,0 +1,98 @@
+-- What of a script doesn't fit a store: the first quantity in the order of its lines, and within a line its user, then
+-- of each operation the page and the offset, then the length of the group; behind the lines the lsn at which the log
+-- would end.
+use Rattle.std.specs.Prelude.{ℕ, ◌≤◌, ◌<◌, ◌+◌, ◌*◌, ◌||◌, nat_lt, nat_le, if◌then◌else◌, Bool, List, [], ◌∷◌, ◌++◌, length, map, Option, Some, None, IfSome}
+use Rattle.std.specs.List.{AllByRecursion}
+use Rattle.model_base.specs.declared.shape.Shape.{Shape}
+use Rattle.model_base.specs.declared.limits.TheConstants.{BLOCK_SIZE, LSN_LIMIT, MAX_GROUP, USER_START}
+use Rattle.model_record.specs.Fits.{user_end, GroupFits}
+use Rattle.model_record.specs.Group.{IsGroup, group_length, stream_of}
+use Rattle.model_log.specs.Lsn.{lsn_of, sn_of}
+use Rattle.model_script.specs.LineGroup.{group_of}
+use Rattle.model_script.specs.declared.item.Item.{Item}
+use Rattle.model_script.specs.declared.item.Item.TheVariants.{Num, Text, Init}
+use Rattle.model_script.specs.declared.misfit.Misfit.{Misfit}
+use Rattle.model_script.specs.declared.misfit.Quantity.{Quantity}
+use Rattle.model_script.specs.declared.misfit.Quantity.TheVariants.{User, Page, Offset, Group, Lsn, Total}
+use Rattle.model_script.specs.declared.misfit.TheConstants.{MARGIN, MAX_USERS}
+use Rattle.model_script.specs.declared.script.ScriptLine.{ScriptLine}
+
+-- the quantity with its number, where that lies outside its limits
+abbrev pub misfit_if : Bool → Quantity → ℕ → Option Misfit
+misfit_if outside what n = if outside then Some (record { quantity = what; number = n }) else None
+
+-- the first that doesn't fit, of those that are judged one after another
+abbrev pub first_misfit_of : List (Option Misfit) → Option Misfit
+first_misfit_of [] = None
+first_misfit_of (None ∷ others) = first_misfit_of others
+first_misfit_of (Some misfit ∷ others) = Some misfit
+
+-- users are numbered from 1
+abbrev pub user_misfit : ℕ → Option Misfit
+user_misfit user = misfit_if (nat_lt user 1 || nat_lt MAX_USERS user) User user
+
+-- pages are numbered from 0
+abbrev pub page_misfit : Shape → ℕ → Option Misfit
+page_misfit shape page = misfit_if (nat_le shape.pages page) Page page
+
+-- a write of so many bytes lies within the user bytes of a page
+abbrev pub write_misfit : Shape → ℕ → ℕ → Option Misfit
+write_misfit shape offset count =
+    misfit_if (nat_lt offset USER_START || nat_lt (user_end shape) (offset + count)) Offset offset
+
+-- the page and then the offset of an operation; one that sets a page's user bytes to 0 has no offset
+abbrev pub item_misfit : Shape → Item → Option Misfit
+item_misfit shape (Num width page offset value) =
+    first_misfit_of (page_misfit shape page ∷ write_misfit shape offset width ∷ [])
+item_misfit shape (Text page offset bytes) =
+    first_misfit_of (page_misfit shape page ∷ write_misfit shape offset (length bytes) ∷ [])
+item_misfit shape (Init page) = page_misfit shape page
+
+-- a group's text has at most 8,192 bytes
+abbrev pub group_misfit : Shape → ScriptLine → Option Misfit
+group_misfit shape line =
+    misfit_if (nat_lt MAX_GROUP (group_length (group_of shape.space line))) Group (group_length (group_of shape.space line))
+
+-- the user, then the operations in their order, then the group
+unfoldable pub line_misfit : Shape → ScriptLine → Option Misfit
+line_misfit shape line =
+    first_misfit_of (user_misfit line.user ∷ map (item_misfit shape) line.items ++ group_misfit shape line ∷ [])
+
+-- the lsn at which the groups of a script would end that starts there
+abbrev pub script_end : Shape → ℕ → List ScriptLine → ℕ
+script_end shape start script = lsn_of (sn_of start + length (stream_of (map (group_of shape.space) script)))
+
+-- no lsn of a store is above its limit
+abbrev pub lsn_misfit : ℕ → Option Misfit
+lsn_misfit end = misfit_if (nat_le LSN_LIMIT end) Lsn end
+
+-- one round of the log from the checkpoint on
+abbrev pub round_end : Shape → ℕ → ℕ
+round_end shape ckpt = ckpt + BLOCK_SIZE * shape.log_blocks
+
+-- A log that no checkpoint frees has room up to here. Where checkpoints free it there is no such place, and this isn't
+-- judged.
+abbrev pub total_misfit : Option ℕ → ℕ → Option Misfit
+total_misfit None end = None
+total_misfit (Some room_end) end = misfit_if (nat_lt room_end (end + MARGIN)) Total end
+
+-- The first quantity of a script that doesn't fit a store of this shape, on which the script would start at this lsn.
+unfoldable pub first_misfit : Shape → (start : ℕ) → (room_end : Option ℕ) → List ScriptLine → Option Misfit
+first_misfit shape start room_end script =
+    first_misfit_of (map (line_misfit shape) script
+    ++ lsn_misfit (script_end shape start script) ∷ total_misfit room_end (script_end shape start script) ∷ [])
+
+-- the line may run on the store: its user has one of the numbers there are, and its group is one that fits
+pub record LineFits (shape : Shape) (line : ScriptLine) : Type 0 where
+  pub user_from : 1 ≤ line.user
+  pub user_to : line.user ≤ MAX_USERS
+  pub has_text : IsGroup (group_of shape.space line)
+  pub short : group_length (group_of shape.space line) ≤ MAX_GROUP
+  pub fits : GroupFits shape (group_of shape.space line)
+
+-- Each line of a script may run on the store, on which it would start at this lsn, and the log has room for all of them
+-- (the law `fitting_script`).
+pub record ScriptFits (shape : Shape) (start : ℕ) (room_end : Option ℕ) (script : List ScriptLine) : Type 0 where
+  pub lines : AllByRecursion (LineFits shape) script
+  pub end : script_end shape start script < LSN_LIMIT
+  pub room : IfSome room_end (λ room_end. script_end shape start script + MARGIN ≤ room_end)

@@ -1,0 +1,10 @@
+-- Why words aren't read.
+use Rattle.std.specs.Prelude.{ℕ, ◌≡◌, List, None}
+use Rattle.model_command.specs.Commands.{asked_of}
+use Rattle.redo_command.specs.declared.fault.WordsFault.{WordsFault}
+use Rattle.redo_command.specs.declared.fault.WordsFault.TheVariants.{NotCommand, NoMemory}
+
+-- the fault of these words; memory may run out on any words
+abbrev pub IsFaultOf : List (List ℕ) → WordsFault → Type 0
+IsFaultOf words NotCommand = asked_of words ≡ None
+IsFaultOf words NoMemory = Unit {0}

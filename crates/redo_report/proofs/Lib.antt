@@ -1,0 +1,4 @@
+pub mod BlockLines
+pub mod Decimal
+pub mod PageLines
+pub mod Trim

@@ -1,0 +1,16 @@
+pub mod Cutting
+pub mod FirstScript
+pub mod FrontLemmas
+pub mod GeneratedLines
+pub mod ItemLemmas
+pub mod Joining
+pub mod NumberLemmas
+pub mod PlainBytes
+pub mod PrintedItems
+pub mod PrintedLines
+pub mod PrintedNumbers
+pub mod PrintedScripts
+pub mod ScriptLemmas
+pub mod WordLemmas
+pub mod Drawing
+pub mod ItemTexts

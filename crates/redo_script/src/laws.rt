@@ -1,0 +1,33 @@
+// What holds of scripts. A caller learns it by calling a function that does nothing.
+ghost use Rattle.std.specs.Prelude.{◌≡◌, ◌≤◌, ℕ, List, Some, Ok};
+ghost use Rattle.redo_script.specs.FirstPath.{first_path_script};
+ghost use Rattle.std.specs.List.{AllByRecursion};
+ghost use Rattle.model_script.specs.Generator.{generated_lines, generated_text};
+ghost use Rattle.model_script.specs.Grammar.{script_line_of, script_of};
+ghost use Rattle.model_script.specs.Ranges.{IsScriptLine};
+ghost use Rattle.model_script.specs.Spelling.{script_line_text, script_text};
+ghost use Rattle.model_script.specs.declared.misfit.TheConstants.{MAX_USERS};
+ghost use Rattle.model_script.specs.declared.script.ScriptLine.{ScriptLine};
+
+/// A script of today is one by the grammar, with the same lines.
+pub fn first_path_is_script()
+    ensures { (text : List ℕ) (script : List ScriptLine)
+        → first_path_script text ≡ Ok script → script_of text ≡ Ok script }
+{}
+
+/// A line whose numbers are in their ranges is read back from its text as that line.
+pub fn printed_line_reads_back()
+    ensures { (line : ScriptLine) → IsScriptLine line → script_line_of (script_line_text line) ≡ Some line }
+{}
+
+/// A script whose lines' numbers are in their ranges is read back from its text as that script.
+pub fn printed_script_reads_back()
+    ensures { (lines : List ScriptLine) → AllByRecursion IsScriptLine lines
+        → script_of (script_text lines) ≡ Ok lines }
+{}
+
+/// The text that the generator prints for a seed is read back as the lines of that seed.
+pub fn generated_script_reads_back()
+    ensures { (seed users groups : ℕ) → 1 ≤ users → users ≤ MAX_USERS
+        → script_of (generated_text seed users groups) ≡ Ok (generated_lines seed users groups) }
+{}

@@ -1,0 +1,32 @@
+//! Scripts as the program reads and makes them: the script of a text or its first bad line, the group that a line logs,
+//! and the script of a seed.
+#![tactic(auto)]
+
+mod cut;
+mod draws;
+mod fault;
+mod generator;
+mod group;
+mod laws;
+mod line;
+mod number;
+mod operation;
+mod parsing;
+mod printing;
+mod today;
+
+pub use fault::ScriptFault;
+pub use generator::generate;
+pub use group::group_of;
+pub use laws::{
+    first_path_is_script, generated_script_reads_back, printed_line_reads_back,
+    printed_script_reads_back,
+};
+pub use model_script::{Item, Items, Script, ScriptLine};
+pub use number::number_up_to;
+pub use parsing::parse;
+pub use printing::{push_init, push_number, push_string};
+pub use today::first_path;
+
+#[cfg(test)]
+mod tests;

@@ -1,0 +1,259 @@
+// Scripts: which text is one, what its lines say, and the script of a seed.
+use crate::printing::push_line;
+use crate::{Script, ScriptFault, first_path, generate, group_of, number_up_to, parse};
+use std::alloc::{AllocError, Global};
+use std::test::Fail;
+
+// The lines as they are printed, with a line feed between two.
+fn printed(alloc: Global, script: &Script) -> Result<String, AllocError> {
+    let mut text = String::new(alloc);
+    for line in script.0.iter() {
+        if !text.is_empty() {
+            text.push_str("\n")?;
+        }
+        push_line(alloc, &mut text, line)?;
+    }
+    Ok(text)
+}
+
+#[test]
+fn texts_that_are_scripts(rt: HostRuntime) -> Result<(), Fail> {
+    let alloc = rt.alloc();
+    let table = [
+        ("", ""),
+        ("\n", ""),
+        ("\r\n", ""),
+        ("\r", ""),
+        ("\n\n\n", ""),
+        ("#", ""),
+        ("# comment", ""),
+        ("#\t\r\r", ""),
+        ("#1 f i 3\n", ""),
+        ("1 f b1 3 100 7", "1 f b1 3 100 7"),
+        ("1 f b1 3 100 7\n", "1 f b1 3 100 7"),
+        ("1 f b1 3 100 7\r\n", "1 f b1 3 100 7"),
+        ("1 f b1 3 100 7\r", "1 f b1 3 100 7"),
+        ("1 f b1 3 100 7\n\n", "1 f b1 3 100 7"),
+        ("\n1 f b1 3 100 7", "1 f b1 3 100 7"),
+        ("# c\n1 f b1 3 100 7\n# c", "1 f b1 3 100 7"),
+        ("01 f b1 003 0100 07", "1 f b1 3 100 7"),
+        ("00000000000000000001 f i 3", "1 f i 3"),
+        ("1 f i 00000000000000000003", "1 f i 3"),
+        ("1 f b1 3 100 00000000000000000255", "1 f b1 3 100 255"),
+        ("1 w i 3", "1 w i 3"),
+        ("1 n i 3", "1 n i 3"),
+        ("0 f i 0", "0 f i 0"),
+        ("4294967295 f i 4294967295", "4294967295 f i 4294967295"),
+        ("17 f i 3", "17 f i 3"),
+        ("1 f b1 0 0 0", "1 f b1 0 0 0"),
+        ("1 f b1 0 65535 255", "1 f b1 0 65535 255"),
+        ("1 f b2 0 0 65535", "1 f b2 0 0 65535"),
+        ("1 f b4 0 0 4294967295", "1 f b4 0 0 4294967295"),
+        (
+            "1 f b8 0 0 18446744073709551615",
+            "1 f b8 0 0 18446744073709551615",
+        ),
+        ("1 f s 3 38 00", "1 f s 3 38 00"),
+        ("1 f s 3 38 0aFf", "1 f s 3 38 0aff"),
+        ("1 f s 3 38 ABCDEF", "1 f s 3 38 abcdef"),
+        ("1 f s 0 65535 00112233", "1 f s 0 65535 00112233"),
+        ("1 f i 1;i 2", "1 f i 1;i 2"),
+        ("1 f b1 3 100 7;b1 4 100 8", "1 f b1 3 100 7;b1 4 100 8"),
+        (
+            "1 w i 1;b2 3 40 258;s 2 38 0a",
+            "1 w i 1;b2 3 40 258;s 2 38 0a",
+        ),
+        ("1 f i 1\n2 w i 2\n1 n i 3", "1 f i 1\n2 w i 2\n1 n i 3"),
+        ("1 f i 1\r\n2 w i 2\r\n", "1 f i 1\n2 w i 2"),
+        (
+            "1 n b8 3 3089 5627;b1 3 250 246",
+            "1 n b8 3 3089 5627;b1 3 250 246",
+        ),
+    ];
+    for (text, want) in table {
+        let script = parse(alloc, text.as_bytes()).ok().expect(&rt, text);
+        let lines = printed(alloc, &script)?;
+        assert_eq!(rt; lines.as_str(), want, "of {text:?}");
+    }
+    Ok(())
+}
+
+#[test]
+fn texts_with_a_bad_line(rt: HostRuntime) -> Result<(), Fail> {
+    let alloc = rt.alloc();
+    let table = [
+        (" ", 1),
+        ("\t", 1),
+        ("\r\r", 1),
+        ("\r\r\n", 1),
+        (" # comment", 1),
+        ("\t#", 1),
+        ("x", 1),
+        ("1", 1),
+        ("1 f", 1),
+        ("1 f ", 1),
+        ("1 f b1", 1),
+        ("1 f b1 3", 1),
+        ("1 f b1 3 100", 1),
+        ("1 f b1 3 100 ", 1),
+        ("1 f b1 3 100 7 ", 1),
+        (" 1 f b1 3 100 7", 1),
+        ("1  f b1 3 100 7", 1),
+        ("1 f  b1 3 100 7", 1),
+        ("1 f b1  3 100 7", 1),
+        ("1 f b1 3  100 7", 1),
+        ("1 f b1 3 100  7", 1),
+        ("1\tf b1 3 100 7", 1),
+        ("1 f\tb1 3 100 7", 1),
+        ("1 f b1 3 100\t7", 1),
+        ("1 f b1 3 100 7\t", 1),
+        ("1 f b1 3 100\r 7", 1),
+        ("1 f b1 3 \r100 7", 1),
+        ("1 f b1 3 100 7\r\r", 1),
+        ("1 f b1 3 100 7\r\r\n", 1),
+        ("1 x b1 3 100 7", 1),
+        ("1 F b1 3 100 7", 1),
+        ("1 ff b1 3 100 7", 1),
+        ("1 1 b1 3 100 7", 1),
+        ("1 f b0 3 100 7", 1),
+        ("1 f b3 3 100 7", 1),
+        ("1 f b16 3 100 7", 1),
+        ("1 f B1 3 100 7", 1),
+        ("1 f b 3 100 7", 1),
+        ("1 f b1 3 100 7 8", 1),
+        ("1 f b1 3 100 256", 1),
+        ("1 f b2 3 100 65536", 1),
+        ("1 f b4 3 100 4294967296", 1),
+        ("1 f b8 3 100 18446744073709551616", 1),
+        ("1 f b8 3 100 99999999999999999999", 1),
+        ("1 f b1 3 100 000000000000000000007", 1),
+        ("1 f b1 3 100 0000000000000000000000007", 1),
+        ("000000000000000000001 f i 3", 1),
+        ("4294967296 f i 3", 1),
+        ("1 f i 4294967296", 1),
+        ("1 f b1 4294967296 100 7", 1),
+        ("1 f b1 3 65536 7", 1),
+        ("-1 f i 3", 1),
+        ("+1 f i 3", 1),
+        ("1 f i -3", 1),
+        ("1 f i +3", 1),
+        ("1 f i 3x", 1),
+        ("1 f i 0x3", 1),
+        ("1 f i 3.0", 1),
+        ("1 f i ", 1),
+        ("1 f i", 1),
+        ("1 f i 3 4", 1),
+        (" f i 3", 1),
+        ("1 f s 3 38", 1),
+        ("1 f s 3 38 ", 1),
+        ("1 f s 3 38 0", 1),
+        ("1 f s 3 38 0aF", 1),
+        ("1 f s 3 38 0g", 1),
+        ("1 f s 3 38 0a 0b", 1),
+        ("1 f s 3 38 0x0a", 1),
+        ("1 f s 3 65536 0a", 1),
+        ("1 f i 3;", 1),
+        ("1 f ;i 3", 1),
+        ("1 f i 3;;i 4", 1),
+        ("1 f i 3; i 4", 1),
+        ("1 f i 3 ;i 4", 1),
+        ("1 f i 3,i 4", 1),
+        ("1;f;i 3", 1),
+        (";", 1),
+        ("1 f i 3\nx", 2),
+        ("1 f i 3\n\nx", 3),
+        ("# c\nx", 2),
+        ("\n\n\nx\ny", 4),
+        ("# comment\n\n17 f i 3 ", 3),
+        ("1 f i 3\n1 f i 3;", 2),
+        ("x\ny", 1),
+        ("1 f i 3\r\r\n1 f i 4", 1),
+        ("1 f i 1\n \n1 f i 2", 2),
+    ];
+    for (text, line) in table {
+        let fault = parse(alloc, text.as_bytes()).err().expect(&rt, text);
+        assert_eq!(rt; fault, ScriptFault::Line(line), "of {text:?}");
+    }
+    Ok(())
+}
+
+#[test]
+fn scripts_of_today(rt: HostRuntime) -> Result<(), Fail> {
+    let alloc = rt.alloc();
+    let table = [
+        ("", Ok("")),
+        ("1 f b1 3 100 7", Ok("1 f b1 3 100 7")),
+        ("1 f b1 3 100 7\r\n", Ok("1 f b1 3 100 7")),
+        ("\n", Err(1)),
+        ("1 f b1 3 100 7\n1 f b1 3 100 8", Err(2)),
+        ("1 f b1 3 100 7\n\n", Err(2)),
+        ("1 f b1 8 100 7", Err(1)),
+        ("1 f b1 3 37 7", Err(1)),
+        ("1 f b1 3 4088 7", Err(1)),
+        ("1 f b1 3 100 256", Err(1)),
+        ("01 f b1 3 100 7", Err(1)),
+    ];
+    for (text, want) in table {
+        match (first_path(alloc, text.as_bytes())?, want) {
+            (Ok(script), Ok(want)) => {
+                let lines = printed(alloc, &script)?;
+                assert_eq!(rt; lines.as_str(), want, "of {text:?}");
+            }
+            (Err(line), Err(want)) => assert_eq!(rt; line, want, "of {text:?}"),
+            _ => assert!(rt; false, "of {text:?}"),
+        }
+    }
+    Ok(())
+}
+
+#[test]
+fn groups(rt: HostRuntime) -> Result<(), Fail> {
+    let alloc = rt.alloc();
+    let script = parse(alloc, b"1 f b1 3 100 7;s 2 38 0a;i 4")
+        .ok()
+        .expect(&rt, "a script");
+    assert_eq!(rt; script.0.len(), 1);
+    let group = group_of(alloc, &script.0[0], 5)?;
+    let shown = format!(in alloc; "{group:?}")?;
+    assert_eq!(rt;
+        shown.as_str(),
+        "Group([Num { width: 1, space: 5, page: 3, offset: 100, value: 7 }, Text { space: 5, page: 2, offset: 38, bytes: Bytes { vec: [10] } }, Init { space: 5, page: 4 }])"
+    );
+    Ok(())
+}
+
+#[test]
+fn generated_scripts(rt: HostRuntime) -> Result<(), Fail> {
+    let alloc = rt.alloc();
+    let one = generate(alloc, 1, 1, 1)?;
+    assert_eq!(rt;
+        one.as_slice(),
+        b"1 n b8 3 3089 5627;b1 3 250 246\n".as_slice()
+    );
+    let none = generate(alloc, 1, 1, 0)?;
+    assert!(rt; none.is_empty());
+    let many = generate(alloc, 7, 16, 1000)?;
+    let script = parse(alloc, many.as_slice()).ok().expect(&rt, "a script");
+    assert_eq!(rt; script.0.len(), 1000);
+    assert_eq!(rt; script.0[16].user, 1);
+    let mut lines = printed(alloc, &script)?;
+    lines.push_str("\n")?;
+    assert_eq!(rt; lines.as_bytes(), many.as_slice());
+    Ok(())
+}
+
+#[test]
+fn numbers(rt: HostRuntime) -> Result<(), Fail> {
+    let table = [
+        ("0", Some(0)),
+        ("00000000000000000007", Some(7)),
+        ("000000000000000000007", None),
+        ("10", Some(10)),
+        ("11", None),
+        ("", None),
+    ];
+    for (text, want) in table {
+        assert_eq!(rt; number_up_to(text.as_bytes(), 10), want, "of {text:?}");
+    }
+    Ok(())
+}
