@@ -1,0 +1,41 @@
+-- What opening leaves on the two devices, step by step, is read with the opened pages; and in the end a run can start.
+use Rattle.std.proofs.Common.{◌+◌, ℕ, false, List, []}
+use Rattle.model_datadev.specs.Stored.{Stored, IsUpTo, read_as}
+use Rattle.model_device.specs.Disk.{Disk, IsImage, settled}
+use Rattle.model_store.specs.Fair.{IsFair}
+use Rattle.model_store.specs.Reading.{Reading, IsReading, IsOrderly}
+use Rattle.model_opening.specs.Cleared.{IsCleared, IsClearing, HasSameHeaders}
+use Rattle.model_opening.specs.Next.{IsMarking, IsMarked}
+use Rattle.model_opening.specs.Opened.{KeepsOpened, start_of, start_block}
+use Rattle.model_opening.specs.Ready.{IsReady}
+use Rattle.model_opening.specs.Rewritten.{IsRewriting}
+use Rattle.model_opening.proofs.Fresh.{marking-reads, marked-fresh}
+use Rattle.model_opening.proofs.Pages.{stored-image}
+use Rattle.model_opening.proofs.Reread.{rewriting-reads}
+
+pub rewriting-keeps : (opened : Reading) (log_bytes data_bytes : List ℕ) (log_disk data_disk : Disk) → IsReading log_bytes data_bytes opened
+    → ((image : List ℕ) → IsImage log_disk image → HasSameHeaders log_bytes image)
+    → ((image : List ℕ) → IsImage log_disk image → IsClearing opened.shape opened.ckpt (start_of opened) log_bytes image)
+    → ((image : List ℕ) → IsFair opened.shape data_disk image → IsRewriting opened data_bytes image)
+    → KeepsOpened opened log_disk data_disk
+rewriting-keeps opened log_bytes data_bytes log_disk data_disk reads headers clears rewrites log data_image is fair =
+    rewriting-reads opened log_bytes data_bytes log data_image reads (headers log is) (clears log is) (rewrites data_image fair)
+
+pub marking-keeps : (opened : Reading) (log_bytes data_bytes old_log : List ℕ) (log_disk data_disk : Disk) → IsOrderly log_bytes data_bytes opened
+    → HasSameHeaders log_bytes old_log → IsCleared opened.shape opened.ckpt (start_of opened) log_bytes old_log
+    → ((image : List ℕ) → IsImage log_disk image → IsMarking opened.shape (opened.number + 1) (start_block opened) old_log image)
+    → Stored opened.shape (IsUpTo (read_as opened)) (read_as opened) [] false data_disk
+    → KeepsOpened opened log_disk data_disk
+marking-keeps opened log_bytes data_bytes old_log log_disk data_disk orderly headers cleared marks stored log data_image is fair =
+    marking-reads opened log_bytes data_bytes old_log log data_image orderly headers cleared (marks log is)
+    (stored-image opened data_disk data_image orderly.reads.count stored fair)
+
+pub opened-ready : (opened : Reading) (log_bytes data_bytes old_log new_log : List ℕ) (data_disk : Disk) → IsOrderly log_bytes data_bytes opened
+    → HasSameHeaders log_bytes old_log → IsCleared opened.shape opened.ckpt (start_of opened) log_bytes old_log
+    → IsMarked opened.shape (opened.number + 1) (start_block opened) old_log new_log
+    → Stored opened.shape (IsUpTo (read_as opened)) (read_as opened) [] false data_disk
+    → IsReady opened (settled new_log) data_disk
+opened-ready opened log_bytes data_bytes old_log new_log data_disk orderly headers cleared marked stored = record {
+  log = marked-fresh opened log_bytes data_bytes old_log new_log orderly headers cleared marked;
+  pages = stored;
+}

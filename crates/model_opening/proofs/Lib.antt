@@ -1,0 +1,12 @@
+pub mod Again
+pub mod Clearing
+pub mod Ending
+pub mod Fresh
+pub mod Keeping
+pub mod Mended
+pub mod Next
+pub mod Pages
+pub mod Replay
+pub mod Reread
+pub mod Rows
+pub mod Unread

@@ -1,0 +1,9 @@
+pub mod Both
+pub mod Clears
+pub mod Endings
+pub mod Marks
+pub mod Mends
+pub mod Opens
+pub mod Rows
+pub mod Told
+pub mod Writings

@@ -1,0 +1,161 @@
+-- The data part of a store that is read, opened.
+use Rattle.std.proofs.Common.{◌≡◌, ◌<◌, ◌⊎◌, ℕ, inl, inr, false, List, [], Option, Some, None, refl, sym, ap, subst, ◌∙◌, ⊎_elim, arith}
+use Rattle.std.specs.Prelude.{IfSome}
+use Rattle.std.specs.List.{slice_get}
+use Rattle.model_base.specs.declared.shape.Shape.{Shape}
+use Rattle.model_base.specs.Limits.{IsWithinLimits}
+use Rattle.model_datadev.specs.Batch.{Fresh, IsNew}
+use Rattle.model_datadev.specs.Repair.{KeepsAll}
+use Rattle.model_datadev.specs.Stored.{Stored, Keeps, IsUpTo, ImageHolds, KeepsPage, read_as}
+use Rattle.model_datadev.proofs.Orderly.{orderly-opened}
+use Rattle.model_datadev.proofs.Parts.{opened-stored}
+use Rattle.model_device.specs.Disk.{Disk, settled}
+use Rattle.model_opening.specs.Mended.{IsRepaired, AreHeld}
+use Rattle.model_opening.specs.Rewritten.{IsRewriting}
+use Rattle.model_opening.specs.Written.{IsWrittenOver}
+use Rattle.model_opening.proofs.Mended.{repaired-orderly, held_at, repaired-held, blank-held}
+use Rattle.model_opening.proofs.Pages.{read-page, repairing-image, writing-image}
+use Rattle.model_page.specs.Copies.{IsKept, IsInPlace}
+use Rattle.model_page.specs.declared.content.Content.{Content}
+use Rattle.model_store.specs.Reading.{Reading, IsOrderly}
+use Rattle.redo_disk.specs.Seen.{OnTold}
+use Rattle.redo_open.proofs.Mends.{settled-keeps}
+use Rattle.redo_open.specs.Mend.{AreMended, IsSettledData}
+use Rattle.redo_open.specs.Places.{IsReadAs, KeepsPlaces, HoldsPlaces, MayBeWritten}
+use Rattle.redo_open.specs.Rewrite.{IsWrittenTo, KeepsWritten}
+
+-- WHILE PLACES ARE REPAIRED.
+
+pub repair-keeps : (shape : Shape) (pages : List Content) (log_bytes data_bytes : List ℕ) (opened : Reading) (a b : Disk) → IsReadAs shape pages log_bytes data_bytes opened
+    → a ≡ settled data_bytes → KeepsAll shape a b → KeepsPlaces shape data_bytes opened b
+repair-keeps shape pages log_bytes data_bytes opened a b is same =
+    let base : a.base ≡ data_bytes = ap (λ (d : Disk). d.base) same in
+    let orderly : IsOrderly log_bytes a.base opened = subst (λ (bytes : List ℕ). IsOrderly log_bytes bytes opened) (sym base) is.orderly in
+    subst (λ (s : Shape). KeepsAll s a b → KeepsPlaces s data_bytes opened b) is.shape_is
+    (λ keeps image fair. subst (λ (bytes : List ℕ). IsRewriting opened bytes image) base (repairing-image opened log_bytes a b image orderly keeps fair))
+
+-- ONCE THEY ARE, pages may be written.
+
+mended-repaired : (shape : Shape) (a b : Disk) → AreMended shape shape.pages a b → IsRepaired shape a.base b.base
+mended-repaired shape a b is = record { same_length = is.stays.same_length; same = is.stays.same; slots = is.stays.slots; pass = is.pass }
+
+may-write-own : (log_bytes : List ℕ) (opened : Reading) (a b : Disk) → IsWithinLimits opened.shape → IsOrderly log_bytes a.base opened
+    → AreMended opened.shape opened.shape.pages a b → MayBeWritten opened.shape opened.pages a.base opened (Some b)
+may-write-own log_bytes opened a b limits orderly mended =
+    let shape : Shape = opened.shape in
+    let repaired : IsRepaired shape a.base b.base = mended-repaired shape a b mended in
+    let again : IsOrderly log_bytes b.base opened = repaired-orderly log_bytes a.base b.base opened orderly repaired in
+    let held : ℕ → Content = held_at shape b.base in
+    let are : AreHeld shape b.base held = repaired-held shape a.base b.base repaired in
+    record {
+      start = held;
+      tops = record {
+        each = λ p page at. read-page opened p page at;
+        blank = λ p page at zero_lsn. blank-held log_bytes b.base opened held p page again.reads are at zero_lsn;
+      };
+      written = record {
+        was = held;
+        stored = opened-stored shape (read_as opened) held b limits (orderly-opened log_bytes opened held b again mended.stays.nothing_pending are);
+        before = λ p. inl refl;
+        done = λ p below. absurd (omega arith);
+      };
+      kept = λ p below. inl ((repaired.same p (held p) below).1 (inl (are p below)));
+    }
+
+pub may-write : (shape : Shape) (pages : List Content) (log_bytes data_bytes : List ℕ) (opened : Reading) (a b : Disk) → IsWithinLimits shape
+    → IsReadAs shape pages log_bytes data_bytes opened → a ≡ settled data_bytes → AreMended shape shape.pages a b → MayBeWritten shape pages data_bytes opened (Some b)
+may-write shape pages log_bytes data_bytes opened a b limits is same =
+    let base : a.base ≡ data_bytes = ap (λ (d : Disk). d.base) same in
+    let orderly : IsOrderly log_bytes a.base opened = subst (λ (bytes : List ℕ). IsOrderly log_bytes bytes opened) (sym base) is.orderly in
+    subst (λ (s : Shape). AreMended s s.pages a b → MayBeWritten s pages data_bytes opened (Some b)) is.shape_is
+    (λ mended. subst (λ (list : List Content). MayBeWritten opened.shape list data_bytes opened (Some b)) is.pages_are
+    (subst (λ (bytes : List ℕ). MayBeWritten opened.shape opened.pages bytes opened (Some b)) base
+    (may-write-own log_bytes opened a b (subst IsWithinLimits (sym is.shape_is) limits) orderly mended)))
+
+-- where the device doesn't tell, they may too
+pub may-write-untold : (shape : Shape) (pages : List Content) (log_bytes data_bytes : List ℕ) (opened : Reading) → IsReadAs shape pages log_bytes data_bytes opened
+    → MayBeWritten shape pages data_bytes opened None
+may-write-untold shape pages log_bytes data_bytes opened is = record {
+  start = read_as opened;
+  tops = record {
+    each = λ p page at. read-page opened p page (ap (λ (list : List Content). slice_get list p) is.pages_are ∙ at);
+    blank = λ p page at zero_lsn. refl;
+  };
+  written = record { was = read_as opened; stored = tt; before = λ p. inl refl; done = λ p below. refl };
+  kept = λ p below. inr refl;
+}
+
+-- WHILE PAGES ARE WRITTEN.
+
+known-as : (told : Option Disk) (P Q : Disk → Type 0) → ((a : Disk) → P a → Q a) → IfSome told P → IfSome told Q
+known-as None P Q step known = tt
+known-as (Some a) P Q step known = step a known
+
+write-keeps-own : (log_bytes data_bytes : List ℕ) (opened : Reading) (was start : ℕ → Content) (batch : List Fresh) (disk : Disk) → IsOrderly log_bytes data_bytes opened
+    → ((p : ℕ) → p < opened.shape.pages → IsKept opened.shape data_bytes p (start p) ⊎ (start p ≡ read_as opened p))
+    → ((p : ℕ) → (was p ≡ start p) ⊎ (was p ≡ read_as opened p)) → ((p : ℕ) (content : Content) → IsNew batch p content → content ≡ read_as opened p)
+    → Keeps opened.shape (IsUpTo (read_as opened)) was batch disk → KeepsPlaces opened.shape data_bytes opened disk
+write-keeps-own log_bytes data_bytes opened was start batch disk orderly kept before as_read keeps image fair =
+    let over : IsWrittenOver opened data_bytes was batch = record {
+      before = λ p below. ⊎_elim
+          (λ old. ⊎_elim (λ there. inl (subst (IsKept opened.shape data_bytes p) (sym old) there)) (λ read. inr (old ∙ read)) (kept p below))
+          (λ new. inr new) (before p);
+      as_read = as_read;
+    } in
+    writing-image opened log_bytes data_bytes was batch disk image orderly.reads over keeps fair
+
+pub write-keeps : (shape : Shape) (pages : List Content) (log_bytes data_bytes : List ℕ) (opened : Reading) (start : ℕ → Content) (told : Option Disk)
+    → IsReadAs shape pages log_bytes data_bytes opened → ((p : ℕ) → p < shape.pages → IsKept shape data_bytes p (start p) ⊎ (start p ≡ read_as opened p))
+    → KeepsWritten shape (read_as opened) start told → IfSome told (KeepsPlaces shape data_bytes opened)
+write-keeps shape pages log_bytes data_bytes opened start told is =
+    subst (λ (s : Shape). ((p : ℕ) → p < s.pages → IsKept s data_bytes p (start p) ⊎ (start p ≡ read_as opened p))
+    → KeepsWritten s (read_as opened) start told → IfSome told (KeepsPlaces s data_bytes opened)) is.shape_is
+    (λ kept w. known-as told (Keeps opened.shape (IsUpTo (read_as opened)) w.was w.batch) (KeepsPlaces opened.shape data_bytes opened)
+    (λ disk keeps. write-keeps-own log_bytes data_bytes opened w.was start w.batch disk is.orderly kept w.before w.as_top keeps) w.keeps)
+
+-- ONCE ALL ARE.
+
+stored-as : (shape : Shape) (top was : ℕ → Content) (disk : Disk) → ((p : ℕ) → p < shape.pages → was p ≡ top p)
+    → Stored shape (IsUpTo top) was [] false disk → Stored shape (IsUpTo top) top [] false disk
+stored-as shape top was disk same stored = record {
+  keeps = record {
+    long = stored.keeps.long;
+    each = λ image fair. (
+        let holds : ImageHolds shape (IsUpTo top) was [] image = stored.keeps.each image fair in
+        record {
+          pages = λ p below. (
+              let page : KeepsPage shape was [] image p = holds.pages p below in
+              record { content = page.content; kept = page.kept; which = ⊎_elim (λ old. inl (old ∙ same p below)) (λ new. inr new) page.which });
+          known = holds.known;
+        });
+  };
+  steady = λ live. (
+      let steady = stored.steady live in
+      record { nothing_pending = steady.nothing_pending; places = λ p below. in-place shape disk.base p (was p) (top p) (same p below) (steady.places p below) });
+}
+  where
+    in-place : (shape : Shape) (image : List ℕ) (p : ℕ) (c d : Content) → c ≡ d → IsInPlace shape image p c → IsInPlace shape image p d
+    in-place shape image p c d same is = subst (IsInPlace shape image p) same is
+
+pub all-written : (shape : Shape) (opened : Reading) (start : ℕ → Content) (told : Option Disk) → IsWrittenTo shape (read_as opened) start shape.pages told
+    → IfSome told (HoldsPlaces shape opened)
+all-written shape opened start told w =
+    known-as told (Stored shape (IsUpTo (read_as opened)) w.was [] false) (HoldsPlaces shape opened)
+    (λ disk stored. stored-as shape (read_as opened) w.was disk (λ p below. w.done p below) stored) w.stored
+
+-- ONE BEHIND THE OTHER.
+
+pub mended-may_write : (shape : Shape) (pages : List Content) (log_bytes data_bytes : List ℕ) (opened : Reading) (old mid : Option Disk) → IsWithinLimits shape
+    → IsReadAs shape pages log_bytes data_bytes opened → IfSome old (λ disk. disk ≡ settled data_bytes) → OnTold old mid (AreMended shape shape.pages)
+    → MayBeWritten shape pages data_bytes opened mid
+mended-may_write shape pages log_bytes data_bytes opened None mid limits is known told =
+    subst (λ (o : Option Disk). MayBeWritten shape pages data_bytes opened o) (sym told) (may-write-untold shape pages log_bytes data_bytes opened is)
+mended-may_write shape pages log_bytes data_bytes opened (Some a) mid limits is known told =
+    subst (λ (o : Option Disk). MayBeWritten shape pages data_bytes opened o) (sym told.1) (may-write shape pages log_bytes data_bytes opened a told.0 limits is known told.2)
+
+pub unchanged-keeps : (shape : Shape) (pages : List Content) (log_bytes data_bytes : List ℕ) (opened : Reading) (told : Option Disk)
+    → IsReadAs shape pages log_bytes data_bytes opened → IfSome told (IsSettledData shape) → IfSome told (λ disk. disk ≡ settled data_bytes)
+    → IfSome told (KeepsPlaces shape data_bytes opened)
+unchanged-keeps shape pages log_bytes data_bytes opened None is settled_data known = tt
+unchanged-keeps shape pages log_bytes data_bytes opened (Some a) is settled_data known =
+    repair-keeps shape pages log_bytes data_bytes opened a a is known (settled-keeps shape a settled_data)

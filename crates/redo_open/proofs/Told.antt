@@ -1,0 +1,91 @@
+-- Device calls in a row, where the device tells what it means.
+use Rattle.std.proofs.Common.{◌≡◌, ◌≤◌, ℕ, inl, inr, Option, Some, None, sym, subst, ◌∙◌, ⊎_elim, arith}
+use Rattle.std.specs.Prelude.{Result, Ok, Err, OnOk, OnErr, IfSome}
+use Rattle.std.proofs.lemmas.Bool.{cases_lt}
+use Rattle.model_base.specs.Count.{HasRisen, last_count}
+use Rattle.model_device.specs.Disk.{Disk}
+use Rattle.redo_disk.specs.Seen.{OnTold, HasCause}
+use Rattle.redo_disk.specs.declared.error.DevError.{DevError}
+
+-- two calls, one behind the other
+pub told-then : (old mid new : Option Disk) (R S T : Disk → Disk → Type 0) → ((a b c : Disk) → R a b → S b c → T a c)
+    → OnTold old mid R → OnTold mid new S → OnTold old new T
+told-then None mid new R S T step first second = subst (λ (o : Option Disk). OnTold o new S → new ≡ None) (sym first) (λ told. told) second
+told-then (Some a) mid new R S T step first second =
+    let last = subst (λ (o : Option Disk). OnTold o new S) first.1 second in
+    (last.0, last.1, step a first.0 last.0 first.2 last.2)
+
+pub told-as : (old new : Option Disk) (R S : Disk → Disk → Type 0) → ((a b : Disk) → R a b → S a b) → OnTold old new R → OnTold old new S
+told-as None new R S step told = told
+told-as (Some a) new R S step told = (told.0, told.1, step a told.0 told.2)
+
+-- a call that changes nothing
+pub told-same : (old new : Option Disk) (R : Disk → Disk → Type 0) → ((a : Disk) → R a a) → new ≡ old → OnTold old new R
+told-same None new R step same = same
+told-same (Some a) new R step same = (a, same, step a)
+
+-- WHAT FAILED.
+
+pub risen-since : (first before now : ℕ) → first ≤ before → before ≤ now → HasRisen before now → HasRisen first now
+risen-since first before now later rises risen =
+    ⊎_elim (λ more. inl (omega arith)) (λ full. ⊎_elim (λ less. inl (omega arith)) (λ not_less. inr not_less) (cases_lt first last_count)) risen
+
+-- a call behind calls that went well
+pub cause-since : {T : Type 0} (first before now : ℕ) (result : Result T DevError) → first ≤ before → HasCause before now result → HasCause first now result
+cause-since first before now result later cause = record {
+  later = omega (arith, cause.later);
+  failed = λ is. risen-since first before now later cause.later (cause.failed is);
+}
+
+-- BOTH WAYS.
+
+-- what holds after an Ok and after an error holds
+pub either-way : {T E : Type 0} (result : Result T E) (A B P : Type 0) → (A → P) → (B → P) → OnOk result A → OnErr result B → P
+either-way (Ok value) A B P ok err holds fails = ok holds
+either-way (Err error) A B P ok err holds fails = err fails
+
+-- WHAT IS KNOWN OF THE DEVICE BEFORE.
+
+pub told-step : (old new : Option Disk) (P Q : Disk → Type 0) (R : Disk → Disk → Type 0) → ((a b : Disk) → P a → R a b → Q b)
+    → IfSome old P → OnTold old new R → IfSome new Q
+told-step None new P Q R step known told = subst (λ (o : Option Disk). IfSome o Q) (sym told) tt
+told-step (Some a) new P Q R step known told = subst (λ (o : Option Disk). IfSome o Q) (sym told.1) (step a told.0 known told.2)
+
+pub told-call : (old new : Option Disk) (P : Disk → Type 0) (R S : Disk → Disk → Type 0) → ((a b : Disk) → P a → R a b → S a b)
+    → IfSome old P → OnTold old new R → OnTold old new S
+told-call None new P R S step known told = told
+told-call (Some a) new P R S step known told = (told.0, told.1, step a told.0 known told.2)
+
+pub told-known : (old new : Option Disk) (P : Disk → Type 0) (R : Disk → Disk → Type 0) → ((a : Disk) → P a → R a a) → IfSome old P → new ≡ old → OnTold old new R
+told-known None new P R step known same = same
+told-known (Some a) new P R step known same = (a, same, step a known)
+
+pub known-both : (told : Option Disk) (P Q R : Disk → Type 0) → ((a : Disk) → P a → Q a → R a) → IfSome told P → IfSome told Q → IfSome told R
+known-both None P Q R step first second = tt
+known-both (Some a) P Q R step first second = step a first second
+
+pub known-as : (told : Option Disk) (P Q : Disk → Type 0) → ((a : Disk) → P a → Q a) → IfSome told P → IfSome told Q
+known-as None P Q step known = tt
+known-as (Some a) P Q step known = step a known
+
+-- what holds of the device before, seen from the one after
+pub told-back : (old new : Option Disk) (P Q : Disk → Type 0) (R : Disk → Disk → Type 0) → ((a b : Disk) → R a b → Q b → P a)
+    → OnTold old new R → IfSome new Q → IfSome old P
+told-back None new P Q R step told known = tt
+told-back (Some a) new P Q R step told known = step a told.0 told.2 (subst (λ (o : Option Disk). IfSome o Q) told.1 known)
+
+-- a call behind one that changed nothing
+pub told-moved : (old mid new : Option Disk) (R : Disk → Disk → Type 0) → mid ≡ old → OnTold mid new R → OnTold old new R
+told-moved old mid new R same told = subst (λ (o : Option Disk). OnTold o new R) same told
+
+-- two facts of one call
+pub told-both : (old new : Option Disk) (R S T : Disk → Disk → Type 0) → ((a b : Disk) → R a b → S a b → T a b) → OnTold old new R → OnTold old new S → OnTold old new T
+told-both None new R S T step first second = first
+told-both (Some a) new R S T step first second =
+    let same : Some first.0 ≡ Some second.0 = sym first.1 ∙ second.1 in
+    let one : first.0 ≡ second.0 = cc in
+    (first.0, first.1, step a first.0 first.2 (subst (λ (b : Disk). S a b) (sym one) second.2))
+
+pub known-three : (told : Option Disk) (P Q R S : Disk → Type 0) → ((a : Disk) → P a → Q a → R a → S a) → IfSome told P → IfSome told Q → IfSome told R → IfSome told S
+known-three None P Q R S step first second third = tt
+known-three (Some a) P Q R S step first second third = step a first second third

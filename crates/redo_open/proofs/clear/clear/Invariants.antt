@@ -1,0 +1,20 @@
+-- The blocks below the lsn are cleared, and no call has failed.
+use Rattle.std.proofs.Common.{◌-◌, ◌≡◌, ◌≤◌, ◌%◌}
+use Rattle.model_log.specs.Lsn.{block_of}
+use Rattle.redo_disk.specs.Seen.{OnTold}
+use Rattle.redo_open.specs.Clear.{IsClearable, IsClearingTo}
+use Rattle.redo_open.proofs.clear.clear.Given as goal
+
+abbrev pub invariant-loop-at : goal.invariant-loop-at
+invariant-loop-at g l = record {
+  aligned : l.at % 512 ≡ 0;
+  from : block_of l.fn.start ≤ l.at;
+  up_to : l.at ≤ l.end;
+  size : (g.L.Sectors.seen l.log).size ≡ (g.L.Sectors.seen l.fn.log).size;
+  later : (g.L.Sectors.seen l.fn.log).faults ≤ (g.L.Sectors.seen l.log).faults;
+  told : OnTold (g.L.Sectors.seen l.fn.log).tells (g.L.Sectors.seen l.log).tells
+      (λ old new. IsClearable l.shape old → IsClearingTo l.shape l.ckpt l.start l.at old.reads new);
+}
+
+abbrev pub decreases-loop-at : goal.decreases-loop-at
+decreases-loop-at g l = l.end - l.at

@@ -1,0 +1,14 @@
+-- The places of all pages so far pass, and no call has failed.
+use Rattle.std.proofs.Common.{◌≡◌, ◌≤◌, None}
+use Rattle.redo_disk.specs.Seen.{OnTold}
+use Rattle.redo_open.specs.Mend.{AreMended}
+use Rattle.redo_open.proofs.mend.mend.Given as goal
+
+abbrev pub invariant-loop-page : goal.invariant-loop-page
+invariant-loop-page g l = record {
+  live : l.part.failed ≡ None;
+  shape : l.part.shape ≡ l.fn.part.shape;
+  size : (g.D.Sectors.seen l.part.dev).size ≡ (g.D.Sectors.seen l.fn.part.dev).size;
+  later : (g.D.Sectors.seen l.fn.part.dev).faults ≤ (g.D.Sectors.seen l.part.dev).faults;
+  told : OnTold (g.D.Sectors.seen l.fn.part.dev).tells (g.D.Sectors.seen l.part.dev).tells (AreMended l.shape l.page);
+}

@@ -1,0 +1,15 @@
+-- The pages so far are written, and no call has failed.
+use Rattle.std.proofs.Common.{◌≡◌, ◌≤◌, ℕ, None}
+use Rattle.model_page.specs.declared.content.Content.{Content}
+use Rattle.redo_open.specs.Rewrite.{AreTop, IsWrittenTo}
+use Rattle.redo_open.proofs.rewrite.rewrite.Given as goal
+
+abbrev pub invariant-loop-page : goal.invariant-loop-page
+invariant-loop-page g l = record {
+  live : l.part.failed ≡ None;
+  shape : l.part.shape ≡ l.fn.part.shape;
+  size : (g.D.Sectors.seen l.part.dev).size ≡ (g.D.Sectors.seen l.fn.part.dev).size;
+  later : (g.D.Sectors.seen l.fn.part.dev).faults ≤ (g.D.Sectors.seen l.part.dev).faults;
+  told : (top start : ℕ → Content) → AreTop l.pages top start → IsWrittenTo l.shape top start 0 (g.D.Sectors.seen l.fn.part.dev).tells
+      → IsWrittenTo l.shape top start l.page (g.D.Sectors.seen l.part.dev).tells;
+}

@@ -1,0 +1,41 @@
+-- The data device while pages are written as they were read, one after another.
+use Rattle.std.specs.Prelude.{ℕ, ◌≡◌, ◌<◌, ◌⊎◌, false, List, [], Option, None, Some, Result, OnOk, IfSome, slice_get}
+use Rattle.model_base.specs.declared.shape.Shape.{Shape}
+use Rattle.model_datadev.specs.Batch.{Fresh, IsNew}
+use Rattle.model_datadev.specs.Stored.{IsUpTo, Keeps, Stored}
+use Rattle.model_device.specs.Disk.{Disk}
+use Rattle.model_page.specs.declared.content.Content.{Content}
+use Rattle.redo_disk.specs.Seen.{Seen, HasCause}
+use Rattle.redo_disk.specs.declared.error.DevError.{DevError}
+use Rattle.redo_store.specs.Part.{Part}
+
+-- these are the pages, and one of lsn 0 is as it was
+pub record AreTop (pages : List Content) (top start : ℕ → Content) : Type 0 where
+  pub each : (p : ℕ) (page : Content) → slice_get pages p ≡ Some page → top p ≡ page
+  pub blank : (p : ℕ) (page : Content) → slice_get pages p ≡ Some page → page.lsn ≡ 0 → start p ≡ top p
+
+-- The pages below this number are written, each other one is written or as it was, and nothing is pending.
+pub record IsWrittenTo (shape : Shape) (top start : ℕ → Content) (count : ℕ) (told : Option Disk) : Type 0 where
+  pub was : ℕ → Content
+  pub stored : IfSome told (Stored shape (IsUpTo top) was [] false)
+  pub before : (p : ℕ) → (was p ≡ start p) ⊎ (was p ≡ top p)
+  pub done : (p : ℕ) → p < count → was p ≡ top p
+
+-- the same at an exit in the middle: each fair image has each page as it was or written
+pub record KeepsWritten (shape : Shape) (top start : ℕ → Content) (told : Option Disk) : Type 0 where
+  pub was : ℕ → Content
+  pub batch : List Fresh
+  pub keeps : IfSome told (Keeps shape (IsUpTo top) was batch)
+  pub before : (p : ℕ) → (was p ≡ start p) ⊎ (was p ≡ top p)
+  pub as_top : (p : ℕ) (content : Content) → IsNew batch p content → content ≡ top p
+
+-- A step that writes the pages from `from` to the one before `to`, where it answers Ok.
+pub record WriteStep {D : Type 0} (seen : D → Seen) (shape : Shape) (pages : List Content) (from to : ℕ) (old : Part D) (result : Result (Unit {0}) DevError) (new : Part D) : Type 0 where
+  pub keeps : (top start : ℕ → Content) → AreTop pages top start → IsWrittenTo shape top start from (seen old.dev).tells
+      → KeepsWritten shape top start (seen new.dev).tells
+  pub ok : (top start : ℕ → Content) → AreTop pages top start → IsWrittenTo shape top start from (seen old.dev).tells
+      → OnOk result (IsWrittenTo shape top start to (seen new.dev).tells)
+  pub live : OnOk result (new.failed ≡ None)
+  pub shape_stays : new.shape ≡ old.shape
+  pub size : (seen new.dev).size ≡ (seen old.dev).size
+  pub cause : HasCause (seen old.dev).faults (seen new.dev).faults result

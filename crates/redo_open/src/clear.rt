@@ -1,0 +1,71 @@
+// Clearing away what stands on the log outside the kept range.
+ghost use Rattle.std.specs.Prelude.{◌≡◌, ◌≤◌, ◌+◌, ◌<◌, ◌%◌, ◌^◌, OnOk};
+ghost use Rattle.model_base.specs.declared.limits.TheConstants.{BLOCK_SIZE, START_LSN};
+ghost use Rattle.model_base.specs.Limits.{IsWithinLimits};
+ghost use Rattle.model_log.specs.Device.{log_device_length};
+ghost use Rattle.model_log.specs.Lsn.{offset_of};
+ghost use Rattle.redo_disk.specs.Seen.{HasCause, OnTold};
+ghost use Rattle.redo_open.specs.Clear.{MayStart, IsClearable, ClearsBlocks, HasCleared};
+
+use crate::PIECE;
+use crate::zeros::{write_zeros, zero_piece};
+use model_base::{BLOCK_SIZE, Shape};
+use model_log::HEADER_BYTES;
+use redo_disk::{DevError, Sectors};
+use redo_lsn::{block_of, offset_of};
+use std::alloc::Global;
+
+/// How many bytes of blocks one write clears from the block at `at` on: up to `end`, and no farther than the blocks stand
+/// side by side on the device.
+fn piece_length(shape: &Shape, at: u64, end: u64) -> u64
+    requires limits { IsWithinLimits shape.now }
+    requires aligned { at % BLOCK_SIZE ≡ 0 }
+    requires started { START_LSN ≤ at }
+    requires end_aligned { end % BLOCK_SIZE ≡ 0 }
+    requires below { at < end }
+    requires small { end < 2 ^ 61 }
+    ensures whole { result % BLOCK_SIZE ≡ 0 }
+    ensures some { 0 < result }
+    ensures few { result ≤ PIECE }
+    ensures within { at + result ≤ end }
+    ensures side_by_side { offset_of at shape.now.log_blocks + result ≤ log_device_length shape.now }
+{
+    let log_end = HEADER_BYTES + BLOCK_SIZE * u64::from(shape.log_blocks);
+    let rest = log_end - offset_of(at, shape.log_blocks);
+    rest.min(end - at).min(PIECE as u64)
+}
+
+/// Fills every log block outside the range from the checkpoint's to the one before that of the start with zeros, and
+/// makes that stay. So no block beyond the end can fit later by its number, and those go that hold only an unfinished
+/// group.
+pub(crate) fn clear<L: Sectors>(
+    alloc: Global,
+    log: &mut L,
+    shape: &Shape,
+    ckpt: u64,
+    start: u64,
+) -> Result<(), DevError>
+    requires start { MayStart shape.now ckpt start }
+    requires long { log_device_length shape.now ≤ (L.seen log.old).size }
+    ensures keeps { OnTold (L.seen log.old).tells (L.seen log.new).tells
+        (λ old new. IsClearable shape.now old → ClearsBlocks shape.now ckpt start old.reads new) }
+    ensures ok { OnOk result (OnTold (L.seen log.old).tells (L.seen log.new).tells
+        (λ old new. IsClearable shape.now old → HasCleared shape.now ckpt start old.reads new)) }
+    ensures size { (L.seen log.new).size ≡ (L.seen log.old).size }
+    ensures cause { HasCause (L.seen log.old).faults (L.seen log.new).faults result }
+{
+    let zeros = zero_piece(alloc)?;
+    let end = ckpt + BLOCK_SIZE * u64::from(shape.log_blocks);
+    let mut at = block_of(start);
+    while at < end {
+        let count = piece_length(shape, at, end);
+        write_zeros(
+            log,
+            offset_of(at, shape.log_blocks),
+            count,
+            zeros.as_slice(),
+        )?;
+        at += count;
+    }
+    log.sync()
+}

@@ -1,0 +1,55 @@
+// Opening both devices.
+ghost use Rattle.std.specs.Prelude.{◌≡◌, ◌≤◌, ◌<◌, ◌^◌, ℕ, None, Some, IfSome, slice_get};
+ghost use Rattle.model_log.specs.Device.{log_device_length};
+ghost use Rattle.model_log.specs.Lsn.{start_after};
+ghost use Rattle.model_page.specs.declared.content.Content.{Content};
+ghost use Rattle.redo_apply.specs.Fits.{ArePagesOf};
+ghost use Rattle.redo_open.specs.Clear.{MayStart};
+ghost use Rattle.redo_open.specs.Devices.{DevicesStep};
+ghost use Rattle.redo_open.specs.Mend.{IsSettledData};
+ghost use Rattle.redo_recover.specs.Reading.{reading_of};
+
+use crate::clear::clear;
+use crate::faults::log_fault;
+use crate::mark::mark;
+use crate::places::open_places;
+use model_log::BLOCK_HEADER;
+use redo_disk::Sectors;
+use redo_recover::{RecFault, Recovered};
+use redo_store::DataPart;
+use std::alloc::Global;
+
+/// Clears the log outside the kept range, repairs and writes the pages, and then writes the next checkpoint where the run
+/// starts.
+pub fn open_devices<L: Sectors, D: Sectors>(
+    alloc: Global,
+    log: &mut L,
+    part: &mut DataPart<D>,
+    recovered: &Recovered,
+    start: u64,
+) -> Result<(), RecFault>
+    requires start { MayStart recovered.now.shape recovered.now.ckpt start }
+    requires behind { start ≡ start_after recovered.now.end }
+    requires long { log_device_length recovered.now.shape ≤ (L.seen log.old).size }
+    requires live { part.old.failed ≡ None }
+    requires shape { recovered.now.shape ≡ part.old.shape }
+    requires settled { IfSome (D.seen part.old.dev).tells (IsSettledData recovered.now.shape) }
+    requires pages { ArePagesOf recovered.now.shape recovered.now.pages }
+    requires small { (p : ℕ) (content : Content) → slice_get recovered.now.pages p ≡ Some content → content.lsn < 2 ^ 61 }
+    ensures { DevicesStep (reading_of recovered.now) (L.seen log.old).tells (D.seen part.old.dev).tells
+        result (L.seen log.new).tells (D.seen part.new.dev).tells }
+{
+    match clear(alloc, log, &recovered.shape, recovered.ckpt, start) {
+        Ok(()) => {}
+        Err(error) => return Err(log_fault(error)),
+    }
+    match open_places(alloc, part, &recovered.shape, &recovered.pages) {
+        Ok(()) => {}
+        Err(fault) => return Err(fault),
+    }
+    let number = recovered.number.wrapping_add(1);
+    match mark(log, &recovered.shape, number, start - BLOCK_HEADER) {
+        Ok(()) => Ok(()),
+        Err(error) => Err(log_fault(error)),
+    }
+}

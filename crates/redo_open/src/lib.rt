@@ -1,0 +1,18 @@
+//! Formatting and opening a store. Opening reads the store, takes away what stands on the log behind its end, repairs the
+//! places of pages that don't pass, writes each page as it was read, and moves the checkpoint. The layer above may rely on
+//! this: wherever opening ends, whatever a crash leaves of the two devices is read with the same pages.
+#![tactic(auto)]
+
+mod clear;
+mod devices;
+mod faults;
+mod mark;
+mod mend;
+mod places;
+mod rewrite;
+mod zeros;
+
+pub use devices::open_devices;
+
+/// How many bytes one call of a device moves at the most.
+const PIECE: usize = 65_536;

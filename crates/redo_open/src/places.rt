@@ -1,0 +1,46 @@
+// Opening the data device.
+ghost use Rattle.std.specs.Prelude.{◌≡◌, ◌<◌, ◌^◌, ℕ, None, Some, IfSome, slice_get};
+ghost use Rattle.model_base.specs.Limits.{IsWithinLimits};
+ghost use Rattle.model_page.specs.declared.content.Content.{Content};
+ghost use Rattle.redo_apply.specs.Fits.{ArePagesOf};
+ghost use Rattle.redo_open.specs.Mend.{IsSettledData};
+ghost use Rattle.redo_open.specs.Places.{PlacesStep};
+
+use crate::faults::data_fault;
+use crate::mend::mend;
+use crate::rewrite::rewrite;
+use model_base::Shape;
+use redo_apply::Pages;
+use redo_disk::Sectors;
+use redo_recover::RecFault;
+use redo_store::DataPart;
+use std::alloc::Global;
+
+/// Repairs each place that doesn't pass, and then writes each page as it was read whose place holds something else.
+pub(crate) fn open_places<D: Sectors>(
+    alloc: Global,
+    part: &mut DataPart<D>,
+    shape: &Shape,
+    pages: &Pages,
+) -> Result<(), RecFault>
+    requires live { part.old.failed ≡ None }
+    requires shape { shape.now ≡ part.old.shape }
+    requires limits { IsWithinLimits shape.now }
+    requires settled { IfSome (D.seen part.old.dev).tells (IsSettledData shape.now) }
+    requires pages { ArePagesOf shape.now pages.now }
+    requires small { (p : ℕ) (content : Content) → slice_get pages.now p ≡ Some content → content.lsn < 2 ^ 61 }
+    ensures { PlacesStep D.seen shape.now pages.now part.old result part.new }
+{
+    let mut buffer = match vec![in alloc; 0u8; shape.page_size as usize] {
+        Ok(buffer) => buffer,
+        Err(_) => return Err(RecFault::NoMemory),
+    };
+    match mend(part, shape, &mut buffer) {
+        Ok(()) => {}
+        Err(fault) => return Err(fault),
+    }
+    match rewrite(part, shape, pages, &mut buffer) {
+        Ok(()) => Ok(()),
+        Err(error) => Err(data_fault(error)),
+    }
+}

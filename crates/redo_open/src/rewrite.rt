@@ -1,0 +1,86 @@
+// Writing the pages as they were read, where their places hold something else.
+ghost use Rattle.std.specs.Prelude.{◌≡◌, ◌≤◌, ◌<◌, ◌^◌, ◌+◌, ℕ, length, None, Some, slice_get};
+ghost use Rattle.model_base.specs.Limits.{IsWithinLimits};
+ghost use Rattle.std.specs.Bool.{OnTrue};
+ghost use Rattle.model_page.specs.Copies.{place_lsn_by};
+ghost use Rattle.model_page.specs.Page.{frame_length, page_check, user_part};
+ghost use Rattle.model_page.specs.declared.content.Content.{Content};
+ghost use Rattle.redo_apply.specs.Fits.{ArePagesOf};
+ghost use Rattle.redo_open.specs.Rewrite.{WriteStep};
+
+use model_base::{Shape, USER_START};
+use model_page::TRAILER_LENGTH;
+use redo_apply::Pages;
+use redo_disk::{DevError, Sectors};
+use redo_page::place_lsn;
+use redo_store::DataPart;
+
+/// The user bytes of a page.
+fn user_part(page: &[u8]) -> &[u8]
+    requires { frame_length ≤ length page.now }
+    ensures { result.now ≡ user_part page.now }
+{
+    &page[USER_START as usize..page.len() - TRAILER_LENGTH as usize]
+}
+
+/// Whether a place passes, and holds this page.
+fn holds(place: &[u8], shape: &Shape, page: u32, lsn: u64, user: &[u8]) -> bool
+    requires { frame_length ≤ length place.now }
+    ensures lsn { OnTrue result (place_lsn_by shape.now page (page_check place.now) ≡ Some lsn) }
+    ensures user { OnTrue result (user.now ≡ user_part place.now) }
+{
+    match place_lsn(place, shape, page) {
+        Some(held) => held == lsn && user_part(place) == user,
+        None => false,
+    }
+}
+
+/// Writes a page as it was read, where its place holds something else.
+fn rewrite_page<D: Sectors>(
+    part: &mut DataPart<D>,
+    shape: &Shape,
+    pages: &Pages,
+    page: u32,
+    buffer: &mut [u8],
+) -> Result<(), DevError>
+    requires live { part.old.failed ≡ None }
+    requires shape { shape.now ≡ part.old.shape }
+    requires limits { IsWithinLimits shape.now }
+    requires page { page < shape.now.pages }
+    requires buffer { length buffer.old ≡ shape.now.page_size }
+    requires pages { ArePagesOf shape.now pages.now }
+    requires small { (p : ℕ) (content : Content) → slice_get pages.now p ≡ Some content → content.lsn < 2 ^ 61 }
+    ensures { WriteStep D.seen shape.now pages.now page (page + 1) part.old result part.new }
+{
+    part.read_page(page, buffer)?;
+    let lsn = pages.lsn(page);
+    let user = pages.user_bytes(page);
+    if lsn == 0 {
+        return Ok(());
+    }
+    if holds(buffer, shape, page, lsn, user) {
+        return Ok(());
+    }
+    part.write_batch(&[(page, lsn)], user)
+}
+
+/// Writes each page as it was read, where its place holds something else, in ascending order.
+pub(crate) fn rewrite<D: Sectors>(
+    part: &mut DataPart<D>,
+    shape: &Shape,
+    pages: &Pages,
+    buffer: &mut [u8],
+) -> Result<(), DevError>
+    requires live { part.old.failed ≡ None }
+    requires shape { shape.now ≡ part.old.shape }
+    requires limits { IsWithinLimits shape.now }
+    requires buffer { length buffer.old ≡ shape.now.page_size }
+    requires pages { ArePagesOf shape.now pages.now }
+    requires small { (p : ℕ) (content : Content) → slice_get pages.now p ≡ Some content → content.lsn < 2 ^ 61 }
+    ensures { WriteStep D.seen shape.now pages.now 0 shape.now.pages part.old result part.new }
+{
+    for page in 0..shape.pages {
+        rewrite_page(part, shape, pages, page, buffer)?;
+    }
+    Ok(())
+}

@@ -1,0 +1,59 @@
+-- What is known of a device's content, where it tells, and what was read off it.
+use Rattle.std.proofs.Common.{◌≡◌, ℕ, ◌+◌, List, [], ◌++◌, length, take, drop, Option, Some, None, sym, ap, ◌∙◌, refl, length-append}
+use Rattle.std.proofs.Math.Seq.{take-add}
+use Rattle.std.specs.Prelude.{Result, Ok, Err, IfOk, IfErr}
+use Rattle.model_device.specs.Disk.{Disk}
+use Rattle.redo_disk.specs.Seen.{part}
+use Rattle.redo_recover.specs.Devices.{OnContent, OnContents}
+
+-- what follows from what is known of a content is known too
+pub content-weaker : (told : Option Disk) (P Q : List ℕ → Type 0) → ((content : List ℕ) → P content → Q content) → OnContent told P → OnContent told Q
+content-weaker None P Q weaker known = tt
+content-weaker (Some disk) P Q weaker known = weaker disk.reads known
+
+-- so is what follows from two such facts
+pub content-both : (told : Option Disk) (P Q R : List ℕ → Type 0) → ((content : List ℕ) → P content → Q content → R content)
+    → OnContent told P → OnContent told Q → OnContent told R
+content-both None P Q R joins first second = tt
+content-both (Some disk) P Q R joins first second = joins disk.reads first second
+
+-- what holds of every content
+pub content-any : (told : Option Disk) (P : List ℕ → Type 0) → ((content : List ℕ) → P content) → OnContent told P
+content-any None P any = tt
+content-any (Some disk) P any = any disk.reads
+
+-- nothing is the front of any content
+pub front-none : (told : Option Disk) → OnContent told (λ content. [] ≡ take 0 content)
+front-none told = content-any told (λ content. [] ≡ take 0 content) (λ content. refl)
+
+-- one more piece behind the front
+pub front-more : (told : Option Disk) (old piece new : List ℕ) (at count : ℕ) → at ≡ length old → length piece ≡ count → new ≡ old ++ piece
+    → OnContent told (λ content. old ≡ take (length old) content) → OnContent told (λ content. piece ≡ part content at count)
+    → OnContent told (λ content. new ≡ take (length new) content)
+front-more told old piece new at count at_is long joined =
+    content-both told (λ content. old ≡ take (length old) content) (λ content. piece ≡ part content at count) (λ content. new ≡ take (length new) content)
+    (λ content front is.
+    let whole : length new ≡ length old + count = ap length joined ∙ length-append old piece ∙ ap (λ n. length old + n) long in
+    joined ∙ ap (λ (l : List ℕ). l ++ piece) front
+    ∙ ap (λ (l : List ℕ). take (length old) content ++ l) (is ∙ ap (λ n. take count (drop n content)) at_is)
+    ∙ sym (take-add (length old) count content)
+    ∙ ap (λ n. take n content) (sym whole))
+
+-- what follows from what is known of both contents
+pub contents-from : (log data_told : Option Disk) (P Q : List ℕ → Type 0) (R : List ℕ → List ℕ → Type 0)
+    → ((log_bytes data_bytes : List ℕ) → P log_bytes → Q data_bytes → R log_bytes data_bytes)
+    → OnContent log P → OnContent data_told Q → OnContents log data_told R
+contents-from None data_told P Q R joins first second = tt
+contents-from (Some log) data_told P Q R joins first second =
+    content-weaker data_told Q (R log.reads) (λ data_bytes known. joins log.reads data_bytes first known) second
+
+-- what a result has, and what is known of the content that it came from
+pub ok-content : {T E : Type 0} (result : Result T E) (told : Option Disk) (P : T → Type 0) (F : List ℕ → Type 0) (Q : T → List ℕ → Type 0)
+    → ((x : T) (content : List ℕ) → F content → P x → Q x content) → OnContent told F → IfOk result P → IfOk result (λ x. OnContent told (Q x))
+ok-content (Ok x) told P F Q joins known is = content-weaker told F (Q x) (λ content from. joins x content from is) known
+ok-content (Err e) told P F Q joins known is = tt
+
+pub err-content : {T E : Type 0} (result : Result T E) (told : Option Disk) (P : E → Type 0) (F : List ℕ → Type 0) (Q : E → List ℕ → Type 0)
+    → ((x : E) (content : List ℕ) → F content → P x → Q x content) → OnContent told F → IfErr result P → IfErr result (λ x. OnContent told (Q x))
+err-content (Ok x) told P F Q joins known is = tt
+err-content (Err e) told P F Q joins known is = content-weaker told F (Q e) (λ content from. joins e content from is) known

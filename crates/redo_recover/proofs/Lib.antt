@@ -1,0 +1,9 @@
+mod Contents
+mod Starting
+mod Unchanged
+mod Grouping
+mod Fronts
+mod Paging
+mod Parsing
+mod Scanning
+mod Setting

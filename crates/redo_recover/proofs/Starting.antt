@@ -1,0 +1,156 @@
+-- What the header of a log device says, where the device is read by its front.
+use Rattle.std.proofs.Common.{◌≡◌, ℕ, ◌+◌, ◌-◌, ◌*◌, ◌≤◌, ◌<◌, List, length, take, drop, Option, Some, None, inl, inr, sym, ap, ap₂, ◌∙◌, refl, arith}
+use Rattle.std.proofs.lemmas.List.{drop-take, take-take, drop-drop}
+use Rattle.model_base.specs.declared.limits.TheConstants.{BLOCK_SIZE}
+use Rattle.model_base.specs.declared.shape.Shape.{Shape}
+use Rattle.model_log.specs.Device.{header_block, newer, newest_checkpoint, sector_at}
+use Rattle.model_log.specs.Checkpoint.{read_checkpoint}
+use Rattle.model_log.specs.declared.layout.TheConstants.{HEADER_BYTES}
+use Rattle.model_log.specs.Device.{log_device_length}
+use Rattle.model_log.specs.Head.{read_head}
+use Rattle.model_log.specs.declared.head.Head.TheVariants.{Good, OtherFormat, Unformatted}
+use Rattle.model_page.specs.Copies.{data_device_length}
+use Rattle.model_device.specs.Disk.{Disk}
+use Rattle.std.specs.Prelude.{IfSome}
+use Rattle.model_store.specs.Reading.{HasDevices, HasHead, Refuses}
+use Rattle.model_store.specs.declared.refusal.Refusal.TheVariants as refusal
+use Rattle.redo_disk.specs.Seen.{part, HasSize}
+use Rattle.redo_recover.specs.Devices.{OnContent, OnContents, HasCauseIn}
+use Rattle.redo_recover.specs.Start.{IsHeadFault, IsLengthFault, IsStart}
+use Rattle.redo_recover.specs.declared.fault.RecFault.{RecFault}
+use Rattle.redo_recover.specs.declared.fault.RecFault.TheVariants.{SmallLog, NotFormatted, BadFormat, SmallData, NoCheckpoint, BadRecord, PageLost, PageAhead, LogDev, DataDev, NoMemory}
+use Rattle.redo_recover.specs.declared.start.Start.{Start}
+use Rattle.redo_recover.proofs.Contents.{content-any, content-both, contents-from}
+
+-- a sector of a stretch is one of the device
+pub sector-part : (content : List ℕ) (at count k : ℕ) → k + BLOCK_SIZE ≤ count → sector_at k (part content at count) ≡ sector_at (at + k) content
+sector-part content at count k within =
+    let rest : count ≡ k + (count - k) = omega arith in
+    ap (λ n. take BLOCK_SIZE (drop k (take n (drop at content)))) rest
+    ∙ ap (take BLOCK_SIZE) (drop-take k (count - k) (drop at content))
+    ∙ take-take BLOCK_SIZE (count - k) (drop k (drop at content)) (omega arith)
+    ∙ ap (take BLOCK_SIZE) (drop-drop k at content)
+
+pub header-front : (which : ℕ) (header content : List ℕ) → BLOCK_SIZE * which + BLOCK_SIZE ≤ HEADER_BYTES → header ≡ part content 0 HEADER_BYTES
+    → header_block which header ≡ header_block which content
+header-front which header content within is =
+    ap (header_block which) is ∙ sector-part content 0 HEADER_BYTES (BLOCK_SIZE * which) within ∙ ap (λ n. sector_at n content) (omega arith)
+
+pub newest-front : (shape : Shape) (header content : List ℕ) → header ≡ part content 0 HEADER_BYTES → newest_checkpoint shape header ≡ newest_checkpoint shape content
+newest-front shape header content is =
+    ap₂ (λ first second. newer (read_checkpoint 1 shape first) (read_checkpoint 3 shape second))
+    (header-front 1 header content (omega arith) is) (header-front 3 header content (omega arith) is)
+
+-- these are the first bytes of a device of this size
+pub record IsHeaderOf (size : ℕ) (header content : List ℕ) : Type 0 where
+  pub front : header ≡ part content 0 HEADER_BYTES
+  pub sized : length content ≡ size
+
+pub sized : (told : Option Disk) (size : ℕ) → IfSome told (HasSize size) → OnContent told (λ content. length content ≡ size)
+sized None size known = tt
+sized (Some disk) size known = known.reads
+
+pub header-of : (told : Option Disk) (size : ℕ) (header : List ℕ) → IfSome told (HasSize size) → OnContent told (λ content. header ≡ part content 0 HEADER_BYTES)
+    → OnContent told (IsHeaderOf size header)
+header-of told size header known is =
+    content-both told (λ content. length content ≡ size) (λ content. header ≡ part content 0 HEADER_BYTES) (IsHeaderOf size header)
+    (λ content long front. record { front = front; sized = long }) (sized told size known) is
+
+-- WHY NO SCAN STARTS
+
+pub short-cause : (log data_told : Option Disk) (size : ℕ) → OnContent log (λ content. length content ≡ size) → size < HEADER_BYTES
+    → HasCauseIn log data_told (SmallLog HEADER_BYTES)
+short-cause log data_told size known short =
+    contents-from log data_told (λ content. length content ≡ size) (λ content. Unit {0}) (λ log_bytes data_bytes. Refuses log_bytes data_bytes (refusal.SmallLog HEADER_BYTES))
+    (λ log_bytes data_bytes long any. inl (omega (arith, long), refl)) known (content-any data_told (λ content. Unit {0}) (λ content. tt))
+
+pub head-cause : (log data_told : Option Disk) (size : ℕ) (header : List ℕ) (fault : RecFault) → OnContent log (IsHeaderOf size header) → HEADER_BYTES ≤ size
+    → IsHeadFault header fault → HasCauseIn log data_told fault
+head-cause log data_told size header NotFormatted known long is =
+    contents-from log data_told (IsHeaderOf size header) (λ content. Unit {0})
+    (λ log_bytes data_bytes. (HEADER_BYTES ≤ length log_bytes) × (read_head (header_block 0 log_bytes) ≡ Unformatted))
+    (λ log_bytes data_bytes of any. (omega (arith, of.sized), ap read_head (sym (header-front 0 header log_bytes (omega arith) of.front)) ∙ is))
+    known (content-any data_told (λ content. Unit {0}) (λ content. tt))
+head-cause log data_told size header (BadFormat n) known long is =
+    contents-from log data_told (IsHeaderOf size header) (λ content. Unit {0})
+    (λ log_bytes data_bytes. (HEADER_BYTES ≤ length log_bytes) × (read_head (header_block 0 log_bytes) ≡ OtherFormat n))
+    (λ log_bytes data_bytes of any. (omega (arith, of.sized), ap read_head (sym (header-front 0 header log_bytes (omega arith) of.front)) ∙ is))
+    known (content-any data_told (λ content. Unit {0}) (λ content. tt))
+head-cause log data_told size header (SmallLog n) known long none = absurd none
+head-cause log data_told size header (SmallData n) known long none = absurd none
+head-cause log data_told size header NoCheckpoint known long none = absurd none
+head-cause log data_told size header (BadRecord lsn) known long none = absurd none
+head-cause log data_told size header (PageLost p) known long none = absurd none
+head-cause log data_told size header (PageAhead p lsn) known long none = absurd none
+head-cause log data_told size header LogDev known long none = absurd none
+head-cause log data_told size header DataDev known long none = absurd none
+head-cause log data_told size header NoMemory known long none = absurd none
+
+-- what a header that names a shape says of the device
+has_head : (size : ℕ) (header log_bytes : List ℕ) (shape : Shape) → HEADER_BYTES ≤ size → IsHeaderOf size header log_bytes
+    → read_head (header_block 0 header) ≡ Good shape → HasHead log_bytes shape
+has_head size header log_bytes shape long of is = record {
+  long = omega (arith, of.sized);
+  head = ap read_head (sym (header-front 0 header log_bytes (omega arith) of.front)) ∙ is;
+}
+
+pub length-cause : (log data_told : Option Disk) (log_size data_size : ℕ) (header : List ℕ) (shape : Shape) (fault : RecFault)
+    → OnContent log (IsHeaderOf log_size header) → OnContent data_told (λ content. length content ≡ data_size) → HEADER_BYTES ≤ log_size
+    → read_head (header_block 0 header) ≡ Good shape → IsLengthFault shape log_size data_size fault → HasCauseIn log data_told fault
+length-cause log data_told log_size data_size header shape (SmallLog n) known other long head is =
+    contents-from log data_told (IsHeaderOf log_size header) (λ content. length content ≡ data_size)
+    (λ log_bytes data_bytes. Refuses log_bytes data_bytes (refusal.SmallLog n))
+    (λ log_bytes data_bytes of same. inr (shape, has_head log_size header log_bytes shape long of head, omega (arith, of.sized, is.0), is.1))
+    known other
+length-cause log data_told log_size data_size header shape (SmallData n) known other long head is =
+    contents-from log data_told (IsHeaderOf log_size header) (λ content. length content ≡ data_size)
+    (λ log_bytes data_bytes. Refuses log_bytes data_bytes (refusal.SmallData n))
+    (λ log_bytes data_bytes of same. (shape, has_head log_size header log_bytes shape long of head, omega (arith, of.sized, is.0), omega (arith, same, is.1), is.2))
+    known other
+length-cause log data_told log_size data_size header shape NotFormatted known other long head none = absurd none
+length-cause log data_told log_size data_size header shape (BadFormat n) known other long head none = absurd none
+length-cause log data_told log_size data_size header shape NoCheckpoint known other long head none = absurd none
+length-cause log data_told log_size data_size header shape (BadRecord lsn) known other long head none = absurd none
+length-cause log data_told log_size data_size header shape (PageLost p) known other long head none = absurd none
+length-cause log data_told log_size data_size header shape (PageAhead p lsn) known other long head none = absurd none
+length-cause log data_told log_size data_size header shape LogDev known other long head none = absurd none
+length-cause log data_told log_size data_size header shape DataDev known other long head none = absurd none
+length-cause log data_told log_size data_size header shape NoMemory known other long head none = absurd none
+
+-- WHERE A SCAN STARTS
+
+-- the header names a shape, and both devices are as long as that asks
+pub record IsSound (log_size data_size : ℕ) (header : List ℕ) (shape : Shape) : Type 0 where
+  pub long : HEADER_BYTES ≤ log_size
+  pub head : read_head (header_block 0 header) ≡ Good shape
+  pub log_long : log_device_length shape ≤ log_size
+  pub data_long : data_device_length shape ≤ data_size
+
+devices : (log_size data_size : ℕ) (header log_bytes data_bytes : List ℕ) (shape : Shape) → IsSound log_size data_size header shape
+    → IsHeaderOf log_size header log_bytes → length data_bytes ≡ data_size → HasDevices log_bytes data_bytes shape
+devices log_size data_size header log_bytes data_bytes shape sound of same = record {
+  head = has_head log_size header log_bytes shape sound.long of sound.head;
+  log_long = omega (arith, of.sized, sound.log_long);
+  data_long = omega (arith, same, sound.data_long);
+}
+
+pub checkpoint-cause : (log data_told : Option Disk) (log_size data_size : ℕ) (header : List ℕ) (shape : Shape) → OnContent log (IsHeaderOf log_size header)
+    → OnContent data_told (λ content. length content ≡ data_size) → IsSound log_size data_size header shape → newest_checkpoint shape header ≡ None
+    → HasCauseIn log data_told NoCheckpoint
+checkpoint-cause log data_told log_size data_size header shape known other sound none =
+    contents-from log data_told (IsHeaderOf log_size header) (λ content. length content ≡ data_size)
+    (λ log_bytes data_bytes. Refuses log_bytes data_bytes refusal.NoCheckpoint)
+    (λ log_bytes data_bytes of same. (shape, devices log_size data_size header log_bytes data_bytes shape sound of same, sym (newest-front shape header log_bytes of.front) ∙ none))
+    known other
+
+pub starts : (log data_told : Option Disk) (log_size data_size : ℕ) (header : List ℕ) (start : Start) → OnContent log (IsHeaderOf log_size header)
+    → OnContent data_told (λ content. length content ≡ data_size) → IsSound log_size data_size header start.shape
+    → newest_checkpoint start.shape header ≡ Some (start.number, start.ckpt) → OnContents log data_told (λ log_bytes data_bytes. IsStart log_bytes data_bytes start)
+starts log data_told log_size data_size header start known other sound newest =
+    contents-from log data_told (IsHeaderOf log_size header) (λ content. length content ≡ data_size)
+    (λ log_bytes data_bytes. IsStart log_bytes data_bytes start)
+    (λ log_bytes data_bytes of same. record {
+      devices = devices log_size data_size header log_bytes data_bytes start.shape sound of same;
+      newest = sym (newest-front start.shape header log_bytes of.front) ∙ newest;
+    })
+    known other

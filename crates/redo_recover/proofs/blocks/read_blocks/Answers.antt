@@ -1,0 +1,80 @@
+use Rattle.std.proofs.Common.{◌≡◌, ◌≤◌, ◌+◌, ◌∙◌, ℕ, List, length, length-append, sym, ap, arith}
+use Rattle.std.proofs.lemmas.List.{length_push}
+use Rattle.redo_recover.specs.Blocks.{AreBlocksOf}
+use Rattle.redo_recover.specs.Piece.{IsPieceOf}
+use Rattle.redo_recover.proofs.Contents.{content-both, content-weaker}
+use Rattle.redo_recover.proofs.Scanning.{AreBlocksSoFar, IsTakenAt, taken-at, so_far-next, read-stopped, read-last, read-all, length-data_of}
+use Rattle.redo_recover.proofs.Unchanged.{IsUnchanged-then, content-before, content-after}
+use Rattle.redo_recover.proofs.blocks.read_blocks.Goals as goal
+
+pub returns-in_default-clause-blocks : goal.returns-in_default-clause-blocks
+returns-in_default-clause-blocks g c =
+    let old = g.L.Sectors.seen c.args.log.now in
+    let middle = g.L.Sectors.seen c.loop-i.log in
+    let shape = c.args.shape.now in
+    let piece = c.in_ok-piece.piece in
+    let of = content-before old middle (IsPieceOf piece) c.loop-i.invariant.unchanged
+    (c.in_ok-piece.ensures.content (content-after old middle (IsPieceOf c.loop-i.piece) c.loop-i.invariant.unchanged c.loop-i.invariant.piece)) in
+    let here = content-weaker old.tells (IsPieceOf piece) (IsTakenAt shape c.args.ckpt c.loop-i.i c.taken.result c.sector-block.result.now)
+    (λ image is. taken-at shape c.args.ckpt c.loop-i.i c.from.result piece c.offset_of-at.result c.sector-block.result.now c.taken.result image c.from.ensures
+    c.in_ok-piece.ensures.has c.offset_of-at.ensures c.sector-block.ensures c.taken.ensures.view is) of in
+    let so_far : List ℕ → Type 0 = AreBlocksSoFar shape c.args.ckpt c.loop-i.views.items c.loop-i.joined.items c.loop-i.i in
+    content-both old.tells so_far (IsTakenAt shape c.args.ckpt c.loop-i.i c.taken.result c.sector-block.result.now)
+    (AreBlocksOf shape c.args.ckpt c.loop-i.views.items c.loop-i.joined.items)
+    (λ image a t. read-stopped shape c.args.ckpt c.loop-i.views.items c.loop-i.joined.items c.loop-i.i image a (omega arith) (t.view ∙ c.in_default.is))
+    c.loop-i.invariant.so_far here
+
+pub returns-then-not-is_full-clause-blocks : goal.returns-then-not-is_full-clause-blocks
+returns-then-not-is_full-clause-blocks g c =
+    let old = g.L.Sectors.seen c.args.log.now in
+    let middle = g.L.Sectors.seen c.loop-i.log in
+    let shape = c.args.shape.now in
+    let piece = c.in_ok-piece.piece in
+    let of = content-before old middle (IsPieceOf piece) c.loop-i.invariant.unchanged
+    (c.in_ok-piece.ensures.content (content-after old middle (IsPieceOf c.loop-i.piece) c.loop-i.invariant.unchanged c.loop-i.invariant.piece)) in
+    let here = content-weaker old.tells (IsPieceOf piece) (IsTakenAt shape c.args.ckpt c.loop-i.i c.taken.result c.sector-block.result.now)
+    (λ image is. taken-at shape c.args.ckpt c.loop-i.i c.from.result piece c.offset_of-at.result c.sector-block.result.now c.taken.result image c.from.ensures
+    c.in_ok-piece.ensures.has c.offset_of-at.ensures c.sector-block.ensures c.taken.ensures.view is) of in
+    let so_far : List ℕ → Type 0 = AreBlocksSoFar shape c.args.ckpt c.loop-i.views.items c.loop-i.joined.items c.loop-i.i in
+    content-both old.tells so_far (IsTakenAt shape c.args.ckpt c.loop-i.i c.taken.result c.sector-block.result.now)
+    (AreBlocksOf shape c.args.ckpt c.push.new.self.items c.extend_from_slice.new.self.items)
+    (λ image a t. read-last shape c.args.ckpt c.loop-i.views.items c.loop-i.joined.items c.loop-i.i image c.in-Some.view c.sector-block.result.now
+    c.push.new.self.items c.extend_from_slice.new.self.items c.block_data.result.now a (omega arith) (t.view ∙ c.in-Some.is) t.bytes
+    (sym c.if-not-is_full.ensures) c.in_ok-push.ensures.items c.in_ok-extend_from_slice.ensures.items c.block_data.ensures)
+    c.loop-i.invariant.so_far here
+
+pub loop-i-preserved : goal.loop-i-preserved
+loop-i-preserved g c =
+    let old = g.L.Sectors.seen c.args.log.now in
+    let middle = g.L.Sectors.seen c.loop-i.log in
+    let shape = c.args.shape.now in
+    let piece = c.in_ok-piece.piece in
+    let of = content-before old middle (IsPieceOf piece) c.loop-i.invariant.unchanged
+    (c.in_ok-piece.ensures.content (content-after old middle (IsPieceOf c.loop-i.piece) c.loop-i.invariant.unchanged c.loop-i.invariant.piece)) in
+    let here = content-weaker old.tells (IsPieceOf piece) (IsTakenAt shape c.args.ckpt c.loop-i.i c.taken.result c.sector-block.result.now)
+    (λ image is. taken-at shape c.args.ckpt c.loop-i.i c.from.result piece c.offset_of-at.result c.sector-block.result.now c.taken.result image c.from.ensures
+    c.in_ok-piece.ensures.has c.offset_of-at.ensures c.sector-block.ensures c.taken.ensures.view is) of in
+    let so_far : List ℕ → Type 0 = AreBlocksSoFar shape c.args.ckpt c.loop-i.views.items c.loop-i.joined.items c.loop-i.i in
+    let views : length c.push.new.self.items ≡ length c.loop-i.views.items + 1 = ap length c.in_ok-push.ensures.items ∙ length_push c.loop-i.views.items c.in-Some.view in
+    let bytes : length c.extend_from_slice.new.self.items ≡ length c.loop-i.joined.items + length c.block_data.result.now =
+    ap length c.in_ok-extend_from_slice.ensures.items ∙ length-append c.loop-i.joined.items c.block_data.result.now in
+    let room : length c.block_data.result.now ≤ 496 = omega (arith, ap length c.block_data.ensures, length-data_of c.in-Some.view c.sector-block.result.now) in
+    record {
+      unchanged = IsUnchanged-then old middle (g.L.Sectors.seen c.with_sector.new.device) c.loop-i.invariant.unchanged c.with_sector.ensures.unchanged;
+      piece = of;
+      many = omega (arith, views, c.loop-i.invariant.many);
+      short = omega (arith, bytes, room, c.loop-i.invariant.short);
+      so_far = content-both old.tells so_far (IsTakenAt shape c.args.ckpt c.loop-i.i c.taken.result c.sector-block.result.now)
+          (AreBlocksSoFar shape c.args.ckpt c.push.new.self.items c.extend_from_slice.new.self.items (c.loop-i.i + 1))
+          (λ image a t. so_far-next shape c.args.ckpt c.loop-i.views.items c.loop-i.joined.items c.loop-i.i image c.in-Some.view c.sector-block.result.now
+          c.push.new.self.items c.extend_from_slice.new.self.items c.block_data.result.now a (t.view ∙ c.in-Some.is) t.bytes
+          (sym c.if-not-is_full.ensures) c.in_ok-push.ensures.items c.in_ok-extend_from_slice.ensures.items c.block_data.ensures)
+          c.loop-i.invariant.so_far here;
+    }
+
+pub returns-clause-blocks : goal.returns-clause-blocks
+returns-clause-blocks g c =
+    let old = g.L.Sectors.seen c.args.log.now in
+    content-weaker old.tells (AreBlocksSoFar c.args.shape.now c.args.ckpt c.loop-i.views.items c.loop-i.joined.items c.loop-i.i)
+    (AreBlocksOf c.args.shape.now c.args.ckpt c.loop-i.views.items c.loop-i.joined.items)
+    (λ image a. read-all c.args.shape.now c.args.ckpt c.loop-i.views.items c.loop-i.joined.items c.loop-i.i image a (omega arith)) c.loop-i.invariant.so_far

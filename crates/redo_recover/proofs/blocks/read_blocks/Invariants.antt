@@ -1,0 +1,15 @@
+use Rattle.std.proofs.Common.{◌≡◌, ◌≤◌, ◌*◌, length}
+use Rattle.redo_recover.specs.Devices.{IsUnchanged, OnContent}
+use Rattle.redo_recover.specs.Piece.{IsPieceOf}
+use Rattle.redo_recover.proofs.Scanning.{AreBlocksSoFar}
+use Rattle.redo_recover.proofs.blocks.read_blocks.Given as goal
+
+-- the first blocks are read, all of them full
+abbrev pub invariant-loop-i : goal.invariant-loop-i
+invariant-loop-i g l = record {
+  unchanged : IsUnchanged (g.L.Sectors.seen l.fn.log) (g.L.Sectors.seen l.log);
+  piece : OnContent (g.L.Sectors.seen l.fn.log).tells (IsPieceOf l.piece);
+  many : length l.views.items ≡ l.i;
+  short : length l.joined.items ≤ 496 * l.i;
+  so_far : OnContent (g.L.Sectors.seen l.fn.log).tells (AreBlocksSoFar l.shape l.ckpt l.views.items l.joined.items l.i);
+}

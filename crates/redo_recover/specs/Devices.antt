@@ -1,0 +1,55 @@
+-- What recovery says of the devices that it reads, and of the ways in which it may end.
+use Rattle.std.specs.Prelude.{ℕ, ◌≡◌, ◌≤◌, List, Option, Some, None, IfSome}
+use Rattle.model_device.specs.Disk.{Disk}
+use Rattle.model_store.specs.Reading.{Refuses}
+use Rattle.model_store.specs.declared.refusal.Refusal.{Refusal}
+use Rattle.model_store.specs.declared.refusal.Refusal.TheVariants as refusal
+use Rattle.redo_disk.specs.Seen.{Seen}
+use Rattle.redo_disk.specs.declared.error.DevError.{DevError}
+use Rattle.redo_disk.specs.declared.error.DevError.TheVariants as device
+use Rattle.redo_recover.specs.declared.fault.RecFault.{RecFault}
+use Rattle.redo_recover.specs.declared.fault.RecFault.TheVariants.{SmallLog, NotFormatted, BadFormat, SmallData, NoCheckpoint, BadRecord, PageLost, PageAhead, LogDev, DataDev, NoMemory}
+
+-- The device tells what it told before, also of its last crash, and its count of faults hasn't fallen.
+pub record IsUnchanged (old new : Seen) : Type 0 where
+  pub tells : new.tells ≡ old.tells
+  pub crashed_from : new.crashed_from ≡ old.crashed_from
+  pub size : new.size ≡ old.size
+  pub later : old.faults ≤ new.faults
+
+-- what reads of the device give has this property, where it tells
+abbrev pub OnContent : Option Disk → (List ℕ → Type 0) → Type 0
+OnContent told P = IfSome told (λ disk. P disk.reads)
+
+-- what reads of the two devices give has this property, where both tell
+abbrev pub OnContents : Option Disk → Option Disk → (List ℕ → List ℕ → Type 0) → Type 0
+OnContents log data_told P = OnContent log (λ log_bytes. OnContent data_told (λ data_bytes. P log_bytes data_bytes))
+
+-- the cause for which a store is refused, unless a device failed or memory ran out
+abbrev pub refusal_of : RecFault → Option Refusal
+refusal_of (SmallLog n) = Some (refusal.SmallLog n)
+refusal_of NotFormatted = Some refusal.NotFormatted
+refusal_of (BadFormat n) = Some (refusal.BadFormat n)
+refusal_of (SmallData n) = Some (refusal.SmallData n)
+refusal_of NoCheckpoint = Some refusal.NoCheckpoint
+refusal_of (BadRecord lsn) = Some (refusal.BadRecord lsn)
+refusal_of (PageLost p) = Some (refusal.PageLost p)
+refusal_of (PageAhead p lsn) = Some (refusal.PageAhead p lsn)
+refusal_of LogDev = None
+refusal_of DataDev = None
+refusal_of NoMemory = None
+
+-- a fault that names a cause has it: the contents are refused for that cause, where both devices tell
+abbrev pub HasCauseIn : Option Disk → Option Disk → RecFault → Type 0
+HasCauseIn log data_told fault =
+    IfSome (refusal_of fault) (λ cause. OnContents log data_told (λ log_bytes data_bytes. Refuses log_bytes data_bytes cause))
+
+-- the fault of a program whose log device answered this
+abbrev pub log_fault_of : DevError → RecFault
+log_fault_of device.Failed = LogDev
+log_fault_of device.NoMemory = NoMemory
+
+-- the same of the data device
+abbrev pub data_fault_of : DevError → RecFault
+data_fault_of device.Failed = DataDev
+data_fault_of device.NoMemory = NoMemory

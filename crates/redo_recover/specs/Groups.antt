@@ -1,0 +1,61 @@
+-- What reading groups one after another off some bytes gives.
+use Rattle.std.specs.Prelude.{ℕ, ◌≡◌, ◌≤◌, ◌+◌, ◌-◌, List, [], length, take, drop, Option, Some, None, ⊤}
+use Rattle.model_base.specs.declared.shape.Shape.{Shape}
+use Rattle.model_number.specs.declared.got.Got.{Got}
+use Rattle.model_number.specs.declared.got.Got.TheVariants.{Value, Short, Bad}
+use Rattle.model_record.specs.Group.{group_text, IsFront}
+use Rattle.model_record.specs.declared.rec.Rec.{Rec}
+use Rattle.model_record.specs.declared.group.Whole.{Whole}
+use Rattle.model_log.specs.Lsn.{sn_of}
+use Rattle.model_log.specs.declared.layout.TheConstants.{BLOCK_HEADER}
+use Rattle.model_store.specs.Scan.{IsStorable, AreGroups, HasNoStorable, IsBadRecord, lsn_at}
+use Rattle.redo_recover.specs.declared.fault.RecFault.{RecFault}
+use Rattle.redo_recover.specs.declared.fault.RecFault.TheVariants.{BadRecord, LogDev, NoMemory}
+use Rattle.model_log.specs.Run.{end_of, spans_of}
+
+-- Off the front of the bytes: a group that fits the store and the length of its text, or that less than a whole one
+-- stands there, or that neither does.
+abbrev pub GivesStorable : Shape → List ℕ → Got (List Rec) → Type 0
+GivesStorable shape bytes (Value group len) = IsStorable shape group × (len ≤ length bytes) × (take len bytes ≡ group_text group)
+GivesStorable shape bytes Short = IsFront bytes
+GivesStorable shape bytes Bad = HasNoStorable shape bytes × (IsFront bytes → ⊥)
+
+-- the bytes are these groups from the lsn `start` on, up to the lsn `end`, and then less than a whole group
+pub record EndAt (shape : Shape) (bytes : List ℕ) (start : ℕ) (wholes : List Whole) (end : ℕ) : Type 0 where
+  pub rest : List ℕ
+  pub groups : AreGroups shape bytes start wholes rest
+  pub front : IsFront rest
+  pub at : end ≡ end_of start (spans_of wholes)
+
+-- behind groups that fit comes at this lsn neither one more nor less than a whole one
+pub record BreakAt (shape : Shape) (bytes : List ℕ) (start lsn : ℕ) : Type 0 where
+  pub wholes : List Whole
+  pub rest : List ℕ
+  pub groups : AreGroups shape bytes start wholes rest
+  pub no_storable : HasNoStorable shape rest
+  pub no_rest : IsFront rest → ⊥
+  pub at : lsn ≡ end_of start (spans_of wholes)
+
+-- why no groups are read off the bytes from the lsn `start` on
+abbrev pub IsBreakFault : Shape → List ℕ → ℕ → RecFault → Type 0
+IsBreakFault shape bytes start (BadRecord lsn) = BreakAt shape bytes start lsn
+IsBreakFault shape bytes start NoMemory = ⊤
+IsBreakFault shape bytes start _ = ⊥
+
+-- The groups in the joined data of blocks from the checkpoint on, and the log's end: from the lsn on at which groups
+-- start; where there is none, no group, and the first data byte behind the blocks.
+abbrev pub AreParsed : ℕ → ℕ → Shape → List ℕ → Option ℕ → List Whole → ℕ → Type 0
+AreParsed ckpt count shape bytes None wholes end = (wholes ≡ []) × (end ≡ lsn_at ckpt count + BLOCK_HEADER)
+AreParsed ckpt count shape bytes (Some start) wholes end = EndAt shape (drop (sn_of start - sn_of ckpt) bytes) start wholes end
+
+-- why the data isn't parsed
+abbrev pub IsParseFault : ℕ → Shape → List ℕ → Option ℕ → RecFault → Type 0
+IsParseFault ckpt shape bytes None fault = ⊥
+IsParseFault ckpt shape bytes (Some start) fault = IsBreakFault shape (drop (sn_of start - sn_of ckpt) bytes) start fault
+
+-- why a log isn't scanned
+abbrev pub IsScanFault : Shape → ℕ → List ℕ → RecFault → Type 0
+IsScanFault shape ckpt content (BadRecord lsn) = IsBadRecord shape content ckpt lsn
+IsScanFault shape ckpt content LogDev = ⊤
+IsScanFault shape ckpt content NoMemory = ⊤
+IsScanFault shape ckpt content _ = ⊥

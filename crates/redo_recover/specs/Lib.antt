@@ -1,0 +1,7 @@
+pub mod Blocks
+pub mod Devices
+pub mod Groups
+pub mod Pages
+pub mod Piece
+pub mod Reading
+pub mod Start

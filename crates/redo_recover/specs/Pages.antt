@@ -1,0 +1,64 @@
+-- The pages of a store while it is read: as they are kept, judged, and with the scanned groups applied.
+use Rattle.std.specs.Prelude.{ℕ, ◌≡◌, ◌≤◌, ◌<◌, List, length, slice_get, Some, IfSome, ⊤}
+use Rattle.model_base.specs.declared.shape.Shape.{Shape}
+use Rattle.model_record.specs.declared.group.Whole.{Whole}
+use Rattle.model_page.specs.Copies.{IsKept, IsLost}
+use Rattle.model_page.specs.declared.content.Content.{Content}
+use Rattle.model_store.specs.Reading.{AreKeptBelow, AreNotAheadBelow, IsKeptAt, replayed}
+use Rattle.model_store.specs.declared.refusal.Refusal.{Refusal}
+use Rattle.model_store.specs.declared.refusal.Refusal.TheVariants as refusal
+use Rattle.redo_recover.specs.Devices.{refusal_of}
+use Rattle.redo_recover.specs.declared.fault.RecFault.{RecFault}
+use Rattle.redo_recover.specs.declared.fault.RecFault.TheVariants.{PageLost, PageAhead, NoMemory}
+
+-- the pages of the store as they are kept
+pub record AreKept (shape : Shape) (data_bytes : List ℕ) (pages : List Content) : Type 0 where
+  pub count : length pages ≡ shape.pages
+  pub each : (p : ℕ) (page : Content) → slice_get pages p ≡ Some page → IsKept shape data_bytes p page
+
+-- the first page of the store that isn't kept
+pub record IsFirstLost (shape : Shape) (data_bytes : List ℕ) (p : ℕ) : Type 0 where
+  pub below : p < shape.pages
+  pub lost : IsLost shape data_bytes p
+  pub kept : AreKeptBelow shape data_bytes p
+
+-- why the pages aren't all kept
+abbrev pub IsKeptFault : Shape → List ℕ → RecFault → Type 0
+IsKeptFault shape data_bytes (PageLost p) = IsFirstLost shape data_bytes p
+IsKeptFault shape data_bytes NoMemory = ⊤
+IsKeptFault shape data_bytes _ = ⊥
+
+-- no page has an lsn above the end
+abbrev pub AreNotAhead : List Content → ℕ → Type 0
+AreNotAhead pages end = (p : ℕ) (page : Content) → slice_get pages p ≡ Some page → page.lsn ≤ end
+
+-- the first page that has one, and its lsn
+pub record IsFirstAhead (pages : List Content) (end p lsn : ℕ) : Type 0 where
+  pub page : Content
+  pub at : slice_get pages p ≡ Some page
+  pub same : lsn ≡ page.lsn
+  pub ahead : end < lsn
+  pub first : (q : ℕ) (other : Content) → q < p → slice_get pages q ≡ Some other → other.lsn ≤ end
+
+-- that a page is ahead
+abbrev pub IsAheadFault : List Content → ℕ → RecFault → Type 0
+IsAheadFault pages end (PageAhead p lsn) = IsFirstAhead pages end p lsn
+IsAheadFault pages end _ = ⊥
+
+-- each page is an old one with each of these groups applied that starts at or above its lsn
+pub record AreReplayed (wholes : List Whole) (old new : List Content) : Type 0 where
+  pub count : length new ≡ length old
+  pub each : (p : ℕ) (page : Content) → slice_get new p ≡ Some page
+      → (kept : Content) × (slice_get old p ≡ Some kept) × (page ≡ replayed p kept.lsn wholes kept)
+
+-- why the pages of a store aren't read whose log ends there
+abbrev pub RefusesPages : Shape → List ℕ → ℕ → Refusal → Type 0
+RefusesPages shape data_bytes end (refusal.PageLost p) = IsFirstLost shape data_bytes p
+RefusesPages shape data_bytes end (refusal.PageAhead p lsn) =
+    AreKeptBelow shape data_bytes shape.pages
+    × (p < shape.pages) × IsKeptAt shape data_bytes p lsn × (end < lsn) × AreNotAheadBelow shape data_bytes end p
+RefusesPages shape data_bytes end _ = ⊥
+
+-- a fault that names a cause has it
+abbrev pub HasPageCause : Shape → ℕ → RecFault → List ℕ → Type 0
+HasPageCause shape end fault data_bytes = IfSome (refusal_of fault) (RefusesPages shape data_bytes end)

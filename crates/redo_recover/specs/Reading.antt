@@ -1,0 +1,32 @@
+-- A reading as the program gives it.
+use Rattle.std.specs.Prelude.{ℕ, ◌≡◌, ◌≤◌, ◌<◌, ◌%◌}
+use Rattle.model_base.specs.Limits.{IsWithinLimits}
+use Rattle.model_base.specs.declared.limits.TheConstants.{BLOCK_SIZE, START_LSN, LSN_LIMIT}
+use Rattle.model_log.specs.Device.{log_device_length}
+use Rattle.model_page.specs.Copies.{data_device_length}
+use Rattle.model_store.specs.Reading.{Reading}
+use Rattle.redo_apply.specs.Fits.{ArePagesOf}
+use Rattle.redo_recover.specs.declared.recovered.Recovered.{Recovered}
+
+-- what was recovered
+abbrev pub reading_of : Recovered → Reading
+reading_of recovered = record {
+  shape = recovered.shape;
+  number = recovered.number;
+  ckpt = recovered.ckpt;
+  views = recovered.views.items;
+  wholes = recovered.groups.items;
+  end = recovered.end;
+  pages = recovered.pages;
+}
+
+-- What is known of it whatever the devices tell: the sizes are within the limits and the devices long enough for them,
+-- the checkpoint stands at the lsn of a block, and there is each of the pages.
+pub record IsOfDevices (log_size data_size : ℕ) (recovered : Recovered) : Type 0 where
+  pub limits : IsWithinLimits recovered.shape
+  pub log_long : log_device_length recovered.shape ≤ log_size
+  pub data_long : data_device_length recovered.shape ≤ data_size
+  pub aligned : recovered.ckpt % BLOCK_SIZE ≡ 0
+  pub started : START_LSN ≤ recovered.ckpt
+  pub small : recovered.ckpt < LSN_LIMIT
+  pub its_pages : ArePagesOf recovered.shape recovered.pages

@@ -1,0 +1,40 @@
+-- Where recovery starts: what the header of a log device says.
+use Rattle.std.specs.Prelude.{ℕ, ◌≡◌, ◌≤◌, ◌<◌, ◌%◌, List, Some}
+use Rattle.model_base.specs.Limits.{IsWithinLimits}
+use Rattle.model_base.specs.declared.limits.TheConstants.{BLOCK_SIZE, START_LSN, LSN_LIMIT}
+use Rattle.model_base.specs.declared.shape.Shape.{Shape}
+use Rattle.model_log.specs.Device.{header_block, newest_checkpoint, log_device_length}
+use Rattle.model_log.specs.Head.{read_head}
+use Rattle.model_log.specs.declared.head.Head.TheVariants.{OtherFormat, Unformatted}
+use Rattle.model_page.specs.Copies.{data_device_length}
+use Rattle.model_store.specs.Reading.{HasDevices}
+use Rattle.redo_recover.specs.declared.fault.RecFault.{RecFault}
+use Rattle.redo_recover.specs.declared.fault.RecFault.TheVariants.{SmallLog, SmallData, NotFormatted, BadFormat}
+use Rattle.redo_recover.specs.declared.start.Start.{Start}
+
+-- both devices are as long as their header asks, and this is the newest checkpoint
+pub record IsStart (log_bytes data_bytes : List ℕ) (start : Start) : Type 0 where
+  pub devices : HasDevices log_bytes data_bytes start.shape
+  pub newest : newest_checkpoint start.shape log_bytes ≡ Some (start.number, start.ckpt)
+
+-- the sizes are within the limits and the devices are long enough for them, and the checkpoint is at the lsn of a block
+pub record IsUsable (log_size data_size : ℕ) (start : Start) : Type 0 where
+  pub limits : IsWithinLimits start.shape
+  pub log_long : log_device_length start.shape ≤ log_size
+  pub data_long : data_device_length start.shape ≤ data_size
+  pub aligned : start.ckpt % BLOCK_SIZE ≡ 0
+  pub started : START_LSN ≤ start.ckpt
+  pub small : start.ckpt < LSN_LIMIT
+
+-- why a header names no shape
+abbrev pub IsHeadFault : List ℕ → RecFault → Type 0
+IsHeadFault header NotFormatted = read_head (header_block 0 header) ≡ Unformatted
+IsHeadFault header (BadFormat n) = read_head (header_block 0 header) ≡ OtherFormat n
+IsHeadFault header _ = ⊥
+
+-- which device is too short for a shape; the log device is judged first
+abbrev pub IsLengthFault : Shape → ℕ → ℕ → RecFault → Type 0
+IsLengthFault shape log_size data_size (SmallLog n) = (log_size < log_device_length shape) × (n ≡ log_device_length shape)
+IsLengthFault shape log_size data_size (SmallData n) =
+    (log_device_length shape ≤ log_size) × (data_size < data_device_length shape) × (n ≡ data_device_length shape)
+IsLengthFault shape log_size data_size _ = ⊥

@@ -1,0 +1,124 @@
+// The blocks of a log from a checkpoint on, read off the log device.
+ghost use Rattle.std.specs.Prelude.{◌≡◌, ◌≤◌, ◌<◌, ◌+◌, ◌*◌, ◌%◌, ◌^◌, length, IfOk, IfSome, IsErrOf, None, nat_lt, if◌then◌else◌};
+ghost use Rattle.model_base.specs.Count.{HasRisen};
+ghost use Rattle.model_base.specs.Limits.{IsWithinLimits};
+ghost use Rattle.model_log.specs.Block.{is_full, read_block};
+ghost use Rattle.model_log.specs.Device.{log_device_length};
+ghost use Rattle.model_log.specs.Lsn.{offset_of};
+ghost use Rattle.model_store.specs.Scan.{groups_start};
+ghost use Rattle.redo_disk.specs.declared.error.DevError.{DevError};
+ghost use Rattle.redo_recover.specs.Blocks.{AreBlocksOf, AreFew};
+ghost use Rattle.redo_recover.specs.Devices.{IsUnchanged, OnContent};
+ghost use Rattle.redo_recover.specs.Piece.{HasSector};
+
+use crate::piece::Piece;
+use model_base::{BLOCK_SIZE, LSN_LIMIT, Shape};
+use model_log::{BlockView, HEADER_BYTES};
+use redo_block::{block_data, read};
+use redo_disk::{DevError, Sectors};
+use redo_lsn::offset_of;
+use std::alloc::Global;
+
+/// The blocks of a log from a checkpoint on.
+#[derive(Debug, Drop)]
+pub(crate) struct Blocks {
+    /// What each says of itself.
+    pub(crate) views: Vec<BlockView>,
+    /// Their data, joined.
+    pub(crate) joined: Vec<u8>,
+}
+
+/// Whether the block's data is all in use.
+fn is_full(view: BlockView) -> bool
+    ensures { result ≡ is_full view }
+{
+    u64::from(view.length) == BLOCK_SIZE
+}
+
+/// Up to which offset the log device may be read for the blocks from this one on, of which so many are left: they stand
+/// side by side up to the log's end.
+fn readable_end(shape: &Shape, at: u64, left: u32) -> u64
+    requires limits { IsWithinLimits shape.now }
+    requires at { at % 512 ≡ 0 }
+    requires within { at + BLOCK_SIZE ≤ log_device_length shape.now }
+    requires some { 1 ≤ left }
+    requires few { left ≤ shape.now.log_blocks }
+    ensures sectors { result % 512 ≡ 0 }
+    ensures some { at < result }
+    ensures within { result ≤ log_device_length shape.now }
+{
+    let log_end = HEADER_BYTES + BLOCK_SIZE * u64::from(shape.log_blocks);
+    (at + BLOCK_SIZE * u64::from(left)).min(log_end)
+}
+
+/// Reads the blocks from the checkpoint's on, while they fit, up to and including the first that isn't full; at most as
+/// many as the log has.
+pub(crate) fn read_blocks<L: Sectors>(
+    alloc: Global,
+    log: &mut L,
+    shape: &Shape,
+    ckpt: u64,
+) -> Result<Blocks, DevError>
+    requires limits { IsWithinLimits shape.now }
+    requires long { log_device_length shape.now ≤ (L.seen log.old).size }
+    requires aligned { ckpt % 512 ≡ 0 }
+    requires started { 8192 ≤ ckpt }
+    requires small { ckpt < 2 ^ 60 }
+    ensures blocks { IfOk result (λ blocks. OnContent (L.seen log.old).tells (AreBlocksOf shape.now ckpt blocks.views.items blocks.joined.items)) }
+    ensures few { IfOk result (λ blocks. AreFew shape.now blocks.views.items blocks.joined.items) }
+    ensures unchanged { IsUnchanged (L.seen log.old) (L.seen log.new) }
+    ensures failed { IsErrOf result DevError.Failed → HasRisen (L.seen log.old).faults (L.seen log.new).faults }
+{
+    let mut views = Vec::new(alloc);
+    let mut joined = Vec::new(alloc);
+    let mut piece = Piece {
+        from: 0,
+        bytes: Vec::new(alloc),
+    };
+    for i in 0..shape.log_blocks {
+        let lsn = ckpt + BLOCK_SIZE * u64::from(i);
+        let at = offset_of(lsn, shape.log_blocks);
+        let end = readable_end(shape, at, shape.log_blocks - i);
+        piece = piece.with_sector(alloc, log, at, end)?;
+        let block = piece.sector(at);
+        let Some(view) = taken(block, lsn) else {
+            return Ok(Blocks { views, joined });
+        };
+        views.push(view)?;
+        joined.extend_from_slice(block_data(view, block))?;
+        if !is_full(view) {
+            return Ok(Blocks { views, joined });
+        }
+    }
+    Ok(Blocks { views, joined })
+}
+
+/// The block that the scan takes at the lsn off its 512 bytes; none at the lsn limit or above.
+fn taken(block: &[u8; 512], lsn: u64) -> Option<BlockView>
+    ensures view { result ≡ (if nat_lt lsn LSN_LIMIT then read_block lsn block.now else None) }
+    ensures length { IfSome result (λ view. (12 ≤ view.length) × (view.length ≤ BLOCK_SIZE)) }
+{
+    if lsn < LSN_LIMIT {
+        read(block, lsn)
+    } else {
+        None
+    }
+}
+
+/// Where the groups start that are read: at the first offset that isn't 0, in the first block that has one. The first
+/// of the blocks is the checkpoint's.
+pub(crate) fn groups_start(ckpt: u64, views: &[BlockView]) -> Option<u64>
+    requires small { ckpt < 2 ^ 60 }
+    requires few { length views.now ≤ 1048576 }
+    ensures start { result ≡ groups_start ckpt views.now }
+    ensures small { IfSome result (λ start. start < 2 ^ 60 + 2 ^ 33) }
+{
+    let mut lsn = ckpt;
+    for view in views {
+        if view.first != 0 {
+            return Some(lsn + u64::from(view.first));
+        }
+        lsn += BLOCK_SIZE;
+    }
+    None
+}

@@ -1,0 +1,20 @@
+//! Recovery: what is read off the two devices of a store, also after a crash. The header names the sizes, the newest
+//! checkpoint the place from which the log is scanned, and the scanned groups are applied to the pages as they are kept.
+#![tactic(auto)]
+
+mod blocks;
+mod errors;
+mod fault;
+mod groups;
+mod pages;
+mod piece;
+mod recovered;
+mod recovery;
+mod scan;
+mod start;
+#[cfg(test)]
+mod tests;
+
+pub use fault::RecFault;
+pub use recovered::Recovered;
+pub use recovery::recover;

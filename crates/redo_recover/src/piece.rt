@@ -1,0 +1,118 @@
+// Stretches of a device, read in pieces.
+ghost use Rattle.std.specs.Prelude.{◌≡◌, ◌≤◌, ◌<◌, ◌+◌, ◌-◌, ◌%◌, length, take, IfOk, IsErrOf, IsTrue, ◌↔◌, ◌^◌};
+ghost use Rattle.model_base.specs.Count.{HasRisen};
+ghost use Rattle.model_log.specs.Device.{sector_at};
+ghost use Rattle.redo_disk.specs.Seen.{IsRange, part};
+ghost use Rattle.redo_disk.specs.declared.error.DevError.{DevError};
+ghost use Rattle.redo_recover.specs.Devices.{IsUnchanged, OnContent};
+ghost use Rattle.redo_recover.specs.Piece.{IsPieceOf, HasSector};
+
+use redo_disk::{DevError, Sectors};
+use std::alloc::Global;
+
+/// How many bytes one read of a device takes at the most.
+pub(crate) const PIECE: usize = 65_536;
+
+/// A stretch of a device that was read.
+#[derive(Debug, Drop)]
+pub(crate) struct Piece {
+    /// The offset of its first byte on the device.
+    pub(crate) from: u64,
+    pub(crate) bytes: Vec<u8>,
+}
+
+impl Piece {
+    /// Whether it has the sector at this offset of the device.
+    fn has_sector(&self, at: u64) -> bool
+        requires { at < 2 ^ 62 }
+        ensures { IsTrue result ↔ HasSector self.now at }
+    {
+        self.from <= at && at - self.from + 512 <= self.bytes.len() as u64
+    }
+
+    /// The sector at this offset of the device.
+    pub(crate) fn sector(&self, at: u64) -> &[u8; 512]
+        requires { HasSector self.now at }
+        ensures { result.now ≡ sector_at (at - self.now.from) self.now.bytes.items }
+    {
+        sector_at(self.bytes.as_slice(), (at - self.from) as usize)
+    }
+
+    /// The piece, if it has the sector at this offset, else the one that is read from there on, up to `end` at the most.
+    pub(crate) fn with_sector<D: Sectors>(
+        self,
+        alloc: Global,
+        device: &mut D,
+        at: u64,
+        end: u64,
+    ) -> Result<Piece, DevError>
+        requires at { at % 512 ≡ 0 }
+        requires end { end % 512 ≡ 0 }
+        requires some { at < end }
+        requires within { end ≤ (D.seen device.old).size }
+        requires small { at < 2 ^ 62 }
+        ensures has { IfOk result (λ piece. HasSector piece at) }
+        ensures content { IfOk result (λ piece. OnContent (D.seen device.old).tells (IsPieceOf self)
+            → OnContent (D.seen device.old).tells (IsPieceOf piece)) }
+        ensures unchanged { IsUnchanged (D.seen device.old) (D.seen device.new) }
+        ensures failed { IsErrOf result DevError.Failed → HasRisen (D.seen device.old).faults (D.seen device.new).faults }
+    {
+        if self.has_sector(at) {
+            return Ok(self);
+        }
+        let count = (end - at).min(PIECE as u64) as usize;
+        let bytes = read_part(alloc, device, at, count)?;
+        Ok(Piece { from: at, bytes })
+    }
+}
+
+/// The sector at this offset of what was read.
+pub(crate) fn sector_at(bytes: &[u8], at: usize) -> &[u8; 512]
+    requires { at + 512 ≤ length bytes.now }
+    ensures { result.now ≡ sector_at at bytes.now }
+{
+    match bytes[at..].split_first_chunk::<512>() {
+        Some((sector, _)) => sector,
+        None => unreachable!(),
+    }
+}
+
+/// Reads so many bytes from an offset on, by one call of the device.
+pub(crate) fn read_part<D: Sectors>(
+    alloc: Global,
+    device: &mut D,
+    at: u64,
+    count: usize,
+) -> Result<Vec<u8>, DevError>
+    requires { IsRange (D.seen device.old).size at count }
+    ensures content { IfOk result (λ bytes. OnContent (D.seen device.old).tells (λ content. bytes.items ≡ part content at count)) }
+    ensures count { IfOk result (λ bytes. length bytes.items ≡ count) }
+    ensures unchanged { IsUnchanged (D.seen device.old) (D.seen device.new) }
+    ensures failed { IsErrOf result DevError.Failed → HasRisen (D.seen device.old).faults (D.seen device.new).faults }
+{
+    let mut bytes = vec![in alloc; 0u8; count]?;
+    device.read(at, bytes.as_mut_slice())?;
+    Ok(bytes)
+}
+
+/// Reads so many bytes off the front of a device.
+pub(crate) fn read_front<D: Sectors>(
+    alloc: Global,
+    device: &mut D,
+    len: u64,
+) -> Result<Vec<u8>, DevError>
+    requires whole { len % 512 ≡ 0 }
+    requires within { len ≤ (D.seen device.old).size }
+    ensures content { IfOk result (λ bytes. OnContent (D.seen device.old).tells (λ content. bytes.items ≡ take len content)) }
+    ensures count { IfOk result (λ bytes. length bytes.items ≡ len) }
+    ensures unchanged { IsUnchanged (D.seen device.old) (D.seen device.new) }
+    ensures failed { IsErrOf result DevError.Failed → HasRisen (D.seen device.old).faults (D.seen device.new).faults }
+{
+    let mut bytes = Vec::with_capacity(alloc, len as usize)?;
+    'pieces: while (bytes.len() as u64) < len {
+        let count = (len - bytes.len() as u64).min(PIECE as u64) as usize;
+        let piece = read_part(alloc, device, bytes.len() as u64, count)?;
+        bytes.extend_from_slice(piece.as_slice())?;
+    }
+    Ok(bytes)
+}

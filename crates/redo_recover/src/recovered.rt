@@ -1,0 +1,24 @@
+// What is recovered of a store.
+use model_base::Shape;
+use model_log::BlockView;
+use model_record::Whole;
+use redo_apply::Pages;
+
+/// What is read off the two devices of a store.
+#[derive(Debug, Drop)]
+pub struct Recovered {
+    /// The sizes of the store.
+    pub shape: Shape,
+    /// The number of the newest checkpoint.
+    pub number: u64,
+    /// Its lsn.
+    pub ckpt: u64,
+    /// The log blocks that were scanned from there on.
+    pub views: Vec<BlockView>,
+    /// The groups that were scanned, with their places.
+    pub groups: Vec<Whole>,
+    /// The lsn at which the log ends.
+    pub end: u64,
+    /// The pages, with the scanned groups applied.
+    pub pages: Pages,
+}

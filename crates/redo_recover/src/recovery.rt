@@ -1,0 +1,52 @@
+// Recovery.
+ghost use Rattle.std.specs.Prelude.{◌≡◌, IfOk, IfErr, IsErrOf};
+ghost use Rattle.model_base.specs.Count.{HasRisen};
+ghost use Rattle.model_store.specs.Reading.{IsReading};
+ghost use Rattle.redo_recover.specs.Devices.{HasCauseIn, IsUnchanged, OnContents};
+ghost use Rattle.redo_recover.specs.Reading.{IsOfDevices, reading_of};
+
+use crate::pages::read_pages;
+use crate::scan::{Scanned, scan_log};
+use crate::start::{Start, read_start};
+use crate::{RecFault, Recovered};
+use redo_disk::Sectors;
+use std::alloc::Global;
+
+/// Reads a store off its two devices: the file header, the newest checkpoint, the log's blocks and groups from there on,
+/// and the pages as they are kept, to which each group is applied that starts at or above a page's lsn.
+///
+/// It writes nothing, and reads nothing twice: the log's blocks in pieces of at most 65,536 bytes, and none behind the
+/// piece in which the scan ends. It holds the data of the scanned blocks, and then the bytes of the data device. A device's
+/// failure ends it at once.
+pub fn recover<L: Sectors, D: Sectors>(
+    alloc: Global,
+    log: &mut L,
+    data_device: &mut D,
+) -> Result<Recovered, RecFault>
+    ensures read { IfOk result (λ recovered. OnContents (L.seen log.old).tells (D.seen data_device.old).tells
+        (λ log_bytes data_bytes. IsReading log_bytes data_bytes (reading_of recovered))) }
+    ensures of_devices { IfOk result (IsOfDevices (L.seen log.old).size (D.seen data_device.old).size) }
+    ensures cause { IfErr result (HasCauseIn (L.seen log.old).tells (D.seen data_device.old).tells) }
+    ensures log { IsUnchanged (L.seen log.old) (L.seen log.new) }
+    ensures data_device { IsUnchanged (D.seen data_device.old) (D.seen data_device.new) }
+    ensures log_failed { IsErrOf result RecFault.LogDev → HasRisen (L.seen log.old).faults (L.seen log.new).faults }
+    ensures data_failed { IsErrOf result RecFault.DataDev
+        → HasRisen (D.seen data_device.old).faults (D.seen data_device.new).faults }
+{
+    let Start {
+        shape,
+        number,
+        ckpt,
+    } = read_start(alloc, log, data_device)?;
+    let Scanned { views, groups, end } = scan_log(alloc, log, &shape, ckpt)?;
+    let pages = read_pages(alloc, data_device, &shape, groups.as_slice(), end)?;
+    Ok(Recovered {
+        shape,
+        number,
+        ckpt,
+        views,
+        groups,
+        end,
+        pages,
+    })
+}

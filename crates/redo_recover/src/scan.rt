@@ -1,0 +1,56 @@
+// The scan of a log from a checkpoint on.
+ghost use Rattle.std.specs.Prelude.{◌≡◌, ◌≤◌, ◌<◌, ◌^◌, ◌%◌, All, IfOk, IfErr, IsErrOf};
+ghost use Rattle.model_base.specs.Count.{HasRisen};
+ghost use Rattle.model_base.specs.Limits.{IsWithinLimits};
+ghost use Rattle.model_log.specs.Device.{log_device_length};
+ghost use Rattle.model_record.specs.Fits.{GroupFits};
+ghost use Rattle.model_store.specs.Scan.{IsScan};
+ghost use Rattle.redo_recover.specs.Devices.{IsUnchanged, OnContent};
+ghost use Rattle.redo_recover.specs.Groups.{IsScanFault};
+
+use crate::RecFault;
+use crate::blocks::{Blocks, read_blocks};
+use crate::errors::log_fault;
+use crate::groups::parse;
+use model_base::Shape;
+use model_log::BlockView;
+use model_record::Whole;
+use redo_disk::Sectors;
+use std::alloc::Global;
+
+/// What is scanned of a log: the blocks, the groups in them, and the lsn at which the log ends.
+#[derive(Debug, Drop)]
+pub(crate) struct Scanned {
+    pub(crate) views: Vec<BlockView>,
+    pub(crate) groups: Vec<Whole>,
+    pub(crate) end: u64,
+}
+
+/// Scans a log from the checkpoint at this lsn on, up to its end.
+pub(crate) fn scan_log<L: Sectors>(
+    alloc: Global,
+    log: &mut L,
+    shape: &Shape,
+    ckpt: u64,
+) -> Result<Scanned, RecFault>
+    requires limits { IsWithinLimits shape.now }
+    requires long { log_device_length shape.now ≤ (L.seen log.old).size }
+    requires aligned { ckpt % 512 ≡ 0 }
+    requires started { 8192 ≤ ckpt }
+    requires small { ckpt < 2 ^ 60 }
+    ensures scan { IfOk result (λ scanned. OnContent (L.seen log.old).tells
+        (λ content. IsScan shape.now content ckpt scanned.views.items scanned.groups.items scanned.end)) }
+    ensures fit { IfOk result (λ scanned. All (λ whole. GroupFits shape.now whole.group) scanned.groups.items) }
+    ensures fault { IfErr result (λ fault. OnContent (L.seen log.old).tells (λ content. IsScanFault shape.now ckpt content fault)) }
+    ensures unchanged { IsUnchanged (L.seen log.old) (L.seen log.new) }
+    ensures failed { IsErrOf result RecFault.LogDev → HasRisen (L.seen log.old).faults (L.seen log.new).faults }
+    ensures apart { IsErrOf result RecFault.DataDev → ⊥ }
+{
+    let blocks = match read_blocks(alloc, log, shape, ckpt) {
+        Ok(blocks) => blocks,
+        Err(error) => return Err(log_fault(error)),
+    };
+    let (groups, end) = parse(alloc, &blocks, shape, ckpt)?;
+    let Blocks { views, .. } = blocks;
+    Ok(Scanned { views, groups, end })
+}

@@ -1,0 +1,123 @@
+// Where recovery starts: the sizes of the store and its newest checkpoint, off the header of the log device.
+ghost use Rattle.std.specs.Prelude.{◌≡◌, ◌≤◌, ◌<◌, ◌*◌, length, None, Some, IfOk, IfErr, IfSome, IsErrOf, MatchOption};
+ghost use Rattle.model_base.specs.Count.{HasRisen};
+ghost use Rattle.model_base.specs.Limits.{IsWithinLimits};
+ghost use Rattle.model_log.specs.Device.{header_block, newer, newest_checkpoint, log_device_length};
+ghost use Rattle.model_log.specs.Head.{read_head};
+ghost use Rattle.model_page.specs.Copies.{data_device_length};
+ghost use Rattle.redo_recover.specs.Devices.{HasCauseIn, IsUnchanged, OnContents};
+ghost use Rattle.redo_recover.specs.Start.{IsHeadFault, IsLengthFault, IsStart, IsUsable};
+
+use crate::RecFault;
+use crate::errors::log_fault;
+use crate::piece::{read_part, sector_at};
+use model_base::{BLOCK_SIZE, Shape};
+use model_log::HEADER_BYTES;
+use redo_disk::Sectors;
+use redo_header::{Head, read_ckpt, read_head};
+use std::alloc::Global;
+
+/// The sizes of a store, and its newest checkpoint.
+#[derive(Clone, Copy, Debug, PartialEq, Eq)]
+pub(crate) struct Start {
+    pub(crate) shape: Shape,
+    /// The checkpoint's number.
+    pub(crate) number: u64,
+    /// The lsn from which the log is scanned.
+    pub(crate) ckpt: u64,
+}
+
+/// The shape that the header names.
+fn shape_in(header: &[u8]) -> Result<Shape, RecFault>
+    requires { length header.now ≡ HEADER_BYTES }
+    ensures head { IfOk result (λ shape. read_head (header_block 0 header.now) ≡ Head.Good shape) }
+    ensures limits { IfOk result IsWithinLimits }
+    ensures fault { IfErr result (IsHeadFault header.now) }
+{
+    match read_head(sector_at(header, 0)) {
+        Head::Good(shape) => Ok(shape),
+        Head::OtherFormat(format) => Err(RecFault::BadFormat(format)),
+        Head::Unformatted => Err(RecFault::NotFormatted),
+    }
+}
+
+/// Whether both devices are as long as the shape asks.
+fn check_lengths(shape: &Shape, log_len: u64, data_len: u64) -> Result<(), RecFault>
+    requires { IsWithinLimits shape.now }
+    ensures fit { IfOk result (λ _. (log_device_length shape.now ≤ log_len) × (data_device_length shape.now ≤ data_len)) }
+    ensures fault { IfErr result (IsLengthFault shape.now log_len data_len) }
+{
+    let log_asked = HEADER_BYTES + BLOCK_SIZE * u64::from(shape.log_blocks);
+    if log_len < log_asked {
+        return Err(RecFault::SmallLog(log_asked));
+    }
+    let data_asked = u64::from(shape.slots + shape.pages) * u64::from(shape.page_size);
+    if data_len < data_asked {
+        return Err(RecFault::SmallData(data_asked));
+    }
+    Ok(())
+}
+
+/// Of two checkpoints the one with the greater number.
+fn newer(first: Option<(u64, u64)>, second: Option<(u64, u64)>) -> Option<(u64, u64)>
+    ensures { result ≡ newer first second }
+{
+    match (first, second) {
+        (None, second) => second,
+        (Some(first), None) => Some(first),
+        (Some(first), Some(second)) => {
+            if first.0 < second.0 {
+                Some(second)
+            } else {
+                Some(first)
+            }
+        }
+    }
+}
+
+/// The number and the lsn of the newest checkpoint that passes.
+fn newest_in(header: &[u8], shape: &Shape) -> Option<(u64, u64)>
+    requires limits { IsWithinLimits shape.now }
+    requires whole { length header.now ≡ HEADER_BYTES }
+    ensures { result ≡ newest_checkpoint shape.now header.now }
+{
+    let size = BLOCK_SIZE as usize;
+    newer(
+        read_ckpt(sector_at(header, size), 1, shape),
+        read_ckpt(sector_at(header, 3 * size), 3, shape),
+    )
+}
+
+/// Reads the header of the log device, and judges both devices by it.
+pub(crate) fn read_start<L: Sectors, D: Sectors>(
+    alloc: Global,
+    log: &mut L,
+    device: &D,
+) -> Result<Start, RecFault>
+    ensures start { IfOk result (λ start. OnContents (L.seen log.old).tells (D.seen device.now).tells
+        (λ log_bytes data_bytes. IsStart log_bytes data_bytes start)) }
+    ensures usable { IfOk result (IsUsable (L.seen log.old).size (D.seen device.now).size) }
+    ensures cause { IfErr result (HasCauseIn (L.seen log.old).tells (D.seen device.now).tells) }
+    ensures unchanged { IsUnchanged (L.seen log.old) (L.seen log.new) }
+    ensures failed { IsErrOf result RecFault.LogDev → HasRisen (L.seen log.old).faults (L.seen log.new).faults }
+    ensures apart { IsErrOf result RecFault.DataDev → ⊥ }
+{
+    let log_len = log.len();
+    if log_len < HEADER_BYTES {
+        return Err(RecFault::SmallLog(HEADER_BYTES));
+    }
+    let header = match read_part(alloc, log, 0, HEADER_BYTES as usize) {
+        Ok(header) => header,
+        Err(error) => return Err(log_fault(error)),
+    };
+    let shape = shape_in(&header)?;
+    check_lengths(&shape, log_len, device.len())?;
+    match newest_in(&header, &shape) {
+        Some((number, ckpt)) => Ok(Start {
+            shape,
+            number,
+            ckpt,
+        }),
+        None => Err(RecFault::NoCheckpoint),
+    }
+}
