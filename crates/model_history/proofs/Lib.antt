@@ -1,6 +1,3 @@
 pub mod Filters
-pub mod Gaps
-pub mod Histories
-pub mod Indices
-pub mod Places
-pub mod WholeLemmas
+pub mod Groups
+pub mod Growing

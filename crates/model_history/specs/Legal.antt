@@ -1,12 +1,13 @@
 -- Legal histories. A history lists the groups that the users of a script reserved, in lsn order. It is legal where
 -- they follow one another in the log without a gap, each user's groups are those of its lines, in order and once, and
 -- each state is what the marks say.
-use Rattle.std.specs.Prelude.{ℕ, suc, ◌≡◌, ◌≢◌, ◌≤◌, ◌<◌, ◌+◌, ◌==◌, ◌⊎◌, nat_le, List, [], ◌∷◌, length, filter, slice_get, Option, Some, None}
+use Rattle.std.specs.Prelude.{ℕ, suc, ◌≡◌, ◌≢◌, ◌≤◌, ◌<◌, ◌+◌, ◌==◌, nat_le, List, [], ◌∷◌, length, filter, map, slice_get, Option, Some, None}
 use Rattle.std.specs.List.{count_by}
 use Rattle.model_record.specs.Group.{group_length}
 use Rattle.model_record.specs.declared.group.Whole.{Whole}
 use Rattle.model_record.specs.declared.rec.Rec.{Rec}
 use Rattle.model_log.specs.Lsn.{lsn_of, sn_of}
+use Rattle.model_log.specs.Run.{Span, IsTiled}
 use Rattle.model_script.specs.LineGroup.{group_of}
 use Rattle.model_script.specs.declared.script.ScriptLine.{ScriptLine}
 use Rattle.model_history.specs.declared.entry.Entry.{Entry}
@@ -22,20 +23,12 @@ lines_of_user user script = filter (λ line. line.user == user) script
 abbrev pub entries_of_user : ℕ → List Entry → List Entry
 entries_of_user user entries = filter (λ entry. entry.user == user) entries
 
--- the entries follow one another from s on, without a gap
-abbrev pub IsGapless : ℕ → List Entry → Type 0
-IsGapless s [] = Unit {0}
-IsGapless s (entry ∷ entries) = (entry.start ≡ s) × IsGapless entry.end entries
+-- where an entry stands in the log, and each of some
+abbrev pub entry_span : Entry → Span
+entry_span entry = record { start = entry.start; end = entry.end }
 
--- where the last of the entries ends, or s if there is none
-abbrev pub history_end : ℕ → List Entry → ℕ
-history_end s [] = s
-history_end s (entry ∷ entries) = history_end entry.end entries
-
--- s itself, or the end of an entry
-abbrev pub IsMark : ℕ → List Entry → ℕ → Type 0
-IsMark s [] mark = mark ≡ s
-IsMark s (entry ∷ entries) mark = (mark ≡ s) ⊎ IsMark entry.end entries mark
+abbrev pub entry_spans : List Entry → List Span
+entry_spans entries = map entry_span entries
 
 -- the entry stands for its user's k-th line: it ends so many bytes of groups behind its start as the line's group has
 pub record IsOfLine (script : List ScriptLine) (space : ℕ) (entry : Entry) (line : ScriptLine) : Type 0 where
@@ -66,7 +59,8 @@ pub record IsLegalEntry (script : List ScriptLine) (space : ℕ) (marks : Marks)
 
 -- A legal history of a script whose run starts at s and ends with these marks.
 pub record IsLegal (script : List ScriptLine) (space s : ℕ) (marks : Marks) (entries : List Entry) : Type 0 where
-  pub gapless : IsGapless s entries
+  -- each entry starts where the one before ends, and the first at s
+  pub tiled : IsTiled s (entry_spans entries)
   pub each : (i : ℕ) (entry : Entry) → slice_get entries i ≡ Some entry → IsLegalEntry script space marks entry
   -- a user's entries are of its lines 0, 1, 2, .. in order
   pub in_order : (user i : ℕ) (entry : Entry) → slice_get (entries_of_user user entries) i ≡ Some entry → entry.k ≡ i

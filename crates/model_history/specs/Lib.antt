@@ -1,2 +1,2 @@
+pub mod Answered
 pub mod Legal
-pub mod Step

@@ -1,17 +1,12 @@
 //! What a run's history is, and when it is a legal one: which groups were reserved, where they stand in the log, and
-//! how each commit was answered. Beside the definitions stand the plain slow programs that compute them.
+//! how each commit was answered; and the laws by which a history grows and its groups are read.
 #![tactic(auto)]
 
 mod entry;
-mod groups;
-mod legal;
-mod lines;
-mod place;
-mod states;
+mod laws;
 
 pub use entry::{Entry, History, Marks, State};
-pub use groups::wholes;
-pub use legal::is_legal;
-
-#[cfg(test)]
-mod tests;
+pub use laws::{
+    answered_state_is_legal, first_groups_are_front, history_is_run, legal_history_grows,
+    mark_is_boundary, reached_entry_counts,
+};

@@ -1,75 +1,68 @@
--- What the promise refuses and what it admits.
-use Rattle.std.proofs.Common.{◌≡◌, ℕ, ◌≤◌, ◌<◌, List, [], ◌∷◌, Option, Some, Result, Ok, sym, ap, ◌∙◌, refl, subst, arith, inl}
+-- What the promise refuses.
+use Rattle.std.proofs.Common.{◌≡◌, ℕ, ◌+◌, ◌<◌, List, [], ◌∷◌, Option, Some, None, ap, ◌∙◌, subst, arith, ⊎_elim}
 use Rattle.std.specs.Prelude.{IfSome, slice_get, take}
+use Rattle.std.proofs.lemmas.Bool.{cases_lt}
 use Rattle.std.proofs.lemmas.Bool.Decides.{nat_tests}
-use Rattle.model_device.specs.Disk.{IsImage, settled}
+use Rattle.model_base.specs.Count.{HasRisen}
 use Rattle.model_store.specs.Apply.{folded}
-use Rattle.model_store.specs.Reading.{Reading, Reads}
-use Rattle.model_script.specs.declared.script.ScriptLine.{ScriptLine}
-use Rattle.model_history.specs.Legal.{IsLegal, IsGapless, count_up_to, wholes_of}
+use Rattle.model_log.specs.Run.{IsTiled}
+use Rattle.model_history.specs.Legal.{count_up_to, entry_spans, wholes_of}
 use Rattle.model_history.specs.declared.entry.Entry.{Entry}
-use Rattle.model_theorem.specs.Values.{Ran, Crash, entries_of}
-use Rattle.model_theorem.specs.Crash.{CrashSafe, first_count}
-use Rattle.model_theorem.specs.Examples.{LacksFlushedGroup, HasGap, ChangesPages, empty_call}
+use Rattle.model_theorem.specs.Values.{Crash, Opened, Ran, Account, Device, entries_of}
+use Rattle.model_theorem.specs.Run.{IsRun, first_count}
+use Rattle.model_theorem.specs.Crash.{CrashSafe, HasPassedAll, IsStoppedAsAsked}
+use Rattle.model_theorem.specs.Examples.{LacksFlushedGroup, HasGap, StartsElsewhere, ChangesPages, LosesForNothing, StopsOtherwise, StopsForNothing}
 
-none_up_to : (end : ℕ) (entry : Entry) → end < entry.end → count_up_to end (entry ∷ []) ≡ 0
-none_up_to end entry below = grind (arith, nat_tests)
+none-up-to : (end : ℕ) (entry : Entry) → end < entry.end → count_up_to end (entry ∷ []) ≡ 0
+none-up-to end entry below = grind (arith, nat_tests)
 
-pub refuses_lack : (grammar : List ℕ → Result (List ScriptLine) ℕ) (crash : Crash) → CrashSafe grammar crash → LacksFlushedGroup crash → ⊥
-refuses_lack grammar crash safe lack =
-    let entries : entries_of crash.run ≡ lack.entry ∷ [] = ap entries_of lack.ran ∙ lack.only in
-    let reached = safe.reaching_flushed 0 lack.entry (ap (λ (es : List Entry). slice_get es 0) entries) lack.flushed in
-    let none : first_count crash ≡ 0 = ap (count_up_to crash.reading.end) entries ∙ none_up_to crash.reading.end lack.entry lack.lacks in
+-- the run of an account that has one
+run-of : (crash : Crash) (opened : Opened) (account : Account) (run : Ran) → CrashSafe crash opened account → account.run ≡ Some run → IsRun account.script opened run
+run-of crash opened account run safe ran = subst (λ (one : Option Ran). IfSome one (IsRun account.script opened)) ran safe.in_lsn_order
+
+pub refuses-lack : (crash : Crash) (opened : Opened) (account : Account) → CrashSafe crash opened account → LacksFlushedGroup account → ⊥
+refuses-lack crash opened account safe lack =
+    let entries : entries_of account.run ≡ lack.entry ∷ [] = ap entries_of lack.ran ∙ lack.only in
+    let reached = safe.first_groups_whole.reaching_flushed 0 lack.entry (ap (λ (es : List Entry). slice_get es 0) entries) lack.flushed in
+    let none : first_count account.run account.reading.end ≡ 0 =
+    ap (count_up_to account.reading.end) entries ∙ none-up-to account.reading.end lack.entry lack.lacks in
     absurd (omega arith)
 
-pub refuses_gap : (grammar : List ℕ → Result (List ScriptLine) ℕ) (crash : Crash) → CrashSafe grammar crash → HasGap crash → ⊥
-refuses_gap grammar crash safe has =
-    let order = subst (λ (run : Option Ran). IfSome run (λ run. IsLegal crash.script crash.shape.space run.start run.marks run.entries)) has.ran safe.in_lsn_order in
-    let gapless = subst (λ (entries : List Entry). IsGapless has.run.start entries) has.both order.gapless in
-    has.gap gapless.1.0
+pub refuses-gap : (crash : Crash) (opened : Opened) (account : Account) → CrashSafe crash opened account → HasGap account → ⊥
+refuses-gap crash opened account safe has =
+    let run = run-of crash opened account has.run safe has.ran in
+    let tiled = subst (λ (entries : List Entry). IsTiled has.run.start (entry_spans entries)) has.both run.legal.tiled in
+    has.gap tiled.1.0
 
-pub refuses_change : (grammar : List ℕ → Result (List ScriptLine) ℕ) (crash : Crash) → CrashSafe grammar crash → ChangesPages crash → ⊥
-refuses_change grammar crash safe changes =
-    let Same : Option Ran → Type 0 = λ run. crash.reading.pages
-    ≡ folded crash.opened (take (count_up_to crash.reading.end (entries_of run)) (wholes_of crash.script crash.shape.space (entries_of run))) in
-    changes.changed (subst Same changes.stopped safe.first_groups_whole)
+pub refuses-start : (crash : Crash) (opened : Opened) (account : Account) → CrashSafe crash opened account → StartsElsewhere opened account → ⊥
+refuses-start crash opened account safe starts = starts.elsewhere (run-of crash opened account starts.run safe starts.ran).start
 
--- a settled device has what it holds as an image
-settled_image : (bytes : List ℕ) → IsImage (settled bytes) bytes
-settled_image bytes = record { same_length = refl; each = λ k below. inl refl }
+pub refuses-change : (crash : Crash) (opened : Opened) (account : Account) → CrashSafe crash opened account → ChangesPages opened account → ⊥
+refuses-change crash opened account safe changes =
+    let Same : Option Ran → Type 0 = λ run. account.reading.pages
+    ≡ folded opened.pages (take (first_count run account.reading.end) (wholes_of account.script opened.shape.space (entries_of run))) in
+    changes.changed (subst Same changes.stopped safe.first_groups_whole.first_groups_whole)
 
-newest_below : (found : Option (ℕ × ℕ)) (number ckpt : ℕ) → found ≡ Some (number, ckpt) → IfSome found (λ newest. ckpt ≤ newest.1)
-newest_below found number ckpt is = subst (λ (found : Option (ℕ × ℕ)). IfSome found (λ newest. ckpt ≤ newest.1)) (sym is) (omega arith)
+pub refuses-loss : (crash : Crash) (opened : Opened) (account : Account) → CrashSafe crash opened account → LosesForNothing crash account → ⊥
+refuses-loss crash opened account safe loses =
+    let failed = safe.lost_only_by_failure.lost loses.i loses.entry loses.at loses.lost in
+    let log_well = loses.log_well in
+    let data_well = loses.data_well in
+    absurd (omega arith)
 
-pub admits_empty : (grammar : List ℕ → Result (List ScriptLine) ℕ) (log store : List ℕ) (reading : Reading)
-    → grammar [] ≡ Ok [] → Reads log store reading → CrashSafe grammar (empty_call log store reading)
-admits_empty grammar log store reading is_script reads = record {
-  every_script = record { all_read = refl; is_script = is_script; fits = tt };
-  prints = record {
-    text = refl;
-    left = record {
-      ascending = λ i first second is next. cc;
-      some = λ i pair is. cc;
-      counts = λ i pair is. cc;
-      no_other = λ user count more has. absurd (omega arith);
-    };
-    marks = record {
-      wtail = refl;
-      write = refl;
-      flushed = refl;
-      written_below = omega arith;
-      flushed_below = omega arith;
-      checkpoint = newest_below _ reading.number reading.ckpt reads.scan.checkpoint;
-    };
-  };
-  in_lsn_order = record { gapless = tt; each = λ i entry is. cc; in_order = λ user i entry is. cc; lost_last = λ user i entry is lost. cc };
-  read_from_devices = record {
-    log = record { pick_is = refl; possible = settled_image log; one_image = refl };
-    store = record { pick_is = refl; possible = settled_image store; one_image = refl };
-    shape = refl;
-    reads = reads;
-  };
-  first_groups_whole = refl;
-  reaching_flushed = λ i entry is flushed. cc;
-  lost_only_by_failure = record { lost = λ i entry is lost. cc; left = λ some. absurd (some refl); stopped = λ none. cc };
-}
+pub refuses-stop : (crash : Crash) (opened : Opened) (account : Account) → CrashSafe crash opened account → StopsOtherwise crash → ⊥
+refuses-stop crash opened account safe stops =
+    ⊎_elim (λ log. log safe.any_stops.log_device.limit) (λ other. other safe.any_stops.data_device.limit) stops
+
+-- a device that wasn't to be stopped and hasn't failed has failed no call
+no-failure : (asked : Option ℕ) (device : Device) → IsStoppedAsAsked asked device → asked ≡ None → device.faults_at_entry < 1 → device.faults ≡ 0 → 0 < device.stop.failures → ⊥
+no-failure asked device is none fresh well failed =
+    ⊎_elim (λ (risen : HasRisen device.faults_at_entry device.faults). absurd (⊎_elim (λ more. omega arith) (λ last. omega arith) risen))
+    (λ passed. subst (λ (one : Option ℕ). HasPassedAll one device.stop.passed) none passed) (is.cause failed)
+
+pub refuses-opening : (crash : Crash) (opened : Opened) (account : Account) → CrashSafe crash opened account → StopsForNothing crash account → ⊥
+refuses-opening crash opened account safe stops =
+    let failed : 0 < crash.log_device.stop.failures + crash.data_device.stop.failures = safe.lost_only_by_failure.stopped stops.stopped in
+    ⊎_elim (no-failure crash.options.stop_log crash.log_device safe.any_stops.log_device stops.log_unasked stops.log_can_count stops.log_well)
+    (λ none. no-failure crash.options.stop_data crash.data_device safe.any_stops.data_device stops.data_unasked stops.data_can_count stops.data_well (omega arith))
+    (cases_lt 0 crash.log_device.stop.failures)

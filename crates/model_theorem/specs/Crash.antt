@@ -2,102 +2,91 @@
 -- groups in lsn order, each user's as its script orders and once, then the pages read from what the devices kept:
 -- those of applying the first n groups whole to the opened pages, n reaching every group printed flushed; a group is
 -- lost only where a device call failed.
-use Rattle.std.specs.Prelude.{ℕ, ◌≡◌, ◌≤◌, ◌<◌, ◌⊎◌, List, [], take, slice_get, Some, None, Result, Ok, IfSome}
+use Rattle.std.specs.Prelude.{ℕ, ◌≡◌, ◌≤◌, ◌<◌, ◌⊎◌, ◌+◌, ◌++◌, [], Option, Some, None, Ok, IfSome}
 use Rattle.std.specs.List.{AllByRecursion}
-use Rattle.model_base.specs.declared.shape.Shape.{Shape}
-use Rattle.model_log.specs.Device.{newest_checkpoint}
+use Rattle.model_base.specs.Count.{HasRisen}
 use Rattle.model_device.specs.Disk.{IsImage, settled}
-use Rattle.model_store.specs.Apply.{folded}
-use Rattle.model_store.specs.Scan.{IsGood}
-use Rattle.model_store.specs.Reading.{Reads}
-use Rattle.model_script.specs.LineGroup.{group_of}
-use Rattle.model_script.specs.declared.script.ScriptLine.{ScriptLine}
-use Rattle.model_history.specs.Legal.{IsLegal, IsMark, IsLeft, wholes_of, count_up_to}
-use Rattle.model_history.specs.declared.entry.Entry.{Entry}
-use Rattle.model_history.specs.declared.entry.State.TheVariants.{Lost, Flushed}
+use Rattle.model_store.specs.Opening.{IsUnused}
+use Rattle.model_store.specs.Reading.{IsReading, HasOldCopies}
+use Rattle.model_script.specs.Grammar.{script_of}
+use Rattle.model_script.specs.Fit.{LineFits}
+use Rattle.model_history.specs.Legal.{IsLeft}
 use Rattle.model_report.specs.Report.{report_text}
-use Rattle.model_theorem.specs.Values.{Ran, Device, Crash, entries_of, start_of, marks_of}
+use Rattle.model_theorem.specs.Run.{IsRun, IsPrefixRead, LosesOnlyByFailure}
+use Rattle.model_theorem.specs.Values.{Device, Crash, Opened, Account, entries_of, start_of, marks_of}
 
--- the line may run on the store: its user has one of the numbers 1 to 16, and its group fits
-pub record LineFits (shape : Shape) (line : ScriptLine) : Type 0 where
-  pub user_from : 1 ≤ line.user
-  pub user_to : line.user ≤ 16
-  pub group : IsGood shape (group_of shape.space line)
+-- Every script: all that the source had left was read, where it tells, and that is a script by the grammar; where it was
+-- run, each of its lines fits the store.
+pub record IsWholeScript (crash : Crash) (opened : Opened) (account : Account) : Type 0 where
+  pub all_read : IfSome crash.source (λ left. (account.text ≡ left) × (crash.source_left ≡ Some []))
+  pub is_script : script_of account.text ≡ Ok account.script
+  pub fits : IfSome account.run (λ run. AllByRecursion (LineFits opened.shape) account.script)
 
--- Every script: all that the source had left was read, and it is a script by the grammar; where it was run, each of
--- its lines fits the store.
-pub record IsWholeScript (grammar : List ℕ → Result (List ScriptLine) ℕ) (crash : Crash) : Type 0 where
-  pub all_read : crash.source_left ≡ []
-  pub is_script : grammar crash.source ≡ Ok crash.script
-  pub fits : IfSome crash.run (λ run. AllByRecursion (LineFits crash.shape) crash.script)
+-- the fuse has passed on as many calls as it was to
+abbrev pub HasPassedAll : Option ℕ → ℕ → Type 0
+HasPassedAll None passed = ⊥
+HasPassedAll (Some limit) passed = limit ≤ passed
 
--- The marks are places between groups, in their order; no flushed mark is above the printed end, and no checkpoint
--- mark above the newest checkpoint on the device.
-pub record MarksHold (crash : Crash) (run : Ran) : Type 0 where
-  pub wtail : IsMark run.start run.entries run.marks.wtail
-  pub write : IsMark run.start run.entries run.marks.write
-  pub flushed : IsMark run.start run.entries run.marks.flushed
-  pub written_below : run.marks.write ≤ run.marks.wtail
-  pub flushed_below : run.marks.flushed ≤ crash.reading.end
-  pub checkpoint : IfSome (newest_checkpoint crash.shape crash.log.left.reads) (λ newest. run.marks.ckpt ≤ newest.1)
+-- The device was stopped as the words ask, and not otherwise: its fuse was armed with their limit before any call
+-- failed. So a call fails only where the device that was handed in has failed, or where the fuse has passed on as many
+-- calls as the words ask; without a stop only the first.
+pub record IsStoppedAsAsked (asked : Option ℕ) (device : Device) : Type 0 where
+  pub limit : device.stop.limit ≡ asked
+  -- it has passed on no more calls than that
+  pub passed_at_most : IfSome asked (λ limit. device.stop.passed ≤ limit)
+  pub armed_first : device.stop.failures_before ≡ 0
+  pub cause : 0 < device.stop.failures
+      → HasRisen device.faults_at_entry device.faults ⊎ HasPassedAll asked device.stop.passed
 
--- Prints: the text is the report of one history, of what is left of the script, of the marks, and of what was read.
-pub record IsPrinted (crash : Crash) : Type 0 where
-  pub text : crash.printed ≡ report_text (start_of crash.run) (entries_of crash.run) crash.left (marks_of crash.run)
-      (Some (crash.reading.end, crash.reading.pages))
-  pub left : IsLeft crash.script (entries_of crash.run) crash.left
-  pub marks : IfSome crash.run (MarksHold crash)
+-- The fuses were armed before opening. Opening reads the log device, and the fuse has counted that; before it came the
+-- calls that format the devices, or, where they are in use, one read of the log device's first block.
+pub record AreArmedFirst (log_device data_device : Device) : Type 0 where
+  pub opening_counted : 0 < log_device.stop.passed + log_device.stop.failures
+  pub log_calls : (IsUnused log_device.at_entry.reads → ⊥) → log_device.stop.calls_before ≤ 1
+  pub data_calls : (IsUnused log_device.at_entry.reads → ⊥) → data_device.stop.calls_before ≡ 0
 
--- In lsn order, each user's as its script orders and once: the history is legal.
-abbrev pub IsInOrder : Crash → Type 0
-IsInOrder crash = IfSome crash.run (λ run. IsLegal crash.script crash.shape.space run.start run.marks run.entries)
+-- Any stops: those that the words ask for, from the first call of opening on.
+pub record AreAnyStops (crash : Crash) : Type 0 where
+  pub log_device : IsStoppedAsAsked crash.options.stop_log crash.log_device
+  pub data_device : IsStoppedAsAsked crash.options.stop_data crash.data_device
+  pub armed_first : AreArmedFirst crash.log_device crash.data_device
 
--- the device was crashed after the run with the pick of the words, and has one image since
+-- Prints: where the sink tells, it took the report of one history, of what is left of the script, of the marks, and of
+-- what was read.
+pub record IsPrinted (crash : Crash) (account : Account) : Type 0 where
+  pub taken : IfSome crash.taken (λ before. crash.taken_now ≡ Some (before ++ account.printed))
+  pub report : account.printed ≡ report_text (start_of account.run) (entries_of account.run) account.left (marks_of account.run)
+      (Some (account.reading.end, account.reading.pages))
+  pub left_is : IsLeft account.script (entries_of account.run) account.left
+
+-- The device was crashed once, with the pick of the words, and has kept one of the images that it had just before;
+-- nothing was written since, and no call has failed.
 pub record IsCrashed (pick : ℕ) (device : Device) : Type 0 where
-  pub pick_is : device.pick ≡ Some pick
-  pub possible : IsImage device.before_crash device.left.reads
+  pub pick_is : device.stop.pick ≡ Some pick
+  pub kept : IsImage device.crashed_from device.left.reads
   pub one_image : device.left ≡ settled device.left.reads
+  pub unchanged_since : device.stop.changes_after ≡ 0
+  pub unfailed_since : device.stop.failures_after ≡ 0
 
--- Read from what the devices kept: both were crashed, and the printed end and pages are what is read off what they
--- hold now.
-pub record IsReadFromDevices (crash : Crash) : Type 0 where
-  pub log : IsCrashed crash.pick crash.log
-  pub store : IsCrashed crash.pick crash.store
-  pub shape : crash.reading.shape ≡ crash.shape
-  pub reads : Reads crash.log.left.reads crash.store.left.reads crash.reading
+-- Read from what the devices kept: both were crashed, and the reading is that of what they hold now. No copy in a slot is
+-- ahead of its page, so that they may be opened again.
+pub record IsReadFromDevices (crash : Crash) (account : Account) : Type 0 where
+  pub log_device : IsCrashed crash.options.pick crash.log_device
+  pub data_device : IsCrashed crash.options.pick crash.data_device
+  pub is_read : IsReading crash.log_device.left.reads crash.data_device.left.reads account.reading
+  pub old_copies : HasOldCopies crash.data_device.left.reads account.reading
 
--- how many of the printed groups end at or below the printed end
-abbrev pub first_count : Crash → ℕ
-first_count crash = count_up_to crash.reading.end (entries_of crash.run)
+-- how many calls of the two devices answered `Failed` from when the fuses were armed to the crash
+abbrev pub failures_of : Crash → ℕ
+failures_of crash = crash.log_device.stop.failures + crash.data_device.stop.failures
 
--- Those of applying the first n groups whole to the opened pages: the pages are the fold of the first n groups, lsns
--- included.
-abbrev pub IsPrefixWhole : Crash → Type 0
-IsPrefixWhole crash =
-    crash.reading.pages ≡ folded crash.opened
-    (take (first_count crash) (wholes_of crash.script crash.shape.space (entries_of crash.run)))
-
--- N reaching every group printed flushed.
-abbrev pub ReachesFlushed : Crash → Type 0
-ReachesFlushed crash =
-    (i : ℕ) (entry : Entry) → slice_get (entries_of crash.run) i ≡ Some entry → entry.state ≡ Flushed → i < first_count crash
-
--- a call of a device answered `Failed` between the first call of opening and the crash
-abbrev pub DeviceFailed : Crash → Type 0
-DeviceFailed crash = (0 < crash.log.failures) ⊎ (0 < crash.store.failures)
-
--- A group is lost only where a device call failed, and so are lines left, and opening stopped.
-pub record LosesOnlyByFailure (crash : Crash) : Type 0 where
-  pub lost : (i : ℕ) (entry : Entry) → slice_get (entries_of crash.run) i ≡ Some entry → entry.state ≡ Lost → DeviceFailed crash
-  pub left : (crash.left ≡ [] → ⊥) → DeviceFailed crash
-  pub stopped : crash.run ≡ None → DeviceFailed crash
-
--- What is promised, a field for each phrase.
-pub record CrashSafe (grammar : List ℕ → Result (List ScriptLine) ℕ) (crash : Crash) : Type 0 where
-  pub every_script : IsWholeScript grammar crash
-  pub prints : IsPrinted crash
-  pub in_lsn_order : IsInOrder crash
-  pub read_from_devices : IsReadFromDevices crash
-  pub first_groups_whole : IsPrefixWhole crash
-  pub reaching_flushed : ReachesFlushed crash
-  pub lost_only_by_failure : LosesOnlyByFailure crash
+-- What is promised of a call on devices that open this store: the account is one of it. A field for each phrase.
+pub record CrashSafe (crash : Crash) (opened : Opened) (account : Account) : Type 0 where
+  pub every_script : IsWholeScript crash opened account
+  pub any_stops : AreAnyStops crash
+  pub prints : IsPrinted crash account
+  pub in_lsn_order : IfSome account.run (IsRun account.script opened)
+  pub read_from_devices : IsReadFromDevices crash account
+  -- the pages are those of the first n groups, n reaching every group printed flushed
+  pub first_groups_whole : IsPrefixRead account.script opened account.run account.reading
+  pub lost_only_by_failure : LosesOnlyByFailure (failures_of crash) account.run account.left

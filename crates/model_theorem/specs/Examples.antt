@@ -1,66 +1,212 @@
--- Calls that the promise is tried on.
-use Rattle.std.specs.Prelude.{ℕ, ◌≡◌, ◌≢◌, ◌<◌, List, [], ◌∷◌, Some, None}
+-- Calls that the promise is tried on: what it refuses, and what it admits.
+use Rattle.std.specs.Prelude.{ℕ, ◌≡◌, ◌≢◌, ◌<◌, ◌⊎◌, List, [], ◌∷◌, codes, slice_get, Option, Some, None}
+use Rattle.model_base.specs.Limits.{default_shape}
+use Rattle.model_base.specs.declared.limits.TheConstants.{FIRST_DATA_LSN}
+use Rattle.model_page.specs.Blank.{blank_pages}
 use Rattle.model_device.specs.Disk.{settled}
+use Rattle.model_device.specs.declared.write.Write.{Write}
+use Rattle.model_log.specs.Lsn.{start_after}
 use Rattle.model_report.specs.Report.{report_text}
-use Rattle.model_store.specs.Reading.{Reading}
+use Rattle.model_script.specs.declared.item.Item.TheVariants.{Num}
+use Rattle.model_script.specs.declared.script.ScriptLine.{ScriptLine}
+use Rattle.model_store.specs.Reading.{Reading, IsReading, HasOldCopies}
 use Rattle.model_history.specs.declared.entry.Entry.{Entry}
-use Rattle.model_history.specs.declared.entry.Marks.{Marks}
-use Rattle.model_history.specs.declared.entry.State.TheVariants.{Flushed}
-use Rattle.model_theorem.specs.Values.{Ran, Device, Crash}
+use Rattle.model_history.specs.declared.entry.State.TheVariants.{Lost, Flushed}
+use Rattle.model_theorem.specs.Values.{CrashOptions, Device, Crash, Opened, Ran, Account, entries_of, start_of, marks_of}
 
--- the call printed one group as flushed, and what was read afterwards ends below it
-pub record LacksFlushedGroup (crash : Crash) : Type 0 where
+-- REFUSED.
+
+-- the only group was printed as flushed, and what was read afterwards ends below it
+pub record LacksFlushedGroup (account : Account) : Type 0 where
   pub run : Ran
   pub entry : Entry
-  pub ran : crash.run ≡ Some run
+  pub ran : account.run ≡ Some run
   pub only : run.entries ≡ entry ∷ []
   pub flushed : entry.state ≡ Flushed
-  pub lacks : crash.reading.end < entry.end
+  pub lacks : account.reading.end < entry.end
 
--- the call printed two groups, of which the second doesn't start where the first ends
-pub record HasGap (crash : Crash) : Type 0 where
+-- two groups were printed, of which the second doesn't start where the first ends
+pub record HasGap (account : Account) : Type 0 where
   pub run : Ran
   pub first : Entry
   pub second : Entry
-  pub ran : crash.run ≡ Some run
+  pub ran : account.run ≡ Some run
   pub both : run.entries ≡ first ∷ second ∷ []
   pub gap : second.start ≢ first.end
 
--- opening was stopped, and the pages aren't those that were opened
-pub record ChangesPages (crash : Crash) : Type 0 where
-  pub stopped : crash.run ≡ None
-  pub changed : crash.reading.pages ≢ crash.opened
+-- the run starts elsewhere than behind the opened log
+pub record StartsElsewhere (opened : Opened) (account : Account) : Type 0 where
+  pub run : Ran
+  pub ran : account.run ≡ Some run
+  pub elsewhere : run.start ≢ start_after opened.end
 
--- a device that was crashed when all of its writes were synced
-abbrev pub quiet_device : List ℕ → ℕ → Device
-quiet_device bytes pick = record {
+-- opening was stopped, and the pages aren't those that were opened
+pub record ChangesPages (opened : Opened) (account : Account) : Type 0 where
+  pub stopped : account.run ≡ None
+  pub changed : account.reading.pages ≢ opened.pages
+
+-- a group was lost, and no call of a device failed
+pub record LosesForNothing (crash : Crash) (account : Account) : Type 0 where
+  pub i : ℕ
+  pub entry : Entry
+  pub at : slice_get (entries_of account.run) i ≡ Some entry
+  pub lost : entry.state ≡ Lost
+  pub log_well : crash.log_device.stop.failures ≡ 0
+  pub data_well : crash.data_device.stop.failures ≡ 0
+
+-- a device was stopped otherwise than the words ask
+abbrev pub StopsOtherwise : Crash → Type 0
+StopsOtherwise crash =
+    (crash.log_device.stop.limit ≢ crash.options.stop_log) ⊎ (crash.data_device.stop.limit ≢ crash.options.stop_data)
+
+-- the words ask for no stop, opening was stopped, and neither of the devices has failed
+pub record StopsForNothing (crash : Crash) (account : Account) : Type 0 where
+  pub log_unasked : crash.options.stop_log ≡ None
+  pub data_unasked : crash.options.stop_data ≡ None
+  pub stopped : account.run ≡ None
+  pub log_can_count : crash.log_device.faults_at_entry < 1
+  pub data_can_count : crash.data_device.faults_at_entry < 1
+  pub log_well : crash.log_device.faults ≡ 0
+  pub data_well : crash.data_device.faults ≡ 0
+
+-- ADMITTED.
+
+-- The devices hold these bytes after a run that logged nothing: they are read as the store that was opened, and the log
+-- ends where the run starts.
+pub record ReadsAsOpened (log data_bytes : List ℕ) (opened : Opened) (reading : Reading) : Type 0 where
+  pub is_read : IsReading log data_bytes reading
+  pub old_copies : HasOldCopies data_bytes reading
+  pub shape : reading.shape ≡ opened.shape
+  pub pages : reading.pages ≡ opened.pages
+  pub end : reading.end ≡ start_after opened.end
+
+-- a device of which no call failed, and that had no write pending when it was crashed
+abbrev pub quiet_device : List ℕ → Device
+quiet_device bytes = record {
   at_entry = settled bytes;
   faults_at_entry = 0;
-  before_crash = settled bytes;
+  crashed_from = settled bytes;
   left = settled bytes;
-  pick = Some pick;
-  failures = 0;
+  faults = 0;
+  stop = record {
+    limit = None;
+    passed = 1;
+    failures = 0;
+    calls_before = 0;
+    failures_before = 0;
+    failures_after = 0;
+    pick = Some 0;
+    changes_after = 0;
+  };
 }
 
--- the marks of a run that logged nothing
-abbrev pub empty_marks : Reading → Marks
-empty_marks reading = record { wtail = reading.end; write = reading.end; flushed = reading.end; ckpt = reading.ckpt }
+-- a device that held these bytes at its last good sync, and of which one call failed then; it was crashed with these
+-- writes pending, and has kept none of them
+abbrev pub failed_device : List ℕ → List Write → List ℕ → Option ℕ → ℕ → ℕ → Device
+failed_device bytes writes reads limit passed faults = record {
+  at_entry = settled bytes;
+  faults_at_entry = 0;
+  crashed_from = record { base = bytes; writes = writes; reads = reads };
+  left = settled bytes;
+  faults = faults;
+  stop = record {
+    limit = limit;
+    passed = passed;
+    failures = 1;
+    calls_before = 0;
+    failures_before = 0;
+    failures_after = 0;
+    pick = Some 0;
+    changes_after = 0;
+  };
+}
 
--- a call on an empty source whose run logged nothing, over devices that are read as this
-abbrev pub empty_call : List ℕ → List ℕ → Reading → Crash
-empty_call log store reading =
-    let run : Ran = record { start = reading.end; entries = []; marks = empty_marks reading } in
-    record {
-      source = [];
-      source_left = [];
-      script = [];
-      pick = 0;
-      log = quiet_device log 0;
-      store = quiet_device store 0;
-      shape = reading.shape;
-      opened = reading.pages;
-      run = Some run;
-      left = [];
-      reading = reading;
-      printed = report_text (Some reading.end) [] [] (Some (empty_marks reading)) (Some (reading.end, reading.pages));
-    }
+-- the text that the account has to print
+abbrev pub report_of : Option Ran → List (ℕ × ℕ) → Reading → List ℕ
+report_of run left reading =
+    report_text (start_of run) (entries_of run) left (marks_of run) (Some (reading.end, reading.pages))
+
+-- an account of a script, a run and what is left of the script, where this is read afterwards
+abbrev pub account_of : List ℕ → List ScriptLine → Option Ran → List (ℕ × ℕ) → Reading → Account
+account_of text script run left reading = record {
+  text = text;
+  script = script;
+  run = run;
+  left = left;
+  reading = reading;
+  printed = report_of run left reading;
+}
+
+-- a call with these options on a source that has this text left, on these devices, that prints what the account says
+abbrev pub call_of : CrashOptions → Device → Device → Account → Crash
+call_of options log_device data_device account = record {
+  options = options;
+  source = Some account.text;
+  source_left = Some [];
+  taken = Some [];
+  taken_now = Some account.printed;
+  log_device = log_device;
+  data_device = data_device;
+}
+
+-- no stop, and a crash that keeps nothing
+abbrev pub no_stop : CrashOptions
+no_stop = record { stop_log = None; stop_data = None; pick = 0 }
+
+-- a run that starts there and logs nothing
+abbrev pub empty_run : ℕ → ℕ → Ran
+empty_run start ckpt = record {
+  start = start;
+  entries = [];
+  marks = record { wtail = start; write = start; flushed = start; ckpt = ckpt };
+}
+
+-- a line of user 1 that waits for the flush, and writes a byte of page 3
+abbrev pub line_of_value : ℕ → ScriptLine
+line_of_value value = record { user = 1; mode = 1; items = Num 1 3 100 value ∷ [] }
+
+abbrev pub two_lines : List ScriptLine
+two_lines = line_of_value 7 ∷ line_of_value 8 ∷ []
+
+abbrev pub text_of_two : List ℕ
+text_of_two = codes "1 f b1 3 100 7\n1 f b1 3 100 8"
+
+abbrev pub text_of_one : List ℕ
+text_of_one = codes "1 f b1 3 100 7"
+
+-- a store that was just formatted with the default sizes
+abbrev pub new_store : Opened
+new_store = record { shape = default_shape; pages = blank_pages default_shape; end = FIRST_DATA_LSN }
+
+-- On a new store, the group of the first of two lines was written, and the sync after it failed: the group is lost, and
+-- one line is left.
+abbrev pub lost_run : Ran
+lost_run = record {
+  start = 8204;
+  entries = (record { user = 1; k = 0; start = 8204; end = 8210; state = Lost }) ∷ [];
+  marks = record { wtail = 8210; write = 8210; flushed = 8204; ckpt = 8192 };
+}
+
+abbrev pub lost_account : Reading → Account
+lost_account reading = account_of text_of_two two_lines (Some lost_run) ((1, 1) ∷ []) reading
+
+abbrev pub lost_call : List ℕ → List Write → List ℕ → List ℕ → Reading → Crash
+lost_call log writes reads data_bytes reading =
+    call_of no_stop (failed_device log writes reads None 3 1) (quiet_device data_bytes) (lost_account reading)
+
+-- Opening was stopped at the log device's first call, as the words ask.
+abbrev pub stopped_account : Reading → Account
+stopped_account reading = account_of text_of_one (line_of_value 7 ∷ []) None ((1, 1) ∷ []) reading
+
+abbrev pub stopped_call : List ℕ → List ℕ → Reading → Crash
+stopped_call log data_bytes reading =
+    call_of (record { stop_log = Some 0; stop_data = None; pick = 0 }) (failed_device log [] log (Some 0) 0 0)
+    (quiet_device data_bytes) (stopped_account reading)
+
+-- The script is empty.
+abbrev pub empty_account : Opened → Reading → Account
+empty_account opened reading = account_of [] [] (Some (empty_run (start_after opened.end) reading.ckpt)) [] reading
+
+abbrev pub empty_call : List ℕ → List ℕ → Opened → Reading → Crash
+empty_call log data_bytes opened reading =
+    call_of no_stop (quiet_device log) (quiet_device data_bytes) (empty_account opened reading)

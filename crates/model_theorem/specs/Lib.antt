@@ -1,4 +1,5 @@
 pub mod Crash
 pub mod Examples
 pub mod Premises
+pub mod Run
 pub mod Values

@@ -10,6 +10,7 @@ use Rattle.model_log.specs.Checkpoint.{checkpoint_text, read_checkpoint}
 use Rattle.model_log.specs.Device.{header_block, log_block, log_device_length, newest_checkpoint, newer}
 use Rattle.model_page.specs.Copies.{data_device_length}
 use Rattle.redo_lab.specs.Contents.{zeroed, with_checkpoint, formatted_log, formatted_store, opened_log, with_first_block}
+use Rattle.model_page.specs.Copies as copies
 use Rattle.redo_lab.specs.FirstReading.{IsStartedLog, IsBlankStore, first_number}
 use Rattle.redo_lab.proofs.Started.{ReadsBack}
 use Rattle.redo_lab.proofs.Parts.{length-overwritten, part_of_write, part_below_write, part_behind_write, part_in_write, part_of_zeros, part_of_front}
@@ -49,6 +50,7 @@ formatted_by : (head even second old : List ℕ) → length head ≡ 512 → len
     → even ≡ checkpoint_text 0 START_LSN default_shape → length second ≡ length old → 2560 ≤ length old
     → take 512 (drop 1536 second) ≡ replicate BLOCK_SIZE 0 → take 512 (drop 2048 second) ≡ replicate BLOCK_SIZE 0
     → IsFormatted (overwritten 0 head (overwritten 512 even second)) old
+unfolding log_block
 formatted_by head even second old head_length even_length is_head is_even second_length long odd first =
     let third = overwritten 512 even second in
     let third_length : length third ≡ length second = length-overwritten 512 even second (omega arith) in
@@ -120,6 +122,7 @@ record IsOpenedFrom (log : List ℕ) (old : List ℕ) : Type 0 where
 opened_by : (odd zeros old : List ℕ) → length odd ≡ 512 → odd ≡ checkpoint_text first_number START_LSN default_shape
     → 512 ≤ length zeros → 2048 + length zeros ≤ length old → take 512 (drop (2048 - 2048) zeros) ≡ replicate BLOCK_SIZE 0
     → IsOpenedFrom (overwritten 1536 odd (overwritten 2048 zeros old)) old
+unfolding log_block
 opened_by odd zeros old odd_length is_odd zeros_long fits front =
     let wiped = overwritten 2048 zeros old in
     let wiped_length : length wiped ≡ length old = length-overwritten 2048 zeros old fits in
@@ -166,7 +169,7 @@ opened_empty old formats fill long =
 -- a log on which a run has started, with another first block
 pub with_block : (number : ℕ) (log old block : List ℕ) → length block ≡ 512 → IsStartedLog number log old
     → IsStartedLog number (with_first_block block log) block
-unfolding with_first_block
+unfolding with_first_block log_block
 with_block number log old block filled started =
     let long : 1050624 ≤ length log = started.long in
     let same : length (overwritten 2048 block log) ≡ length log = length-overwritten 2048 block log (omega arith) in
@@ -181,13 +184,16 @@ with_block number log old block filled started =
 
 -- places of zeros, up to the device's end
 blank_up_to : (end : ℕ) (old : List ℕ) → 65536 ≤ end → end ≤ length old → IsBlankStore (zeroed 0 end old)
-unfolding zeroed
+unfolding zeroed copies.stretch_at
 blank_up_to end old long fits =
     let zeros : List ℕ = replicate (end - 0) 0 in
     let zeros_length : length zeros ≡ end = length-zeros (end - 0) ∙ omega arith in
     let same : length (overwritten 0 zeros old) ≡ length old = length-overwritten 0 zeros old (omega arith) in
     record {
       long = omega arith;
+      slots = λ slot below.
+          part_in_write (slot * 4096) 4096 0 zeros old (omega arith) (omega arith) (omega arith)
+          ∙ part_of_zeros (slot * 4096 - 0) 4096 (end - 0) (omega arith);
       blank = λ p below.
           part_in_write ((8 + p) * 4096) 4096 0 zeros old (omega arith) (omega arith) (omega arith)
           ∙ part_of_zeros ((8 + p) * 4096 - 0) 4096 (end - 0) (omega arith);
@@ -204,6 +210,7 @@ front_length m bytes fits = length-take m bytes ∙ omega arith
 -- a started log is read off its front alone
 pub front_started : (m number : ℕ) (log block : List ℕ) → log_device_length default_shape ≤ m → m ≤ length log
     → IsStartedLog number log block → IsStartedLog number (take m log) block
+unfolding log_block
 front_started m number log block long fits started =
     let same : length (take m log) ≡ m = front_length m log fits in
     record {
@@ -218,9 +225,11 @@ front_started m number log block long fits started =
 -- blank places are read off the front of the store alone
 pub front_blank : (m : ℕ) (store : List ℕ) → data_device_length default_shape ≤ m → m ≤ length store
     → IsBlankStore store → IsBlankStore (take m store)
+unfolding copies.stretch_at
 front_blank m store long fits blank =
     let same : length (take m store) ≡ m = front_length m store fits in
     record {
       long = omega arith;
+      slots = λ slot below. part_of_front (slot * 4096) 4096 m store (omega arith) ∙ blank.slots slot below;
       blank = λ p below. part_of_front ((8 + p) * 4096) 4096 m store (omega arith) ∙ blank.blank p below;
     }

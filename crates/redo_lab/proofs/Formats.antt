@@ -11,7 +11,7 @@ use Rattle.model_number.specs.Crc32c.{crc_of}
 use Rattle.model_number.specs.Field.{padded_to}
 use Rattle.model_record.specs.Group.{group_text, group_length}
 use Rattle.model_record.specs.declared.rec.Rec.{Rec}
-use Rattle.model_log.specs.Lsn.{offset_of, number_of}
+use Rattle.model_log.specs.Lsn.{offset_of, block_number}
 use Rattle.model_log.specs.Head.{head_text, read_head, creator, format_number}
 use Rattle.model_log.specs.declared.layout.TheConstants.{RING_SIZE}
 use Rattle.model_log.specs.Checkpoint.{checkpoint_text, read_checkpoint, place_of}
@@ -47,7 +47,7 @@ blocks_filled = record { head = length-head; even = length-checkpoint 0; odd = l
 
 length-block : (content : List ℕ) → length content < 496 → length (block_text START_LSN content 12 first_number) ≡ 512
 unfolding block_text
-length-block content short = length-sealed (bytes_high_first 4 (number_of START_LSN) ++ bytes_high_first 2 (length_of (length content))
+length-block content short = length-sealed (bytes_high_first 4 (block_number START_LSN) ++ bytes_high_first 2 (length_of (length content))
     ++ bytes_high_first 2 12 ++ bytes_high_first 4 first_number ++ content) (omega arith)
 
 -- a block with a short group fills its place
@@ -55,7 +55,7 @@ pub group_block_filled : (group : List Rec) → group_length group < 496 → len
 group_block_filled group short = length-block (group_text group) short
 
 abbrev pub HeadLaw : Type 0
-HeadLaw = (shape : Shape) → IsWithinLimits shape → shape.space < 2 ^ 32 → read_head (head_text shape) ≡ Good shape
+HeadLaw = (shape : Shape) → IsWithinLimits shape → read_head (head_text shape) ≡ Good shape
 
 abbrev pub CheckpointLaw : Type 0
 CheckpointLaw = (number lsn : ℕ) (shape : Shape) → number < 2 ^ 64 → START_LSN ≤ lsn → lsn < LSN_LIMIT → lsn % BLOCK_SIZE ≡ 0
@@ -71,7 +71,8 @@ formats_read heads checkpoints = record {
     many_blocks = lit≤ tt;
     few_blocks = lit≤ tt;
     slots = refl;
-  }) (lit< tt);
+    space = lit< tt;
+  });
   even = checkpoints 0 START_LSN default_shape (lit< tt) (lit≤ tt) (lit< tt) refl;
   odd = checkpoints first_number START_LSN default_shape (lit< tt) (lit≤ tt) (lit< tt) refl;
 }

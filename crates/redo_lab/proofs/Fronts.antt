@@ -1,6 +1,5 @@
 -- What was read off the front of a device.
-use Rattle.std.proofs.Common.{◌≡◌, ℕ, ◌+◌, List, [], ◌++◌, length, take, drop, Option, Some, None, replicate, ◌-◌, sym, ap, ◌∙◌, refl, arith, length-append}
-use Rattle.std.specs.Prelude.{IfSome}
+use Rattle.std.proofs.Common.{◌≡◌, ℕ, zero, suc, ◌<◌, ◌+◌, List, [], ◌∷◌, ◌++◌, length, take, drop, Option, Some, None, replicate, ◌-◌, sym, ap, ◌∙◌, refl, arith, length-append}
 use Rattle.std.proofs.Math.Seq.{take-add}
 use Rattle.model_device.specs.Disk.{Disk}
 use Rattle.std.proofs.Common.{subst}
@@ -8,7 +7,17 @@ use Rattle.model_base.specs.Limits.{default_shape}
 use Rattle.model_log.specs.Device.{log_device_length}
 use Rattle.model_page.specs.Copies.{data_device_length}
 use Rattle.redo_lab.specs.Contents.{blank_data, formatted_store, zeroed}
-use Rattle.redo_lab.specs.Reads.{HasFront, OnLog}
+use Rattle.std.proofs.lemmas.Grind.{common_steps}
+use Rattle.std.specs.Prelude.{IfSome, slice_get}
+use Rattle.model_page.specs.declared.content.Content.{Content}
+use Rattle.model_store.specs.Reading.{Refuses}
+use Rattle.model_store.specs.declared.refusal.Refusal.TheVariants.{SmallLog, NotFormatted, BadFormat, SmallData, NoCheckpoint, BadRecord, PageLost, PageAhead}
+use Rattle.model_report.specs.declared.fault.Fault.{Fault}
+use Rattle.model_report.specs.declared.fault.Fault.TheVariants.{Memory, Words, Script, Source, Sink, LogDevice, DataDevice, Store, Turns, Fit}
+use Rattle.redo_recover.specs.Devices.{refusal_of}
+use Rattle.redo_recover.specs.declared.fault.RecFault.{RecFault}
+use Rattle.redo_recover.specs.declared.fault.RecFault.TheVariants as recovery
+use Rattle.redo_lab.specs.Reads.{IsReadFault, IsStoreFault, recovery_fault, HasFront, OnLog}
 use Rattle.std.proofs.lemmas.List.{length-replicate, take_at}
 use Rattle.model_base.specs.Overwrite.{overwritten}
 use Rattle.redo_lab.specs.Steps.{reads_of}
@@ -75,3 +84,55 @@ blank_length = length-replicate {A = ℕ} (data_device_length default_shape) 0
 pub blank_is : (count : ℕ) → count ≡ data_device_length default_shape → replicate count 0 ≡ blank_data
 unfolding blank_data
 blank_is count same = ap (λ n. replicate n 0) same
+
+-- why a store isn't read, seen from the device whose front was read
+pub read_fault : (log : Option (List ℕ)) (log_bytes log_slice : List ℕ) → log_slice ≡ log_bytes → HasFront log log_bytes
+    → length log_bytes ≡ log_device_length default_shape → (fault : Fault) → IsStoreFault log_slice fault → IsReadFault log fault
+read_fault log log_bytes log_slice same front long Memory is = tt
+read_fault log log_bytes log_slice same front long (Store refusal) is =
+    on_slices log log_bytes log_slice blank_data blank_data (λ bytes store. Refuses bytes store refusal) same refl refl front long is
+read_fault log log_bytes log_slice same front long LogDevice is = tt
+read_fault log log_bytes log_slice same front long DataDevice is = is
+read_fault log log_bytes log_slice same front long Words is = is
+read_fault log log_bytes log_slice same front long (Script n) is = is
+read_fault log log_bytes log_slice same front long Source is = is
+read_fault log log_bytes log_slice same front long Sink is = is
+read_fault log log_bytes log_slice same front long (Turns n user) is = is
+read_fault log log_bytes log_slice same front long (Fit misfit) is = is
+
+-- why a store isn't read off devices in memory
+pub store_fault : (log data_bytes : List ℕ) (fault : RecFault) → data_bytes ≡ blank_data
+    → IfSome (refusal_of fault) (λ cause. Refuses log data_bytes cause) → IsStoreFault log (recovery_fault fault)
+store_fault log data_bytes (recovery.SmallLog n) blank refuses = subst (λ (bytes : List ℕ). Refuses log bytes (SmallLog n)) blank refuses
+store_fault log data_bytes recovery.NotFormatted blank refuses = subst (λ (bytes : List ℕ). Refuses log bytes NotFormatted) blank refuses
+store_fault log data_bytes (recovery.BadFormat n) blank refuses = subst (λ (bytes : List ℕ). Refuses log bytes (BadFormat n)) blank refuses
+store_fault log data_bytes (recovery.SmallData n) blank refuses = subst (λ (bytes : List ℕ). Refuses log bytes (SmallData n)) blank refuses
+store_fault log data_bytes recovery.NoCheckpoint blank refuses = subst (λ (bytes : List ℕ). Refuses log bytes NoCheckpoint) blank refuses
+store_fault log data_bytes (recovery.BadRecord lsn) blank refuses = subst (λ (bytes : List ℕ). Refuses log bytes (BadRecord lsn)) blank refuses
+store_fault log data_bytes (recovery.PageLost p) blank refuses = subst (λ (bytes : List ℕ). Refuses log bytes (PageLost p)) blank refuses
+store_fault log data_bytes (recovery.PageAhead p lsn) blank refuses = subst (λ (bytes : List ℕ). Refuses log bytes (PageAhead p lsn)) blank refuses
+store_fault log data_bytes recovery.LogDev blank refuses = tt
+store_fault log data_bytes recovery.DataDev blank refuses = tt
+store_fault log data_bytes recovery.NoMemory blank refuses = tt
+
+-- a write of all bytes
+pub overwritten_all : (bytes xs : List ℕ) → length xs ≡ length bytes → overwritten 0 bytes xs ≡ bytes
+overwritten_all bytes xs same = grind (arith, common_steps)
+
+-- some pages and the next one
+push_content : (pages : List Content) (i lsn : ℕ) (user bytes : List ℕ) → i < length pages → user ≡ bytes
+    → IfSome (slice_get pages i) (λ content. lsn ≡ content.lsn) → IfSome (slice_get pages i) (λ content. bytes ≡ content.user)
+    → take i pages ++ (record { lsn = lsn; user = user }) ∷ [] ≡ take (suc i) pages
+push_content [] i lsn user bytes below same lsn_is user_is = absurd (omega arith)
+push_content (page ∷ pages) zero lsn user bytes below same lsn_is user_is =
+    ap (λ (content : Content). content ∷ []) (λ j. record { lsn = lsn_is j; user = (same ∙ user_is) j })
+push_content (page ∷ pages) (suc i) lsn user bytes below same lsn_is user_is =
+    ap (λ (contents : List Content). page ∷ contents) (push_content pages i lsn user bytes (omega arith) same lsn_is user_is)
+
+pub take_content : (pages : List Content) (i lsn : ℕ) (user bytes : List ℕ) (front : List Content) → i < length pages → front ≡ take i pages → user ≡ bytes
+    → IfSome (slice_get pages i) (λ content. lsn ≡ content.lsn) → IfSome (slice_get pages i) (λ content. bytes ≡ content.user)
+    → front ++ (record { lsn = lsn; user = user }) ∷ [] ≡ take (i + 1) pages
+take_content pages i lsn user bytes front below front_is same lsn_is user_is =
+    let next : suc i ≡ i + 1 = omega arith in
+    ap (λ (contents : List Content). contents ++ (record { lsn = lsn; user = user }) ∷ []) front_is
+    ∙ push_content pages i lsn user bytes below same lsn_is user_is ∙ ap (λ n. take n pages) next

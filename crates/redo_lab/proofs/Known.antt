@@ -13,7 +13,8 @@ use Rattle.model_page.specs.Page.{page_check, user_part, is_blank}
 use Rattle.model_page.specs.Copies.{place_bytes, place_lsn_by, IsKept}
 use Rattle.model_page.specs.declared.page.PageState.TheVariants.{Blank}
 use Rattle.model_page.specs.declared.content.Content.{Content}
-use Rattle.model_store.specs.Apply.{page_after, pages_after_from, applied, folded, blank_page}
+use Rattle.model_page.specs.Blank.{blank_page}
+use Rattle.model_store.specs.Apply.{page_after, pages_after_from, applied, folded}
 use Rattle.model_store.specs.Reading.{replayed}
 use Rattle.redo_lab.specs.FirstReading.{IsBlankStore}
 
@@ -62,7 +63,7 @@ blank_check : (bytes : List ℕ) → is_blank bytes ≡ true → page_check byte
 unfolding page_check
 blank_check bytes e = rw e refl
 
-zero_page : page_check (replicate PAGE_SIZE 0) ≡ Blank
+pub zero_page : page_check (replicate PAGE_SIZE 0) ≡ Blank
 zero_page = blank_check (replicate PAGE_SIZE 0) (zeros_blank PAGE_SIZE)
 
 -- the user bytes of a page of zeros
@@ -72,7 +73,7 @@ zero_user =
     ∙ part_of_zeros 38 4050 PAGE_SIZE (lit≤ tt)
 
 -- a blank place keeps a blank page
-pub kept_blank : (store : List ℕ) (p : ℕ) → IsBlankStore store → p < DEFAULT_PAGES → IsKept default_shape store p blank_page
+pub kept_blank : (store : List ℕ) (p : ℕ) → IsBlankStore store → p < DEFAULT_PAGES → IsKept default_shape store p (blank_page default_shape)
 kept_blank store p blank below =
     let place : place_bytes default_shape p store ≡ replicate PAGE_SIZE 0 = blank.blank p below in
     let check : page_check (place_bytes default_shape p store) ≡ Blank = ap page_check place ∙ zero_page in

@@ -3,10 +3,12 @@ pub mod Contents
 pub mod Formats
 pub mod Fronts
 pub mod Known
+pub mod Laws
 pub mod Lines
 pub mod Opening
 pub mod Parts
 pub mod Safe
+pub mod Promise
 pub mod Started
 pub mod StepLemmas
 pub mod Told

@@ -3,7 +3,7 @@ use Rattle.std.proofs.Common.{◌≡◌, ℕ, zero, suc, ◌≤◌, ◌<◌, ◌
 use Rattle.std.specs.Prelude.{nat_le, nat_lt, ◌==◌, ◌&&◌, if◌then◌else◌, take}
 use Rattle.std.specs.Str.{bytes_eq}
 use Rattle.std.specs.Int.{bytes_high_first, byte_at}
-use Rattle.std.specs.List.{All, slice_index_or}
+use Rattle.std.specs.List.{All, enumerate_from, slice_index_or}
 use Rattle.std.proofs.lemmas.Bool.Decides.{nat_tests}
 use Rattle.std.proofs.lemmas.List.Elements.{All-append, All-cons, All-nil}
 use Rattle.model_base.specs.Lines.{lines_of}
@@ -13,14 +13,14 @@ use Rattle.model_record.specs.Record.{single_text}
 use Rattle.model_record.specs.Group.{group_text, group_length, IsGroup}
 use Rattle.model_record.specs.declared.rec.Rec.{Rec}
 use Rattle.model_record.specs.declared.rec.Rec.TheVariants as rec
-use Rattle.model_script.specs.FirstPath.{front, is_user_byte, is_flushed_line, served, first_path_line, first_path_lines, first_path_script}
-use Rattle.model_script.specs.Grammar.{line_of}
+use Rattle.redo_script.specs.FirstPath.{front, is_user_byte, is_flushed_line, served, first_path_line, first_path_lines, first_path_script}
+use Rattle.model_script.specs.Grammar.{script_line_of}
 use Rattle.model_script.specs.LineGroup.{record_of}
 use Rattle.model_script.specs.declared.item.Item.{Item}
 use Rattle.model_script.specs.declared.item.Item.TheVariants.{Num, Text, Init}
 use Rattle.model_script.specs.declared.script.ScriptLine.{ScriptLine}
-use Rattle.model_store.specs.Scan.{IsGood}
-use Rattle.model_theorem.specs.Crash.{LineFits}
+use Rattle.model_script.specs.Fit.{LineFits}
+use Rattle.model_store.specs.Scan.{IsStorable}
 use Rattle.redo_lab.specs.Today.{line_group}
 
 both : (a b : Bool) → (a && b) ≡ true → (a ≡ true) × (b ≡ true)
@@ -45,26 +45,26 @@ front_served false found line e = cc
 abbrev pub IsShort : List ScriptLine → Type 0
 IsShort script = (script ≡ []) ⊎ ((line : ScriptLine) × (script ≡ line ∷ []) × (is_flushed_line line ≡ true))
 
-abbrev only_line : Option ScriptLine → List (List ℕ) → Result (List ScriptLine) ℕ
-only_line found texts =
-    elim found [ None ↦ Err 1 | Some line ↦ elim texts [ [] ↦ Ok (line ∷ []) | second ∷ others ↦ Err 2 ] ]
+abbrev only_line : ℕ → Option ScriptLine → List (ℕ × List ℕ) → Result (List ScriptLine) ℕ
+only_line n found texts =
+    elim found [ None ↦ Err n | Some line ↦ elim texts [ [] ↦ Ok (line ∷ []) | second ∷ others ↦ Err second.0 ] ]
 
-line_alone : (found : Option ScriptLine) (texts : List (List ℕ)) (script : List ScriptLine)
+line_alone : (n : ℕ) (found : Option ScriptLine) (texts : List (ℕ × List ℕ)) (script : List ScriptLine)
     → ((line : ScriptLine) → found ≡ Some line → is_flushed_line line ≡ true)
-    → only_line found texts ≡ Ok script
+    → only_line n found texts ≡ Ok script
     → IsShort script
-line_alone None texts script flushed e = cc
-line_alone (Some line) [] script flushed e = inr (line, cc, flushed line refl)
-line_alone (Some line) (second ∷ others) script flushed e = cc
+line_alone n None texts script flushed e = cc
+line_alone n (Some line) [] script flushed e = inr (line, cc, flushed line refl)
+line_alone n (Some line) (second ∷ others) script flushed e = cc
 
-short_by : (texts : List (List ℕ)) (script : List ScriptLine) → first_path_lines texts ≡ Ok script → IsShort script
+short_by : (texts : List (ℕ × List ℕ)) (script : List ScriptLine) → first_path_lines texts ≡ Ok script → IsShort script
 short_by [] script e = inl (cc)
-short_by (text ∷ texts) script e = line_alone (first_path_line text) texts script
-    (λ line found. front_served (bytes_eq (take (length front) text) front) (line_of text) line found) e
+short_by (text ∷ texts) script e = line_alone text.0 (first_path_line text.1) texts script
+    (λ line found. front_served (bytes_eq (take (length front) text.1) front) (script_line_of text.1) line found) e
 
 pub script_short : (text : List ℕ) (script : List ScriptLine) → first_path_script text ≡ Ok script → IsShort script
 unfolding first_path_script
-script_short text script e = short_by (lines_of text) script e
+script_short text script e = short_by (enumerate_from 1 (lines_of text)) script e
 
 -- the line of user 1 that writes a user byte and is answered once flushed
 pub record IsTodays (line : ScriptLine) : Type 0 where
@@ -200,7 +200,7 @@ bytes-group laws page offset value page_small value_small =
     (All-append IsByte (spelling32 1 ++ spelling32 page) body (All-append IsByte (spelling32 1) (spelling32 page) space_bytes page_bytes) body_bytes)
 
 fits_store : (page offset value : ℕ) → page < 8 → 38 ≤ offset → offset < 4088 → value < 256 → IsGroup (one_byte page offset value)
-    → group_length (one_byte page offset value) < 496 → IsGood default_shape (one_byte page offset value)
+    → group_length (one_byte page offset value) < 496 → IsStorable default_shape (one_byte page offset value)
 fits_store page offset value page_small offset_from offset_small value_small group short = record {
   has_text = group;
   short = omega arith;
@@ -213,6 +213,8 @@ short_group laws line today =
     let group = is_group today.page today.offset today.value today.page_small today.offset_below today.value_small in
     let short = length-group laws today.page today.offset today.value today.page_small today.value_small in
     let user : line.user ≡ 1 = today.user in
+    let storable : IsStorable default_shape (line_group line) = subst (IsStorable default_shape) same
+    (fits_store today.page today.offset today.value today.page_small today.offset_from today.offset_below today.value_small group short) in
     record {
       is_group = subst IsGroup same group;
       short = subst (λ (g : List Rec). group_length g < 496) same short;
@@ -220,8 +222,9 @@ short_group laws line today =
       fits = record {
         user_from = omega arith;
         user_to = omega arith;
-        group = subst (IsGood default_shape) same
-            (fits_store today.page today.offset today.value today.page_small today.offset_from today.offset_below today.value_small group short);
+        has_text = storable.has_text;
+        short = storable.short;
+        fits = storable.fits;
       };
     }
 

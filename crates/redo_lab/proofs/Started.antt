@@ -16,9 +16,11 @@ use Rattle.model_log.specs.Block.{read_block, data_of, is_full, length_of}
 use Rattle.model_log.specs.declared.head.Head.TheVariants.{Good}
 use Rattle.model_log.specs.declared.block.BlockView.{BlockView}
 use Rattle.model_page.specs.declared.content.Content.{Content}
-use Rattle.model_store.specs.Apply.{folded, applied, pages_after_from, blank_page, blank_pages}
-use Rattle.model_store.specs.Reading.{Reads, HasDevices, IsReadPage, replayed}
-use Rattle.model_store.specs.Scan.{IsGood, block_at, data_from, lsn_at}
+use Rattle.model_page.specs.Blank.{blank_page, blank_pages}
+use Rattle.model_store.specs.Apply.{folded, applied, pages_after_from}
+use Rattle.model_store.specs.Reading.{IsReading, HasDevices, IsReadPage, replayed}
+use Rattle.model_log.specs.Device.{log_block}
+use Rattle.model_store.specs.Scan.{IsStorable, Taken, bytes_of, taken_from, view_at, data_from, lsn_at}
 use Rattle.redo_lab.specs.FirstReading.{IsStartedLog, IsBlankStore, empty_reading, group_reading, block_of_group, view_of_group, whole_of_group, first_number}
 use Rattle.redo_lab.proofs.Known.{zero_block, page-folded, kept_blank, slice_get_replicate}
 
@@ -52,9 +54,9 @@ read_page : (store : List ℕ) (wholes : List Whole) (end : ℕ) → IsBlankStor
     → IsReadPage default_shape store wholes end p page
 read_page store wholes end blank p page e =
     let found = option_map_some (replayed p 0 wholes) (slice_get (blank_pages default_shape) p) page (sym (page-folded p wholes (blank_pages default_shape)) ∙ e) in
-    let first = slice_get_replicate DEFAULT_PAGES p blank_page found.0 found.1 in
+    let first = slice_get_replicate DEFAULT_PAGES p (blank_page default_shape) found.0 found.1 in
     record {
-      kept = blank_page;
+      kept = (blank_page default_shape);
       is_kept = kept_blank store p blank first.0;
       not_ahead = omega arith;
       replay = found.2 ∙ ap (replayed p 0 wholes) first.1;
@@ -70,13 +72,18 @@ devices number log store block formats started blank =
     }
 
 -- the block at the log's start is what stands first
-first_block : (number : ℕ) (log block : List ℕ) → IsStartedLog number log block → block_at default_shape log START_LSN ≡ read_block START_LSN block
-first_block number log block started = ap (read_block START_LSN) started.first
+view_taken : (bytes : List ℕ) (found : Option BlockView) → option_map (λ (block : Taken). block.view) (taken_from bytes found) ≡ found
+view_taken bytes None = refl
+view_taken bytes (Some view) = refl
+
+first_block : (number : ℕ) (log block : List ℕ) → IsStartedLog number log block → view_at default_shape log START_LSN ≡ read_block START_LSN block
+first_block number log block started =
+    view_taken (log_block default_shape START_LSN log) (read_block START_LSN (log_block default_shape START_LSN log)) ∙ ap (read_block START_LSN) started.first
 
 -- nothing is read where the first block is zeros
-pub reads_empty : (number : ℕ) (log store : List ℕ) → ReadsBack → IsStartedLog number log (replicate BLOCK_SIZE 0) → IsBlankStore store → Reads log store (empty_reading number)
+pub reads_empty : (number : ℕ) (log store : List ℕ) → ReadsBack → IsStartedLog number log (replicate BLOCK_SIZE 0) → IsBlankStore store → IsReading log store (empty_reading number)
 reads_empty number log store formats started blank =
-    let none : block_at default_shape log (lsn_at START_LSN 0) ≡ None = first_block number log (replicate BLOCK_SIZE 0) started ∙ zero_block in
+    let none : view_at default_shape log (lsn_at START_LSN 0) ≡ None = first_block number log (replicate BLOCK_SIZE 0) started ∙ zero_block in
     record {
       scan = record {
         devices = devices number log store (replicate BLOCK_SIZE 0) formats started blank;
@@ -114,19 +121,21 @@ append-nil [] = refl
 append-nil (x ∷ xs) = ap (λ l. x ∷ l) (append-nil xs)
 
 -- of one block the first fits
-one_view : (log : List ℕ) (view : BlockView) → block_at default_shape log (lsn_at START_LSN 0) ≡ Some view
-    → (i : ℕ) (other : BlockView) → slice_get (view ∷ []) i ≡ Some other → block_at default_shape log (lsn_at START_LSN i) ≡ Some other
+one_view : (log : List ℕ) (view : BlockView) → view_at default_shape log (lsn_at START_LSN 0) ≡ Some view
+    → (i : ℕ) (other : BlockView) → slice_get (view ∷ []) i ≡ Some other → view_at default_shape log (lsn_at START_LSN i) ≡ Some other
 one_view log view found zero other e = found ∙ e
 one_view log view found (suc i) other e = cc
 
 -- one group is read where it stands in the first block
-pub reads_group : (group : List Rec) (log store : List ℕ) → ReadsBack → BlockReadsBack group → IsGood default_shape group → group_length group < 496
-    → IsStartedLog first_number log (block_of_group group) → IsBlankStore store → Reads log store (group_reading group)
+pub reads_group : (group : List Rec) (log store : List ℕ) → ReadsBack → BlockReadsBack group → IsStorable default_shape group → group_length group < 496
+    → IsStartedLog first_number log (block_of_group group) → IsBlankStore store → IsReading log store (group_reading group)
 reads_group group log store formats block good small started blank =
     let view : BlockView = view_of_group group in
-    let found : block_at default_shape log (lsn_at START_LSN 0) ≡ Some view = first_block first_number log (block_of_group group) started ∙ block.view in
+    let found : view_at default_shape log (lsn_at START_LSN 0) ≡ Some view = first_block first_number log (block_of_group group) started ∙ block.view in
     let bytes : data_from default_shape log START_LSN (view ∷ []) FIRST_DATA_LSN ≡ stream_of (group ∷ []) ++ [] =
-    ap (λ (b : List ℕ). data_of view b ++ []) started.first ∙ ap (λ (t : List ℕ). t ++ []) block.content ∙ sym (append-nil (group_text group ++ [])) ∙ ap (λ (t : List ℕ). t ++ []) (sym (stream_of_one group)) in
+    let read : read_block START_LSN (log_block default_shape START_LSN log) ≡ Some view = ap (read_block START_LSN) started.first ∙ block.view in
+    ap (λ (o : Option BlockView). bytes_of (taken_from (log_block default_shape START_LSN log) o) ++ []) read
+    ∙ ap (λ (b : List ℕ). data_of view b ++ []) started.first ∙ ap (λ (t : List ℕ). t ++ []) block.content ∙ sym (append-nil (group_text group ++ [])) ∙ ap (λ (t : List ℕ). t ++ []) (sym (stream_of_one group)) in
     record {
       scan = record {
         devices = devices first_number log store (block_of_group group) formats started blank;
@@ -138,7 +147,7 @@ reads_group group log store formats block good small started blank =
             full = λ i view below e. absurd (omega arith);
             last = inr (inl (view, 0, refl, refl, not_full (group_length group) small));
           };
-          groups = ([], record { bytes_are = bytes; tiled = (refl, refl, tt); each = (good, tt) }, some_front, refl);
+          groups = ([], record { bytes_are = bytes; run = record { tiled = (refl, tt); lengths = (refl, tt) }; each = (good, tt) }, some_front, refl);
         };
       };
       count = length-folded (whole_of_group group ∷ []) (blank_pages default_shape);

@@ -11,7 +11,7 @@ use Rattle.model_log.specs.Head.{head_text}
 use Rattle.model_log.specs.Checkpoint.{checkpoint_text}
 use Rattle.model_log.specs.Device.{log_device_length}
 use Rattle.model_page.specs.Copies.{data_device_length}
-use Rattle.model_log.specs.declared.layout.TheConstants.{HEADER_BLOCKS}
+use Rattle.model_log.specs.declared.layout.TheConstants.{HEADER_BYTES}
 use Rattle.redo_lab.specs.Steps.{reads_of, settled_as}
 
 -- reads give what a settled device holds
@@ -63,10 +63,10 @@ from_ok P (Err f) same on = absurd (cc)
 
 -- an opened log device has zeros behind its header blocks and the next checkpoint in block 3
 pub opened_in_steps : (text bytes : List ℕ) → text ≡ checkpoint_text 1 START_LSN default_shape
-    → overwritten 1536 text (zeroed HEADER_BLOCKS (log_device_length default_shape) bytes) ≡ opened_log default_shape bytes
+    → overwritten 1536 text (zeroed HEADER_BYTES (log_device_length default_shape) bytes) ≡ opened_log default_shape bytes
 unfolding opened_log with_checkpoint
-opened_in_steps text bytes is = ap (λ (t : List ℕ). overwritten 1536 t (zeroed HEADER_BLOCKS (log_device_length default_shape) bytes)) is
+opened_in_steps text bytes is = ap (λ (t : List ℕ). overwritten 1536 t (zeroed HEADER_BYTES (log_device_length default_shape) bytes)) is
 
-pub first_block_in_place : (block text bytes : List ℕ) → block ≡ text → overwritten HEADER_BLOCKS block bytes ≡ with_first_block text bytes
+pub first_block_in_place : (block text bytes : List ℕ) → block ≡ text → overwritten HEADER_BYTES block bytes ≡ with_first_block text bytes
 unfolding with_first_block
-first_block_in_place block text bytes is = ap (λ (t : List ℕ). overwritten HEADER_BLOCKS t bytes) is
+first_block_in_place block text bytes is = ap (λ (t : List ℕ). overwritten HEADER_BYTES t bytes) is

@@ -1,96 +1,115 @@
--- What a call comes to, seen from outside.
-use Rattle.std.specs.Prelude.{ℕ, ◌≡◌, ◌⊎◌, List, [], ◌∷◌, codes, Option, Some}
+-- What each ending of a call means.
+use Rattle.std.specs.Prelude.{ℕ, ◌≡◌, ◌≢◌, ◌≤◌, ◌+◌, ◌⊎◌, List, [], ◌∷◌, codes, Some, ⊤}
 use Rattle.model_base.specs.Count.{HasRisen}
+use Rattle.model_base.specs.declared.limits.TheConstants.{MAX_SCRIPT}
 use Rattle.model_device.specs.Disk.{Disk}
-use Rattle.model_script.specs.Grammar.{script_of}
+use Rattle.model_script.specs.declared.misfit.Misfit.{Misfit}
 use Rattle.model_script.specs.declared.script.ScriptLine.{ScriptLine}
+use Rattle.model_store.specs.declared.refusal.Refusal.{Refusal}
 use Rattle.model_report.specs.FaultLine.{status_of, fault_line}
 use Rattle.model_report.specs.declared.fault.Fault.{Fault}
-use Rattle.model_report.specs.declared.fault.Fault.TheVariants.{Memory, Words, Script, Source, Sink, LogDevice, DataDevice, Store, Turns, Fit}
-use Rattle.model_theorem.specs.Values.{Crash}
-use Rattle.model_theorem.specs.Crash.{CrashSafe}
-use Rattle.redo_io.specs.Sink.{with_taken, TakesPart}
-use Rattle.redo_memdisk.specs.declared.fuse.Fuse.{Fuse}
-use Rattle.redo_lab.specs.Call.{IsCall, IsDevice}
-use Rattle.redo_lab.specs.Check.{DoFit}
-use Rattle.redo_lab.specs.Outcome.{IsDone, IsCrashFault, IsReportOf}
+use Rattle.model_report.specs.declared.fault.Fault.TheVariants.{Memory, Words, Script, Source, Sink, LogDevice, DataDevice, Store, Fit}
+use Rattle.redo_io.specs.Sink.{SinkSeen, with_taken, TakesPart}
+use Rattle.redo_io.specs.Source.{TakesAtMost}
+use Rattle.redo_io.specs.declared.read.TheConstants.{PIECE}
+use Rattle.redo_lab.specs.Call.{Call, LabCall}
+use Rattle.redo_lab.specs.Check.{DoFit, IsTooShort, IsUsedFit}
+use Rattle.redo_lab.specs.Outcome.{IsDone, IsReportOf, IsSpent, IsUntold}
 use Rattle.redo_lab.specs.Reads.{OnLog}
-use Rattle.redo_lab.specs.Steps.{reads_of}
+use Rattle.redo_lab.specs.Steps.{IsUnfailed, reads_of}
 use Rattle.redo_lab.specs.Script.{IsScriptOf, IsBadLine, IsLongScript}
 
 -- the words of the one command of today
 abbrev pub the_command : List (List ℕ)
 the_command = codes "crash" ∷ []
 
--- The words are the command, what the source had left is a script, the text is the report of what is read off the log
--- device now, and on devices that meant this all was done that the call is to do.
-pub record IsAnswer (words : List (List ℕ)) (left now : Option (List ℕ)) (log store : Option Disk) (text : List ℕ) (log_now store_now : Option Disk) : Type 0 where
-  pub command : words ≡ the_command
+-- the status of a call that did what it was asked
+abbrev pub success : ℕ
+success = 0
+
+-- A call that has this text to print: the words are the command, what the source had left is a script, both devices fit,
+-- no call of them failed, and the text is the report of what is read off the log device now. On devices that tell, all
+-- was done that the call is to do.
+pub record IsAnswer (call : Call) (text : List ℕ) : Type 0 where
+  pub command : call.words ≡ the_command
   pub script : List ScriptLine
-  pub read : IsScriptOf left now script
-  pub reported : OnLog (reads_of log_now) (IsReportOf script text)
-  pub done : (first second : Disk) → log ≡ Some first → store ≡ Some second → IsDone script first second text log_now store_now
+  pub read : IsScriptOf call.source call.source_now script
+  pub fits : DoFit (reads_of call.log_device.tells) call.log_device.size call.data_device.size
+  pub log_spent : IsSpent call.log_device_now.fuse
+  pub data_spent : IsSpent call.data_device_now.fuse
+  pub log_unfailed : IsUnfailed call.log_device_now.fuse
+  pub data_unfailed : IsUnfailed call.data_device_now.fuse
+  pub opened : 1 ≤ call.log_device_now.fuse.passed
+  pub log_kept : call.log_device_now.seen.crashed_from ≡ call.log_device_now.seen.tells
+  pub data_kept : call.data_device_now.seen.crashed_from ≡ call.data_device_now.seen.tells
+  pub reported : OnLog (reads_of call.log_device_now.seen.tells) (IsReportOf script text)
+  pub done : (log data_disk : Disk) → call.log_device.tells ≡ Some log → call.data_device.tells ≡ Some data_disk
+      → IsDone script log data_disk text call.log_device_now.seen.tells call.data_device_now.seen.tells
 
 -- the words are the command, and what the source had left was read and is a script
-abbrev pub WasScript : List (List ℕ) → Option (List ℕ) → Option (List ℕ) → Type 0
-WasScript words left now = (words ≡ the_command) × (script : List ScriptLine) × IsScriptOf left now script
+pub record WasScript (call : Call) : Type 0 where
+  pub command : call.words ≡ the_command
+  pub script : List ScriptLine
+  pub read : IsScriptOf call.source call.source_now script
 
--- Why a call gives no text. The source is seen by what it told at entry and tells now, and by its counts of faults; the
--- devices by what the log device held at entry and by their sizes. A device's failure is counted besides. The first that doesn't hold
--- decides: the words, the source, the script, the devices. Other words leave the source unread, and until the script
--- is read and both devices fit, these mean what they did before (same). A failure of the log device ends the call once
--- that has its header blocks, one of the data device once both fit.
-abbrev pub IsLabFault : List (List ℕ) → Option (List ℕ) → Option (List ℕ) → ℕ → ℕ → Option (List ℕ) → ℕ → ℕ → Type 0 → Fault → Type 0
-IsLabFault words left now before after log log_size store_size same Memory =
-    (words ≡ the_command) × (same ⊎ (WasScript words left now × DoFit log log_size store_size))
-IsLabFault words left now before after log log_size store_size same Words = (words ≡ the_command → ⊥) × (now ≡ left) × same
-IsLabFault words left now before after log log_size store_size same (Script n) =
-    (words ≡ the_command) × IsBadLine left now n × same
-IsLabFault words left now before after log log_size store_size same Source =
-    (words ≡ the_command) × HasRisen before after × same
-IsLabFault words left now before after log log_size store_size same LogDevice =
-    WasScript words left now × IsCrashFault log log_size store_size same LogDevice
-IsLabFault words left now before after log log_size store_size same DataDevice =
-    WasScript words left now × IsCrashFault log log_size store_size same DataDevice
-IsLabFault words left now before after log log_size store_size same (Store refusal) =
-    WasScript words left now × IsCrashFault log log_size store_size same (Store refusal)
-IsLabFault words left now before after log log_size store_size same (Fit what n) =
-    ((words ≡ the_command) × IsLongScript left what n × same)
-    ⊎ (WasScript words left now × IsCrashFault log log_size store_size same (Fit what n))
-IsLabFault words left now before after log log_size store_size same Sink = ⊥
-IsLabFault words left now before after log log_size store_size same (Turns n user) = ⊥
+-- both devices mean what they meant
+pub record IsUntouched (call : Call) : Type 0 where
+  pub log_device : call.log_device_now.seen.tells ≡ call.log_device.tells
+  pub data_device : call.data_device_now.seen.tells ≡ call.data_device.tells
 
--- a call with this status had a text: it ran, and the sink took the text or failed
-abbrev pub HadText : ℕ → Type 0
-HadText status = (status ≡ 0) ⊎ (status ≡ status_of Sink)
+-- the store is refused: a device is too short, and then both are untouched, or a log device that doesn't tell gave back
+-- other bytes than formatting wrote
+abbrev pub IsRefusal : Call → Refusal → Type 0
+IsRefusal call refusal =
+    (IsTooShort (reads_of call.log_device.tells) call.log_device.size call.data_device.size refusal × IsUntouched call)
+    ⊎ (DoFit (reads_of call.log_device.tells) call.log_device.size call.data_device.size × IsUntold (reads_of call.log_device.tells) refusal)
+
+-- A quantity doesn't fit: the script is too long, or the log device's first block is in use.
+abbrev pub IsMisfit : Call → Misfit → Type 0
+IsMisfit call misfit =
+    ((call.words ≡ the_command) × IsLongScript call.source misfit)
+    ⊎ (WasScript call × IsUsedFit (reads_of call.log_device.tells) call.log_device.size misfit)
+
+-- Why a call gives no text. The first that holds decides: the words, the source, the script, the devices. Want of memory
+-- decides where it is met.
+abbrev pub IsCause : Call → Fault → Type 0
+IsCause call Memory = ⊤
+IsCause call Words = (call.words ≢ the_command) × (call.source_now.left ≡ call.source.left) × IsUntouched call
+IsCause call (Script n) = (call.words ≡ the_command) × IsBadLine call.source call.source_now n × IsUntouched call
+IsCause call Source = (call.words ≡ the_command) × HasRisen call.source.faults call.source_now.faults × IsUntouched call
+IsCause call LogDevice = WasScript call × HasRisen call.log_device.faults call.log_device_now.seen.faults
+IsCause call DataDevice = WasScript call × HasRisen call.data_device.faults call.data_device_now.seen.faults
+IsCause call (Store refusal) = WasScript call × IsRefusal call refusal
+IsCause call (Fit misfit) = IsMisfit call misfit × IsUntouched call
+IsCause call _ = ⊥
 
 -- the text was to be printed: the sink took all of it, or failed and took only a part
-abbrev pub IsTextPrinted : List ℕ → ℕ → Option (List ℕ) → Option (List ℕ) → ℕ → ℕ → Type 0
-IsTextPrinted text status taken now before after =
-    ((status ≡ 0) × (now ≡ with_taken taken text))
-    ⊎ ((status ≡ status_of Sink) × HasRisen before after × TakesPart taken text now)
+abbrev pub IsTextPrinted : List ℕ → ℕ → SinkSeen → SinkSeen → Type 0
+IsTextPrinted text status sink sink_now =
+    ((status ≡ success) × (sink_now.taken ≡ with_taken sink.taken text))
+    ⊎ ((status ≡ status_of Sink) × HasRisen sink.faults sink_now.faults × TakesPart sink.taken text sink_now.taken)
 
 -- the fault's line was to be printed, and the status is the fault's whether or not the sink took all of the line
-abbrev pub IsFaultPrinted : Fault → ℕ → Option (List ℕ) → Option (List ℕ) → ℕ → ℕ → Type 0
-IsFaultPrinted fault status taken now before after =
+abbrev pub IsFaultPrinted : Fault → ℕ → SinkSeen → SinkSeen → Type 0
+IsFaultPrinted fault status sink sink_now =
     (status ≡ status_of fault)
-    × ((now ≡ with_taken taken (fault_line fault)) ⊎ (HasRisen before after × TakesPart taken (fault_line fault) now))
+    × ((sink_now.taken ≡ with_taken sink.taken (fault_line fault))
+    ⊎ (HasRisen sink.faults sink_now.faults × TakesPart sink.taken (fault_line fault) sink_now.taken))
 
--- What is promised of a crash holds of this call: there are values of which it speaks, which are those of the source,
--- the sink and the devices at entry and now.
-pub record IsSafe (source : List ℕ) (taken taken_now : Option (List ℕ)) (log : Disk) (log_faults : ℕ) (log_now : Option Disk) (log_fuse : Fuse) (store : Disk) (store_faults : ℕ) (store_now : Option Disk) (store_fuse : Fuse) : Type 0 where
-  pub crash : Crash
-  pub call : IsCall source taken taken_now crash
-  pub log_device : IsDevice log log_faults log_now log_fuse crash.log
-  pub store_device : IsDevice store store_faults store_now store_fuse crash.store
-  pub holds : CrashSafe script_of crash
+-- a text was printed
+pub record HasText (lab : LabCall) : Type 0 where
+  pub text : List ℕ
+  pub answer : IsAnswer lab.call text
+  pub printed : IsTextPrinted text lab.status lab.sink lab.sink_now
 
--- What a call comes to: a text that was printed, or a fault whose line was. The source and the sink are seen by what they
--- told at entry and tell now and by their counts of faults, the devices by what they told and tell and by their sizes.
-abbrev pub IsOutcome : (words : List (List ℕ)) (left now : Option (List ℕ)) (before after : ℕ) (log store : Option Disk) (log_size store_size : ℕ) (log_now store_now : Option Disk) (status : ℕ) (taken taken_now : Option (List ℕ)) (out_before out_after : ℕ) → Type 0
-IsOutcome words left now before after log store log_size store_size log_now store_now status taken taken_now out_before out_after =
-    ((text : List ℕ) × IsAnswer words left now log store text log_now store_now
-    × IsTextPrinted text status taken taken_now out_before out_after)
-    ⊎ ((fault : Fault) × IsLabFault words left now before after (reads_of log) log_size store_size
-    ((log_now ≡ log) × (store_now ≡ store)) fault
-    × IsFaultPrinted fault status taken taken_now out_before out_after)
+-- a fault's line was printed
+pub record HasFault (lab : LabCall) : Type 0 where
+  pub fault : Fault
+  pub cause : IsCause lab.call fault
+  pub printed : IsFaultPrinted fault lab.status lab.sink lab.sink_now
+
+-- What the ending of a call means.
+pub record IsEnding (lab : LabCall) : Type 0 where
+  pub way : HasText lab ⊎ HasFault lab
+  pub other_words : lab.call.words ≢ the_command → lab.status ≡ status_of Words
+  pub reads_little : TakesAtMost (MAX_SCRIPT + PIECE) lab.call.source.left lab.call.source_now.left

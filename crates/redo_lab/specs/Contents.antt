@@ -7,7 +7,7 @@ use Rattle.model_base.specs.declared.limits.TheConstants.{BLOCK_SIZE, START_LSN}
 use Rattle.model_log.specs.Head.{head_text}
 use Rattle.model_log.specs.Checkpoint.{checkpoint_text, place_of}
 use Rattle.model_log.specs.Device.{log_device_length}
-use Rattle.model_log.specs.declared.layout.TheConstants.{HEADER_BLOCKS}
+use Rattle.model_log.specs.declared.layout.TheConstants.{HEADER_BYTES}
 use Rattle.model_page.specs.Copies.{data_device_length}
 
 -- the bytes with zeros from one offset up to another
@@ -36,11 +36,11 @@ blank_data = replicate (data_device_length default_shape) 0
 -- checkpoint at the block in which the run starts.
 unfoldable pub opened_log : Shape → List ℕ → List ℕ
 opened_log shape bytes =
-    with_checkpoint shape 1 START_LSN (zeroed HEADER_BLOCKS (log_device_length shape) bytes)
+    with_checkpoint shape 1 START_LSN (zeroed HEADER_BYTES (log_device_length shape) bytes)
 
 -- the log device with a block in the place of the log's first
 unfoldable pub with_first_block : List ℕ → List ℕ → List ℕ
-with_first_block block bytes = overwritten HEADER_BLOCKS block bytes
+with_first_block block bytes = overwritten HEADER_BYTES block bytes
 
 -- a formatted log device that was opened
 abbrev pub started_log : Shape → List ℕ → List ℕ

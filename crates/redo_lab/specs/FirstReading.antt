@@ -2,7 +2,7 @@
 -- were never written in place.
 use Rattle.std.specs.Prelude.{ℕ, ◌≡◌, ◌≤◌, ◌<◌, ◌+◌, List, [], ◌∷◌, length, replicate, Some}
 use Rattle.model_base.specs.Limits.{default_shape}
-use Rattle.model_base.specs.declared.limits.TheConstants.{START_LSN, FIRST_DATA_LSN, PAGE_SIZE, DEFAULT_PAGES}
+use Rattle.model_base.specs.declared.limits.TheConstants.{SLOTS, START_LSN, FIRST_DATA_LSN, PAGE_SIZE, DEFAULT_PAGES}
 use Rattle.model_record.specs.Group.{group_text, group_length}
 use Rattle.model_record.specs.declared.rec.Rec.{Rec}
 use Rattle.model_record.specs.declared.group.Whole.{Whole}
@@ -12,8 +12,9 @@ use Rattle.model_log.specs.Block.{block_text, length_of}
 use Rattle.model_log.specs.Device.{header_block, log_block, log_device_length, newest_checkpoint}
 use Rattle.model_log.specs.declared.block.BlockView.{BlockView}
 use Rattle.model_log.specs.declared.layout.TheConstants.{BLOCK_HEADER}
-use Rattle.model_page.specs.Copies.{place_bytes, data_device_length}
-use Rattle.model_store.specs.Apply.{folded, blank_pages}
+use Rattle.model_page.specs.Copies.{slot_bytes, place_bytes, data_device_length}
+use Rattle.model_page.specs.Blank.{blank_pages}
+use Rattle.model_store.specs.Apply.{folded}
 use Rattle.model_store.specs.Reading.{Reading}
 
 -- the number of the checkpoint that opening a formatted store takes
@@ -28,9 +29,10 @@ pub record IsStartedLog (number : ℕ) (log block : List ℕ) : Type 0 where
   pub newest : newest_checkpoint default_shape log ≡ Some (number, START_LSN)
   pub first : log_block default_shape START_LSN log ≡ block
 
--- a data device of the default sizes whose places are blank
+-- a data device of the default sizes whose slots and places are blank
 pub record IsBlankStore (store : List ℕ) : Type 0 where
   pub long : data_device_length default_shape ≤ length store
+  pub slots : (slot : ℕ) → slot < SLOTS → slot_bytes default_shape slot store ≡ replicate PAGE_SIZE 0
   pub blank : (p : ℕ) → p < DEFAULT_PAGES → place_bytes default_shape p store ≡ replicate PAGE_SIZE 0
 
 -- the log's first block with one group

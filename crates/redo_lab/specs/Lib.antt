@@ -4,6 +4,7 @@ pub mod Check
 pub mod Contents
 pub mod FirstReading
 pub mod Outcome
+pub mod Promise
 pub mod Reads
 pub mod Script
 pub mod Steps

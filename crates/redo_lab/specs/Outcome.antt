@@ -1,28 +1,24 @@
 -- What comes of a call of today on the two devices.
-use Rattle.std.specs.Prelude.{ℕ, true, ◌≡◌, ◌≤◌, ◌⊎◌, List, length, Option, Some, None, ⊤}
+use Rattle.std.specs.Prelude.{ℕ, ◌≡◌, ◌≤◌, ◌⊎◌, List, length, Option, Some, None, ⊤}
 use Rattle.model_base.specs.Limits.{default_shape}
 use Rattle.model_log.specs.Device.{log_device_length}
-use Rattle.model_log.specs.declared.layout.TheConstants.{HEADER_BLOCKS}
 use Rattle.model_page.specs.Copies.{data_device_length}
 use Rattle.model_device.specs.Disk.{Disk, settled}
-use Rattle.model_store.specs.Reading.{Reading, Reads, Refuses}
+use Rattle.model_store.specs.Reading.{Reading, IsReading, Refuses}
 use Rattle.model_store.specs.declared.refusal.Refusal.{Refusal}
 use Rattle.model_store.specs.declared.refusal.Refusal.TheVariants.{NotFormatted}
 use Rattle.model_script.specs.declared.script.ScriptLine.{ScriptLine}
 use Rattle.model_report.specs.declared.fault.Fault.{Fault}
-use Rattle.model_report.specs.declared.fault.Fault.TheVariants.{Memory, Words, Script, Source, Sink, LogDevice, DataDevice, Store, Turns, Fit}
+use Rattle.model_report.specs.declared.fault.Fault.TheVariants.{Memory, LogDevice, DataDevice, Store, Fit}
 use Rattle.redo_memdisk.specs.declared.fuse.Fuse.{Fuse}
-use Rattle.redo_memdisk.specs.declared.fuse.Stage.TheVariants.{Crashed}
 use Rattle.redo_lab.specs.Check.{DoFit, IsTooShort, IsUnused, IsUsedFit}
 use Rattle.redo_lab.specs.Contents.{blank_data, formatted_store}
 use Rattle.redo_lab.specs.FirstReading.{empty_reading}
 use Rattle.redo_lab.specs.Reads.{OnLog}
 use Rattle.redo_lab.specs.Today.{final_log, final_reading, printed_text}
 
--- the fuse was armed without a limit, the device was crashed with the pick 0, and no write or sync came after the crash
+-- the fuse was armed without a stop, the device was crashed with the pick 0, and no write or sync came after the crash
 pub record IsSpent (fuse : Fuse) : Type 0 where
-  pub was_armed : fuse.was_armed ≡ true
-  pub stage : fuse.stage ≡ Crashed
   pub limit : fuse.limit ≡ None
   pub pick : fuse.pick ≡ Some 0
   pub changes : fuse.late_changes ≡ 0
@@ -40,7 +36,7 @@ pub record IsDone (script : List ScriptLine) (log store : Disk) (text : List ℕ
 -- beside a data device that was just formatted, these bytes of a log device aren't read as a store that was just
 -- formatted, and are refused so, or as unformatted
 pub record IsNoFreshStore (refusal : Refusal) (log : List ℕ) : Type 0 where
-  pub other : Reads log blank_data (empty_reading 0) → ⊥
+  pub other : IsReading log blank_data (empty_reading 0) → ⊥
   pub refused : Refuses log blank_data refusal ⊎ (refusal ≡ NotFormatted)
 
 -- why opening ended: the log device failed, or there was no memory, or what was read off it isn't a fresh store
@@ -48,19 +44,13 @@ abbrev pub IsOpenFault : Option (List ℕ) → Fault → Type 0
 IsOpenFault log Memory = ⊤
 IsOpenFault log LogDevice = ⊤
 IsOpenFault log (Store refusal) = OnLog log (IsNoFreshStore refusal)
-IsOpenFault log DataDevice = ⊥
-IsOpenFault log Words = ⊥
-IsOpenFault log (Script n) = ⊥
-IsOpenFault log Source = ⊥
-IsOpenFault log Sink = ⊥
-IsOpenFault log (Turns n user) = ⊥
-IsOpenFault log (Fit what n) = ⊥
+IsOpenFault log _ = ⊥
 
 -- the text is the report of the run of the script, and of what is read off these bytes of a log device, beside a data
 -- device that was just formatted
 abbrev pub IsReportOf : List ScriptLine → List ℕ → List ℕ → Type 0
 IsReportOf script text log =
-    (reading : Reading) × Reads log blank_data reading × (text ≡ printed_text script reading)
+    (reading : Reading) × IsReading log blank_data reading × (text ≡ printed_text script reading)
 
 -- the device doesn't tell what it holds
 abbrev pub DoesntTell : Option (List ℕ) → Type 0
@@ -73,30 +63,21 @@ abbrev pub IsUntold : Option (List ℕ) → Refusal → Type 0
 IsUntold log refusal = DoesntTell log × OnLog None (IsNoFreshStore refusal)
 
 -- Why a call ended on devices of these sizes, of which the log device held this, where it tells; same says that both mean
--- what they did before. The log device is checked first, and until both devices fit nothing is written. The data device
--- is formatted and then left alone.
+-- what they did before.
 abbrev pub IsCrashFault : Option (List ℕ) → ℕ → ℕ → Type 0 → Fault → Type 0
-IsCrashFault log log_size store_size same Memory = same ⊎ DoFit log log_size store_size
-IsCrashFault log log_size store_size same LogDevice = (HEADER_BLOCKS ≤ log_size) × (same ⊎ DoFit log log_size store_size)
-IsCrashFault log log_size store_size same DataDevice = DoFit log log_size store_size
+IsCrashFault log log_size store_size same Memory = ⊤
+IsCrashFault log log_size store_size same LogDevice = ⊤
+IsCrashFault log log_size store_size same DataDevice = ⊤
 IsCrashFault log log_size store_size same (Store refusal) =
     (IsTooShort log log_size store_size refusal × same) ⊎ (DoFit log log_size store_size × IsUntold log refusal)
-IsCrashFault log log_size store_size same (Fit what n) = IsUsedFit log log_size what n × same
-IsCrashFault log log_size store_size same Words = ⊥
-IsCrashFault log log_size store_size same (Script n) = ⊥
-IsCrashFault log log_size store_size same Source = ⊥
-IsCrashFault log log_size store_size same Sink = ⊥
-IsCrashFault log log_size store_size same (Turns n user) = ⊥
+IsCrashFault log log_size store_size same (Fit misfit) = IsUsedFit log log_size misfit × same
+IsCrashFault log log_size store_size same _ = ⊥
 
 -- why the devices weren't formatted
 abbrev pub IsPrepareFault : Option (List ℕ) → ℕ → ℕ → Type 0 → Fault → Type 0
-IsPrepareFault held log store same Memory = same ⊎ DoFit held log store
-IsPrepareFault held log store same LogDevice = (HEADER_BLOCKS ≤ log) × (same ⊎ DoFit held log store)
-IsPrepareFault held log store same DataDevice = DoFit held log store
+IsPrepareFault held log store same Memory = ⊤
+IsPrepareFault held log store same LogDevice = ⊤
+IsPrepareFault held log store same DataDevice = ⊤
 IsPrepareFault held log store same (Store refusal) = IsTooShort held log store refusal × same
-IsPrepareFault held log store same (Fit what n) = IsUsedFit held log what n × same
-IsPrepareFault held log store same Words = ⊥
-IsPrepareFault held log store same (Script n) = ⊥
-IsPrepareFault held log store same Source = ⊥
-IsPrepareFault held log store same Sink = ⊥
-IsPrepareFault held log store same (Turns n user) = ⊥
+IsPrepareFault held log store same (Fit misfit) = IsUsedFit held log misfit × same
+IsPrepareFault held log store same _ = ⊥

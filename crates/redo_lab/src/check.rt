@@ -4,15 +4,16 @@ ghost use Rattle.model_base.specs.Limits.{default_shape};
 ghost use Rattle.model_base.specs.declared.limits.TheConstants.{BLOCK_SIZE};
 ghost use Rattle.model_log.specs.Device.{log_device_length};
 ghost use Rattle.model_page.specs.Copies.{data_device_length};
-ghost use Rattle.redo_disk.specs.Sectors.{HasSize};
+ghost use Rattle.redo_disk.specs.Seen.{HasSize};
 ghost use Rattle.redo_memdisk.specs.Fused.{fuse_of, inner_of};
 ghost use Rattle.redo_lab.specs.Check.{IsCheckFault, IsUnused};
-ghost use Rattle.redo_lab.specs.Steps.{Steps, reads_of};
+ghost use Rattle.redo_lab.specs.Steps.{Steps, guarded, reads_of};
 
 use crate::format::{LOG_LENGTH, STORE_LENGTH, log_fault};
 use model_base::BLOCK_SIZE;
-use model_log::HEADER_BLOCKS;
-use model_report::{Fault, Quantity};
+use model_log::HEADER_BYTES;
+use model_report::Fault;
+use model_script::{Misfit, Quantity};
 use model_store::Refusal;
 use redo_disk::Sectors;
 use redo_memdisk::Fused;
@@ -38,28 +39,29 @@ pub(crate) fn check_devices<L: Sectors, D: Sectors>(
     store: &Fused<D>,
 ) -> Result<(), Fault>
     requires passes { (fuse_of log.old).limit ≡ None }
-    ensures log_long { OnOk result (log_device_length default_shape ≤ L.size (inner_of log.old)) }
-    ensures store_long { OnOk result (data_device_length default_shape ≤ D.size (inner_of store.now)) }
-    ensures log_sized { OnOk result (IfSome (L.tells (inner_of log.old)) (HasSize (L.size (inner_of log.old)))) }
-    ensures store_sized { OnOk result (IfSome (D.tells (inner_of store.now)) (HasSize (D.size (inner_of store.now)))) }
-    ensures unused { OnOk result (IsUnused (reads_of (L.tells (inner_of log.old)))) }
-    ensures fault { IfErr result (IsCheckFault (reads_of (L.tells (inner_of log.old)))
-        (L.size (inner_of log.old)) (D.size (inner_of store.now))) }
-    ensures same { L.tells (inner_of log.new) ≡ L.tells (inner_of log.old) }
-    ensures steps { Steps (L.size (inner_of log.old)) (L.size (inner_of log.new))
-        (L.faults (inner_of log.old)) (L.faults (inner_of log.new))
-        (fuse_of log.old) (fuse_of log.new) (IsErrOf result Fault.LogDevice) }
+    ensures log_long { OnOk result (log_device_length default_shape ≤ (L.seen (inner_of log.old)).size) }
+    ensures store_long { OnOk result (data_device_length default_shape ≤ (D.seen (inner_of store.now)).size) }
+    ensures log_sized { OnOk result (IfSome ((L.seen (inner_of log.old)).tells) (HasSize ((L.seen (inner_of log.old)).size))) }
+    ensures store_sized { OnOk result (IfSome ((D.seen (inner_of store.now)).tells) (HasSize ((D.seen (inner_of store.now)).size))) }
+    ensures unused { OnOk result (IsUnused (reads_of ((L.seen (inner_of log.old)).tells))) }
+    ensures fault { IfErr result (IsCheckFault (reads_of ((L.seen (inner_of log.old)).tells))
+        ((L.seen (inner_of log.old)).size) ((D.seen (inner_of store.now)).size)) }
+    ensures same { (L.seen (inner_of log.new)).tells ≡ (L.seen (inner_of log.old)).tells }
+    ensures steps { Steps (guarded L.seen log.old) (guarded L.seen log.new) (IsErrOf result Fault.LogDevice) }
 {
     let log_length = log.len();
-    if log_length < HEADER_BLOCKS {
-        return Err(Fault::Store(Refusal::SmallLog(HEADER_BLOCKS)));
+    if log_length < HEADER_BYTES {
+        return Err(Fault::Store(Refusal::SmallLog(HEADER_BYTES)));
     }
     let mut block = [0u8; BLOCK_SIZE as usize];
     if let Err(error) = log.read(0, &mut block) {
         return Err(log_fault(error));
     }
     if let Some(at) = first_used(&block) {
-        return Err(Fault::Fit(Quantity::Used, at as u64));
+        return Err(Fault::Fit(Misfit {
+            quantity: Quantity::Used,
+            number: at as u64,
+        }));
     }
     if log_length < LOG_LENGTH {
         return Err(Fault::Store(Refusal::SmallLog(LOG_LENGTH)));

@@ -2,11 +2,12 @@
 ghost use Rattle.std.specs.Prelude.{◌≡◌, ◌%◌, ◌≤◌, length, replicate, IsOk, IsErrOf, OnOk, None};
 ghost use Rattle.std.specs.Option.{option_map};
 ghost use Rattle.model_base.specs.Overwrite.{overwritten};
-ghost use Rattle.redo_disk.specs.Sectors.{IsRange};
+ghost use Rattle.model_base.specs.declared.limits.TheConstants.{BLOCK_SIZE};
+ghost use Rattle.redo_disk.specs.Seen.{IsRange};
 ghost use Rattle.redo_memdisk.specs.Fused.{fuse_of, inner_of};
 ghost use Rattle.redo_memdisk.specs.declared.fuse.Stage.{Stage};
 ghost use Rattle.redo_lab.specs.Contents.{zeroed};
-ghost use Rattle.redo_lab.specs.Steps.{Steps, reads_of, settled_as};
+ghost use Rattle.redo_lab.specs.Steps.{Steps, guarded, reads_of, settled_as};
 
 use redo_disk::{DevError, Sectors};
 use redo_memdisk::Fused;
@@ -16,24 +17,20 @@ use std::alloc::Global;
 pub(crate) const PIECE: usize = 65_536;
 
 fn write<D: Sectors>(device: &mut Fused<D>, at: u64, bytes: &[u8]) -> Result<(), DevError>
-    requires range { IsRange (D.size (inner_of device.old)) at (length bytes.now) }
+    requires range { IsRange ((D.seen (inner_of device.old)).size) at (length bytes.now) }
     requires passes { (fuse_of device.old).limit ≡ None }
-    ensures told { OnOk result (reads_of (D.tells (inner_of device.new))
-        ≡ option_map (overwritten at bytes.now) (reads_of (D.tells (inner_of device.old)))) }
-    ensures steps { Steps (D.size (inner_of device.old)) (D.size (inner_of device.new))
-        (D.faults (inner_of device.old)) (D.faults (inner_of device.new))
-        (fuse_of device.old) (fuse_of device.new) (IsErrOf result DevError.Failed) }
+    ensures told { OnOk result (reads_of ((D.seen (inner_of device.new)).tells)
+        ≡ option_map (overwritten at bytes.now) (reads_of ((D.seen (inner_of device.old)).tells))) }
+    ensures steps { Steps (guarded D.seen device.old) (guarded D.seen device.new) (IsErrOf result DevError.Failed) }
 {
     device.write(at, bytes)
 }
 
 fn sync<D: Sectors>(device: &mut Fused<D>) -> Result<(), DevError>
     requires { (fuse_of device.old).limit ≡ None }
-    ensures told { OnOk result (D.tells (inner_of device.new)
-        ≡ settled_as (reads_of (D.tells (inner_of device.old)))) }
-    ensures steps { Steps (D.size (inner_of device.old)) (D.size (inner_of device.new))
-        (D.faults (inner_of device.old)) (D.faults (inner_of device.new))
-        (fuse_of device.old) (fuse_of device.new) (IsErrOf result DevError.Failed) }
+    ensures told { OnOk result ((D.seen (inner_of device.new)).tells
+        ≡ settled_as (reads_of ((D.seen (inner_of device.old)).tells))) }
+    ensures steps { Steps (guarded D.seen device.old) (guarded D.seen device.new) (IsErrOf result DevError.Failed) }
     ensures passed { OnOk result ((fuse_of device.old).stage ≡ Stage.Stopping → 1 ≤ (fuse_of device.new).passed) }
 {
     device.sync()
@@ -41,13 +38,11 @@ fn sync<D: Sectors>(device: &mut Fused<D>) -> Result<(), DevError>
 
 /// Writes bytes from an offset on, and makes them stay.
 pub(crate) fn put<D: Sectors>(device: &mut Fused<D>, at: u64, bytes: &[u8]) -> Result<(), DevError>
-    requires range { IsRange (D.size (inner_of device.old)) at (length bytes.now) }
+    requires range { IsRange ((D.seen (inner_of device.old)).size) at (length bytes.now) }
     requires passes { (fuse_of device.old).limit ≡ None }
-    ensures told { OnOk result (D.tells (inner_of device.new)
-        ≡ settled_as (option_map (overwritten at bytes.now) (reads_of (D.tells (inner_of device.old))))) }
-    ensures steps { Steps (D.size (inner_of device.old)) (D.size (inner_of device.new))
-        (D.faults (inner_of device.old)) (D.faults (inner_of device.new))
-        (fuse_of device.old) (fuse_of device.new) (IsErrOf result DevError.Failed) }
+    ensures told { OnOk result ((D.seen (inner_of device.new)).tells
+        ≡ settled_as (option_map (overwritten at bytes.now) (reads_of ((D.seen (inner_of device.old)).tells)))) }
+    ensures steps { Steps (guarded D.seen device.old) (guarded D.seen device.new) (IsErrOf result DevError.Failed) }
     ensures passed { OnOk result ((fuse_of device.old).stage ≡ Stage.Stopping → 1 ≤ (fuse_of device.new).passed) }
 {
     write(device, at, bytes)?;
@@ -55,17 +50,15 @@ pub(crate) fn put<D: Sectors>(device: &mut Fused<D>, at: u64, bytes: &[u8]) -> R
 }
 
 fn zero<D: Sectors>(device: &mut Fused<D>, from: u64, to: u64, zeros: &[u8]) -> Result<(), DevError>
-    requires sectors { from % 512 ≡ 0 }
-    requires whole { to % 512 ≡ 0 }
+    requires sectors { from % BLOCK_SIZE ≡ 0 }
+    requires whole { to % BLOCK_SIZE ≡ 0 }
     requires ascending { from ≤ to }
-    requires within { to ≤ D.size (inner_of device.old) }
+    requires within { to ≤ (D.seen (inner_of device.old)).size }
     requires passes { (fuse_of device.old).limit ≡ None }
     requires zeros { zeros.now ≡ replicate PIECE 0 }
-    ensures told { OnOk result (reads_of (D.tells (inner_of device.new))
-        ≡ option_map (zeroed from to) (reads_of (D.tells (inner_of device.old)))) }
-    ensures steps { Steps (D.size (inner_of device.old)) (D.size (inner_of device.new))
-        (D.faults (inner_of device.old)) (D.faults (inner_of device.new))
-        (fuse_of device.old) (fuse_of device.new) (IsErrOf result DevError.Failed) }
+    ensures told { OnOk result (reads_of ((D.seen (inner_of device.new)).tells)
+        ≡ option_map (zeroed from to) (reads_of ((D.seen (inner_of device.old)).tells))) }
+    ensures steps { Steps (guarded D.seen device.old) (guarded D.seen device.new) (IsErrOf result DevError.Failed) }
 {
     let mut at = from;
     while at < to {
@@ -83,16 +76,14 @@ pub(crate) fn erase<D: Sectors>(
     from: u64,
     to: u64,
 ) -> Result<(), DevError>
-    requires sectors { from % 512 ≡ 0 }
-    requires whole { to % 512 ≡ 0 }
+    requires sectors { from % BLOCK_SIZE ≡ 0 }
+    requires whole { to % BLOCK_SIZE ≡ 0 }
     requires ascending { from ≤ to }
-    requires within { to ≤ D.size (inner_of device.old) }
+    requires within { to ≤ (D.seen (inner_of device.old)).size }
     requires passes { (fuse_of device.old).limit ≡ None }
-    ensures told { OnOk result (D.tells (inner_of device.new)
-        ≡ settled_as (option_map (zeroed from to) (reads_of (D.tells (inner_of device.old))))) }
-    ensures steps { Steps (D.size (inner_of device.old)) (D.size (inner_of device.new))
-        (D.faults (inner_of device.old)) (D.faults (inner_of device.new))
-        (fuse_of device.old) (fuse_of device.new) (IsErrOf result DevError.Failed) }
+    ensures told { OnOk result ((D.seen (inner_of device.new)).tells
+        ≡ settled_as (option_map (zeroed from to) (reads_of ((D.seen (inner_of device.old)).tells)))) }
+    ensures steps { Steps (guarded D.seen device.old) (guarded D.seen device.new) (IsErrOf result DevError.Failed) }
 {
     let zeros = vec![in alloc; 0u8; PIECE]?;
     zero(device, from, to, &zeros)?;

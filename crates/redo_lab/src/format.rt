@@ -1,16 +1,16 @@
 // Formatting both devices with the default sizes.
-ghost use Rattle.std.specs.Prelude.{◌≡◌, ◌≤◌, List, ℕ, IsOk, IsErrOf, OnOk, IfErr, None};
+ghost use Rattle.std.specs.Prelude.{◌≡◌, ◌≤◌, ◌*◌, List, ℕ, IsOk, IsErrOf, OnOk, IfErr, None};
 ghost use Rattle.std.specs.Option.{option_map};
 ghost use Rattle.model_base.specs.Limits.{default_shape};
 ghost use Rattle.model_base.specs.Overwrite.{overwritten};
-ghost use Rattle.model_base.specs.declared.limits.TheConstants.{START_LSN};
+ghost use Rattle.model_base.specs.declared.limits.TheConstants.{BLOCK_SIZE, START_LSN};
 ghost use Rattle.model_log.specs.Device.{log_device_length};
 ghost use Rattle.model_log.specs.Head.{head_text};
 ghost use Rattle.model_page.specs.Copies.{data_device_length};
 ghost use Rattle.redo_memdisk.specs.Fused.{fuse_of, inner_of};
 ghost use Rattle.redo_lab.specs.Contents.{zeroed, with_checkpoint, formatted_log, formatted_store};
 ghost use Rattle.redo_lab.specs.Reads.{IsDeviceFault};
-ghost use Rattle.redo_lab.specs.Steps.{Steps, reads_of, settled_as, log_fault, data_fault};
+ghost use Rattle.redo_lab.specs.Steps.{Steps, guarded, reads_of, settled_as, log_fault, data_fault};
 
 use crate::device::{erase, put};
 use model_base::{BLOCK_SIZE, START_LSN, Shape};
@@ -47,14 +47,12 @@ pub(crate) fn data_fault(error: DevError) -> Fault
 
 /// Takes the header away first, and then all else, so that a stop in between leaves no store.
 fn clear_log<L: Sectors>(alloc: Global, log: &mut Fused<L>) -> Result<(), DevError>
-    requires long { log_device_length default_shape ≤ L.size (inner_of log.old) }
+    requires long { log_device_length default_shape ≤ (L.seen (inner_of log.old)).size }
     requires passes { (fuse_of log.old).limit ≡ None }
-    ensures told { OnOk result (L.tells (inner_of log.new) ≡ settled_as (option_map
-        (λ (bytes : List ℕ). zeroed 1024 (log_device_length default_shape) (zeroed 0 512 bytes))
-        (reads_of (L.tells (inner_of log.old))))) }
-    ensures steps { Steps (L.size (inner_of log.old)) (L.size (inner_of log.new))
-        (L.faults (inner_of log.old)) (L.faults (inner_of log.new))
-        (fuse_of log.old) (fuse_of log.new) (IsErrOf result DevError.Failed) }
+    ensures told { OnOk result ((L.seen (inner_of log.new)).tells ≡ settled_as (option_map
+        (λ (bytes : List ℕ). zeroed (2 * BLOCK_SIZE) (log_device_length default_shape) (zeroed 0 BLOCK_SIZE bytes))
+        (reads_of ((L.seen (inner_of log.old)).tells)))) }
+    ensures steps { Steps (guarded L.seen log.old) (guarded L.seen log.new) (IsErrOf result DevError.Failed) }
 {
     erase(alloc, log, 0, BLOCK_SIZE)?;
     erase(alloc, log, 2 * BLOCK_SIZE, LOG_LENGTH)
@@ -62,14 +60,12 @@ fn clear_log<L: Sectors>(alloc: Global, log: &mut Fused<L>) -> Result<(), DevErr
 
 /// Writes the first checkpoint, and then the header.
 fn head_log<L: Sectors>(log: &mut Fused<L>) -> Result<(), DevError>
-    requires long { log_device_length default_shape ≤ L.size (inner_of log.old) }
+    requires long { log_device_length default_shape ≤ (L.seen (inner_of log.old)).size }
     requires passes { (fuse_of log.old).limit ≡ None }
-    ensures told { OnOk result (L.tells (inner_of log.new) ≡ settled_as (option_map
+    ensures told { OnOk result ((L.seen (inner_of log.new)).tells ≡ settled_as (option_map
         (λ (bytes : List ℕ). overwritten 0 (head_text default_shape) (with_checkpoint default_shape 0 START_LSN bytes))
-        (reads_of (L.tells (inner_of log.old))))) }
-    ensures steps { Steps (L.size (inner_of log.old)) (L.size (inner_of log.new))
-        (L.faults (inner_of log.old)) (L.faults (inner_of log.new))
-        (fuse_of log.old) (fuse_of log.new) (IsErrOf result DevError.Failed) }
+        (reads_of ((L.seen (inner_of log.old)).tells)))) }
+    ensures steps { Steps (guarded L.seen log.old) (guarded L.seen log.new) (IsErrOf result DevError.Failed) }
 {
     let shape = Shape::default_shape();
     let mut block = [0; 512];
@@ -85,21 +81,17 @@ pub(crate) fn format<L: Sectors, D: Sectors>(
     log: &mut Fused<L>,
     store: &mut Fused<D>,
 ) -> Result<(), Fault>
-    requires log_long { log_device_length default_shape ≤ L.size (inner_of log.old) }
-    requires store_long { data_device_length default_shape ≤ D.size (inner_of store.old) }
+    requires log_long { log_device_length default_shape ≤ (L.seen (inner_of log.old)).size }
+    requires store_long { data_device_length default_shape ≤ (D.seen (inner_of store.old)).size }
     requires log_passes { (fuse_of log.old).limit ≡ None }
     requires store_passes { (fuse_of store.old).limit ≡ None }
-    ensures log_told { OnOk result (L.tells (inner_of log.new) ≡ settled_as (option_map
-        (formatted_log default_shape) (reads_of (L.tells (inner_of log.old))))) }
-    ensures store_told { OnOk result (D.tells (inner_of store.new) ≡ settled_as (option_map
-        (formatted_store default_shape) (reads_of (D.tells (inner_of store.old))))) }
+    ensures log_told { OnOk result ((L.seen (inner_of log.new)).tells ≡ settled_as (option_map
+        (formatted_log default_shape) (reads_of ((L.seen (inner_of log.old)).tells)))) }
+    ensures store_told { OnOk result ((D.seen (inner_of store.new)).tells ≡ settled_as (option_map
+        (formatted_store default_shape) (reads_of ((D.seen (inner_of store.old)).tells)))) }
     ensures fault { IfErr result IsDeviceFault }
-    ensures log_steps { Steps (L.size (inner_of log.old)) (L.size (inner_of log.new))
-        (L.faults (inner_of log.old)) (L.faults (inner_of log.new))
-        (fuse_of log.old) (fuse_of log.new) (IsErrOf result Fault.LogDevice) }
-    ensures store_steps { Steps (D.size (inner_of store.old)) (D.size (inner_of store.new))
-        (D.faults (inner_of store.old)) (D.faults (inner_of store.new))
-        (fuse_of store.old) (fuse_of store.new) (IsErrOf result Fault.DataDevice) }
+    ensures log_steps { Steps (guarded L.seen log.old) (guarded L.seen log.new) (IsErrOf result Fault.LogDevice) }
+    ensures store_steps { Steps (guarded D.seen store.old) (guarded D.seen store.new) (IsErrOf result Fault.DataDevice) }
 {
     clear_log(alloc, log).map_err(log_fault)?;
     erase(alloc, store, 0, STORE_LENGTH).map_err(data_fault)?;

@@ -7,14 +7,14 @@ mod device;
 mod ended;
 mod format;
 mod lab_call;
-mod laws;
 mod open;
 mod report;
 mod run;
 mod script;
+mod store;
 #[cfg(test)]
 mod tests;
 
 pub use ended::Ended;
 pub use format::{LOG_LENGTH, STORE_LENGTH};
-pub use lab_call::lab;
+pub use lab_call::{lab, print_fault};

@@ -1,13 +1,15 @@
 // The text of a call that went well.
-ghost use Rattle.std.specs.Prelude.{◌≡◌, IfOk};
-ghost use Rattle.model_store.specs.Read.{reading_of};
+ghost use Rattle.std.specs.Prelude.{◌≡◌, ◌≤◌, length, IfOk};
+ghost use Rattle.redo_recover.specs.Reading.{reading_of};
 ghost use Rattle.redo_lab.specs.Today.{run_end, run_entries, run_marks, printed_text};
 
+use crate::store::contents;
 use model_base::{FIRST_DATA_LSN, START_LSN};
 use model_history::{Entry, Marks, State};
-use model_report::report_bytes;
 use model_script::Script;
-use model_store::Read;
+use redo_io::Text;
+use redo_lsn::NoMemory;
+use redo_recover::Recovered;
 use std::alloc::{AllocError, Global};
 
 /// The groups that were reserved: that of the script's one line, which was answered once flushed.
@@ -33,24 +35,26 @@ pub(crate) fn report(
     alloc: Global,
     script: &Script,
     end: u64,
-    read: &Read,
-) -> Result<Vec<u8>, AllocError>
-    requires { end ≡ run_end script.now }
-    ensures { IfOk result (λ text. text.items ≡ printed_text script.now (reading_of read.now)) }
+    read: &Recovered,
+) -> Result<Text, NoMemory>
+    requires end { end ≡ run_end script.now }
+    requires few { length read.now.pages ≤ 64 }
+    ensures { IfOk result (λ text. text ≡ printed_text script.now (reading_of read.now)) }
 {
     let entries = entries(alloc, script, end)?;
+    let pages = contents(alloc, &read.pages)?;
     let marks = Marks {
         wtail: end,
         write: end,
         flushed: end,
         ckpt: START_LSN,
     };
-    report_bytes(
+    redo_report::report(
         alloc,
         Some(FIRST_DATA_LSN),
         &entries,
         &[],
         Some(marks),
-        Some((read.end, read.pages.as_slice())),
+        Some((read.end, pages.as_slice())),
     )
 }

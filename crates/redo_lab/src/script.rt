@@ -7,9 +7,10 @@ ghost use Rattle.redo_io.specs.declared.read.TheConstants.{PIECE};
 ghost use Rattle.redo_lab.specs.Script.{IsScriptOf, IsScriptFault};
 
 use model_base::MAX_SCRIPT;
-use model_report::{Fault, Quantity};
-use model_script::{Script, first_path};
+use model_report::Fault;
+use model_script::{Misfit, Quantity, Script};
 use redo_io::{ReadFault, Source, read_all};
+use redo_script::first_path;
 use std::alloc::Global;
 
 fn is_crash_word(word: &str) -> bool
@@ -30,15 +31,18 @@ pub(crate) fn is_crash(words: &[String]) -> bool
 
 /// Reads the script: all that the source has left.
 pub(crate) fn read_script<S: Source>(alloc: Global, src: &mut S) -> Result<Script, Fault>
-    ensures script { IfOk result (IsScriptOf (S.left src.old) (S.left src.new)) }
-    ensures fault { IfErr result (IsScriptFault (S.left src.old) (S.left src.new) (S.faults src.old) (S.faults src.new)) }
-    ensures taken { TakesAtMost (MAX_SCRIPT + PIECE) (S.left src.old) (S.left src.new) }
-    ensures counts { S.faults src.old ≤ S.faults src.new }
+    ensures script { IfOk result (IsScriptOf (S.seen src.old) (S.seen src.new)) }
+    ensures fault { IfErr result (IsScriptFault (S.seen src.old) (S.seen src.new)) }
+    ensures taken { TakesAtMost (MAX_SCRIPT + PIECE) ((S.seen src.old).left) ((S.seen src.new).left) }
+    ensures counts { (S.seen src.old).faults ≤ (S.seen src.new).faults }
 {
     let text = match read_all(alloc, src, MAX_SCRIPT as usize) {
         Ok(text) => text,
         Err(ReadFault::Fault) => return Err(Fault::Source),
-        Err(ReadFault::TooLong) => return Err(Fault::Fit(Quantity::Script, MAX_SCRIPT)),
+        Err(ReadFault::TooLong) => return Err(Fault::Fit(Misfit {
+            quantity: Quantity::Script,
+            number: MAX_SCRIPT,
+        })),
         Err(ReadFault::NoMemory) => return Err(Fault::Memory),
     };
     match first_path(alloc, text.as_slice()) {

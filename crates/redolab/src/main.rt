@@ -1,9 +1,9 @@
 // The program: it runs the script of standard input on two devices in memory, and prints what is left.
 #![tactic(auto)]
 
-use model_report::{FAULT_ROOM, Fault, fault_text};
-use redo_io::{ReaderSource, WriterSink, put_all};
-use redo_lab::{LOG_LENGTH, STORE_LENGTH, lab};
+use model_report::Fault;
+use redo_io::{ReaderSource, WriterSink};
+use redo_lab::{LOG_LENGTH, STORE_LENGTH, lab, print_fault};
 use redo_memdisk::MemDisk;
 use std::alloc::{AllocError, Global};
 use std::io::ErrorKind;
@@ -39,18 +39,10 @@ fn run(rt: &HostRuntime) -> Result<u8, Fault> {
     Ok(ended.status)
 }
 
-/// Prints a fault's line, as far as standard output takes it, and says its status.
-fn print_fault(rt: &HostRuntime, fault: Fault) -> u8 {
-    let mut line = [0; FAULT_ROOM];
-    let length = fault_text(fault, &mut line);
-    let _ = put_all(&mut WriterSink::new(io::writer(rt)), &line[..length]);
-    fault.status()
-}
-
 fn main(rt: HostRuntime) -> ExitCode {
     let status = match run(&rt) {
         Ok(status) => status,
-        Err(fault) => print_fault(&rt, fault),
+        Err(fault) => print_fault(&mut WriterSink::new(io::writer(&rt)), fault),
     };
     ExitCode::from(status)
 }

@@ -4,7 +4,7 @@ use Rattle.model_base.specs.Overwrite.{overwritten}
 use Rattle.redo_lab.specs.Steps.{reads_of}
 use Rattle.std.proofs.lemmas.List.{take-replicate}
 use Rattle.redo_lab.specs.declared.device.TheConstants.{PIECE}
-use Rattle.redo_lab.proofs.StepLemmas.{early_same, early_then, ok_is_no_error, quiet_same, quiet_then}
+use Rattle.redo_lab.proofs.StepLemmas.{ok_is_no_error, quiet_same, quiet_then}
 use Rattle.redo_lab.proofs.Zeros.{told_none, told_more}
 use Rattle.redo_lab.proofs.device.zero.Goals as goal
 
@@ -15,9 +15,8 @@ loop-at-init g c = record {
   up_to = c.requires.ascending;
   size = refl;
   later = omega arith;
-  was_armed = refl;
-  passed = omega arith;
-  early = early_same c.args.device.now.fuse;
+  limit = refl;
+  passed = λ some. some;
   quiet = quiet_same c.args.device.now.fuse;
   told = told_none c.args.from _;
 }
@@ -36,12 +35,11 @@ loop-at-preserved g c =
       sector = grind (arith, c.min-count.ensures, before.sector, c.requires.whole);
       from = omega (arith, before.from);
       up_to = omega arith;
-      size = steps.same_size ∙ before.size;
+      size = steps.size ∙ before.size;
       later = omega (arith, steps.later, before.later);
-      was_armed = steps.was_armed ∙ before.was_armed;
-      passed = omega (arith, steps.passed, before.passed);
-      early = early_then c.args.device.now.fuse c.loop-at.device.fuse c.write.new.device.fuse before.early steps.early;
+      limit = steps.limit ∙ before.limit;
+      passed = λ some. steps.passed (before.passed some);
       quiet = quiet_then c.args.device.now.fuse c.loop-at.device.fuse c.write.new.device.fuse before.quiet (steps.quiet (ok_is_no_error _ _));
       told = told_more c.args.from at (at + count) _ _ _ before.from (omega arith) before.told
-          (c.in_ok-write.ensures.told ∙ ap (λ (l : List ℕ). option_map (overwritten at l) (reads_of (g.D.Sectors.tells c.loop-at.device.inner))) bytes);
+          (c.in_ok-write.ensures.told ∙ ap (λ (l : List ℕ). option_map (overwritten at l) (reads_of ((g.D.Sectors.seen c.loop-at.device.inner).tells))) bytes);
     }

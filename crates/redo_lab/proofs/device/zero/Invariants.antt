@@ -1,8 +1,7 @@
-use Rattle.std.proofs.Common.{◌-◌, ◌≡◌, ◌%◌, ◌≤◌}
+use Rattle.std.proofs.Common.{◌-◌, ◌≡◌, ◌%◌, ◌≤◌, ◌<◌}
 use Rattle.std.specs.Option.{option_map}
 use Rattle.redo_lab.specs.Contents.{zeroed}
-use Rattle.redo_lab.specs.Steps.{IsEarly, IsQuiet, reads_of}
-use Rattle.redo_memdisk.specs.declared.fuse.Stage.TheVariants.{Before}
+use Rattle.redo_lab.specs.Steps.{IsQuiet, reads_of}
 use Rattle.redo_lab.proofs.device.zero.Given as goal
 
 -- the range is zeros as far as the loop has come, and no call failed
@@ -11,13 +10,12 @@ invariant-loop-at g l = record {
   sector : l.at % 512 ≡ 0;
   from : l.fn.from ≤ l.at;
   up_to : l.at ≤ l.to;
-  size : g.D.Sectors.size l.device.inner ≡ g.D.Sectors.size l.fn.device.inner;
-  later : g.D.Sectors.faults l.fn.device.inner ≤ g.D.Sectors.faults l.device.inner;
-  was_armed : l.device.fuse.was_armed ≡ l.fn.device.fuse.was_armed;
-  passed : l.fn.device.fuse.passed ≤ l.device.fuse.passed;
-  early : l.fn.device.fuse.stage ≡ Before → IsEarly l.fn.device.fuse l.device.fuse;
+  size : (g.D.Sectors.seen l.device.inner).size ≡ (g.D.Sectors.seen l.fn.device.inner).size;
+  later : (g.D.Sectors.seen l.fn.device.inner).faults ≤ (g.D.Sectors.seen l.device.inner).faults;
+  limit : l.device.fuse.limit ≡ l.fn.device.fuse.limit;
+  passed : 0 < l.fn.device.fuse.passed → 0 < l.device.fuse.passed;
   quiet : IsQuiet l.fn.device.fuse l.device.fuse;
-  told : reads_of (g.D.Sectors.tells l.device.inner) ≡ option_map (zeroed l.fn.from l.at) (reads_of (g.D.Sectors.tells l.fn.device.inner));
+  told : reads_of ((g.D.Sectors.seen l.device.inner).tells) ≡ option_map (zeroed l.fn.from l.at) (reads_of ((g.D.Sectors.seen l.fn.device.inner).tells));
 }
 
 abbrev pub decreases-loop-at : goal.decreases-loop-at

@@ -18,7 +18,7 @@ returns-clause-told g c =
     let is_head : head ≡ head_text default_shape = c.fill_head.ensures ∙ ap head_text c.default_shape-shape.ensures in
     on_ok_weaker c.put-2.result
     (λ told. told_then (overwritten 512 checkpoint) (overwritten 0 head) _ _ _ c.in_ok-put.ensures.told told
-    ∙ ap settled_as (map_same _ _ (reads_of (g.L.Sectors.tells c.args.log.now.inner))
+    ∙ ap settled_as (map_same _ _ (reads_of ((g.L.Sectors.seen c.args.log.now.inner).tells))
     (λ (bytes : List ℕ). ap (overwritten 0 head) (first_checkpoint checkpoint bytes is_checkpoint)
     ∙ ap (λ (t : List ℕ). overwritten 0 t (with_checkpoint default_shape 0 START_LSN bytes)) is_head)))
     c.put-2.ensures.told

@@ -10,6 +10,6 @@ returns-clause-told g c =
     let held : c.as_slice.result.now ≡ c.read.new.out = c.as_slice.ensures.value ∙ take_at c.read.new.out _ c.in_ok-piece.piece.len whole in
     let long : length c.as_slice.result.now ≡ c.args.count = ap length held ∙ whole ∙ c.in_ok-piece.ensures.len in
     let at : c.len.result ≡ length c.args.bytes.now.items = c.len.ensures ∙ search rules in
-    front_more (g.D.Sectors.tells c.args.device.now.inner) c.args.bytes.now.items c.as_slice.result.now c.extend_from_slice.new.self.items
-    c.len.result c.args.count at long (read_part (g.D.Sectors.tells c.args.device.now.inner) c.as_slice.result.now c.read.new.out c.len.result _ c.args.count held room c.in_ok-read.ensures.bytes)
+    front_more ((g.D.Sectors.seen c.args.device.now.inner).tells) c.args.bytes.now.items c.as_slice.result.now c.extend_from_slice.new.self.items
+    c.len.result c.args.count at long (read_part ((g.D.Sectors.seen c.args.device.now.inner).tells) c.as_slice.result.now c.read.new.out c.len.result _ c.args.count held room c.in_ok-read.ensures.step.bytes)
     c.in_ok-extend_from_slice.ensures.items

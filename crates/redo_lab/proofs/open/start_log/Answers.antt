@@ -5,7 +5,7 @@ use Rattle.model_base.specs.Limits.{default_shape}
 use Rattle.model_base.specs.declared.limits.TheConstants.{START_LSN}
 use Rattle.model_log.specs.Checkpoint.{checkpoint_text}
 use Rattle.model_log.specs.Device.{log_device_length}
-use Rattle.model_log.specs.declared.layout.TheConstants.{HEADER_BLOCKS}
+use Rattle.model_log.specs.declared.layout.TheConstants.{HEADER_BYTES}
 use Rattle.redo_lab.specs.Contents.{zeroed}
 use Rattle.redo_lab.specs.Steps.{settled_as, reads_of}
 use Rattle.redo_lab.proofs.Told.{told_then, map_same, opened_in_steps}
@@ -17,6 +17,6 @@ returns-clause-told g c =
     let is_checkpoint : checkpoint ≡ checkpoint_text 1 START_LSN default_shape =
     c.fill_ckpt.ensures ∙ ap (checkpoint_text 1 START_LSN) c.default_shape-shape.ensures in
     on_ok_weaker c.put.result
-    (λ told. told_then (zeroed HEADER_BLOCKS (log_device_length default_shape)) (overwritten 1536 checkpoint) _ _ _ c.in_ok-erase.ensures.told told
-    ∙ ap settled_as (map_same _ _ (reads_of (g.L.Sectors.tells c.args.log.now.inner)) (λ (bytes : List ℕ). opened_in_steps checkpoint bytes is_checkpoint)))
+    (λ told. told_then (zeroed HEADER_BYTES (log_device_length default_shape)) (overwritten 1536 checkpoint) _ _ _ c.in_ok-erase.ensures.told told
+    ∙ ap settled_as (map_same _ _ (reads_of ((g.L.Sectors.seen c.args.log.now.inner).tells)) (λ (bytes : List ℕ). opened_in_steps checkpoint bytes is_checkpoint)))
     c.put.ensures.told

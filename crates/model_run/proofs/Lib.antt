@@ -1,0 +1,9 @@
+pub mod Pages
+pub mod Between
+pub mod Fitting
+pub mod Later
+pub mod Stored
+pub mod Turns
+pub mod Cuts
+pub mod Closing
+pub mod Safe

@@ -1,0 +1,102 @@
+// What holds of each closed run.
+ghost use Rattle.std.specs.Prelude.{◌≡◌, ◌≤◌, ◌++◌, ℕ, List, Option, Some};
+ghost use Rattle.std.specs.List.{AllByRecursion};
+ghost use Rattle.model_base.specs.declared.shape.Shape.{Shape};
+ghost use Rattle.model_record.specs.Group.{groups_of};
+ghost use Rattle.model_record.specs.declared.group.Whole.{Whole};
+ghost use Rattle.model_device.specs.Disk.{Disk, IsImage};
+ghost use Rattle.model_log.specs.Lsn.{IsDataLsn};
+ghost use Rattle.model_log.specs.Run.{IsRunOf, end_of, spans_of};
+ghost use Rattle.model_page.specs.declared.content.Content.{Content};
+ghost use Rattle.model_store.specs.Apply.{page_folded, upto};
+ghost use Rattle.model_store.specs.Scan.{IsStorable};
+ghost use Rattle.model_store.specs.Fair.{IsFair};
+ghost use Rattle.model_store.specs.Reading.{IsReading, Reading, Refuses};
+ghost use Rattle.model_store.specs.declared.refusal.Refusal.{Refusal};
+ghost use Rattle.model_theorem.specs.Crash.{CrashSafe, failures_of};
+ghost use Rattle.model_theorem.specs.Run.{IsPrefixRead, ReadsPrefix, RunSafe};
+ghost use Rattle.model_theorem.specs.Values.{Account, Crash, Opened};
+ghost use Rattle.model_run.specs.Closed.{Closed, IsClosed, result_of};
+ghost use Rattle.model_run.specs.Crashed.{IsCrashOf, before_crash};
+ghost use Rattle.model_history.specs.Legal.{IsLegal};
+ghost use Rattle.model_history.specs.declared.entry.Marks.{Marks};
+ghost use Rattle.model_script.specs.declared.script.ScriptLine.{ScriptLine};
+ghost use Rattle.model_run.specs.InTurn.{AreAnswered, lines_lost, played};
+ghost use Rattle.model_run.specs.Kept.{DataHolds};
+ghost use Rattle.model_run.specs.Stored.{IsStored};
+
+use model_logdev::crash_reads;
+use model_store::{one_answer, one_reading};
+
+/// Whatever a crash leaves of the two devices of a closed run, of the data device a fair image, is read, in one way and
+/// without a refusal: as the opened pages with the first groups of the run applied whole, which reach every flushed one.
+pub fn closed_run_reads()
+    ensures read { (failures : ℕ) (closed : Closed) (log data_bytes : List ℕ)
+        → IsClosed failures closed → IsImage closed.log_disk log → IsFair closed.opened.shape closed.data_disk data_bytes
+        → ReadsPrefix closed.script closed.opened (Some closed.run) log data_bytes }
+    ensures each { (failures : ℕ) (closed : Closed) (log data_bytes : List ℕ)
+        → IsClosed failures closed → IsImage closed.log_disk log → IsFair closed.opened.shape closed.data_disk data_bytes
+        → (reading : Reading) → IsReading log data_bytes reading
+        → IsPrefixRead closed.script closed.opened (Some closed.run) reading }
+    ensures not_refused { (failures : ℕ) (closed : Closed) (log data_bytes : List ℕ)
+        → IsClosed failures closed → IsImage closed.log_disk log → IsFair closed.opened.shape closed.data_disk data_bytes
+        → (refusal : Refusal) → Refuses log data_bytes refusal → ⊥ }
+{
+    crash_reads();
+    one_reading();
+    one_answer();
+}
+
+/// A closed run is safe.
+pub fn closed_run_is_safe()
+    ensures { (failures : ℕ) (closed : Closed) → IsClosed failures closed → RunSafe failures (result_of closed) }
+{
+    closed_run_reads();
+}
+
+/// The crash theorem holds of a call whose run is safe, or whose opening was stopped, and whose devices were crashed and
+/// read.
+pub fn crash_of_safe_run()
+    ensures { (crash : Crash) (opened : Opened) (account : Account) → IsCrashOf crash opened account
+        → RunSafe (failures_of crash) (before_crash crash opened account) → CrashSafe crash opened account }
+{
+    one_reading();
+}
+
+/// So it holds of a call whose run is closed.
+pub fn crash_of_closed_run()
+    ensures { (crash : Crash) (opened : Opened) (account : Account) (closed : Closed) → IsCrashOf crash opened account
+        → IsClosed (failures_of crash) closed → result_of closed ≡ before_crash crash opened account
+        → CrashSafe crash opened account }
+{
+    closed_run_is_safe();
+    crash_of_safe_run();
+}
+
+/// A history that is played line by line is legal: these lines were answered, and the one behind them was lost, if one
+/// was.
+pub fn played_lines_are_legal()
+    ensures { (script : List ScriptLine) (space s : ℕ) (marks : Marks) (lines rest : List ScriptLine) (lost : Option ScriptLine)
+        → script ≡ lines ++ (lines_lost lost ++ rest) → AreAnswered marks space s lines
+        → IsLegal script space s marks (played marks space s lines lost) }
+{}
+
+/// What a data device holds of a run that keeps each page as it was last written, or as the batch at hand has it.
+pub fn stored_pages_hold()
+    ensures { (shape : Shape) (opened : List Content) (wholes : List Whole) (stable ckpt : ℕ) (was : ℕ → Content) (batch : ℕ → Option Content) (disk : Disk)
+        → IsStored shape opened wholes stable ckpt was batch disk → DataHolds shape opened wholes stable ckpt disk }
+{}
+
+/// A data device holds of a longer run what it holds of a run.
+pub fn longer_data()
+    ensures { (shape : Shape) (opened : List Content) (s : ℕ) (wholes more : List Whole) (stable ckpt : ℕ) (disk : Disk)
+        → IsDataLsn s → IsRunOf s (wholes ++ more) → AllByRecursion (IsStorable shape) (groups_of (wholes ++ more))
+        → stable ≤ end_of s (spans_of wholes) → ckpt ≤ end_of s (spans_of wholes)
+        → DataHolds shape opened wholes stable ckpt disk → DataHolds shape opened (wholes ++ more) stable ckpt disk }
+{}
+
+/// A page with all groups of a run applied is a prefix of the run at its own lsn.
+pub fn whole_page_is_prefix()
+    ensures { (p s : ℕ) (wholes : List Whole) (page : Content) → IsDataLsn s → IsRunOf s wholes → page.lsn ≤ s
+        → page_folded p wholes page ≡ upto p (page_folded p wholes page).lsn wholes page }
+{}

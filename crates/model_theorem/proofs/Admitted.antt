@@ -1,0 +1,253 @@
+-- What the promise admits.
+use Rattle.std.proofs.Common.{◌≡◌, ℕ, zero, suc, ◌+◌, ◌==◌, Bool, true, false, cond, length, slice_get, ◌≤◌, ◌<◌, List, [], ◌∷◌, Some, Ok, sym, ap, ◌∙◌, refl, subst, arith, inl, inr}
+use Rattle.std.specs.Prelude.{take}
+use Rattle.model_store.specs.Apply.{folded}
+use Rattle.std.proofs.lemmas.Bool.{eqb-true}
+use Rattle.model_base.specs.Lines as lines
+use Rattle.model_device.specs.Disk.{Disk, IsImage, settled}
+use Rattle.model_device.specs.declared.write.Write.{Write}
+use Rattle.model_history.specs.Legal.{IsLeft, HasLeft, IsLegal, IsLegalEntry, count_up_to, wholes_of, lines_of_user, entries_of_user}
+use Rattle.model_history.specs.declared.entry.Entry.{Entry}
+use Rattle.model_history.specs.declared.entry.State.TheVariants.{Lost, Flushed}
+use Rattle.model_log.specs.Lsn.{lsn_of, sn_of}
+use Rattle.model_script.specs.declared.script.ScriptLine.{ScriptLine}
+use Rattle.model_number.specs.Spelling as spelling
+use Rattle.model_record.specs.Group as group
+use Rattle.model_record.specs.Record as text
+use Rattle.model_record.specs.Group.{group_length}
+use Rattle.model_script.specs.LineGroup.{group_of}
+use Rattle.model_script.specs.Grammar as grammar
+use Rattle.model_script.specs.Grammar.{script_of}
+use Rattle.model_base.specs.Limits.{default_shape}
+use Rattle.model_store.specs.Reading.{Reading}
+use Rattle.model_theorem.specs.Crash.{CrashSafe}
+use Rattle.model_script.specs.Fit.{LineFits}
+use Rattle.model_theorem.specs.Values.{Opened}
+use Rattle.model_theorem.specs.Examples.{new_store, ReadsAsOpened, lost_run, line_of_value, two_lines, text_of_two, text_of_one, empty_account, empty_call, lost_account, lost_call, stopped_account, stopped_call}
+
+-- what a device held at its last good sync is an image
+base-image : (disk : Disk) → IsImage disk disk.base
+base-image disk = record { same_length = refl; each = λ k below. inl refl }
+
+empty-text : script_of [] ≡ Ok []
+unfolding script_of lines.lines_of
+empty-text = refl
+
+-- the texts of the examples are their scripts
+two-text : script_of text_of_two ≡ Ok two_lines
+unfolding script_of lines.lines_of grammar.script_line_of grammar.item_of grammar.number_below
+two-text = refl
+
+one-text : script_of text_of_one ≡ Ok (line_of_value 7 ∷ [])
+unfolding script_of lines.lines_of grammar.script_line_of grammar.item_of grammar.number_below
+one-text = refl
+
+-- the lines fit a new store
+seven-short : group_length (group_of 1 (line_of_value 7)) ≡ 6
+unfolding group.group_text text.single_text spelling.spelling32
+seven-short = refl
+
+eight-short : group_length (group_of 1 (line_of_value 8)) ≡ 6
+unfolding group.group_text text.single_text spelling.spelling32
+eight-short = refl
+
+line-fits : (value : ℕ) → value < 256 → group_length (group_of 1 (line_of_value value)) ≡ 6 → LineFits default_shape (line_of_value value)
+line-fits value small short = record {
+  user_from = omega arith;
+  user_to = omega arith;
+  has_text = record { some = λ none. absurd (cc); each = ((inl refl, omega arith, omega arith, omega arith, omega arith), tt) };
+  short = omega (arith, short);
+  fits = ((record { own_space = refl; below = omega arith }, small, record { after_header = omega arith; before_trailer = omega arith }), tt);
+}
+
+-- a list of one pair has no other
+pair-only : (first pair : ℕ × ℕ) (i : ℕ) → slice_get (first ∷ []) i ≡ Some pair → first ≡ pair
+pair-only first pair zero at = cc
+pair-only first pair (suc i) at = absurd (cc)
+
+none-second : (first pair : ℕ × ℕ) (i : ℕ) → slice_get (first ∷ []) (suc i) ≡ Some pair → ⊥
+none-second first pair i at = cc
+
+-- the pair is the one of what is left
+abbrev IsFirst : ℕ × ℕ → Type 0
+IsFirst pair = let left : List (ℕ × ℕ) = (1, 1) ∷ [] in slice_get left 0 ≡ Some pair
+
+-- A user with lines left is user 1, who has one.
+is-one : (script : List ScriptLine) (entries : List Entry) (user count : ℕ) (b : Bool) → (1 == user) ≡ b → HasLeft script entries 1 1
+    → ((user : ℕ) → (1 == user) ≡ false → length (lines_of_user user script) ≡ 0) → 0 < count → HasLeft script entries user count
+    → IsFirst (user, count)
+is-one script entries user count true own one others more has =
+    let same : 1 ≡ user = eqb-true 1 user own in
+    let left : HasLeft script entries 1 count = subst (λ n. HasLeft script entries n count) (sym same) has in
+    let count_is : 1 ≡ count = omega (arith, one, left) in
+    cc
+is-one script entries user count false other one others more has = absurd (omega (arith, others user other, has))
+
+-- what is left is one line of user 1
+left-one : (script : List ScriptLine) (entries : List Entry) → HasLeft script entries 1 1
+    → ((user : ℕ) → (1 == user) ≡ false → length (lines_of_user user script) ≡ 0) → IsLeft script entries ((1, 1) ∷ [])
+left-one script entries one others = record {
+  ascending = λ i first second is next. absurd (none-second (1, 1) second i next);
+  some = λ i pair is. subst (λ (pair : ℕ × ℕ). 0 < pair.1) (pair-only (1, 1) pair i is) (omega arith);
+  counts = λ i pair is. subst (λ (pair : ℕ × ℕ). HasLeft script entries pair.0 pair.1) (pair-only (1, 1) pair i is) one;
+  no_other = λ user count more has. (0, (is-one script entries user count (1 == user) refl one others more has));
+}
+
+-- no other user has a line
+others-of-two : (user : ℕ) → (1 == user) ≡ false → length (lines_of_user user two_lines) ≡ 0
+others-of-two user other =
+    ap (λ b. length (cond b (line_of_value 7 ∷ cond b (line_of_value 8 ∷ []) []) (cond b (line_of_value 8 ∷ []) []))) other
+
+others-of-one : (user : ℕ) → (1 == user) ≡ false → length (lines_of_user user (line_of_value 7 ∷ [])) ≡ 0
+others-of-one user other = ap (λ b. length (cond b (line_of_value 7 ∷ []) [])) other
+
+left-none : IsLeft [] [] []
+left-none = record {
+  ascending = λ i first second is next. cc;
+  some = λ i pair is. cc;
+  counts = λ i pair is. cc;
+  no_other = λ user count more has. absurd (omega arith);
+}
+
+pub admits-empty : (log data_bytes : List ℕ) (opened : Opened) (reading : Reading) → ReadsAsOpened log data_bytes opened reading
+    → CrashSafe (empty_call log data_bytes opened reading) opened (empty_account opened reading)
+admits-empty log data_bytes opened reading reads = record {
+  every_script = record { all_read = (refl, refl); is_script = empty-text; fits = tt };
+  any_stops = record {
+    log_device = record { limit = refl; passed_at_most = tt; armed_first = refl; cause = λ some. absurd (omega arith) };
+    data_device = record { limit = refl; passed_at_most = tt; armed_first = refl; cause = λ some. absurd (omega arith) };
+    armed_first = record { opening_counted = omega arith; log_calls = λ used. omega arith; data_calls = λ used. refl };
+  };
+  prints = record { taken = refl; report = refl; left_is = left-none };
+  in_lsn_order = record {
+    start = refl;
+    legal = record { tiled = tt; each = λ i entry is. cc; in_order = λ user i entry is. cc; lost_last = λ user i entry is lost. cc };
+    wtail = refl;
+    write = refl;
+    flushed = refl;
+    write_within = omega arith;
+  };
+  read_from_devices = record {
+    log_device = record { pick_is = refl; kept = base-image (settled log); one_image = refl; unchanged_since = refl; unfailed_since = refl };
+    data_device = record { pick_is = refl; kept = base-image (settled data_bytes); one_image = refl; unchanged_since = refl; unfailed_since = refl };
+    is_read = reads.is_read;
+    old_copies = reads.old_copies;
+  };
+  first_groups_whole = record {
+    shape = reads.shape;
+    first_groups_whole = reads.pages;
+    reaching_flushed = λ i entry is flushed. cc;
+    marks = record { flushed = omega (arith, reads.end); checkpoint = omega arith };
+  };
+  lost_only_by_failure = record { lost = λ i entry is lost. cc; left = λ some. absurd (some refl); stopped = λ none. cc };
+}
+
+-- the one entry of a user
+entry-only : (first entry : Entry) (i : ℕ) → slice_get (first ∷ []) i ≡ Some entry → (i ≡ 0) × (first ≡ entry)
+entry-only first entry zero at = (refl, cc)
+entry-only first entry (suc i) at = absurd (cc)
+
+-- the user's entries among one entry are that one, or none
+own-only : (first entry : Entry) (user i : ℕ) (b : Bool) → (first.user == user) ≡ b → slice_get (entries_of_user user (first ∷ [])) i ≡ Some entry
+    → (i ≡ 0) × (first ≡ entry) × (entries_of_user user (first ∷ []) ≡ first ∷ [])
+own-only first entry user i true own at =
+    let only : entries_of_user user (first ∷ []) ≡ first ∷ [] = ap (λ b. cond b (first ∷ []) []) own in
+    let one = entry-only first entry i (ap (λ (es : List Entry). slice_get es i) (sym only) ∙ at) in
+    (one.0, one.1, only)
+own-only first entry user i false other at =
+    let none : entries_of_user user (first ∷ []) ≡ [] = ap (λ b. cond b (first ∷ []) []) other in
+    let found : slice_get [] i ≡ Some entry = ap (λ (es : List Entry). slice_get es i) (sym none) ∙ at in
+    absurd (cc)
+
+abbrev first-entry : Entry
+first-entry = record { user = 1; k = 0; start = 8204; end = 8210; state = Lost }
+
+-- the entry is one of a legal history
+first-legal : IsLegalEntry two_lines 1 lost_run.marks first-entry
+first-legal = record {
+  line = line_of_value 7;
+  of_line = record { line_is = refl; end_is = ap (λ n. lsn_of (sn_of 8204 + n)) (sym seven-short) };
+  marks_say = tt;
+  mode_allows = tt;
+}
+
+legal-lost : IsLegal two_lines 1 8204 lost_run.marks lost_run.entries
+legal-lost = record {
+  tiled = (refl, tt);
+  each = λ i entry at. subst (IsLegalEntry two_lines 1 lost_run.marks) (entry-only first-entry entry i at).1 first-legal;
+  in_order = λ user i entry at.
+      let own = own-only first-entry entry user i (1 == user) refl at in
+      ap (λ (entry : Entry). entry.k) (sym own.1) ∙ sym own.0;
+  lost_last = λ user i entry at lost.
+      let own = own-only first-entry entry user i (1 == user) refl at in
+      ap suc own.0 ∙ ap length (sym own.2);
+}
+
+-- the one entry ends above the end that is read
+none-first : (end : ℕ) → end ≡ 8204 → count_up_to end lost_run.entries ≡ 0
+none-first end is = ap (λ end. count_up_to end lost_run.entries) is
+
+pub admits-lost : (log : List ℕ) (writes : List Write) (reads data_bytes : List ℕ) (reading : Reading) → ReadsAsOpened log data_bytes new_store reading
+    → 8192 ≤ reading.ckpt → CrashSafe (lost_call log writes reads data_bytes reading) new_store (lost_account reading)
+admits-lost log writes reads data_bytes reading as_opened ckpt = record {
+  every_script = record {
+    all_read = (refl, refl);
+    is_script = two-text;
+    fits = (line-fits 7 (omega arith) seven-short, (line-fits 8 (omega arith) eight-short, tt));
+  };
+  any_stops = record {
+    log_device = record { limit = refl; passed_at_most = tt; armed_first = refl; cause = λ some. inl (inl (omega arith)) };
+    data_device = record { limit = refl; passed_at_most = tt; armed_first = refl; cause = λ some. absurd (omega arith) };
+    armed_first = record { opening_counted = omega arith; log_calls = λ used. omega arith; data_calls = λ used. refl };
+  };
+  prints = record { taken = refl; report = refl; left_is = left-one two_lines lost_run.entries refl others-of-two };
+  in_lsn_order = record {
+    start = refl;
+    legal = legal-lost;
+    wtail = inr refl;
+    write = inr refl;
+    flushed = inl refl;
+    write_within = omega arith;
+  };
+  read_from_devices = record {
+    log_device = record { pick_is = refl; kept = record { same_length = refl; each = λ k below. inl refl }; one_image = refl; unchanged_since = refl; unfailed_since = refl };
+    data_device = record { pick_is = refl; kept = base-image (settled data_bytes); one_image = refl; unchanged_since = refl; unfailed_since = refl };
+    is_read = as_opened.is_read;
+    old_copies = as_opened.old_copies;
+  };
+  first_groups_whole = record {
+    shape = as_opened.shape;
+    first_groups_whole = as_opened.pages ∙ sym (ap (λ n. folded new_store.pages (take n (wholes_of two_lines 1 lost_run.entries))) (none-first reading.end as_opened.end));
+    reaching_flushed = λ i entry at flushed.
+        let same = entry-only first-entry entry i at in
+        absurd (let states : Lost ≡ Flushed = ap (λ (entry : Entry). entry.state) same.1 ∙ flushed in cc);
+    marks = record { flushed = omega (arith, as_opened.end); checkpoint = omega arith };
+  };
+  lost_only_by_failure = record { lost = λ i entry at lost. omega arith; left = λ some. omega arith; stopped = λ none. omega arith };
+}
+
+pub admits-stopped : (log data_bytes : List ℕ) (reading : Reading) → ReadsAsOpened log data_bytes new_store reading
+    → CrashSafe (stopped_call log data_bytes reading) new_store (stopped_account reading)
+admits-stopped log data_bytes reading as_opened = record {
+  every_script = record { all_read = (refl, refl); is_script = one-text; fits = tt };
+  any_stops = record {
+    log_device = record { limit = refl; armed_first = refl; passed_at_most = omega arith; cause = λ some. inr (omega arith) };
+    data_device = record { limit = refl; passed_at_most = tt; armed_first = refl; cause = λ some. absurd (omega arith) };
+    armed_first = record { opening_counted = omega arith; log_calls = λ used. omega arith; data_calls = λ used. refl };
+  };
+  prints = record { taken = refl; report = refl; left_is = left-one (line_of_value 7 ∷ []) [] refl others-of-one };
+  in_lsn_order = tt;
+  read_from_devices = record {
+    log_device = record { pick_is = refl; kept = record { same_length = refl; each = λ k below. inl refl }; one_image = refl; unchanged_since = refl; unfailed_since = refl };
+    data_device = record { pick_is = refl; kept = base-image (settled data_bytes); one_image = refl; unchanged_since = refl; unfailed_since = refl };
+    is_read = as_opened.is_read;
+    old_copies = as_opened.old_copies;
+  };
+  first_groups_whole = record {
+    shape = as_opened.shape;
+    first_groups_whole = as_opened.pages;
+    reaching_flushed = λ i entry at flushed. absurd (cc);
+    marks = tt;
+  };
+  lost_only_by_failure = record { lost = λ i entry at lost. absurd (cc); left = λ some. omega arith; stopped = λ none. omega arith };
+}
