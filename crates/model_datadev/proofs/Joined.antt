@@ -1,16 +1,11 @@
 -- The batch that pairs of page and lsn and joined user bytes come to.
-use Rattle.std.proofs.Common.{◌≡◌, ◌≤◌, ◌<◌, ◌+◌, ◌-◌, ◌*◌, ℕ, zero, suc, List, [], ◌∷◌, ◌++◌, length, take, drop, Some, refl, sym, ap, subst, ◌∙◌, get_or, ⊎_elim, length-take-le, length-take, length-drop, length-append, append_assoc, add-one, arith}
+use Rattle.std.proofs.Common.{◌≡◌, ◌<◌, ◌+◌, ◌*◌, ℕ, zero, suc, List, [], ◌∷◌, length, take, drop, Some, refl, sym, ap, subst, ◌∙◌, get_or, ⊎_elim, length-take, length-drop, arith}
 use Rattle.std.specs.List.{slice_get}
-use Rattle.std.proofs.lemmas.List.{take_at, drop_at, drop-drop, append-nil, get_or-take, get_or-drop, get_or_past}
+use Rattle.std.proofs.lemmas.List.{drop-drop, get_or-take, get_or-drop, get_or_past}
 use Rattle.std.proofs.lemmas.Option.{slice_get_within}
 use Rattle.std.proofs.lemmas.Bool.{cases_lt}
-use Rattle.std.proofs.lemmas.Slice.{take-put_mid}
-use borrow.Rule.Slice.PartMut.{put_mid}
 use Rattle.model_base.specs.declared.shape.Shape.{Shape}
-use Rattle.model_page.specs.Page.{page_text}
-use Rattle.model_device.specs.declared.write.Write.{Write}
-use Rattle.model_datadev.specs.Batch.{Fresh, IsFreshPage, IsBatch, IsWritable, batch_of, new_text, batch_text, place_at, place_write, place_writes}
-use Rattle.model_datadev.proofs.Batches.{length-new_text, length-page_text}
+use Rattle.model_datadev.specs.Batch.{Fresh, IsFreshPage, IsBatch, IsWritable, batch_of}
 
 -- what a pair becomes
 abbrev pub fresh_of : (ℕ × ℕ) → List ℕ → Fresh
@@ -58,7 +53,6 @@ batch-from shape pairs users slots is bytes = record {
       let below : i < length pairs = slice_get_within pairs i one.pair one.at in
       subst (λ (x : Fresh). IsFreshPage shape x) (sym one.is) (record {
         below = is.below i one.pair one.at;
-        some_lsn = is.some_lsn i one.pair one.at;
         small_lsn = omega (arith, is.small_lsn i one.pair one.at);
         long = length-take 4050 (drop (i * 4050) users) ∙ omega (arith, length-drop (i * 4050) users, is.count);
         bytes = λ j. get_or-take-byte 4050 (i * 4050) j users bytes;

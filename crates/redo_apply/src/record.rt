@@ -42,7 +42,7 @@ fn put_bytes(user: &mut [u8], offset: u32, bytes: &[u8])
 }
 
 /// Changes the user bytes of a record's page as the record says.
-pub(crate) fn put_record(user: &mut [u8], rec: &Rec)
+pub fn put_record(user: &mut [u8], rec: &Rec)
     requires within { WritesWithin (length user.old) rec.now }
     ensures { user.new ≡ user_after_own rec.now user.old }
 {
@@ -59,7 +59,7 @@ pub(crate) fn put_record(user: &mut [u8], rec: &Rec)
 }
 
 /// The page that a record is on.
-pub(crate) fn page_of(rec: &Rec) -> u32
+pub fn page_of(rec: &Rec) -> u32
     ensures { result ≡ page_of rec.now }
 {
     match rec {

@@ -161,3 +161,14 @@ fn a_place_that_passes_is_kept(rt: HostRuntime) -> Result<(), Fail> {
     }
     Ok(())
 }
+
+// Fields of 0 and no user byte set: the checksum of 4,084 zero bytes isn't 0.
+#[test]
+fn a_sealed_page_is_not_blank(rt: HostRuntime) -> Result<(), Fail> {
+    let mut page = [0; 4096];
+    assert_eq!(rt; check(&page), PageState::Blank);
+    seal(&mut page, 0, 0, 0);
+    assert_eq!(rt; check(&page), PageState::Sound(0, 0, 0));
+    assert_eq!(rt; &page[..4], [0xD2, 0x43, 0xA2, 0x6F].as_slice());
+    Ok(())
+}
