@@ -1,0 +1,20 @@
+-- The actors, and what they hand to a device call.
+use Rattle.std.specs.Prelude.{List, ℕ}
+use Rattle.model_core.specs.Groups.{Entry}
+use Rattle.model_core.specs.States as models
+
+-- An actor with its state. Joined is a seat that was joined into another one, of which its groups are left.
+pub data Actor : Type 0 where
+  User : models.UserState → Actor
+  Writer : models.WriterState → Actor
+  Flusher : models.FlusherState → Actor
+  Closer : models.CloserState → Actor
+  Cleaner : models.CleanerState → Actor
+  Checkpointer : models.CheckpointerState → Actor
+  Joined : List Entry → Actor
+
+-- what a device call takes beside its numbers: the log's bytes with their blocks' first offsets, or a batch of pages
+pub data Lent : Type 0 where
+  Nothing : Lent
+  Blocks : List ℕ → List ℕ → Lent
+  Batch : List models.BatchPage → Lent

@@ -1,0 +1,62 @@
+-- The program of the checkpointer.
+use Rattle.std.specs.Prelude.{Bool, None, Option, Some, cond, false, min, nat_lt, true, ℕ, ◌+◌, ◌-◌, ◌==◌}
+use Rattle.model_core.specs.Answers.{on_call, code_of, oldest_in, old_of, on_take, has_taken}
+use Rattle.model_core.specs.Lsn.{floor}
+use Rattle.model_core.specs.States.{CheckpointerState}
+use Rattle.model_core.specs.declared.ops.Answer.{Answer}
+use Rattle.model_core.specs.declared.ops.Op.{Op}
+use Rattle.model_core.specs.declared.steps.CheckpointerStep.{CheckpointerStep}
+use Rattle.model_core.specs.declared.words.Word.TheVariants as word
+use Rattle.model_core.specs.declared.ops.Op.TheVariants as op
+use Rattle.model_core.specs.declared.steps.CheckpointerStep.TheVariants as checkpointer_step
+use Rattle.model_core.specs.declared.limits.TheConstants.{CLOSED_LINKS, FLUSH_LISTS}
+
+abbrev pub checkpointer_op : CheckpointerState → CheckpointerStep → Op
+checkpointer_op t checkpointer_step.LoadCtail = op.Load word.Ctail
+checkpointer_op t checkpointer_step.ReadList = op.TakeOldest t.list
+checkpointer_op t checkpointer_step.GiveList = op.GiveList t.list
+checkpointer_op t checkpointer_step.LoadFlushed = op.Load word.Flushed
+checkpointer_op t checkpointer_step.TakeDevice = op.TakeDevice
+checkpointer_op t checkpointer_step.GiveBroken = op.GiveDevice
+checkpointer_op t checkpointer_step.Checkpoint = op.Checkpoint t.to
+checkpointer_op t checkpointer_step.StoreCheckpoint = op.Store word.Ckpt t.to
+checkpointer_op t checkpointer_step.GiveDevice = op.GiveDevice
+checkpointer_op t checkpointer_step.StoreFailed = op.Store word.Failed t.code
+checkpointer_op t checkpointer_step.GiveFailed = op.GiveDevice
+checkpointer_op t checkpointer_step.Failed = op.Rest
+
+-- the candidate under a list's oldest end
+abbrev pub lowered : ℕ → Option ℕ → ℕ
+lowered x None = x
+lowered x (Some a) = min x (a - CLOSED_LINKS)
+
+-- its candidate, where FLUSHED is this, and whether that is above its last checkpoint
+abbrev pub candidate : CheckpointerState → ℕ → ℕ
+candidate t n = floor (min t.to n)
+
+abbrev pub is_above : CheckpointerState → ℕ → Bool
+is_above t n = nat_lt t.own (candidate t n)
+
+abbrev pub checkpointer_took : CheckpointerState → Answer → CheckpointerStep → CheckpointerState
+checkpointer_took t a checkpointer_step.LoadCtail = record t { ctail = old_of a; to = old_of a; list = 0; step = checkpointer_step.ReadList }
+checkpointer_took t a checkpointer_step.ReadList = cond (has_taken a) (record t { to = lowered t.to (oldest_in a); step = checkpointer_step.GiveList }) (record t { checks = true; step = checkpointer_step.ReadList })
+checkpointer_took t a checkpointer_step.GiveList = record t { list = t.list + 1; step = cond (t.list + 1 == FLUSH_LISTS) checkpointer_step.LoadFlushed checkpointer_step.ReadList }
+checkpointer_took t a checkpointer_step.LoadFlushed = cond (is_above t (old_of a)) (record t { flushed = old_of a; to = candidate t (old_of a); step = checkpointer_step.TakeDevice }) (record t { flushed = old_of a; checks = true; step = checkpointer_step.LoadCtail })
+checkpointer_took t a checkpointer_step.TakeDevice = record t { checks = on_take a false false true; step = on_take a checkpointer_step.Checkpoint checkpointer_step.GiveBroken checkpointer_step.TakeDevice }
+checkpointer_took t a checkpointer_step.GiveBroken = record t { checks = true; step = checkpointer_step.TakeDevice }
+checkpointer_took t a checkpointer_step.Checkpoint = record t { code = code_of a; step = on_call a checkpointer_step.StoreCheckpoint checkpointer_step.StoreFailed }
+checkpointer_took t a checkpointer_step.StoreCheckpoint = record t { own = t.to; step = checkpointer_step.GiveDevice }
+checkpointer_took t a checkpointer_step.GiveDevice = record t { step = checkpointer_step.LoadCtail }
+checkpointer_took t a checkpointer_step.StoreFailed = record t { step = checkpointer_step.GiveFailed }
+checkpointer_took t a checkpointer_step.GiveFailed = record t { step = checkpointer_step.Failed }
+checkpointer_took t a checkpointer_step.Failed = t
+
+abbrev pub checkpointer_checked : CheckpointerState → ℕ → CheckpointerState
+checkpointer_checked t n = cond (n == 0) (record t { checks = false }) (record t { checks = false; code = n; step = checkpointer_step.Failed })
+
+-- what an actor's own code computes
+abbrev pub checkpointer_next : CheckpointerState → Op
+checkpointer_next t = cond t.checks (op.Load word.Failed) (checkpointer_op t t.step)
+
+abbrev pub checkpointer_after : CheckpointerState → Answer → CheckpointerState
+checkpointer_after t a = cond t.checks (checkpointer_checked t (old_of a)) (checkpointer_took t a t.step)

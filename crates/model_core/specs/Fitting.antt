@@ -1,0 +1,41 @@
+-- The answers that an actor may be given: with these no number of its own wraps, no byte is lost, and no list outgrows its
+-- room.
+use Rattle.std.specs.Prelude.{cond, length, ℕ, ◌+◌, ◌<◌, ◌^◌, ◌≤◌}
+use Rattle.model_core.specs.Actors.{Actor}
+use Rattle.model_core.specs.Answers.{old_of}
+use Rattle.model_core.specs.Program.{is_checking}
+use Rattle.model_core.specs.States.{WriterState, UserState}
+use Rattle.model_core.specs.UserProgram.{group_bytes}
+use Rattle.model_core.specs.WriterProgram.{full_blocks}
+use Rattle.model_core.specs.declared.ops.Answer.{Answer}
+use Rattle.model_core.specs.declared.steps.UserStep.{UserStep}
+use Rattle.model_core.specs.declared.steps.WriterStep.{WriterStep}
+use Rattle.model_core.specs.Actors as actor
+use Rattle.model_core.specs.declared.steps.UserStep.TheVariants as user_step
+use Rattle.model_core.specs.declared.steps.WriterStep.TheVariants as writer_step
+use Rattle.model_base.specs.declared.limits.TheConstants.{BLOCK_SIZE}
+
+abbrev pub user_fits : UserState → ℕ → UserStep → Type 0
+user_fits u n user_step.LoadCheckpoint = n < 2 ^ 60
+user_fits u n user_step.LoadSn = n < 2 ^ 59
+user_fits u n user_step.Reserve = n + length (group_bytes u) < 2 ^ 59
+user_fits u n user_step.LoadWrite = n < 2 ^ 60
+user_fits u n user_step.LoadWtail = n < 2 ^ 60
+user_fits u n _ = Unit {0}
+
+abbrev pub writer_fits : WriterState → ℕ → WriterStep → Type 0
+writer_fits s n writer_step.LoadLink = s.tail + n < 2 ^ 60
+writer_fits s n writer_step.LoadCheckpoint = n < 2 ^ 60
+writer_fits s n writer_step.LoadFirst = n < BLOCK_SIZE
+writer_fits s n writer_step.ClearFirst = length s.firsts < 86
+writer_fits s n writer_step.LoadCell = (n < 256) × (length s.kept < 41736)
+writer_fits s n writer_step.StoreWrite = (full_blocks s ≤ length s.firsts) × (s.from + length s.kept < 2 ^ 59)
+writer_fits s n _ = Unit {0}
+
+abbrev pub own_fits : Actor → ℕ → Type 0
+own_fits (actor.User u) n = user_fits u n u.step
+own_fits (actor.Writer s) n = writer_fits s n s.step
+own_fits _ n = Unit {0}
+
+abbrev pub Fitting : Actor → Answer → Type 0
+Fitting a r = cond (is_checking a) (Unit {0}) (own_fits a (old_of r))

@@ -1,0 +1,160 @@
+-- Where each word stands in the list of words.
+use Rattle.std.specs.Prelude.{List, [], get_or, length, slice_index, slice_set, ℕ, ◌*◌, ◌++◌, ◌+◌, ◌<◌, ◌∷◌, ◌≡◌}
+use Rattle.model_core.specs.declared.words.Word.{Word}
+use Rattle.model_core.specs.declared.words.Word.TheVariants as word
+use Rattle.model_core.specs.declared.limits.TheConstants.{LOG_BUFFER, BUFFER_BLOCKS, WRITTEN_LINKS, CLOSED_LINKS, FLUSH_LISTS, FRAME_CELLS}
+
+-- where each kind of word begins
+abbrev pub device_at : ℕ
+device_at = 7
+
+abbrev pub lists_at : ℕ
+lists_at = 8
+
+abbrev pub written_links_at : ℕ
+written_links_at = lists_at + FLUSH_LISTS
+
+abbrev pub closed_links_at : ℕ
+closed_links_at = written_links_at + WRITTEN_LINKS
+
+abbrev pub cells_at : ℕ
+cells_at = closed_links_at + CLOSED_LINKS
+
+abbrev pub firsts_at : ℕ
+firsts_at = cells_at + LOG_BUFFER
+
+abbrev pub pages_at : ℕ
+pages_at = firsts_at + BUFFER_BLOCKS
+
+-- among a page's words, where its frame begins; and how many words a page has
+abbrev pub frame_at : ℕ
+frame_at = 3
+
+abbrev pub page_stride : ℕ
+page_stride = frame_at + FRAME_CELLS
+
+-- how many words a store of so many pages has
+abbrev pub word_count : ℕ → ℕ
+word_count pages = pages_at + pages * page_stride
+
+abbrev pub index : Word → ℕ
+index word.Sn = 0
+index word.Write = 1
+index word.Wtail = 2
+index word.Flushed = 3
+index word.Ckpt = 4
+index word.Ctail = 5
+index word.Failed = 6
+index word.Device = 7
+index (word.List i) = lists_at + i
+index (word.Wlink i) = written_links_at + i
+index (word.Clink i) = closed_links_at + i
+index (word.Cell i) = cells_at + i
+index (word.First i) = firsts_at + i
+index (word.Latch p) = pages_at + p * page_stride
+index (word.Newest p) = pages_at + (p * page_stride + 1)
+index (word.Oldest p) = pages_at + (p * page_stride + 2)
+index (word.Frame p i) = pages_at + (p * page_stride + (frame_at + i))
+
+-- the word is one of a store of so many pages
+abbrev pub IsWord : ℕ → Word → Type 0
+IsWord pages (word.List i) = i < FLUSH_LISTS
+IsWord pages (word.Wlink i) = i < WRITTEN_LINKS
+IsWord pages (word.Clink i) = i < CLOSED_LINKS
+IsWord pages (word.Cell i) = i < LOG_BUFFER
+IsWord pages (word.First i) = i < BUFFER_BLOCKS
+IsWord pages (word.Latch p) = p < pages
+IsWord pages (word.Newest p) = p < pages
+IsWord pages (word.Oldest p) = p < pages
+IsWord pages (word.Frame p i) = (p < pages) × (i < FRAME_CELLS)
+IsWord pages _ = Unit {0}
+
+-- a page's words
+pub record PageWords : Type 0 where
+  pub latch : ℕ
+  pub newest : ℕ
+  pub oldest : ℕ
+  pub frame : List ℕ
+
+abbrev pub blank_words : PageWords
+blank_words = record { latch = 0; newest = 0; oldest = 0; frame = [] }
+
+abbrev pub page_words_at : List PageWords → ℕ → PageWords
+page_words_at ls p = get_or ls p blank_words
+
+abbrev pub flat_page_words : List PageWords → List ℕ
+flat_page_words [] = []
+flat_page_words (w ∷ ws) = w.latch ∷ w.newest ∷ w.oldest ∷ (w.frame ++ flat_page_words ws)
+
+-- the words by name. A change of one leaves the others as they are by computation alone
+pub record SharedWords : Type 0 where
+  pub sn : ℕ
+  pub write : ℕ
+  pub wtail : ℕ
+  pub flushed : ℕ
+  pub ckpt : ℕ
+  pub ctail : ℕ
+  pub failed : ℕ
+  pub device : ℕ
+  pub lists : List ℕ
+  pub wlinks : List ℕ
+  pub clinks : List ℕ
+  pub cells : List ℕ
+  pub firsts : List ℕ
+  pub page_words : List PageWords
+
+pub record IsSized (pages : ℕ) (m : SharedWords) : Type 0 where
+  pub lists : length m.lists ≡ FLUSH_LISTS
+  pub wlinks : length m.wlinks ≡ WRITTEN_LINKS
+  pub clinks : length m.clinks ≡ CLOSED_LINKS
+  pub cells : length m.cells ≡ LOG_BUFFER
+  pub firsts : length m.firsts ≡ BUFFER_BLOCKS
+  pub page_words : length m.page_words ≡ pages
+  pub frames : (p : ℕ) → p < pages → length (page_words_at m.page_words p).frame ≡ FRAME_CELLS
+
+abbrev pub rows : SharedWords → List ℕ
+rows m = m.lists ++ (m.wlinks ++ (m.clinks ++ (m.cells ++ (m.firsts ++ flat_page_words m.page_words))))
+
+abbrev pub flat : SharedWords → List ℕ
+flat m = m.sn ∷ m.write ∷ m.wtail ∷ m.flushed ∷ m.ckpt ∷ m.ctail ∷ m.failed ∷ m.device ∷ rows m
+
+abbrev pub read : SharedWords → Word → ℕ
+read m word.Sn = m.sn
+read m word.Write = m.write
+read m word.Wtail = m.wtail
+read m word.Flushed = m.flushed
+read m word.Ckpt = m.ckpt
+read m word.Ctail = m.ctail
+read m word.Failed = m.failed
+read m word.Device = m.device
+read m (word.List i) = slice_index m.lists i
+read m (word.Wlink i) = slice_index m.wlinks i
+read m (word.Clink i) = slice_index m.clinks i
+read m (word.Cell i) = slice_index m.cells i
+read m (word.First i) = slice_index m.firsts i
+read m (word.Latch p) = (page_words_at m.page_words p).latch
+read m (word.Newest p) = (page_words_at m.page_words p).newest
+read m (word.Oldest p) = (page_words_at m.page_words p).oldest
+read m (word.Frame p i) = slice_index (page_words_at m.page_words p).frame i
+
+abbrev pub with_page_words : SharedWords → ℕ → PageWords → SharedWords
+with_page_words m p w = record m { page_words = slice_set m.page_words p w }
+
+abbrev pub wrote : SharedWords → Word → ℕ → SharedWords
+wrote m word.Sn x = record m { sn = x }
+wrote m word.Write x = record m { write = x }
+wrote m word.Wtail x = record m { wtail = x }
+wrote m word.Flushed x = record m { flushed = x }
+wrote m word.Ckpt x = record m { ckpt = x }
+wrote m word.Ctail x = record m { ctail = x }
+wrote m word.Failed x = record m { failed = x }
+wrote m word.Device x = record m { device = x }
+wrote m (word.List i) x = record m { lists = slice_set m.lists i x }
+wrote m (word.Wlink i) x = record m { wlinks = slice_set m.wlinks i x }
+wrote m (word.Clink i) x = record m { clinks = slice_set m.clinks i x }
+wrote m (word.Cell i) x = record m { cells = slice_set m.cells i x }
+wrote m (word.First i) x = record m { firsts = slice_set m.firsts i x }
+wrote m (word.Latch p) x = with_page_words m p (record (page_words_at m.page_words p) { latch = x })
+wrote m (word.Newest p) x = with_page_words m p (record (page_words_at m.page_words p) { newest = x })
+wrote m (word.Oldest p) x = with_page_words m p (record (page_words_at m.page_words p) { oldest = x })
+wrote m (word.Frame p i) x = with_page_words m p (record (page_words_at m.page_words p) { frame = slice_set (page_words_at m.page_words p).frame i x })

@@ -1,0 +1,23 @@
+-- What a turn sees of the log part, wherever it is: its marks, and predicates that a drive gives with their laws.
+use Rattle.std.specs.Prelude.{Bool, List, ℕ}
+use Rattle.model_core.specs.Groups.{Entry}
+
+-- Of a part are seen four marks, as lsns, and whether it has failed. What a call may leave is told by relations between its
+-- numbers, its code, which is 0 for Ok, and the part before and after.
+pub record LogSide : Type 1 where
+  pub Part : Type 0
+  -- written, stable, the last mark given to write_to, the newest checkpoint
+  pub written : Part → ℕ
+  pub stable : Part → ℕ
+  pub given : Part → ℕ
+  pub ckpt : Part → ℕ
+  pub failed : Part → Bool
+  -- of a log of so many blocks, a run's start and its groups: in every image the blocks are as they should be
+  pub Holds : ℕ → ℕ → List Entry → Part → Type 0
+  -- a device call has failed with this code
+  pub Cause : Part → ℕ → Type 0
+  -- what a write up to a mark, of these bytes and first offsets, may leave; a sync
+  pub Wrote : ℕ → List ℕ → List ℕ → ℕ → Part → Part → Type 0
+  pub Synced : ℕ → Part → Part → Type 0
+  -- a checkpoint at an lsn
+  pub Checkpointed : ℕ → ℕ → Part → Part → Type 0

@@ -1,0 +1,79 @@
+-- The actors as a run begins, with nothing done. The run starts at an lsn that is the place of a block's first data byte.
+use Rattle.std.specs.Prelude.{List, [], cond, false, length, true, ℕ, ◌*◌, ◌-◌, ◌/◌, ◌==◌}
+use Rattle.model_base.specs.declared.limits.TheConstants.{BLOCK_SIZE}
+use Rattle.model_core.specs.States.{CheckpointerState, CleanerState, CloserState, FlusherState, Line, UserState, WriterState, none_loaded}
+use Rattle.model_core.specs.declared.steps.CheckpointerStep.TheVariants as checkpointer_step
+use Rattle.model_core.specs.declared.steps.CleanerStep.TheVariants as cleaner_step
+use Rattle.model_core.specs.declared.steps.CloserStep.TheVariants as closer_step
+use Rattle.model_core.specs.declared.steps.FlusherStep.TheVariants as flusher_step
+use Rattle.model_core.specs.declared.steps.UserStep.TheVariants as user_step
+use Rattle.model_core.specs.declared.steps.WriterStep.TheVariants as writer_step
+use Rattle.model_log.specs.declared.layout.TheConstants.{BLOCK_DATA, BLOCK_HEADER}
+
+-- a user that has no line is done
+abbrev pub new_user : ℕ → ℕ → List Line → UserState
+new_user user blocks lines = record {
+  user = user;
+  blocks = blocks;
+  lines = lines;
+  starts = [];
+  k = 0;
+  start = 0;
+  copied = 0;
+  page = 0;
+  cell = 0;
+  loaded = none_loaded;
+  code = 0;
+  checks = cond (length lines == 0) false true;
+  step = cond (length lines == 0) user_step.Done user_step.LoadCheckpoint;
+}
+
+-- it has read up to the start
+abbrev pub new_writer : ℕ → ℕ → WriterState
+new_writer blocks start = record {
+  blocks = blocks;
+  tail = start;
+  write = start;
+  from = start / BLOCK_SIZE * BLOCK_DATA;
+  kept = [];
+  firsts = [];
+  link = 0;
+  first = 0;
+  ckpt = 0;
+  code = 0;
+  checks = false;
+  step = writer_step.LoadLink;
+}
+
+abbrev pub new_flusher : ℕ → FlusherState
+new_flusher start = record { last = start; write = 0; mark = 0; code = 0; checks = false; step = flusher_step.LoadWrite }
+
+abbrev pub new_closer : ℕ → CloserState
+new_closer start = record { tail = start; link = 0; code = 0; checks = false; step = closer_step.LoadClosedLink }
+
+abbrev pub new_cleaner : ℕ → CleanerState
+new_cleaner pages = record {
+  pages = pages;
+  flushed = 0;
+  page = 0;
+  left = 0;
+  newest = 0;
+  kept = [];
+  batch = [];
+  code = 0;
+  checks = false;
+  step = cleaner_step.LoadFlushed;
+}
+
+-- the newest checkpoint stands at the start's block
+abbrev pub new_checkpointer : ℕ → CheckpointerState
+new_checkpointer start = record {
+  own = start - BLOCK_HEADER;
+  ctail = 0;
+  flushed = 0;
+  to = 0;
+  list = 0;
+  code = 0;
+  checks = false;
+  step = checkpointer_step.LoadCtail;
+}

@@ -1,0 +1,112 @@
+-- The state of each actor: what contracts see of it.
+use Rattle.std.specs.Prelude.{Bool, List, ℕ}
+use Rattle.model_core.specs.Groups.{PageChange}
+use Rattle.model_core.specs.declared.steps.CleanerStep.{CleanerStep}
+use Rattle.model_core.specs.declared.steps.CloserStep.{CloserStep}
+use Rattle.model_core.specs.declared.steps.UserStep.{UserStep}
+use Rattle.model_core.specs.declared.steps.CheckpointerStep.{CheckpointerStep}
+use Rattle.model_core.specs.declared.steps.WriterStep.{WriterStep}
+use Rattle.model_core.specs.declared.steps.FlusherStep.{FlusherStep}
+
+-- a user's line: the text of its group, the pages that the group changes, and what its commit waits for: the flush (1),
+-- the write (2), or nothing (0)
+pub record Line : Type 0 where
+  pub mode : ℕ
+  pub bytes : List ℕ
+  pub changes : List PageChange
+
+-- the marks that a user has loaded last
+pub record LoadedMarks : Type 0 where
+  pub ckpt : ℕ
+  pub write : ℕ
+  pub wtail : ℕ
+  pub ctail : ℕ
+  pub flushed : ℕ
+
+abbrev pub none_loaded : LoadedMarks
+none_loaded = record { ckpt = 0; write = 0; wtail = 0; ctail = 0; flushed = 0 }
+
+-- A user with its number and lines. `k` commits are answered; a group is reserved at each of `starts`, in sns, and where these
+-- are more than k the last is in hand: it starts at `start`, and so many of its bytes are copied. Where the user checks, its
+-- next Op is a load of FAILED, and then that of its step; so of each actor. `code` is the failure that ended it.
+pub record UserState : Type 0 where
+  pub user : ℕ
+  pub blocks : ℕ
+  pub lines : List Line
+  pub starts : List ℕ
+  pub k : ℕ
+  pub start : ℕ
+  pub copied : ℕ
+  -- its place among the group's pages, and among the changed cells of that page
+  pub page : ℕ
+  pub cell : ℕ
+  pub loaded : LoadedMarks
+  pub code : ℕ
+  pub checks : Bool
+  pub step : UserStep
+
+-- The writer. `tail` and `write`, its last stored mark, are lsns; `kept` are the stream's bytes from the sn `from`, the start
+-- of a block, up to its read place, and `firsts` the first offsets of the blocks from there on that it has entered. `link`,
+-- `first` and `ckpt` are what it has loaded last.
+pub record WriterState : Type 0 where
+  pub blocks : ℕ
+  pub tail : ℕ
+  pub write : ℕ
+  pub from : ℕ
+  pub kept : List ℕ
+  pub firsts : List ℕ
+  pub link : ℕ
+  pub first : ℕ
+  pub ckpt : ℕ
+  pub code : ℕ
+  pub checks : Bool
+  pub step : WriterStep
+
+-- The flusher. `last` is its last stored mark, `write` the mark WRITE that it has loaded last, `mark` what its sync answered.
+pub record FlusherState : Type 0 where
+  pub last : ℕ
+  pub write : ℕ
+  pub mark : ℕ
+  pub code : ℕ
+  pub checks : Bool
+  pub step : FlusherStep
+
+-- The closer. `tail` is an lsn, `link` the link that it has found there.
+pub record CloserState : Type 0 where
+  pub tail : ℕ
+  pub link : ℕ
+  pub code : ℕ
+  pub checks : Bool
+  pub step : CloserStep
+
+-- a page of the cleaner's batch: its number, its lsn, and the cells of its frame
+pub record BatchPage : Type 0 where
+  pub page : ℕ
+  pub lsn : ℕ
+  pub bytes : List ℕ
+
+-- The cleaner. `flushed` is the round's loaded FLUSHED; `page` is looked at now, and `left` pages with it are left in the
+-- round; of the page latched now, `newest` is loaded and `kept` are its first cells.
+pub record CleanerState : Type 0 where
+  pub pages : ℕ
+  pub flushed : ℕ
+  pub page : ℕ
+  pub left : ℕ
+  pub newest : ℕ
+  pub kept : List ℕ
+  pub batch : List BatchPage
+  pub code : ℕ
+  pub checks : Bool
+  pub step : CleanerStep
+
+-- The checkpointer. `own` is its last stored checkpoint, `to` its candidate so far, `list` the list that it reads; `ctail` and
+-- `flushed` are the marks that it has loaded last.
+pub record CheckpointerState : Type 0 where
+  pub own : ℕ
+  pub ctail : ℕ
+  pub flushed : ℕ
+  pub to : ℕ
+  pub list : ℕ
+  pub code : ℕ
+  pub checks : Bool
+  pub step : CheckpointerStep

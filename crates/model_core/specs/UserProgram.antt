@@ -1,0 +1,136 @@
+-- The program of a user: its next Op, and its state after the answer.
+use Rattle.std.specs.Prelude.{Bool, List, [], cond, false, get_or, length, nat_le, nat_lt, slice_index, true, ℕ, ◌%◌, ◌*◌, ◌++◌, ◌+◌, ◌-◌, ◌/◌, ◌==◌, ◌∷◌}
+use Rattle.model_core.specs.Groups.{PageChange, CellWrite}
+use Rattle.model_core.specs.Lsn.{floor, lsn}
+use Rattle.model_core.specs.States.{Line, LoadedMarks, UserState}
+use Rattle.model_core.specs.declared.ops.Op.{Op}
+use Rattle.model_core.specs.declared.steps.UserStep.{UserStep}
+use Rattle.model_core.specs.declared.words.Word.TheVariants as word
+use Rattle.model_core.specs.declared.ops.Op.TheVariants as op
+use Rattle.model_core.specs.declared.steps.UserStep.TheVariants as user_step
+use Rattle.model_base.specs.declared.limits.TheConstants.{BLOCK_SIZE}
+use Rattle.model_log.specs.declared.layout.TheConstants.{BLOCK_DATA}
+use Rattle.model_core.specs.declared.limits.TheConstants.{BUFFER_BLOCKS, CLOSED_LINKS, FLUSH_LISTS, FREE_MARGIN, LOG_BUFFER, WRITTEN_LINKS}
+
+abbrev pub line_at : List Line → ℕ → Line
+line_at lines k = get_or lines k (record { mode = 0; bytes = []; changes = [] })
+
+abbrev pub line : UserState → Line
+line u = line_at u.lines u.k
+
+-- the bytes of the group in hand, where it ends, and whether it ends in another block
+abbrev pub group_bytes : UserState → List ℕ
+group_bytes u = (line_at u.lines u.k).bytes
+
+-- the pages that it touches, the one that it is at, and the cell that it is at there
+abbrev pub changes : UserState → List PageChange
+changes u = (line_at u.lines u.k).changes
+
+abbrev pub change_at : List PageChange → ℕ → PageChange
+change_at cs i = get_or cs i (record { page = 0; cells = [] })
+
+abbrev pub page_of : UserState → ℕ
+page_of u = (change_at (changes u) u.page).page
+
+abbrev pub cells_of : UserState → List CellWrite
+cells_of u = (change_at (changes u) u.page).cells
+
+abbrev pub put_of : UserState → CellWrite
+put_of u = get_or (cells_of u) u.cell (record { at = 0; value = 0 })
+
+abbrev pub group_end : UserState → ℕ
+group_end u = u.start + length (group_bytes u)
+
+abbrev pub mode : UserState → ℕ
+mode u = (line_at u.lines u.k).mode
+
+abbrev pub user_op : UserState → UserStep → Op
+user_op u user_step.LoadCheckpoint = op.Load word.Ckpt
+user_op u user_step.LoadSn = op.Load word.Sn
+user_op u user_step.TakeLatch = op.Swap (word.Latch (page_of u)) 0 1
+user_op u user_step.Reserve = op.Add word.Sn (length (group_bytes u))
+user_op u user_step.LoadWrite = op.Load word.Write
+user_op u user_step.StoreCell = op.Store (word.Cell (lsn (u.start + u.copied) % LOG_BUFFER)) (slice_index (group_bytes u) u.copied)
+user_op u user_step.StoreFirst = op.Store (word.First (lsn (group_end u) / BLOCK_SIZE % BUFFER_BLOCKS)) (lsn (group_end u) % BLOCK_SIZE)
+user_op u user_step.LoadWtail = op.Load word.Wtail
+user_op u user_step.StoreLink = op.Store (word.Wlink (lsn u.start % WRITTEN_LINKS)) (lsn (group_end u) - lsn u.start)
+user_op u user_step.LoadCtail = op.Load word.Ctail
+user_op u user_step.StoreFrame = op.Store (word.Frame (page_of u) (put_of u).at) (put_of u).value
+user_op u user_step.StoreNewest = op.Store (word.Newest (page_of u)) (lsn (group_end u))
+user_op u user_step.LoadOldest = op.Load (word.Oldest (page_of u))
+user_op u user_step.AddToList = op.TakeAdd (page_of u) (lsn u.start)
+user_op u user_step.StoreOldest = op.Store (word.Oldest (page_of u)) (lsn u.start)
+user_op u user_step.GiveList = op.GiveList (page_of u % FLUSH_LISTS)
+user_op u user_step.StoreClosedLink = op.Store (word.Clink (lsn u.start % CLOSED_LINKS)) (lsn (group_end u) - lsn u.start)
+user_op u user_step.ReleaseLatch = op.Store (word.Latch (page_of u)) 0
+user_op u user_step.AwaitMark = op.Load (cond (mode u == 1) word.Flushed word.Write)
+user_op u user_step.Done = op.Rest
+user_op u user_step.Failed = op.Rest
+
+-- the log has space beyond this SN for groups that have begun
+abbrev pub has_space : UserState → ℕ → Bool
+has_space u n = nat_le (lsn n + FREE_MARGIN) (u.loaded.ckpt + BLOCK_SIZE * u.blocks)
+
+-- the log buffer has room for the group in hand, where WRITE is this
+abbrev pub has_room : UserState → ℕ → Bool
+has_room u n = nat_lt (lsn (group_end u)) (floor n + LOG_BUFFER)
+
+-- the recent-written buffer has the place of its link, where WTAIL is this; the recent-closed buffer, where CTAIL is this
+abbrev pub can_link : UserState → ℕ → Bool
+can_link u n = nat_lt (lsn u.start) (n + WRITTEN_LINKS)
+
+abbrev pub can_close : UserState → ℕ → Bool
+can_close u n = nat_lt (lsn u.start) (n + CLOSED_LINKS)
+
+-- the mark that it awaits has passed its end
+abbrev pub has_passed : UserState → ℕ → Bool
+has_passed u n = nat_le (lsn (group_end u)) n
+
+-- the commit of the group in hand is answered
+abbrev pub answered : UserState → UserState
+answered u = record u { k = u.k + 1; checks = cond (u.k + 1 == length u.lines) false true; step = cond (u.k + 1 == length u.lines) user_step.Done user_step.LoadCheckpoint }
+
+-- the group is linked, and closed where it has pages
+abbrev pub after_link : UserState → UserState
+after_link u = cond (mode u == 0) (answered u) (record u { step = user_step.AwaitMark })
+
+-- with the mark that it awaits, loaded
+abbrev pub with_mark : UserState → ℕ → LoadedMarks
+with_mark u n = cond (mode u == 1) (record u.loaded { flushed = n }) (record u.loaded { write = n })
+
+-- it is done with the page that it is at
+abbrev pub to_next_page : UserState → UserState
+to_next_page u = record u { page = u.page + 1; cell = 0; step = cond (u.page + 1 == length (changes u)) user_step.StoreClosedLink (cond (0 == length (change_at (changes u) (u.page + 1)).cells) user_step.StoreNewest user_step.StoreFrame) }
+
+abbrev pub user_took : UserState → ℕ → UserStep → UserState
+user_took u n user_step.LoadCheckpoint = record u { loaded = record u.loaded { ckpt = n }; step = user_step.LoadSn }
+user_took u n user_step.LoadSn = cond (has_space u n) (record u { page = 0; cell = 0; step = cond (length (changes u) == 0) user_step.Reserve user_step.TakeLatch }) (record u { checks = true; step = user_step.LoadCheckpoint })
+user_took u n user_step.TakeLatch = cond (n == 0) (record u { page = u.page + 1; step = cond (u.page + 1 == length (changes u)) user_step.Reserve user_step.TakeLatch }) (record u { checks = true; step = user_step.TakeLatch })
+user_took u n user_step.Reserve = record u { starts = u.starts ++ n ∷ []; start = n; copied = 0; page = 0; cell = 0; step = user_step.LoadWrite }
+user_took u n user_step.LoadWrite = cond (has_room u n) (record u { loaded = record u.loaded { write = n }; step = user_step.StoreCell }) (record u { loaded = record u.loaded { write = n }; checks = true; step = user_step.LoadWrite })
+user_took u n user_step.StoreCell = record u { copied = u.copied + 1; step = cond (u.copied + 1 == length (group_bytes u)) (cond (nat_lt (u.start / BLOCK_DATA) (group_end u / BLOCK_DATA)) user_step.StoreFirst user_step.LoadWtail) user_step.StoreCell }
+user_took u n user_step.StoreFirst = record u { step = user_step.LoadWtail }
+user_took u n user_step.LoadWtail = cond (can_link u n) (record u { loaded = record u.loaded { wtail = n }; step = user_step.StoreLink }) (record u { loaded = record u.loaded { wtail = n }; checks = true; step = user_step.LoadWtail })
+user_took u n user_step.StoreLink = cond (length (changes u) == 0) (after_link u) (record u { step = user_step.LoadCtail })
+user_took u n user_step.LoadCtail = cond (can_close u n) (record u { loaded = record u.loaded { ctail = n }; step = cond (u.cell == length (cells_of u)) user_step.StoreNewest user_step.StoreFrame }) (record u { loaded = record u.loaded { ctail = n }; checks = true; step = user_step.LoadCtail })
+user_took u n user_step.StoreFrame = record u { cell = u.cell + 1; step = cond (u.cell + 1 == length (cells_of u)) user_step.StoreNewest user_step.StoreFrame }
+user_took u n user_step.StoreNewest = record u { step = user_step.LoadOldest }
+user_took u n user_step.LoadOldest = cond (n == 0) (record u { step = user_step.AddToList }) (to_next_page u)
+user_took u n user_step.AddToList = record u { checks = cond (n == 0) false true; step = cond (n == 0) user_step.StoreOldest user_step.AddToList }
+user_took u n user_step.StoreOldest = record u { step = user_step.GiveList }
+user_took u n user_step.GiveList = to_next_page u
+user_took u n user_step.StoreClosedLink = record u { page = 0; step = user_step.ReleaseLatch }
+user_took u n user_step.ReleaseLatch = cond (u.page + 1 == length (changes u)) (after_link u) (record u { page = u.page + 1; step = user_step.ReleaseLatch })
+user_took u n user_step.AwaitMark = cond (has_passed u n) (answered (record u { loaded = with_mark u n })) (record u { loaded = with_mark u n; checks = true; step = user_step.AwaitMark })
+user_took u n user_step.Done = u
+user_took u n user_step.Failed = u
+
+abbrev pub user_checked : UserState → ℕ → UserState
+user_checked u n = cond (n == 0) (record u { checks = false }) (record u { checks = false; code = n; step = user_step.Failed })
+
+-- what an actor's own code computes
+abbrev pub user_next : UserState → Op
+user_next u = cond u.checks (op.Load word.Failed) (user_op u u.step)
+
+abbrev pub user_after : UserState → ℕ → UserState
+user_after u n = cond u.checks (user_checked u n) (user_took u n u.step)

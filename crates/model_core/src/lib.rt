@@ -1,0 +1,20 @@
+//! The running store as definitions: the words that its actors share, the Ops on them, the program of each actor, and one
+//! turn. Nothing runs here; the two halves of the invariant stand in `model_logcore` and `model_pagecore`.
+#![tactic(auto)]
+
+mod laws;
+mod limits;
+mod ops;
+mod steps;
+mod words;
+
+pub use laws::{
+    a_wait_changes_no_word, a_wait_leads_to_a_check, an_ended_actor_rests, words_are_numbered,
+};
+pub use limits::{
+    BATCH_PAGES, BUFFER_BLOCKS, CLOSED_LINKS, FLUSH_LISTS, FRAME_CELLS, FREE_MARGIN, LOG_BUFFER,
+    WRITTEN_LINKS,
+};
+pub use ops::{Answer, Op, Step};
+pub use steps::{CheckpointerStep, CleanerStep, CloserStep, FlusherStep, UserStep, WriterStep};
+pub use words::{Layout, Word};

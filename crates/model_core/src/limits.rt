@@ -1,0 +1,19 @@
+// The sizes of what the actors share, with their units.
+
+/// Bytes of the log buffer: it has a cell for each lsn of its window, so also for those of a block's header and trailer,
+/// which stay unused.
+pub const LOG_BUFFER: u64 = 65_536;
+/// Log blocks that the log buffer spans, and so words FIRST.
+pub const BUFFER_BLOCKS: u64 = 128;
+/// Links of the recent-written buffer: one for each lsn of its window.
+pub const WRITTEN_LINKS: u64 = 32_768;
+/// Links of the recent-closed buffer: one for each lsn of its window.
+pub const CLOSED_LINKS: u64 = 16_384;
+/// Bytes of the log that stay free for groups which have begun: a user begins one only with so much space beyond SN.
+pub const FREE_MARGIN: u64 = 278_528;
+/// Flush lists. A page stands in the list of its number modulo this.
+pub const FLUSH_LISTS: u64 = 4;
+/// Cells of a page's frame: one for each byte of the page.
+pub const FRAME_CELLS: u64 = 4_096;
+/// The most pages that the cleaner writes at once.
+pub const BATCH_PAGES: u64 = 8;

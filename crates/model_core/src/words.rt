@@ -1,0 +1,46 @@
+// The words that the actors share, and their numbers.
+
+/// A shared word of 64 bits. Marks and links are lsns and distances of lsns.
+#[derive(Clone, Copy, Debug, PartialEq, Eq)]
+pub enum Word {
+    /// How many bytes of groups are reserved: the next group's sn.
+    Sn,
+    /// The log is written up to this lsn.
+    Write,
+    /// The tail of the recent-written buffer: all below it is copied into the log buffer.
+    Wtail,
+    /// The log is flushed up to this lsn.
+    Flushed,
+    /// The newest checkpoint.
+    Ckpt,
+    /// The tail of the recent-closed buffer: all below it stands in the flush lists.
+    Ctail,
+    /// 0, or the code of a failure that ends the run.
+    Failed,
+    /// The turn word of the log device: 1 while an actor has the log part.
+    Device,
+    /// The turn word of a flush list.
+    List(u32),
+    /// A place of the recent-written buffer: the length of the group that starts there, as a distance of lsns, or 0.
+    Wlink(u32),
+    /// The same of the recent-closed buffer.
+    Clink(u32),
+    /// A byte of the log buffer.
+    Cell(u32),
+    /// The first offset of a block in the log buffer, or 0.
+    First(u32),
+    /// A page's latch: 1 while it is held.
+    Latch(u32),
+    /// The end of the newest group on a page.
+    Newest(u32),
+    /// The start of the oldest group on a page that isn't written, or 0.
+    Oldest(u32),
+    /// A byte of a page's frame.
+    Frame(u32, u32),
+}
+
+/// Which words there are: those of a store of so many pages.
+#[derive(Clone, Copy, Debug, PartialEq, Eq)]
+pub struct Layout {
+    pub pages: u32,
+}

@@ -1,0 +1,10 @@
+pub mod Finished
+pub mod FinishedStore
+pub mod FirstOffsets
+pub mod FirstsFit
+pub mod Given
+pub mod Groups
+pub mod Legality
+pub mod Losses
+pub mod Places
+pub mod Seated

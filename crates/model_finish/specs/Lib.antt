@@ -1,0 +1,4 @@
+pub mod Ended
+pub mod Finished
+pub mod History
+pub mod Script

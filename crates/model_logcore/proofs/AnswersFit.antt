@@ -1,0 +1,128 @@
+-- The answer to an actor's Op is one that it can take: no number of its own wraps, no byte is lost, and no list outgrows its
+-- room.
+use Rattle.std.proofs.Common.{Bool, List, [], ap, arith, cond, drop, false, length, refl, suc, sym, true, zero, ℕ, ⊎_elim, ◌%◌, ◌*◌, ◌+◌, ◌-◌, ◌/◌, ◌<◌, ◌^◌, ◌∙◌, ◌∷◌, ◌≡◌, ◌≤◌}
+use Rattle.std.specs.Prelude.{slice_index}
+use lib.ListN.{get_elem?}
+use native.Mathlib.Decide.{dec_le, ℕ_discrete}
+use Rattle.model_core.proofs.Groups.{first_base, first_from, tiles_at}
+use Rattle.model_core.proofs.Lsns.{lsn_le, lsn_small, lsn_wide}
+use Rattle.model_core.specs.Actors.{Actor}
+use Rattle.model_core.specs.Answers.{old_of}
+use Rattle.model_core.specs.CheckpointerProgram.{checkpointer_op}
+use Rattle.model_core.specs.CleanerProgram.{cleaner_op}
+use Rattle.model_core.specs.CloserProgram.{closer_op}
+use Rattle.model_core.specs.Fitting.{Fitting, user_fits, writer_fits}
+use Rattle.model_core.specs.FlushLists.{Listed}
+use Rattle.model_core.specs.FlusherProgram.{flusher_op}
+use Rattle.model_core.specs.Groups.{end_of, first_of}
+use Rattle.model_core.specs.Layout.{SharedWords}
+use Rattle.model_core.specs.LogSide.{LogSide}
+use Rattle.model_core.specs.Lsn.{lsn}
+use Rattle.model_core.specs.Program.{next}
+use Rattle.model_core.specs.Setup.{Setup}
+use Rattle.model_core.specs.States.{UserState, WriterState}
+use Rattle.model_core.specs.UserProgram.{group_bytes, user_op}
+use Rattle.model_core.specs.WordTurn.{shared_answer}
+use Rattle.model_core.specs.WriterProgram.{read_place, writer_op}
+use Rattle.model_core.specs.declared.ops.Op.{Op}
+use Rattle.model_core.specs.declared.steps.UserStep.{UserStep}
+use Rattle.model_core.specs.declared.steps.WriterStep.{WriterStep}
+use Rattle.model_logcore.proofs.UserGroups.{lengths_step}
+use Rattle.model_logcore.proofs.WriterCells.{block_is, cell_true, first_true}
+use Rattle.model_logcore.proofs.WriterSteps.{link_here}
+use Rattle.model_logcore.specs.LogFacts.{LogGhost, sum_over_actors}
+use Rattle.model_logcore.specs.LogFits.{UserAt, UserFits, WriterAt, WriterFits}
+use Rattle.model_logcore.specs.LogHalf.{LogHalf, left_to_reserve, lengths}
+use Rattle.model_core.specs.declared.words.Word.TheVariants as word
+use Rattle.model_core.specs.declared.ops.Op.TheVariants as op
+use Rattle.model_core.specs.declared.steps.UserStep.TheVariants as user_step
+use Rattle.model_core.specs.declared.steps.WriterStep.TheVariants as writer_step
+use Rattle.model_core.specs.Actors as actor
+use mathlib.Core.Option as maybe
+
+sum_at : {V : Type 0} (f : V → ℕ) (vs : List V) (i : ℕ) (v : V) → get_elem? vs i ≡ maybe.some v → f v ≤ sum_over_actors f vs
+sum_at f [] i v e = absurd (maybe.some-ne-none v (sym e))
+sum_at f (x ∷ xs) zero v e = let s : f x ≡ f v = ap f (maybe.some-injective x v e) in omega arith
+sum_at f (x ∷ xs) (suc i) v e = let r = sum_at f xs i v e in omega arith
+
+module _ (D : LogSide) (c : Setup) (spare : ℕ) (m : SharedWords) (g : LogGhost) (p : D.Part) (actors : List Actor) (seat : ℕ) (before : LogHalf D c spare m g p actors) where
+  small_sn : lsn m.sn < 2 ^ 60
+  small_sn = lsn_small m.sn (let r = before.room in omega arith)
+
+  small_wtail : m.wtail < 2 ^ 60
+  small_wtail = let O = before.global.order in let a = O.wtail_is in let b = lsn_le g.wtail m.sn (let x = O.wtail_tail in let y = O.tail_sn in omega arith) in let s = small_sn in omega arith
+
+  small_write : m.write < 2 ^ 60
+  small_write = let P = before.global.part in let a = P.write_written in let b = P.written_wtail in let s = small_wtail in omega arith
+
+  small_ckpt : m.ckpt < 2 ^ 60
+  small_ckpt = let P = before.global.part in let a = P.ckpt_part in let b = P.ckpt_stable in let e = P.stable_written in let f = P.written_wtail in let s = small_wtail in omega arith
+
+  user_can : (u : UserState) → get_elem? actors seat ≡ maybe.some (actor.User u) → (f : UserStep) → UserAt D c m g p seat u f → (ls : ℕ → List Listed) (broken : Bool) (code mark : ℕ) → user_fits u (old_of (shared_answer ls broken code mark m (user_op u f))) f
+  user_can u at user_step.LoadCheckpoint h ls broken code mark = small_ckpt
+  user_can u at user_step.LoadSn h ls broken code mark = let r = before.room in omega arith
+  user_can u at user_step.Reserve h ls broken code mark = let r = before.room in
+      let t = sum_at left_to_reserve actors seat (actor.User u) at in
+      let z : lengths (drop (length u.starts) u.lines) ≡ length (group_bytes u) + lengths (drop (u.k + 1) u.lines) = ap (λ (j : ℕ). lengths (drop j u.lines)) h.0 ∙ lengths_step u.lines u.k h.1 in
+      omega arith
+  user_can u at user_step.LoadWrite h ls broken code mark = small_write
+  user_can u at user_step.LoadWtail h ls broken code mark = small_wtail
+  user_can u at _ h ls broken code mark = tt
+
+  module _ (s : WriterState) (at : get_elem? actors seat ≡ maybe.some (actor.Writer s)) where
+    mine : WriterFits D c m g p seat s
+    mine = before.each seat (actor.Writer s) at
+
+    linked_small : (n : ℕ) → slice_index m.wlinks (s.tail % 32768) ≡ n → s.tail + n < 2 ^ 60
+    linked_small n e = let O = before.global.order in let t = mine.tail in let sm = small_sn in let le = lsn_le g.tail m.sn O.tail_sn in elim (dec_le 1 n) [
+      | yes d ↦ (let v : slice_index m.wlinks (lsn g.tail % 32768) ≡ n = ap (λ (k : ℕ). slice_index m.wlinks (k % 32768)) (sym t) ∙ e in
+          let o = link_here D c spare m g p actors seat s before at n v (omega arith) in
+          let w = (tiles_at g.log c.base m.sn o.0.at o.0.group before.global.tiled.tiles o.0.is).1 in
+          let k = lsn_le (end_of o.0.group) m.sn w in
+          let z = o.0.size in let y : lsn o.0.group.start ≡ lsn g.tail = ap lsn o.1 in
+          omega arith)
+      | no d ↦ omega arith
+    ]
+
+    kept_small : g.read < g.tail → length s.kept < 41736
+    kept_small l = let O = before.global.order in let a = mine.long in let b = mine.from in let sm = mine.small in let t = mine.tail in let w = mine.write in let wi = O.write_is in
+        let z = lsn_wide g.write (g.tail - g.write) in
+        let y : g.write + (g.tail - g.write) ≡ g.tail = (let x = O.write_read in omega arith) in
+        let k : lsn (g.write + (g.tail - g.write)) ≡ lsn g.tail = ap lsn y in
+        omega arith
+
+    first_small : length s.kept ≡ 496 * length s.firsts → g.read < g.tail → slice_index m.firsts (lsn (read_place s) / 512 % 128) < 512
+    first_small e l =
+        let value : slice_index m.firsts (lsn (read_place s) / 512 % 128) ≡ first_of c.base g.log g.entered =
+        ap (λ (k : ℕ). slice_index m.firsts (k % 128)) (block_is D c spare m g p actors seat s before at e) ∙ before.global.first_offsets.slots_are g.entered (omega arith) (omega arith) ∙ first_true D c spare m g p actors seat s before at e l in
+        elim (ℕ_discrete g.entered (c.base / 496)) [
+          | yes z ↦ (let k : first_of c.base g.log g.entered ≡ 12 = ap (first_of c.base g.log) z ∙ first_base c.base g.log in omega arith)
+          | no n ↦ ⊎_elim (λ z. omega arith) (λ z. let v = z.4 in omega arith) (first_from c.base g.log g.entered n)
+        ]
+
+    writer_can : (f : WriterStep) → WriterAt D c m g p seat s f → (ls : ℕ → List Listed) (broken : Bool) (code mark : ℕ) → writer_fits s (old_of (shared_answer ls broken code mark m (writer_op s f))) f
+    writer_can writer_step.LoadLink h ls broken code mark = linked_small (slice_index m.wlinks (s.tail % 32768)) refl
+    writer_can writer_step.LoadCheckpoint h ls broken code mark = small_ckpt
+    writer_can writer_step.LoadFirst h ls broken code mark = first_small h.3 h.1
+    writer_can writer_step.ClearFirst h ls broken code mark = let k = kept_small h.1 in let e = h.3 in omega arith
+    writer_can writer_step.LoadCell h ls broken code mark = (
+      (let O = before.global.order in let e = cell_true D c spare m g p actors seat s before at h.1 in
+          let b = before.global.tiled.bytes g.read (let x = O.base_write in let y = O.write_read in omega arith) (let x = h.1 in let y = O.tail_sn in omega arith) in omega arith),
+      kept_small h.1,
+    )
+    writer_can writer_step.StoreWrite h ls broken code mark = let O = before.global.order in let a = mine.long in let b = mine.wide in let r = O.read_entered in let w = O.read_wtail in let x = O.wtail_tail in let y = O.tail_sn in let z = before.room in (omega arith, omega arith)
+    writer_can _ h ls broken code mark = tt
+
+  checking_fits : (b : Bool) (o : Op) (P : ℕ → Type 0) (ls : ℕ → List Listed) (broken : Bool) (code mark : ℕ) → P (old_of (shared_answer ls broken code mark m o)) → cond b (Unit {0}) (P (old_of (shared_answer ls broken code mark m (cond b (op.Load word.Failed) o))))
+  checking_fits true o P ls broken code mark h = tt
+  checking_fits false o P ls broken code mark h = h
+
+  -- the answer to an actor's Op is one that it can take
+  pub can_take : (a : Actor) → get_elem? actors seat ≡ maybe.some a → (ls : ℕ → List Listed) (broken : Bool) (code mark : ℕ) → Fitting a (shared_answer ls broken code mark m (next a))
+  can_take (actor.User u) at ls broken code mark = let h : UserFits D c m g p seat u = before.each seat (actor.User u) at in checking_fits u.checks (user_op u u.step) (λ n. user_fits u n u.step) ls broken code mark (user_can u at u.step h.step ls broken code mark)
+  can_take (actor.Writer s) at ls broken code mark = checking_fits s.checks (writer_op s s.step) (λ n. writer_fits s n s.step) ls broken code mark (writer_can s at s.step (mine s at).step ls broken code mark)
+  can_take (actor.Flusher f) at ls broken code mark = checking_fits f.checks (flusher_op f f.step) (λ n. Unit {0}) ls broken code mark tt
+  can_take (actor.Closer t) at ls broken code mark = checking_fits t.checks (closer_op t t.step) (λ n. Unit {0}) ls broken code mark tt
+  can_take (actor.Cleaner v) at ls broken code mark = checking_fits v.checks (cleaner_op v v.step) (λ n. Unit {0}) ls broken code mark tt
+  can_take (actor.Checkpointer t) at ls broken code mark = checking_fits t.checks (checkpointer_op t t.step) (λ n. Unit {0}) ls broken code mark tt
+  can_take (actor.Joined es) at ls broken code mark = tt

@@ -1,0 +1,308 @@
+-- What stays of the invariant when one actor moves.
+use Rattle.std.proofs.Common.{List, [], ap, arith, length, refl, set, subst, suc, sym, true, zero, ℕ, ⊎_elim, ◌%◌, ◌*◌, ◌+◌, ◌/◌, ◌<◌, ◌^◌, ◌∙◌, ◌∷◌, ◌≡◌, ◌≢◌, ◌≤◌}
+use Rattle.std.specs.Prelude.{slice_index}
+use lib.ListN.{get_elem?}
+use mathlib.Core.Option.{some, some-injective, some-ne-none}
+use native.Mathlib.Decide.{ℕ_discrete}
+use Rattle.model_core.proofs.Lists.{at_set, set_else}
+use Rattle.model_core.proofs.Groups.{tiles_at}
+use Rattle.model_core.proofs.Lsns.{floor_grows}
+use Rattle.model_core.specs.Actors.{Actor}
+use Rattle.model_core.specs.Groups.{Entry, Tiles, byte_at, first_of, sum_of}
+use Rattle.model_core.specs.Holding.{holds, checkpointer_holds, writer_holds, flusher_holds}
+use Rattle.model_core.specs.Layout.{IsSized, SharedWords}
+use Rattle.model_core.specs.LogSide.{LogSide}
+use Rattle.model_core.specs.Lsn.{lsn}
+use Rattle.model_core.specs.Program.{entries}
+use Rattle.model_core.specs.Setup.{Setup}
+use Rattle.model_core.specs.States.{CheckpointerState, CleanerState, FlusherState, LoadedMarks, UserState, WriterState}
+use Rattle.model_core.specs.UserProgram.{group_bytes}
+use Rattle.model_core.specs.declared.steps.UserStep.{UserStep}
+use Rattle.model_core.specs.declared.steps.CheckpointerStep.{CheckpointerStep}
+use Rattle.model_core.specs.declared.steps.WriterStep.{WriterStep}
+use Rattle.model_core.specs.declared.steps.FlusherStep.{FlusherStep}
+use Rattle.model_logcore.specs.LogFacts.{LogGhost, LogFacts, Place, count_of, sum_over_actors}
+use Rattle.model_logcore.specs.LogFits.{AreBelow, CheckpointerAt, CheckpointerFits, CleanerTold, Fits, FlusherAt, FlusherFits, Hand, UserAt, UserFits, WriterAt, WriterFits}
+use Rattle.model_logcore.specs.LogHalf.{Counted, LogHalf, HasTaker, left_to_reserve}
+use Rattle.model_core.specs.declared.steps.UserStep.TheVariants as user_step
+use Rattle.model_core.specs.declared.steps.WriterStep.TheVariants as writer_step
+use Rattle.model_core.specs.declared.steps.FlusherStep.TheVariants as flusher_step
+use Rattle.model_core.specs.declared.steps.CheckpointerStep.TheVariants as checkpointer_step
+use Rattle.model_core.specs.Actors as actor
+
+-- the total after a change of one
+pub total_set : {V : Type 0} (f : V → ℕ) (vs : List V) (k : ℕ) (v w : V) → get_elem? vs k ≡ some v → sum_over_actors f (set vs k w) + f v ≡ sum_over_actors f vs + f w
+total_set f [] k v w e = absurd (some-ne-none v (sym e))
+total_set f (x ∷ xs) zero v w e = let s : f x ≡ f v = ap f (some-injective x v e) in omega arith
+total_set f (x ∷ xs) (suc k) v w e = let s = total_set f xs k v w e in omega arith
+
+pub counted_same : (actors : List Actor) (log : List Entry) (seat : ℕ) (a b : Actor) → get_elem? actors seat ≡ some a → entries b ≡ entries a → Counted actors log → Counted (set actors seat b) log
+counted_same actors log seat a b e same c h =
+    let s = total_set (λ x. sum_of h (entries x)) actors seat a b e in
+    let t : sum_of h (entries b) ≡ sum_of h (entries a) = ap (sum_of h) same in
+    let u = c h in
+    omega arith
+
+pub set_at : {V : Type 0} (l : List V) (i : ℕ) (a b : V) → get_elem? l i ≡ some a → get_elem? (set l i b) i ≡ some b
+set_at [] i a b e = absurd (some-ne-none a (sym e))
+set_at (x ∷ xs) zero a b e = refl
+set_at (x ∷ xs) (suc i) a b e = set_at xs i a b e
+
+-- the holder still holds the part
+pub taken_same : (actors : List Actor) (seat : ℕ) (a b : Actor) (holder : ℕ) → get_elem? actors seat ≡ some a → (holds a ≡ true → holds b ≡ true) → HasTaker actors holder → HasTaker (set actors seat b) holder
+taken_same actors seat a b holder at kept t = elim (ℕ_discrete holder seat) [
+  | yes e ↦ (let here : get_elem? actors seat ≡ some t.0 = subst (λ (k : ℕ). get_elem? actors k ≡ some t.0) e t.1 in
+      let same : ◌≡◌ {A = Actor} t.0 a = some-injective t.0 a (sym here ∙ at) in
+      (b, subst (λ (k : ℕ). get_elem? (set actors seat b) k ≡ some b) (sym e) (set_at actors seat a b at), kept (ap holds (sym same) ∙ t.2)))
+  | no n ↦ (t.0, set_else actors seat holder b n ∙ t.1, t.2)
+]
+
+pub budget_same : (actors : List Actor) (seat spare n : ℕ) (a b : Actor) → get_elem? actors seat ≡ some a → left_to_reserve b ≤ left_to_reserve a → n + sum_over_actors left_to_reserve actors + spare < 2 ^ 59 → n + sum_over_actors left_to_reserve (set actors seat b) + spare < 2 ^ 59
+budget_same actors seat spare n a b e le h = let s = total_set left_to_reserve actors seat a b e in omega arith
+
+module _ (D : LogSide) (c : Setup) where
+  -- the actor at one seat moves
+  pub moved : (spare : ℕ) (m m' : SharedWords) (g g' : LogGhost) (p p' : D.Part) (actors : List Actor) (seat : ℕ) (b : Actor) → LogHalf D c spare m g p actors
+      → IsSized c.pages m' → LogFacts D c m' g' p' → Fits D c m' g' p' seat b
+      → ((j : ℕ) (a : Actor) → j ≢ seat → get_elem? actors j ≡ some a → Fits D c m' g' p' j a)
+      → (holds b ≡ true → (m'.device ≡ 1) × (seat ≡ g'.holder))
+      → ((j : ℕ) (a : Actor) → j ≢ seat → get_elem? actors j ≡ some a → holds a ≡ true → (m'.device ≡ 1) × (j ≡ g'.holder))
+      → Counted (set actors seat b) g'.log
+      → m'.sn + sum_over_actors left_to_reserve (set actors seat b) + spare < 2 ^ 59
+      → (m'.device ≡ 1 → HasTaker (set actors seat b) g'.holder)
+      → LogHalf D c spare m' g' p' (set actors seat b)
+  moved spare m m' g g' p p' actors seat b before sized global mine others turn turns counted room taken = record {
+    sized = sized;
+    global = global;
+    each = λ j a e. ⊎_elim (λ t. subst (λ (z : ℕ × Actor). Fits D c m' g' p' z.0 z.1) (λ i. (sym t.0 i, t.1 i)) mine) (λ t. others j a t.0 t.1) (at_set actors seat j b a e);
+    turns = λ j a e. ⊎_elim (λ t. subst (λ (z : ℕ × Actor). holds z.1 ≡ true → (m'.device ≡ 1) × (z.0 ≡ g'.holder)) (λ i. (sym t.0 i, t.1 i)) turn) (λ t. turns j a t.0 t.1) (at_set actors seat j b a e);
+    counted = counted;
+    room = room;
+    taken = taken;
+  }
+
+  -- what a step leaves to the users at other seats
+  pub record Later (m : SharedWords) (g : LogGhost) (m' : SharedWords) (g' : LogGhost) (seat : ℕ) : Type 0 where
+    pub write : m.write ≤ m'.write
+    pub wtail : m.wtail ≤ m'.wtail
+    pub ckpt : m.ckpt ≤ m'.ckpt
+    pub flushed : m.flushed ≤ m'.flushed
+    pub failed : 0 < m.failed → 0 < m'.failed
+    pub logs : (i : ℕ) (e : Entry) → get_elem? g.log i ≡ some e → get_elem? g'.log i ≡ some e
+    pub places : (x : ℕ) → x < m.sn → (g.place x).owner ≢ seat → ◌≡◌ {A = Place} (g'.place x) (g.place x)
+    pub states : (x : ℕ) → x < m.sn → (g.place x).owner ≢ seat → g'.state x ≡ g.state x
+    pub firsts : (q : ℕ) → 0 < g.first q → 0 < g'.first q
+    pub seats : (v : ℕ) → g'.seat_of v ≡ g.seat_of v
+    pub counts : (v : ℕ) → g.seat_of v ≢ seat → count_of v g'.log ≡ count_of v g.log
+    pub answers : (v : ℕ) → g.seat_of v ≢ seat → g'.answered v ≡ g.answered v
+
+  module _ (m m' : SharedWords) (g g' : LogGhost) (p p' : D.Part) where
+    in_hand_later : (seat j : ℕ) (u : UserState) → Tiles c.base g.log m.sn → Later m g m' g' seat → j ≢ seat → u.copied ≤ length (group_bytes u) → Hand D c m g p j u → Hand D c m' g' p' j u
+    in_hand_later seat j u T later ne le h =
+        let w = (tiles_at g.log c.base m.sn h.at _ T h.is).1 in
+        let other : (x : ℕ) → u.start ≤ x → x < u.start + length (group_bytes u) → (x < m.sn) × ((g.place x).owner ≢ seat) = λ x lo hi. (omega arith, λ e. ne (sym (h.own x lo hi) ∙ e)) in
+        record {
+          at = h.at;
+          is = later.logs h.at _ h.is;
+          own = λ x lo hi. let o = other x lo hi in ap (λ (q : Place). q.owner) (later.places x o.0 o.1) ∙ h.own x lo hi;
+          done = λ x lo hi. let o = other x lo (omega arith) in later.states x o.0 o.1 ∙ h.done x lo hi;
+          bare = λ x lo hi. let o = other x (omega arith) hi in later.states x o.0 o.1 ∙ h.bare x lo hi;
+        }
+
+    user_at_later : (seat j : ℕ) (u : UserState) → Tiles c.base g.log m.sn → Later m g m' g' seat → j ≢ seat → (f : UserStep) → UserAt D c m g p j u f → UserAt D c m' g' p' j u f
+    user_at_later seat j u T later ne user_step.LoadCheckpoint h = h
+    user_at_later seat j u T later ne user_step.LoadSn h = h
+    user_at_later seat j u T later ne user_step.Reserve h = h
+    user_at_later seat j u T later ne user_step.LoadWrite h = (h.0, h.1, in_hand_later seat j u T later ne (let e = h.3 in omega arith) h.2, h.3)
+    user_at_later seat j u T later ne user_step.StoreCell h = (h.0, h.1, in_hand_later seat j u T later ne (let e = h.3 in omega arith) h.2, h.3, (let e = h.4 in let f = floor_grows m.write m'.write later.write in omega arith))
+    user_at_later seat j u T later ne user_step.StoreFirst h = (h.0, h.1, in_hand_later seat j u T later ne (let e = h.3 in omega arith) h.2, h.3, (let e = h.4 in let f = floor_grows m.write m'.write later.write in omega arith), h.5)
+    user_at_later seat j u T later ne user_step.LoadWtail h = (h.0, h.1, in_hand_later seat j u T later ne (let e = h.3 in omega arith) h.2, h.3, (λ l. later.firsts _ (h.4 l)))
+    user_at_later seat j u T later ne user_step.StoreLink h = (h.0, h.1, in_hand_later seat j u T later ne (let e = h.3 in omega arith) h.2, h.3, (λ l. later.firsts _ (h.4 l)), (let e = h.5 in let w = later.wtail in omega arith))
+    user_at_later seat j u T later ne user_step.AwaitMark h = (h.0, h.1, (h.2.0, later.logs _ _ h.2.1), h.3)
+    user_at_later seat j u T later ne user_step.TakeLatch h = h
+    user_at_later seat j u T later ne user_step.LoadCtail h = (h.0, h.1, (h.2.0, later.logs _ _ h.2.1))
+    user_at_later seat j u T later ne user_step.StoreFrame h = (h.0, h.1, (h.2.0, later.logs _ _ h.2.1))
+    user_at_later seat j u T later ne user_step.StoreNewest h = (h.0, h.1, (h.2.0, later.logs _ _ h.2.1))
+    user_at_later seat j u T later ne user_step.LoadOldest h = (h.0, h.1, (h.2.0, later.logs _ _ h.2.1))
+    user_at_later seat j u T later ne user_step.AddToList h = (h.0, h.1, (h.2.0, later.logs _ _ h.2.1))
+    user_at_later seat j u T later ne user_step.StoreOldest h = (h.0, h.1, (h.2.0, later.logs _ _ h.2.1))
+    user_at_later seat j u T later ne user_step.GiveList h = (h.0, h.1, (h.2.0, later.logs _ _ h.2.1))
+    user_at_later seat j u T later ne user_step.StoreClosedLink h = (h.0, h.1, (h.2.0, later.logs _ _ h.2.1))
+    user_at_later seat j u T later ne user_step.ReleaseLatch h = (h.0, h.1, (h.2.0, later.logs _ _ h.2.1))
+    user_at_later seat j u T later ne user_step.Done h = h
+    user_at_later seat j u T later ne user_step.Failed h = (h.0, later.failed h.1)
+
+    below_later : {seat : ℕ} (l : LoadedMarks) → Later m g m' g' seat → AreBelow l m.ckpt m.write m.wtail m.flushed → AreBelow l m'.ckpt m'.write m'.wtail m'.flushed
+    below_later l later h = record {
+      ckpt_below = (let a = h.ckpt_below in let b = later.ckpt in omega arith);
+      write_below = (let a = h.write_below in let b = later.write in omega arith);
+      wtail_below = (let a = h.wtail_below in let b = later.wtail in omega arith);
+      flushed_below = (let a = h.flushed_below in let b = later.flushed in omega arith);
+    }
+
+    pub user_later : (seat j : ℕ) (u : UserState) → Tiles c.base g.log m.sn → Later m g m' g' seat → j ≢ seat → UserFits D c m g p j u → UserFits D c m' g' p' j u
+    user_later seat j u T later ne h =
+        let other : g.seat_of u.user ≢ seat = (λ e. ne (sym h.own_seat ∙ e)) in
+        record {
+          own_seat = later.seats u.user ∙ h.own_seat;
+          blocks = h.blocks;
+          lines = h.lines;
+          sound = h.sound;
+          are_bytes = h.are_bytes;
+          counted = later.counts u.user other ∙ h.counted;
+          answers = later.answers u.user other ∙ h.answers;
+          loaded = below_later u.loaded later h.loaded;
+          step = user_at_later seat j u T later ne u.step h.step;
+        }
+
+    -- what a step leaves to the writer
+    pub record Still : Type 0 where
+      pub writer : g'.writer ≡ g.writer
+      pub gwrite : g'.write ≡ g.write
+      pub gwtail : g'.wtail ≡ g.wtail
+      pub tail : g'.tail ≡ g.tail
+      pub read : g'.read ≡ g.read
+      pub entered : g'.entered ≡ g.entered
+      pub write : m'.write ≡ m.write
+      pub ckpt : m.ckpt ≤ m'.ckpt
+      pub failed : 0 < m.failed → 0 < m'.failed
+      pub link : 0 < slice_index m.wlinks (lsn g.tail % 32768) → slice_index m'.wlinks (lsn g.tail % 32768) ≡ slice_index m.wlinks (lsn g.tail % 32768)
+      pub bytes : (x : ℕ) → c.base ≤ x → x < g.read → byte_at c.base g'.log x ≡ byte_at c.base g.log x
+      pub firsts : (q : ℕ) → 496 * q < g.tail → first_of c.base g'.log q ≡ first_of c.base g.log q
+      pub written : D.written p' ≡ D.written p
+
+    module _ (s : WriterState) (j : ℕ) (still : Still) (base : c.base % 496 ≡ 0) (low : c.base ≤ g.write) (tails : g.wtail ≤ g.tail) where
+      idle_later : (g.read ≡ g.write) × (D.written p ≡ m.write) → (g'.read ≡ g'.write) × (D.written p' ≡ m'.write)
+      idle_later h = (still.read ∙ h.0 ∙ sym still.gwrite, still.written ∙ h.1 ∙ sym still.write)
+
+      busy_later : (g.wtail ≡ g.tail) × (g.write < g.tail) × (D.written p ≡ m.write) → (g'.wtail ≡ g'.tail) × (g'.write < g'.tail) × (D.written p' ≡ m'.write)
+      busy_later h = (still.gwtail ∙ h.0 ∙ sym still.tail, (let a = h.1 in let b = still.gwrite in let d = still.tail in omega arith), still.written ∙ h.2 ∙ sym still.write)
+
+      less_later : g.read < g.tail → g'.read < g'.tail
+      less_later h = let b = still.read in let d = still.tail in omega arith
+
+      writer_at_later : s.tail ≡ lsn g.tail → s.from ≡ g.write / 496 * 496 → s.from + length s.kept ≡ g.read → s.from + 496 * length s.firsts ≡ 496 * g.entered
+          → (st : WriterStep) → (writer_holds st ≡ true → ◌≡◌ {A = D.Part} p' p) → WriterAt D c m g p j s st → WriterAt D c m' g' p' j s st
+      writer_at_later tail from long wide writer_step.LoadLink part h = (idle_later h.0, h.1)
+      writer_at_later tail from long wide writer_step.ClearLink part h = (
+        idle_later h.0,
+        h.1,
+        h.2,
+        (let k : slice_index m.wlinks (lsn g.tail % 32768) ≡ s.link = subst (λ (t : ℕ). slice_index m.wlinks (t % 32768) ≡ s.link) tail h.3 in
+            subst (λ (t : ℕ). slice_index m'.wlinks (t % 32768) ≡ s.link) (sym tail) (still.link (let z = h.2 in omega arith) ∙ k)),
+      )
+      writer_at_later tail from long wide writer_step.StoreWtail part h = (idle_later h.0, (let b = still.gwrite in let d = still.tail in let e = h.1 in omega arith))
+      writer_at_later tail from long wide writer_step.LoadCheckpoint part h = (busy_later h.0, still.read ∙ h.1 ∙ sym still.gwrite)
+      writer_at_later tail from long wide writer_step.LoadFirst part h = (busy_later h.0, less_later h.1, h.2, h.3)
+      writer_at_later tail from long wide writer_step.ClearFirst part h = (
+        busy_later h.0,
+        less_later h.1,
+        h.2,
+        h.3,
+        h.4 ∙ sym (still.firsts g.entered (let a = h.1 in let b = h.3 in omega arith)) ∙ ap (first_of c.base g'.log) (sym still.entered),
+      )
+      writer_at_later tail from long wide writer_step.LoadCell part h = (busy_later h.0, less_later h.1, h.2, h.3)
+      writer_at_later tail from long wide writer_step.TakeDevice part h = (busy_later h.0, still.read ∙ h.1 ∙ sym still.tail, h.2)
+      writer_at_later tail from long wide writer_step.GiveBroken part h = (busy_later h.0, still.read ∙ h.1 ∙ sym still.tail, h.2)
+      writer_at_later tail from long wide writer_step.WriteTo part h = (busy_later h.0, still.read ∙ h.1 ∙ sym still.tail, h.2, ap D.failed (part refl) ∙ h.3)
+      writer_at_later tail from long wide writer_step.StoreWrite part h = (still.gwtail ∙ h.0 ∙ sym still.tail, (let a = h.1 in let b = still.gwrite in let d = still.tail in omega arith), still.written ∙ h.2, still.read ∙ h.3 ∙ sym still.tail)
+      writer_at_later tail from long wide writer_step.GiveDevice part h = (idle_later h.0, h.1)
+      writer_at_later tail from long wide writer_step.StoreFailed part h = (h.0, subst (λ (q : D.Part). D.Cause q s.code) (sym (part refl)) h.1)
+      writer_at_later tail from long wide writer_step.GiveFailed part h = still.failed h
+      writer_at_later tail from long wide writer_step.Failed part h = still.failed h
+
+      pub writer_later : g.entered * 496 < g.tail + 496 → (writer_holds s.step ≡ true → ◌≡◌ {A = D.Part} p' p) → WriterFits D c m g p j s → WriterFits D c m' g' p' j s
+      writer_later near part h =
+          let f = h.from in let lg = h.long in let w = h.wide in record {
+            alone = h.alone ∙ sym still.writer;
+            blocks = h.blocks;
+            tail = h.tail ∙ ap lsn (sym still.tail);
+            write = h.write ∙ sym still.write;
+            from = h.from ∙ ap (λ (t : ℕ). t / 496 * 496) (sym still.gwrite);
+            long = h.long ∙ sym still.read;
+            kept = λ k lt. h.kept k lt ∙ sym (still.bytes (s.from + k) (omega arith) (omega arith));
+            wide = h.wide ∙ ap (λ (t : ℕ). 496 * t) (sym still.entered);
+            firsts = λ i lt. h.firsts i lt ∙ sym (still.firsts (g.write / 496 + i) (omega arith)) ∙ ap (λ (t : ℕ). first_of c.base g'.log (t / 496 + i)) (sym still.gwrite);
+            small = h.small;
+            ckpt = (let a = h.ckpt in let b = still.ckpt in omega arith);
+            no_device_while_checking = h.no_device_while_checking;
+            step = writer_at_later h.tail h.from h.long h.wide s.step part h.step;
+          }
+
+    -- what a step leaves to the flusher
+    pub record Same : Type 0 where
+      pub flushed : m.flushed ≤ m'.flushed
+      pub failed : 0 < m.failed → 0 < m'.failed
+      pub point : D.ckpt p' ≡ D.ckpt p
+
+    flusher_at_later : (f : FlusherState) → (0 < m.failed → 0 < m'.failed) → (st : FlusherStep) → (flusher_holds st ≡ true → ◌≡◌ {A = D.Part} p' p) → FlusherAt D c m g p f st → FlusherAt D c m' g' p' f st
+    flusher_at_later f same flusher_step.LoadWrite part h = tt
+    flusher_at_later f same flusher_step.TakeDevice part h = tt
+    flusher_at_later f same flusher_step.GiveBroken part h = tt
+    flusher_at_later f same flusher_step.Sync part h = ap D.failed (part refl) ∙ h
+    flusher_at_later f same flusher_step.StoreFlushed part h = h ∙ sym (ap D.stable (part refl))
+    flusher_at_later f same flusher_step.GiveDevice part h = tt
+    flusher_at_later f same flusher_step.StoreFailed part h = (h.0, subst (λ (q : D.Part). D.Cause q f.code) (sym (part refl)) h.1)
+    flusher_at_later f same flusher_step.GiveFailed part h = same h
+    flusher_at_later f same flusher_step.Failed part h = same h
+
+    pub flusher_later_by : (f : FlusherState) → m.write ≤ m'.write → m.flushed ≤ m'.flushed → (0 < m.failed → 0 < m'.failed) → (flusher_holds f.step ≡ true → ◌≡◌ {A = D.Part} p' p) → FlusherFits D c m g p f → FlusherFits D c m' g' p' f
+    flusher_later_by f wr fl fa part h = record { last = (let a = h.last in omega arith); write = (let a = h.write in omega arith); no_device_while_checking = h.no_device_while_checking; step = flusher_at_later f fa f.step part h.step }
+
+    pub flusher_later : (f : FlusherState) → m.write ≤ m'.write → Same → (flusher_holds f.step ≡ true → ◌≡◌ {A = D.Part} p' p) → FlusherFits D c m g p f → FlusherFits D c m' g' p' f
+    flusher_later f wr same part h = flusher_later_by f wr same.flushed same.failed part h
+
+    -- what a step leaves to the cleaner and to the checkpointer
+    pub record Rest : Type 0 where
+      pub failed : 0 < m.failed → 0 < m'.failed
+      pub ckpt : D.ckpt p' ≡ D.ckpt p
+
+    cleaner_told_later : (v : CleanerState) → Rest → CleanerTold D c m g p v → CleanerTold D c m' g' p' v
+    cleaner_told_later v rest h = ((λ z. rest.failed (h.0 z)), h.1)
+
+    checkpointer_at_later : (t : CheckpointerState) → Rest → (st : CheckpointerStep) → (checkpointer_holds st ≡ true → ◌≡◌ {A = D.Part} p' p) → CheckpointerAt D c m g p t st → CheckpointerAt D c m' g' p' t st
+    checkpointer_at_later t rest checkpointer_step.LoadCtail part h = rest.ckpt ∙ h
+    checkpointer_at_later t rest checkpointer_step.ReadList part h = rest.ckpt ∙ h
+    checkpointer_at_later t rest checkpointer_step.GiveList part h = rest.ckpt ∙ h
+    checkpointer_at_later t rest checkpointer_step.LoadFlushed part h = rest.ckpt ∙ h
+    checkpointer_at_later t rest checkpointer_step.TakeDevice part h = rest.ckpt ∙ h
+    checkpointer_at_later t rest checkpointer_step.GiveBroken part h = rest.ckpt ∙ h
+    checkpointer_at_later t rest checkpointer_step.Checkpoint part h = (rest.ckpt ∙ h.0, ap D.failed (part refl) ∙ h.1)
+    checkpointer_at_later t rest checkpointer_step.StoreCheckpoint part h = rest.ckpt ∙ h
+    checkpointer_at_later t rest checkpointer_step.GiveDevice part h = rest.ckpt ∙ h
+    checkpointer_at_later t rest checkpointer_step.StoreFailed part h = (h.0, subst (λ (q : D.Part). D.Cause q t.code) (sym (part refl)) h.1)
+    checkpointer_at_later t rest checkpointer_step.GiveFailed part h = rest.failed h
+    checkpointer_at_later t rest checkpointer_step.Failed part h = rest.failed h
+
+    pub checkpointer_fits_later : (j : ℕ) (t : CheckpointerState) → Rest → (checkpointer_holds t.step ≡ true → ◌≡◌ {A = D.Part} p' p) → CheckpointerFits D c m g p j t → CheckpointerFits D c m' g' p' j t
+    checkpointer_fits_later j t rest part h = record { alone = h.alone; no_device_while_checking = h.no_device_while_checking; step = checkpointer_at_later t rest t.step part h.step }
+
+    -- every other actor is as before
+    pub others_later : (seat : ℕ) → LogFacts D c m g p → Later m g m' g' seat → Still → Same → (j : ℕ) (a : Actor) → j ≢ seat → (holds a ≡ true → ◌≡◌ {A = D.Part} p' p) → Fits D c m g p j a → Fits D c m' g' p' j a
+    others_later seat G later still same j (actor.User u) ne part h = user_later seat j u G.tiled.tiles later ne h
+    others_later seat G later still same j (actor.Writer s) ne part h = let O = G.order in writer_later s j still O.base_even O.base_write O.wtail_tail (let e = O.entered_tail in omega arith) part h
+    others_later seat G later still same j (actor.Flusher f) ne part h = flusher_later f later.write same part h
+    others_later seat G later still same j (actor.Closer t) ne part h = λ z. same.failed (h z)
+    others_later seat G later still same j (actor.Cleaner v) ne part h = cleaner_told_later v (record { failed = same.failed; ckpt = same.point }) h
+    others_later seat G later still same j (actor.Checkpointer t) ne part h = checkpointer_fits_later j t (record { failed = same.failed; ckpt = same.point }) part h
+    others_later seat G later still same j (actor.Joined es) ne part h = tt
+
+    -- the same where the writer moves, which is alone
+    pub others_writer : (seat : ℕ) → seat ≡ g.writer → LogFacts D c m g p → Later m g m' g' seat → Same → (j : ℕ) (a : Actor) → j ≢ seat → (holds a ≡ true → ◌≡◌ {A = D.Part} p' p) → Fits D c m g p j a → Fits D c m' g' p' j a
+    others_writer seat is G later same j (actor.User u) ne part h = user_later seat j u G.tiled.tiles later ne h
+    others_writer seat is G later same j (actor.Writer s) ne part h = absurd (ne (h.alone ∙ sym is))
+    others_writer seat is G later same j (actor.Flusher f) ne part h = flusher_later f later.write same part h
+    others_writer seat is G later same j (actor.Closer t) ne part h = λ z. same.failed (h z)
+    others_writer seat is G later same j (actor.Cleaner v) ne part h = cleaner_told_later v (record { failed = same.failed; ckpt = same.point }) h
+    others_writer seat is G later same j (actor.Checkpointer t) ne part h = checkpointer_fits_later j t (record { failed = same.failed; ckpt = same.point }) part h
+    others_writer seat is G later same j (actor.Joined es) ne part h = tt
+
+    -- the same where the checkpointer moves, which is alone, and the newest checkpoint may change
+    pub others_pointer : (seat : ℕ) → seat ≡ c.checkpointer → LogFacts D c m g p → Later m g m' g' seat → Still → m.flushed ≤ m'.flushed → (j : ℕ) (a : Actor) → j ≢ seat → (holds a ≡ true → ◌≡◌ {A = D.Part} p' p) → Fits D c m g p j a → Fits D c m' g' p' j a
+    others_pointer seat is G later still fl j (actor.User u) ne part h = user_later seat j u G.tiled.tiles later ne h
+    others_pointer seat is G later still fl j (actor.Writer s) ne part h = let O = G.order in writer_later s j still O.base_even O.base_write O.wtail_tail (let e = O.entered_tail in omega arith) part h
+    others_pointer seat is G later still fl j (actor.Flusher f) ne part h = flusher_later_by f later.write fl later.failed part h
+    others_pointer seat is G later still fl j (actor.Closer t) ne part h = λ z. later.failed (h z)
+    others_pointer seat is G later still fl j (actor.Cleaner v) ne part h = ((λ z. later.failed (h.0 z)), h.1)
+    others_pointer seat is G later still fl j (actor.Checkpointer t) ne part h = absurd (ne (h.alone ∙ sym is))
+    others_pointer seat is G later still fl j (actor.Joined es) ne part h = tt

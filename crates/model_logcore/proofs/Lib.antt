@@ -1,0 +1,16 @@
+pub mod AnswersFit
+pub mod DeviceSteps
+pub mod Frame
+pub mod Joins
+pub mod LinkSteps
+pub mod LogAside
+pub mod LogKeeps
+pub mod NewUser
+pub mod Ready
+pub mod RingSteps
+pub mod StartHolds
+pub mod UserGroups
+pub mod UserSteps
+pub mod Watermarks
+pub mod WriterCells
+pub mod WriterSteps

@@ -1,0 +1,173 @@
+-- The log half holds at the start of a run, with a user that gets a seat later, and where one seat takes in another's groups.
+use Rattle.std.proofs.Common.{Bool, List, [], ap, arith, cond, eq-eqb, eqb, false, length, ne_eqb, refl, subst, suc, sym, true, ℕ, ◌+◌, ◌/◌, ◌<◌, ◌^◌, ◌∙◌, ◌∷◌, ◌≡◌}
+use lib.ListN.{get_elem?}
+use native.Mathlib.Decide.{ℕ_discrete}
+use Rattle.model_core.proofs.Groups.{first_base}
+use Rattle.model_core.proofs.Lsns.{floor_lsn}
+use Rattle.model_core.specs.Actors.{Actor}
+use Rattle.model_core.specs.Groups.{first_of, sum_of}
+use Rattle.model_core.specs.Holding.{holds}
+use Rattle.model_core.specs.Layout.{SharedWords}
+use Rattle.model_core.specs.LogSide.{LogSide}
+use Rattle.model_core.specs.Lsn.{floor, lsn}
+use Rattle.model_core.specs.Program.{entries, entries_from}
+use Rattle.model_core.specs.Setup.{Setup}
+use Rattle.model_core.specs.States.{CheckpointerState, CleanerState, CloserState, FlusherState, LoadedMarks, WriterState}
+use Rattle.model_logcore.specs.LogFacts.{LogFacts, LogGhost, sum_over_actors}
+use Rattle.model_logcore.specs.LogFits.{AreBelow, CheckpointerFits, Fits, FlusherFits, UserAt, WriterFits}
+use Rattle.model_logcore.specs.LogHalf.{LogHalf, left_to_reserve}
+use Rattle.model_logcore.specs.Start.{StartActor, StartPart, StartWords}
+use Rattle.model_core.specs.declared.steps.CloserStep.TheVariants as closer_step
+use Rattle.model_core.specs.declared.steps.CleanerStep.TheVariants as cleaner_step
+use Rattle.model_core.specs.Actors as actor
+use mathlib.Core.Option as maybe
+
+module _ (D : LogSide) (c : Setup) (m : SharedWords) (p : D.Part) (seat_of : ℕ → ℕ) (writer : ℕ) (W : StartWords c m) (P : StartPart D c p) where
+  abbrev pub start_first : ℕ → ℕ
+  start_first q = cond (eqb q (c.base / 496)) 12 0
+
+  abbrev pub start : LogGhost
+  start = record {
+    log = [];
+    place = λ x. record { owner = 0; start = 0; end = 0 };
+    state = λ x. 0;
+    first = start_first;
+    seat_of = seat_of;
+    answered = λ x. 0;
+    write = c.base;
+    wtail = c.base;
+    flushed = c.base;
+    tail = c.base;
+    read = c.base;
+    entered = c.base / 496;
+    writer = writer;
+    holder = 0;
+  }
+
+  only_base : (q : ℕ) → 0 < start_first q → q ≡ c.base / 496
+  only_base q h = elim (ℕ_discrete q (c.base / 496)) [
+    | yes e ↦ e
+    | no n ↦ (let z : start_first q ≡ 0 = ap (λ (b : Bool). let k : ℕ = cond b 12 0 in k) (ne_eqb q (c.base / 496) n) in absurd (omega arith))
+  ]
+
+  base_first : start_first (c.base / 496) ≡ 12
+  base_first = ap (λ (b : Bool). let k : ℕ = cond b 12 0 in k) (eq-eqb (c.base / 496) (c.base / 496) refl)
+
+  start_global : LogFacts D c m start p
+  start_global =
+      let e = W.even in let s = W.sn in let w = W.write in let t = W.wtail in let f = W.flushed in let a = P.written in let b = P.stable in
+      record {
+        tiled = record { tiles = sym s; placed = λ i x z. absurd (maybe.some-ne-none x (sym z)); lines = λ i x z. absurd (maybe.some-ne-none x (sym z)); ranks = λ i x z. absurd (maybe.some-ne-none x (sym z)); bytes = λ x l h. absurd (omega arith) };
+        order = record {
+          base_even = e;
+          write_is = w;
+          wtail_is = t;
+          flushed_is = f;
+          base_write = omega arith;
+          write_read = omega arith;
+          read_wtail = omega arith;
+          wtail_tail = omega arith;
+          tail_sn = omega arith;
+          read_entered = omega arith;
+          entered_tail = omega arith;
+          write_bound = refl;
+          wtail_bound = refl;
+          tail_bound = refl;
+          flushed_bound = refl;
+        };
+        ring_cells = record { each = λ x l h. absurd (omega arith) };
+        first_offsets = record {
+          slots_are = W.firsts;
+          near = λ q h. (let z = only_base q h in let k = floor_lsn c.base in let y : floor m.write ≡ floor (lsn c.base) = ap floor w in omega arith);
+          true_first = λ q h. let z = only_base q h in ap start_first z ∙ base_first ∙ sym (first_base c.base []) ∙ ap (first_of c.base []) (sym z);
+          stored = λ i x z. absurd (maybe.some-ne-none x (sym z));
+          begun = (let z = base_first in omega arith);
+        };
+        written_links = record { linked = λ x l h. absurd (omega arith); links_are = λ i l h. (let z = W.wlinks i in absurd (omega arith)); standing = λ i x z. absurd (maybe.some-ne-none x (sym z)) };
+        commits = record { flush = λ i x z. absurd (maybe.some-ne-none x (sym z)); wrote = λ i x z. absurd (maybe.some-ne-none x (sym z)); last = λ v. omega arith };
+        part = record {
+          holds = P.holds;
+          written = c.base;
+          stable = c.base;
+          written_is = a;
+          stable_is = b;
+          written_bound = refl;
+          stable_bound = refl;
+          write_written = omega arith;
+          written_wtail = omega arith;
+          given_wtail = (let z = P.given in omega arith);
+          flushed_stable = omega arith;
+          stable_written = omega arith;
+          ckpt_part = (let z = W.ckpt in let y = P.ckpt in omega arith);
+          ckpt_stable = (let z = P.ckpt in omega arith);
+          turn_word = (let z = W.device in omega arith);
+        };
+      }
+
+  start_fits : (seat : ℕ) (a : Actor) → StartActor c seat_of writer seat a → Fits D c m start p seat a
+  start_fits seat (actor.User u) h = let k = h.1 in record {
+    own_seat = h.0;
+    blocks = k.blocks;
+    lines = k.lines;
+    sound = k.sound;
+    are_bytes = k.are_bytes;
+    counted = sym (ap length k.starts);
+    answers = sym k.k;
+    loaded = subst (λ (z : LoadedMarks). AreBelow z m.ckpt m.write m.wtail m.flushed) (sym k.loaded) (record { ckpt_below = omega arith; write_below = omega arith; wtail_below = omega arith; flushed_below = omega arith });
+    step = subst (λ f. UserAt D c m start p seat u f) (sym k.step) (ap length k.starts ∙ sym k.k, (let z = k.some_lines in let y = k.k in omega arith));
+  }
+  start_fits seat (actor.Writer s) h = subst (λ (z : WriterState). WriterFits D c m start p seat z) (sym h.1) (let e = W.even in record {
+    alone = h.0;
+    blocks = refl;
+    tail = refl;
+    write = sym W.write;
+    from = omega arith;
+    long = omega arith;
+    kept = λ j l. absurd (omega arith);
+    wide = omega arith;
+    firsts = λ j l. absurd (omega arith);
+    small = omega arith;
+    ckpt = omega arith;
+    no_device_while_checking = λ z. refl;
+    step = ((refl, P.written ∙ sym W.write), omega arith);
+  })
+  start_fits seat (actor.Flusher f) h = subst (λ (z : FlusherState). FlusherFits D c m start p z) (sym h) (record { last = (let z = W.flushed in omega arith); write = omega arith; no_device_while_checking = λ z. refl; step = tt })
+  start_fits seat (actor.Closer t) h = λ e. let z : closer_step.LoadClosedLink ≡ closer_step.Failed = sym (ap (λ (y : CloserState). y.step) h.1) ∙ e in absurd (cc)
+  start_fits seat (actor.Cleaner v) h = let s : v.step ≡ cleaner_step.LoadFlushed = ap (λ (y : CleanerState). y.step) h.1 in
+      ((λ e. let z : cleaner_step.LoadFlushed ≡ cleaner_step.Failed = sym s ∙ e in absurd (cc)), (λ e. let z : cleaner_step.LoadFlushed ≡ cleaner_step.StoreFailed = sym s ∙ e in absurd (cc)))
+  start_fits seat (actor.Checkpointer t) h = subst (λ (z : CheckpointerState). CheckpointerFits D c m start p seat z) (sym h.1) (record { alone = h.0; no_device_while_checking = λ z. refl; step = P.ckpt })
+  start_fits seat (actor.Joined es) h = tt
+
+  start_holds : (seat : ℕ) (a : Actor) → StartActor c seat_of writer seat a → holds a ≡ false
+  start_holds seat (actor.User u) h = refl
+  start_holds seat (actor.Writer s) h = ap (λ (z : WriterState). holds (actor.Writer z)) h.1
+  start_holds seat (actor.Flusher f) h = ap (λ (z : FlusherState). holds (actor.Flusher z)) h
+  start_holds seat (actor.Closer t) h = refl
+  start_holds seat (actor.Cleaner v) h = refl
+  start_holds seat (actor.Checkpointer t) h = ap (λ (z : CheckpointerState). holds (actor.Checkpointer z)) h.1
+  start_holds seat (actor.Joined es) h = refl
+
+  start_entries : (seat : ℕ) (a : Actor) → StartActor c seat_of writer seat a → entries a ≡ []
+  start_entries seat (actor.User u) h = ap (entries_from u.user u.lines 0) h.1.starts
+  start_entries seat (actor.Writer s) h = refl
+  start_entries seat (actor.Flusher f) h = refl
+  start_entries seat (actor.Closer t) h = refl
+  start_entries seat (actor.Cleaner v) h = refl
+  start_entries seat (actor.Checkpointer t) h = refl
+  start_entries seat (actor.Joined es) h = h
+
+  no_sum : (f : Actor → ℕ) (actors : List Actor) → ((i : ℕ) (a : Actor) → get_elem? actors i ≡ maybe.some a → f a ≡ 0) → sum_over_actors f actors ≡ 0
+  no_sum f [] h = refl
+  no_sum f (x ∷ xs) h = let a = h 0 x refl in let r = no_sum f xs (λ i b e. h (suc i) b e) in omega arith
+
+  -- a run's start: the words and the part as opened, and actors that have done nothing
+  pub half_starts : (spare : ℕ) (actors : List Actor) → ((seat : ℕ) (a : Actor) → get_elem? actors seat ≡ maybe.some a → StartActor c seat_of writer seat a) → c.base + sum_over_actors left_to_reserve actors + spare < 2 ^ 59 → LogHalf D c spare m start p actors
+  half_starts spare actors h room = record {
+    sized = W.sized;
+    global = start_global;
+    each = λ j a z. start_fits j a (h j a z);
+    turns = λ j a z held. let k : false ≡ true = sym (start_holds j a (h j a z)) ∙ held in absurd (cc);
+    taken = λ d. (let z = W.device in absurd (omega arith));
+    counted = λ w. no_sum (λ a. sum_of w (entries a)) actors (λ i a z. ap (sum_of w) (start_entries i a (h i a z)));
+    room = (let z = W.sn in omega arith);
+  }

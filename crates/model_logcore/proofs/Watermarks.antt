@@ -1,0 +1,121 @@
+-- The log half of the invariant gives the watermarks.
+use Rattle.std.proofs.Common.{List, ap, arith, subst, ℕ, ⊎_elim, ◌+◌, ◌/◌, ◌<◌, ◌∙◌, ◌≡◌, ◌≤◌}
+use lib.ListN.{get_elem?}
+use native.Mathlib.Decide.{dec_le}
+use Rattle.model_core.proofs.Groups.{tiles_at}
+use Rattle.model_core.proofs.Lsns.{block_below, lsn_block, lsn_offset}
+use Rattle.model_core.specs.Actors.{Actor}
+use Rattle.model_core.specs.Groups.{Entry, end_of, first_of}
+use Rattle.model_core.specs.Layout.{SharedWords}
+use Rattle.model_core.specs.LogSide.{LogSide}
+use Rattle.model_core.specs.Lsn.{floor, lsn}
+use Rattle.model_core.specs.Setup.{Setup}
+use Rattle.model_logcore.specs.LogFacts.{LogGhost}
+use Rattle.model_logcore.specs.LogFits.{CheckpointerAt, CheckpointerFits, FlusherAt, FlusherFits, UserAt, UserFits, WriterAt, WriterFits}
+use Rattle.model_logcore.specs.LogHalf.{LogHalf}
+use Rattle.model_logcore.specs.Watermarks.{HasLoadedBelow, HasMetFailure, IsGroupLinked, LogWatermarks}
+use Rattle.model_core.specs.declared.steps.UserStep.TheVariants as user_step
+use Rattle.model_core.specs.declared.steps.WriterStep.TheVariants as writer_step
+use Rattle.model_core.specs.declared.steps.FlusherStep.TheVariants as flusher_step
+use Rattle.model_core.specs.declared.steps.CheckpointerStep.TheVariants as checkpointer_step
+use Rattle.model_core.specs.Actors as actor
+use mathlib.Core.Option as maybe
+
+module _ (D : LogSide) (c : Setup) (spare : ℕ) (m : SharedWords) (g : LogGhost) (p : D.Part) (actors : List Actor) (half : LogHalf D c spare m g p actors) where
+  -- each mark that an actor has loaded is at most the word now
+  pub loaded_below : (seat : ℕ) (a : Actor) → get_elem? actors seat ≡ maybe.some a → HasLoadedBelow m a
+  loaded_below seat (actor.User u) at = let f : UserFits D c m g p seat u = half.each seat (actor.User u) at in f.loaded
+  loaded_below seat (actor.Writer s) at = let f : WriterFits D c m g p seat s = half.each seat (actor.Writer s) at in ((let z = f.write in omega arith), f.ckpt)
+  loaded_below seat (actor.Flusher t) at = let f : FlusherFits D c m g p t = half.each seat (actor.Flusher t) at in (f.write, f.last)
+  loaded_below seat (actor.Closer t) at = tt
+  loaded_below seat (actor.Cleaner v) at = tt
+  loaded_below seat (actor.Checkpointer t) at = tt
+  loaded_below seat (actor.Joined es) at = tt
+
+  pub failures_show : (seat : ℕ) (a : Actor) → get_elem? actors seat ≡ maybe.some a → HasMetFailure a → 0 < m.failed
+  failures_show seat (actor.User u) at met = let f : UserFits D c m g p seat u = half.each seat (actor.User u) at in
+      let z : UserAt D c m g p seat u user_step.Failed = subst (UserAt D c m g p seat u) met f.step in z.1
+  failures_show seat (actor.Writer s) at met = let f : WriterFits D c m g p seat s = half.each seat (actor.Writer s) at in
+      ⊎_elim (λ e. let z : WriterAt D c m g p seat s writer_step.GiveFailed = subst (WriterAt D c m g p seat s) e f.step in z)
+      (λ e. let z : WriterAt D c m g p seat s writer_step.Failed = subst (WriterAt D c m g p seat s) e f.step in z) met
+  failures_show seat (actor.Flusher t) at met = let f : FlusherFits D c m g p t = half.each seat (actor.Flusher t) at in
+      ⊎_elim (λ e. let z : FlusherAt D c m g p t flusher_step.GiveFailed = subst (FlusherAt D c m g p t) e f.step in z)
+      (λ e. let z : FlusherAt D c m g p t flusher_step.Failed = subst (FlusherAt D c m g p t) e f.step in z) met
+  failures_show seat (actor.Closer t) at met = half.each seat (actor.Closer t) at met
+  failures_show seat (actor.Cleaner v) at met = (half.each seat (actor.Cleaner v) at).0 met
+  failures_show seat (actor.Checkpointer t) at met = let f : CheckpointerFits D c m g p seat t = half.each seat (actor.Checkpointer t) at in
+      ⊎_elim (λ e. let z : CheckpointerAt D c m g p t checkpointer_step.GiveFailed = subst (CheckpointerAt D c m g p t) e f.step in z)
+      (λ e. let z : CheckpointerAt D c m g p t checkpointer_step.Failed = subst (CheckpointerAt D c m g p t) e f.step in z) met
+  failures_show seat (actor.Joined es) at met = absurd met
+
+  end_below : (i : ℕ) (e : Entry) → get_elem? g.log i ≡ maybe.some e → g.read ≤ e.start → IsGroupLinked g.state e → lsn (end_of e) < floor m.write + 65536
+  end_below i e is from linked =
+      let G = half.global in
+      let w = tiles_at g.log c.base m.sn i e G.tiled.tiles is in
+      let w1 = w.1 in let w2 = w.2 in
+      let two : g.state e.start ≡ 2 = linked e.start (omega arith) (omega arith) in
+      let start = (G.ring_cells.each e.start from (omega arith) (omega arith)).1 in
+      let write : m.write ≡ lsn g.write = G.order.write_is in
+      let b = block_below e.start g.write (subst (λ (k : ℕ). lsn e.start < floor k + 65536) write start) in
+      let f : floor m.write ≡ floor (lsn g.write) = ap floor write in
+      let o = lsn_offset (end_of e) in let q = lsn_block (end_of e) in
+      elim (dec_le (end_of e / 496) (e.start / 496)) [
+        | yes d ↦ (let same : end_of e / 496 ≡ e.start / 496 = omega arith in omega arith)
+        | no n ↦ (let near = G.first_offsets.near (end_of e / 496) (G.first_offsets.stored i e is two (omega arith)) in omega arith)
+      ]
+
+  pub log_watermarks : LogWatermarks D c m p actors
+  log_watermarks = let G = half.global in let O = G.order in let P = G.part in record {
+    log = g.log;
+    progress = g.state;
+    first = g.first;
+    write = g.write;
+    wtail = g.wtail;
+    flushed = g.flushed;
+    tail = g.tail;
+    read = g.read;
+    entered = g.entered;
+    groups_tile = record { tile = G.tiled.tiles; are_of_actors = half.counted; in_order = G.tiled.ranks; of_lines = λ i e is. let l = G.tiled.lines i e is in (l.0, l.1) };
+    copied_bytes_stand = record {
+      cell = λ x lo hi copied. (G.ring_cells.each x lo hi copied).0;
+      below = λ x lo hi copied. (G.ring_cells.each x lo hi copied).1;
+      end_below = end_below;
+      first_stands = G.first_offsets.slots_are;
+      first_true = G.first_offsets.true_first;
+      first_below = G.first_offsets.near;
+      first_begun = G.first_offsets.begun;
+    };
+    links_are_groups = record { link = G.written_links.links_are; first_stored = G.first_offsets.stored; standing = G.written_links.standing };
+    marks_are_ordered = record {
+      write_is = O.write_is;
+      wtail_is = O.wtail_is;
+      flushed_is = O.flushed_is;
+      write_read = O.write_read;
+      read_wtail = O.read_wtail;
+      wtail_tail = O.wtail_tail;
+      tail_sn = O.tail_sn;
+      linked_below = G.written_links.linked;
+      write_boundary = O.write_bound;
+      wtail_boundary = O.wtail_bound;
+      flushed_boundary = O.flushed_bound;
+      tail_boundary = O.tail_bound;
+      writer = λ seat s at. let f : WriterFits D c m g p seat s = half.each seat (actor.Writer s) at in (f.tail, f.long);
+      loaded = loaded_below;
+    };
+    device_holds_stream = record {
+      holds = P.holds;
+      kept = λ seat s at. let f : WriterFits D c m g p seat s = half.each seat (actor.Writer s) at in f.kept;
+      firsts = λ seat s at i l. let f : WriterFits D c m g p seat s = half.each seat (actor.Writer s) at in
+          f.firsts i l ∙ ap (λ (q : ℕ). first_of c.base g.log (q + i)) (let z = f.from in omega arith);
+    };
+    part_marks_are_ordered = record {
+      write_written = P.write_written;
+      written_wtail = P.written_wtail;
+      given_wtail = P.given_wtail;
+      flushed_stable = P.flushed_stable;
+      stable_written = P.stable_written;
+      ckpt_newest = P.ckpt_part;
+      newest_stable = P.ckpt_stable;
+    };
+    failures_show = failures_show;
+  }

@@ -1,0 +1,168 @@
+-- The log half of the invariant: what holds of each actor.
+use Rattle.std.specs.Prelude.{false, length, slice_index, true, ℕ, ◌%◌, ◌*◌, ◌+◌, ◌/◌, ◌<◌, ◌≡◌, ◌≢◌, ◌≤◌}
+use lib.ListN.{get_elem?}
+use mathlib.Core.Option.{some}
+use Rattle.model_core.specs.Actors.{Actor}
+use Rattle.model_core.specs.Groups.{byte_at, first_of}
+use Rattle.model_core.specs.Holding.{checkpointer_holds, writer_holds, flusher_holds}
+use Rattle.model_core.specs.Layout.{SharedWords}
+use Rattle.model_core.specs.LogSide.{LogSide}
+use Rattle.model_core.specs.Lsn.{ceiling, floor, lsn}
+use Rattle.model_core.specs.Program.{entry}
+use Rattle.model_core.specs.Setup.{Setup}
+use Rattle.model_core.specs.States.{CheckpointerState, CleanerState, FlusherState, LoadedMarks, UserState, WriterState}
+use Rattle.model_core.specs.UserProgram.{line, line_at, mode, group_end, group_bytes}
+use Rattle.model_core.specs.declared.steps.UserStep.{UserStep}
+use Rattle.model_core.specs.declared.steps.CheckpointerStep.{CheckpointerStep}
+use Rattle.model_core.specs.declared.steps.WriterStep.{WriterStep}
+use Rattle.model_core.specs.declared.steps.FlusherStep.{FlusherStep}
+use Rattle.model_logcore.specs.LogFacts.{LogGhost, InHand, count_of}
+use Rattle.model_core.specs.declared.steps.UserStep.TheVariants as user_step
+use Rattle.model_core.specs.declared.steps.WriterStep.TheVariants as writer_step
+use Rattle.model_core.specs.declared.steps.FlusherStep.TheVariants as flusher_step
+use Rattle.model_core.specs.declared.steps.CloserStep.TheVariants as closer_step
+use Rattle.model_core.specs.declared.steps.CleanerStep.TheVariants as cleaner_step
+use Rattle.model_core.specs.declared.steps.CheckpointerStep.TheVariants as checkpointer_step
+use Rattle.model_core.specs.Actors as actor
+use Rattle.model_base.specs.declared.limits.TheConstants.{BLOCK_SIZE, MAX_GROUP}
+use Rattle.model_log.specs.declared.layout.TheConstants.{BLOCK_DATA}
+use Rattle.model_core.specs.declared.limits.TheConstants.{LOG_BUFFER, WRITTEN_LINKS}
+
+-- each mark that a user has loaded is at most the word now
+pub record AreBelow (l : LoadedMarks) (ckpt write wtail flushed : ℕ) : Type 0 where
+  pub ckpt_below : l.ckpt ≤ ckpt
+  pub write_below : l.write ≤ write
+  pub wtail_below : l.wtail ≤ wtail
+  pub flushed_below : l.flushed ≤ flushed
+
+module _ (D : LogSide) (c : Setup) (m : SharedWords) (g : LogGhost) (p : D.Part) where
+  abbrev pub Hand : ℕ → UserState → Type 0
+  Hand seat u = InHand g.log g.place g.state seat u.user u.k u.start u.copied (line u)
+
+  abbrev pub IsBefore : UserState → Type 0
+  IsBefore u = (length u.starts ≡ u.k) × (u.k < length u.lines)
+
+  -- its group is linked and not answered
+  abbrev pub IsLinked : UserState → Type 0
+  IsLinked u = (length u.starts ≡ u.k + 1) × (u.k < length u.lines) × ((at : ℕ) × (get_elem? g.log at ≡ some (entry u.user u.k u.start (line u))))
+
+  -- FIRST of the block in which it ends is stored, if it starts in another
+  abbrev pub HasFirst : UserState → Type 0
+  HasFirst u = u.start / BLOCK_DATA < group_end u / BLOCK_DATA → 0 < g.first (group_end u / BLOCK_DATA)
+
+  abbrev pub UserAt : ℕ → UserState → UserStep → Type 0
+  UserAt seat u user_step.LoadCheckpoint = IsBefore u
+  UserAt seat u user_step.LoadSn = IsBefore u
+  UserAt seat u user_step.Reserve = IsBefore u
+  UserAt seat u user_step.LoadWrite = (length u.starts ≡ u.k + 1) × (u.k < length u.lines) × Hand seat u × (u.copied ≡ 0)
+  UserAt seat u user_step.StoreCell = (length u.starts ≡ u.k + 1) × (u.k < length u.lines) × Hand seat u × (u.copied < length (group_bytes u)) × (lsn (group_end u) < floor m.write + LOG_BUFFER)
+  UserAt seat u user_step.StoreFirst = (length u.starts ≡ u.k + 1) × (u.k < length u.lines) × Hand seat u × (u.copied ≡ length (group_bytes u)) × (lsn (group_end u) < floor m.write + LOG_BUFFER) × (u.start / BLOCK_DATA < group_end u / BLOCK_DATA)
+  UserAt seat u user_step.LoadWtail = (length u.starts ≡ u.k + 1) × (u.k < length u.lines) × Hand seat u × (u.copied ≡ length (group_bytes u)) × HasFirst u
+  UserAt seat u user_step.StoreLink = (length u.starts ≡ u.k + 1) × (u.k < length u.lines) × Hand seat u × (u.copied ≡ length (group_bytes u)) × HasFirst u × (lsn u.start < m.wtail + WRITTEN_LINKS)
+  UserAt seat u user_step.TakeLatch = IsBefore u
+  UserAt seat u user_step.LoadCtail = IsLinked u
+  UserAt seat u user_step.StoreFrame = IsLinked u
+  UserAt seat u user_step.StoreNewest = IsLinked u
+  UserAt seat u user_step.LoadOldest = IsLinked u
+  UserAt seat u user_step.AddToList = IsLinked u
+  UserAt seat u user_step.StoreOldest = IsLinked u
+  UserAt seat u user_step.GiveList = IsLinked u
+  UserAt seat u user_step.StoreClosedLink = IsLinked u
+  UserAt seat u user_step.ReleaseLatch = IsLinked u
+  UserAt seat u user_step.AwaitMark = (length u.starts ≡ u.k + 1) × (u.k < length u.lines) × ((at : ℕ) × (get_elem? g.log at ≡ some (entry u.user u.k u.start (line u)))) × (mode u ≢ 0)
+  UserAt seat u user_step.Done = (length u.starts ≡ u.k) × (u.k ≡ length u.lines)
+  UserAt seat u user_step.Failed = (length u.starts ≤ u.k + 1) × (0 < m.failed)
+
+  pub record UserFits (seat : ℕ) (u : UserState) : Type 0 where
+    pub own_seat : g.seat_of u.user ≡ seat
+    pub blocks : u.blocks ≡ c.blocks
+    pub lines : u.lines ≡ c.script u.user
+    pub sound : (j : ℕ) → j < length u.lines → (0 < length (line_at u.lines j).bytes) × (length (line_at u.lines j).bytes ≤ MAX_GROUP) × ((line_at u.lines j).mode < 3)
+    pub are_bytes : (j i : ℕ) → i < length (line_at u.lines j).bytes → slice_index (line_at u.lines j).bytes i < 256
+    pub counted : count_of u.user g.log ≡ length u.starts
+    pub answers : g.answered u.user ≡ u.k
+    pub loaded : AreBelow u.loaded m.ckpt m.write m.wtail m.flushed
+    pub step : UserAt seat u u.step
+
+  -- the writer hasn't begun to load cells
+  abbrev pub IsIdle : WriterState → Type 0
+  IsIdle s = (g.read ≡ g.write) × (D.written p ≡ m.write)
+
+  -- it has stored WTAIL, and loads cells or has loaded them
+  abbrev pub IsBusy : WriterState → Type 0
+  IsBusy s = (g.wtail ≡ g.tail) × (g.write < g.tail) × (D.written p ≡ m.write)
+
+  abbrev pub IsWithin : WriterState → Type 0
+  IsWithin s = ceiling s.tail ≤ s.ckpt + BLOCK_SIZE * s.blocks
+
+  abbrev pub WriterAt : ℕ → WriterState → WriterStep → Type 0
+  WriterAt seat s writer_step.LoadLink = IsIdle s × (s.tail < s.write + WRITTEN_LINKS)
+  WriterAt seat s writer_step.ClearLink = IsIdle s × (s.tail < s.write + WRITTEN_LINKS) × (0 < s.link) × (slice_index m.wlinks (s.tail % WRITTEN_LINKS) ≡ s.link)
+  WriterAt seat s writer_step.StoreWtail = IsIdle s × (g.write < g.tail)
+  WriterAt seat s writer_step.LoadCheckpoint = IsBusy s × (g.read ≡ g.write)
+  WriterAt seat s writer_step.LoadFirst = IsBusy s × (g.read < g.tail) × IsWithin s × (length s.kept ≡ BLOCK_DATA * length s.firsts)
+  WriterAt seat s writer_step.ClearFirst = IsBusy s × (g.read < g.tail) × IsWithin s × (length s.kept ≡ BLOCK_DATA * length s.firsts) × (s.first ≡ first_of c.base g.log g.entered)
+  WriterAt seat s writer_step.LoadCell = IsBusy s × (g.read < g.tail) × IsWithin s × (length s.kept < BLOCK_DATA * length s.firsts)
+  WriterAt seat s writer_step.TakeDevice = IsBusy s × (g.read ≡ g.tail) × IsWithin s
+  WriterAt seat s writer_step.GiveBroken = IsBusy s × (g.read ≡ g.tail) × IsWithin s
+  WriterAt seat s writer_step.WriteTo = IsBusy s × (g.read ≡ g.tail) × IsWithin s × (D.failed p ≡ false)
+  WriterAt seat s writer_step.StoreWrite = (g.wtail ≡ g.tail) × (g.write < g.tail) × (D.written p ≡ s.tail) × (g.read ≡ g.tail)
+  WriterAt seat s writer_step.GiveDevice = IsIdle s × (s.tail ≡ s.write)
+  WriterAt seat s writer_step.StoreFailed = (0 < s.code) × D.Cause p s.code
+  WriterAt seat s writer_step.GiveFailed = 0 < m.failed
+  WriterAt seat s writer_step.Failed = 0 < m.failed
+
+  pub record WriterFits (seat : ℕ) (s : WriterState) : Type 0 where
+    pub alone : seat ≡ g.writer
+    pub blocks : s.blocks ≡ c.blocks
+    pub tail : s.tail ≡ lsn g.tail
+    pub write : s.write ≡ m.write
+    pub from : s.from ≡ g.write / BLOCK_DATA * BLOCK_DATA
+    pub long : s.from + length s.kept ≡ g.read
+    pub kept : (j : ℕ) → j < length s.kept → slice_index s.kept j ≡ byte_at c.base g.log (s.from + j)
+    pub wide : s.from + BLOCK_DATA * length s.firsts ≡ BLOCK_DATA * g.entered
+    pub firsts : (i : ℕ) → i < length s.firsts → slice_index s.firsts i ≡ first_of c.base g.log (g.write / BLOCK_DATA + i)
+    pub small : s.tail ≤ s.write + 41240
+    pub ckpt : s.ckpt ≤ m.ckpt
+    pub no_device_while_checking : s.checks ≡ true → writer_holds s.step ≡ false
+    pub step : WriterAt seat s s.step
+
+  abbrev pub FlusherAt : FlusherState → FlusherStep → Type 0
+  FlusherAt f flusher_step.Sync = D.failed p ≡ false
+  FlusherAt f flusher_step.StoreFlushed = f.mark ≡ D.stable p
+  FlusherAt f flusher_step.StoreFailed = (0 < f.code) × D.Cause p f.code
+  FlusherAt f flusher_step.GiveFailed = 0 < m.failed
+  FlusherAt f flusher_step.Failed = 0 < m.failed
+  FlusherAt f _ = Unit {0}
+
+  pub record FlusherFits (f : FlusherState) : Type 0 where
+    pub last : f.last ≤ m.flushed
+    pub write : f.write ≤ m.write
+    pub no_device_while_checking : f.checks ≡ true → flusher_holds f.step ≡ false
+    pub step : FlusherAt f f.step
+
+  -- of the page actors the log half says when they end, and what the checkpointer knows of the log part
+  abbrev pub CleanerTold : CleanerState → Type 0
+  CleanerTold v = (v.step ≡ cleaner_step.Failed → 0 < m.failed) × (v.step ≡ cleaner_step.StoreFailed → 0 < v.code)
+
+  abbrev pub CheckpointerAt : CheckpointerState → CheckpointerStep → Type 0
+  CheckpointerAt t checkpointer_step.Checkpoint = (D.ckpt p ≡ t.own) × (D.failed p ≡ false)
+  CheckpointerAt t checkpointer_step.StoreCheckpoint = D.ckpt p ≡ t.to
+  CheckpointerAt t checkpointer_step.StoreFailed = (0 < t.code) × D.Cause p t.code
+  CheckpointerAt t checkpointer_step.GiveFailed = 0 < m.failed
+  CheckpointerAt t checkpointer_step.Failed = 0 < m.failed
+  CheckpointerAt t _ = D.ckpt p ≡ t.own
+
+  pub record CheckpointerFits (seat : ℕ) (t : CheckpointerState) : Type 0 where
+    pub alone : seat ≡ c.checkpointer
+    pub no_device_while_checking : t.checks ≡ true → checkpointer_holds t.step ≡ false
+    pub step : CheckpointerAt t t.step
+
+  abbrev pub Fits : ℕ → Actor → Type 0
+  Fits seat (actor.User u) = UserFits seat u
+  Fits seat (actor.Writer s) = WriterFits seat s
+  Fits seat (actor.Flusher f) = FlusherFits f
+  Fits seat (actor.Closer t) = t.step ≡ closer_step.Failed → 0 < m.failed
+  Fits seat (actor.Cleaner v) = CleanerTold v
+  Fits seat (actor.Checkpointer t) = CheckpointerFits seat t
+  Fits seat (actor.Joined es) = Unit {0}

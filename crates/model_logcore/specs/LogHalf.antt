@@ -1,0 +1,47 @@
+-- The log half of the invariant, whole.
+use Rattle.std.specs.Prelude.{List, [], drop, length, true, ℕ, ◌+◌, ◌<◌, ◌^◌, ◌∷◌, ◌≡◌}
+use lib.ListN.{get_elem?}
+use mathlib.Core.Option.{some}
+use Rattle.model_core.specs.Actors.{Actor}
+use Rattle.model_core.specs.Groups.{Entry, sum_of}
+use Rattle.model_core.specs.Holding.{holds}
+use Rattle.model_core.specs.Layout.{IsSized, SharedWords, flat}
+use Rattle.model_core.specs.LogSide.{LogSide}
+use Rattle.model_core.specs.Program.{entries}
+use Rattle.model_core.specs.Setup.{Setup}
+use Rattle.model_core.specs.States.{Line}
+use Rattle.model_logcore.specs.LogFacts.{LogGhost, LogFacts, sum_over_actors}
+use Rattle.model_logcore.specs.LogFits.{Fits}
+use Rattle.model_core.specs.Actors as actor
+
+-- the bytes that an actor may still reserve
+abbrev pub lengths : List Line → ℕ
+lengths [] = 0
+lengths (l ∷ ls) = length l.bytes + lengths ls
+
+abbrev pub left_to_reserve : Actor → ℕ
+left_to_reserve (actor.User u) = lengths (drop (length u.starts) u.lines)
+left_to_reserve _ = 0
+
+-- the sum over all actors of what h gives their groups is that over the history
+abbrev pub Counted : List Actor → List Entry → Type 0
+Counted actors log = (h : Entry → ℕ) → sum_over_actors (λ a. sum_of h (entries a)) actors ≡ sum_of h log
+
+abbrev pub HasTaker : List Actor → ℕ → Type 0
+HasTaker actors seat = (a : Actor) × (get_elem? actors seat ≡ some a) × (holds a ≡ true)
+
+-- `spare` are the bytes of users that are still to be seated
+pub record LogHalf (D : LogSide) (c : Setup) (spare : ℕ) (m : SharedWords) (g : LogGhost) (p : D.Part) (actors : List Actor) : Type 0 where
+  pub sized : IsSized c.pages m
+  pub global : LogFacts D c m g p
+  pub each : (seat : ℕ) (a : Actor) → get_elem? actors seat ≡ some a → Fits D c m g p seat a
+  pub turns : (seat : ℕ) (a : Actor) → get_elem? actors seat ≡ some a → holds a ≡ true → (m.device ≡ 1) × (seat ≡ g.holder)
+  pub taken : m.device ≡ 1 → HasTaker actors g.holder
+  pub counted : Counted actors g.log
+  pub room : m.sn + sum_over_actors left_to_reserve actors + spare < 2 ^ 59
+
+pub record RunningLog (D : LogSide) (c : Setup) (spare : ℕ) (ws : List ℕ) (p : D.Part) (actors : List Actor) : Type 0 where
+  pub shared : SharedWords
+  pub log_ghost : LogGhost
+  pub flat_is : ws ≡ flat shared
+  pub half : LogHalf D c spare shared log_ghost p actors

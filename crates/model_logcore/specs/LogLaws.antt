@@ -1,0 +1,74 @@
+-- The laws of the log part: the conditions of its calls, and what they leave.
+use Rattle.std.specs.Prelude.{List, [], cond, false, length, ℕ, ◌%◌, ◌*◌, ◌++◌, ◌+◌, ◌<◌, ◌==◌, ◌^◌, ◌∷◌, ◌≡◌, ◌≤◌}
+use lib.ListN.{get_elem?}
+use mathlib.Core.Option.{some}
+use Rattle.model_core.specs.Groups.{Entry, IsBound, IsLent, Tiles, end_of}
+use Rattle.model_core.specs.LogSide.{LogSide}
+use Rattle.model_core.specs.Lsn.{ceiling, floor, lsn}
+use Rattle.model_base.specs.declared.limits.TheConstants.{BLOCK_SIZE}
+use Rattle.model_core.specs.declared.limits.TheConstants.{LOG_BUFFER}
+use Rattle.model_log.specs.declared.layout.TheConstants.{BLOCK_DATA}
+
+module _ (D : LogSide) (blocks base : ℕ) (log : List Entry) where
+  -- the conditions of write_to
+  pub record CanWrite (w n : ℕ) (bytes firsts : List ℕ) (p : D.Part) : Type 0 where
+    pub sound : D.failed p ≡ false
+    pub even : base % BLOCK_DATA ≡ 0
+    pub end : ℕ
+    pub tiles : Tiles base log end
+    pub base_w : base ≤ w
+    pub n_end : n ≤ end
+    pub at : D.written p ≡ lsn w
+    pub on : w < n
+    pub low : IsBound base log w
+    pub high : IsBound base log n
+    pub lent : IsLent base log w n bytes firsts
+    pub fits : ceiling (lsn n) ≤ D.ckpt p + BLOCK_SIZE * blocks
+    pub small : lsn n < 2 ^ 60
+    -- less than the log buffer past the block of the written mark
+    pub near : lsn n < floor (lsn w) + LOG_BUFFER
+
+  pub record AfterWrite (t code : ℕ) (p q : D.Part) : Type 0 where
+    pub holds : D.Holds blocks base log q
+    pub written : D.written q ≡ cond (code == 0) t (D.written p)
+    pub stable : D.stable q ≡ D.stable p
+    pub given : D.given q ≡ t
+    pub ckpt : D.ckpt q ≡ D.ckpt p
+    pub causes : (c : ℕ) → D.Cause p c → D.Cause q c
+    pub cause : 0 < code → D.Cause q code
+
+  pub record AfterSync (code : ℕ) (p q : D.Part) : Type 0 where
+    pub holds : D.Holds blocks base log q
+    pub written : D.written q ≡ D.written p
+    pub stable : D.stable q ≡ cond (code == 0) (D.written p) (D.stable p)
+    pub given : D.given q ≡ D.given p
+    pub ckpt : D.ckpt q ≡ D.ckpt p
+    pub causes : (c : ℕ) → D.Cause p c → D.Cause q c
+    pub cause : 0 < code → D.Cause q code
+
+  -- every group that starts below the lsn x ends at or below the stable mark
+  pub record CanCheckpoint (x : ℕ) (p : D.Part) : Type 0 where
+    pub sound : D.failed p ≡ false
+    pub even : x % BLOCK_SIZE ≡ 0
+    pub more : D.ckpt p < x
+    pub below : x ≤ D.stable p
+    pub ends : (i : ℕ) (e : Entry) → get_elem? log i ≡ some e → lsn e.start < x → lsn (end_of e) ≤ D.stable p
+
+  pub record AfterCheckpoint (x code : ℕ) (p q : D.Part) : Type 0 where
+    pub holds : D.Holds blocks base log q
+    pub written : D.written q ≡ D.written p
+    pub stable : D.stable q ≡ D.stable p
+    pub given : D.given q ≡ D.given p
+    pub ckpt : D.ckpt q ≡ cond (code == 0) x (D.ckpt p)
+    pub causes : (c : ℕ) → D.Cause p c → D.Cause q c
+    pub cause : 0 < code → D.Cause q code
+
+-- what a drive shows of its part
+pub record LogLaws (D : LogSide) : Type 0 where
+  pub more : (blocks base n : ℕ) (log : List Entry) (e : Entry) (p : D.Part) → base % BLOCK_DATA ≡ 0 → Tiles base log n → e.start ≡ n → 0 < length e.bytes → D.given p ≤ lsn n → D.Holds blocks base log p → D.Holds blocks base (log ++ e ∷ []) p
+  pub writes : (blocks base : ℕ) (log : List Entry) (w n code : ℕ) (bytes firsts : List ℕ) (p q : D.Part)
+      → D.Holds blocks base log p → CanWrite D blocks base log w n bytes firsts p → D.Wrote (lsn n) bytes firsts code p q → AfterWrite D blocks base log (lsn n) code p q
+  pub syncs : (blocks base : ℕ) (log : List Entry) (code : ℕ) (p q : D.Part)
+      → D.Holds blocks base log p → D.failed p ≡ false → D.Synced code p q → AfterSync D blocks base log code p q
+  pub checkpoints : (blocks base : ℕ) (log : List Entry) (x code : ℕ) (p q : D.Part)
+      → D.Holds blocks base log p → CanCheckpoint D blocks base log x p → D.Checkpointed x code p q → AfterCheckpoint D blocks base log x code p q

@@ -1,0 +1,136 @@
+-- The watermarks of the log: what holds of its words, of the log part and of the actors between any two turns. Places of
+-- the stream are sns, counted as the groups' bytes.
+use Rattle.std.specs.Prelude.{List, length, slice_index, take, ℕ, ◌%◌, ◌*◌, ◌+◌, ◌/◌, ◌<◌, ◌≡◌, ◌≤◌, ◌⊎◌}
+use lib.ListN.{get_elem?}
+use mathlib.Core.Option.{some}
+use Rattle.model_base.specs.declared.limits.TheConstants.{BLOCK_SIZE}
+use Rattle.model_core.specs.Actors.{Actor}
+use Rattle.model_core.specs.Groups.{Entry, IsBound, Tiles, byte_at, end_of, first_of}
+use Rattle.model_core.specs.Layout.{SharedWords}
+use Rattle.model_core.specs.LogSide.{LogSide}
+use Rattle.model_core.specs.Lsn.{floor, lsn}
+use Rattle.model_core.specs.Setup.{Setup}
+use Rattle.model_core.specs.States.{WriterState}
+use Rattle.model_core.specs.UserProgram.{line_at}
+use Rattle.model_core.specs.WriterProgram.{read_place}
+use Rattle.model_core.specs.declared.limits.TheConstants.{BUFFER_BLOCKS, LOG_BUFFER, WRITTEN_LINKS}
+use Rattle.model_log.specs.declared.layout.TheConstants.{BLOCK_DATA}
+use Rattle.model_logcore.specs.LogFacts.{WrittenLink, count_of}
+use Rattle.model_logcore.specs.LogFits.{AreBelow}
+use Rattle.model_logcore.specs.LogHalf.{Counted}
+use Rattle.model_core.specs.declared.steps.UserStep.TheVariants as user_step
+use Rattle.model_core.specs.declared.steps.WriterStep.TheVariants as writer_step
+use Rattle.model_core.specs.declared.steps.FlusherStep.TheVariants as flusher_step
+use Rattle.model_core.specs.declared.steps.CloserStep.TheVariants as closer_step
+use Rattle.model_core.specs.declared.steps.CleanerStep.TheVariants as cleaner_step
+use Rattle.model_core.specs.declared.steps.CheckpointerStep.TheVariants as checkpointer_step
+use Rattle.model_core.specs.Actors as actor
+
+-- How far a place of the stream has come: its group is reserved, its byte is copied, its group is linked.
+abbrev pub IsCopied : (ℕ → ℕ) → ℕ → Type 0
+IsCopied progress x = 0 < progress x
+
+abbrev pub IsGroupLinked : (ℕ → ℕ) → Entry → Type 0
+IsGroupLinked progress e = (x : ℕ) → e.start ≤ x → x < end_of e → progress x ≡ 2
+
+-- RESERVED GROUPS TILE THE SEQUENCE NUMBERS, each number once. They are the groups that the actors have, each once; a
+-- user's are of its lines, in order.
+pub record GroupsTile (c : Setup) (sn : ℕ) (actors : List Actor) (log : List Entry) : Type 0 where
+  pub tile : Tiles c.base log sn
+  pub are_of_actors : Counted actors log
+  pub in_order : (i : ℕ) (e : Entry) → get_elem? log i ≡ some e → e.k ≡ count_of e.user (take i log)
+  pub of_lines : (i : ℕ) (e : Entry) → get_elem? log i ≡ some e → (e.k < length (c.script e.user)) × (e.bytes ≡ (line_at (c.script e.user) e.k).bytes)
+
+-- COPIED BYTES STAND IN THEIR CELLS: each that the writer hasn't read, below the block floor of WRITE plus the log buffer.
+-- A first offset that was stored stands until the writer enters its block, and is the true one; the others are 0.
+pub record CopiedBytesStand (base : ℕ) (m : SharedWords) (log : List Entry) (progress first : ℕ → ℕ) (read entered : ℕ) : Type 0 where
+  pub cell : (x : ℕ) → read ≤ x → x < m.sn → IsCopied progress x → slice_index m.cells (lsn x % LOG_BUFFER) ≡ byte_at base log x
+  pub below : (x : ℕ) → read ≤ x → x < m.sn → IsCopied progress x → lsn x < floor m.write + LOG_BUFFER
+  pub end_below : (i : ℕ) (e : Entry) → get_elem? log i ≡ some e → read ≤ e.start → IsGroupLinked progress e → lsn (end_of e) < floor m.write + LOG_BUFFER
+  pub first_stands : (q : ℕ) → entered ≤ q → q < entered + BUFFER_BLOCKS → slice_index m.firsts (q % BUFFER_BLOCKS) ≡ first q
+  pub first_true : (q : ℕ) → 0 < first q → first q ≡ first_of base log q
+  pub first_below : (q : ℕ) → 0 < first q → q * BLOCK_SIZE < floor m.write + LOG_BUFFER
+  pub first_begun : 0 < first (base / BLOCK_DATA)
+
+-- A WRITTEN LINK IS A WHOLE GROUP: it is the distance from the start to the end of one group behind the writer's tail, all
+-- bytes of which are copied, and the first offset of the block that it ends in, if it starts in an earlier one. And each
+-- group that is linked, behind the tail, has its link standing.
+pub record LinksAreGroups (m : SharedWords) (log : List Entry) (progress first : ℕ → ℕ) (tail : ℕ) : Type 0 where
+  pub link : (i : ℕ) → i < WRITTEN_LINKS → 0 < slice_index m.wlinks i → WrittenLink log progress m.wtail tail i (slice_index m.wlinks i)
+  pub first_stored : (i : ℕ) (e : Entry) → get_elem? log i ≡ some e → progress e.start ≡ 2 → e.start / BLOCK_DATA < end_of e / BLOCK_DATA → 0 < first (end_of e / BLOCK_DATA)
+  pub standing : (i : ℕ) (e : Entry) → get_elem? log i ≡ some e → progress e.start ≡ 2 → tail ≤ e.start → (0 < slice_index m.wlinks (lsn e.start % WRITTEN_LINKS)) × (lsn e.start < m.wtail + WRITTEN_LINKS)
+
+-- each mark of the log that an actor has loaded is at most the word now
+abbrev pub HasLoadedBelow : SharedWords → Actor → Type 0
+HasLoadedBelow m (actor.User u) = AreBelow u.loaded m.ckpt m.write m.wtail m.flushed
+HasLoadedBelow m (actor.Writer s) = (s.write ≤ m.write) × (s.ckpt ≤ m.ckpt)
+HasLoadedBelow m (actor.Flusher f) = (f.write ≤ m.write) × (f.last ≤ m.flushed)
+HasLoadedBelow m _ = Unit {0}
+
+-- THE ORDER OF THE LOG'S MARKS. All but the read place stand between groups, and below the tail all is linked.
+pub record MarksAreOrdered (base : ℕ) (m : SharedWords) (actors : List Actor) (log : List Entry) (progress : ℕ → ℕ) (write wtail flushed tail read : ℕ) : Type 0 where
+  pub write_is : m.write ≡ lsn write
+  pub wtail_is : m.wtail ≡ lsn wtail
+  pub flushed_is : m.flushed ≡ lsn flushed
+  pub write_read : write ≤ read
+  pub read_wtail : read ≤ wtail
+  pub wtail_tail : wtail ≤ tail
+  pub tail_sn : tail ≤ m.sn
+  pub linked_below : (x : ℕ) → base ≤ x → x < tail → progress x ≡ 2
+  pub write_boundary : IsBound base log write
+  pub wtail_boundary : IsBound base log wtail
+  pub flushed_boundary : IsBound base log flushed
+  pub tail_boundary : IsBound base log tail
+  pub writer : (seat : ℕ) (s : WriterState) → get_elem? actors seat ≡ some (actor.Writer s) → (s.tail ≡ lsn tail) × (read_place s ≡ read)
+  pub loaded : (seat : ℕ) (a : Actor) → get_elem? actors seat ≡ some a → HasLoadedBelow m a
+
+-- THE DEVICE HOLDS THE FRAMED STREAM, and beyond the log's end nothing fits: what that says of each image is the log
+-- part's own. The writer's kept bytes and first offsets are the stream's.
+pub record DeviceHoldsStream (D : LogSide) (c : Setup) (p : D.Part) (actors : List Actor) (log : List Entry) : Type 0 where
+  pub holds : D.Holds c.blocks c.base log p
+  pub kept : (seat : ℕ) (s : WriterState) → get_elem? actors seat ≡ some (actor.Writer s) → (j : ℕ) → j < length s.kept → slice_index s.kept j ≡ byte_at c.base log (s.from + j)
+  pub firsts : (seat : ℕ) (s : WriterState) → get_elem? actors seat ≡ some (actor.Writer s) → (i : ℕ) → i < length s.firsts → slice_index s.firsts i ≡ first_of c.base log (s.from / BLOCK_DATA + i)
+
+-- MARKS AND CHECKPOINTS OF THE LOG PART.
+pub record PartMarksAreOrdered (D : LogSide) (m : SharedWords) (p : D.Part) : Type 0 where
+  pub write_written : m.write ≤ D.written p
+  pub written_wtail : D.written p ≤ m.wtail
+  pub given_wtail : D.given p ≤ m.wtail
+  pub flushed_stable : m.flushed ≤ D.stable p
+  pub stable_written : D.stable p ≤ D.written p
+  pub ckpt_newest : m.ckpt ≤ D.ckpt p
+  pub newest_stable : D.ckpt p ≤ D.stable p
+
+-- the actor has loaded a nonzero code, or stored one
+abbrev pub HasMetFailure : Actor → Type 0
+HasMetFailure (actor.User u) = u.step ≡ user_step.Failed
+HasMetFailure (actor.Writer s) = (s.step ≡ writer_step.GiveFailed) ⊎ (s.step ≡ writer_step.Failed)
+HasMetFailure (actor.Flusher f) = (f.step ≡ flusher_step.GiveFailed) ⊎ (f.step ≡ flusher_step.Failed)
+HasMetFailure (actor.Closer t) = t.step ≡ closer_step.Failed
+HasMetFailure (actor.Cleaner v) = v.step ≡ cleaner_step.Failed
+HasMetFailure (actor.Checkpointer t) = (t.step ≡ checkpointer_step.GiveFailed) ⊎ (t.step ≡ checkpointer_step.Failed)
+HasMetFailure (actor.Joined es) = ⊥
+
+-- A FAILURE SHOWS: an actor has loaded or stored a nonzero code only where FAILED has one
+abbrev pub FailuresShow : ℕ → List Actor → Type 0
+FailuresShow failed actors = (seat : ℕ) (a : Actor) → get_elem? actors seat ≡ some a → HasMetFailure a → 0 < failed
+
+pub record LogWatermarks (D : LogSide) (c : Setup) (m : SharedWords) (p : D.Part) (actors : List Actor) : Type 0 where
+  -- the reserved groups in the order of the log, how far each place has come, and the first offset that was stored for a block
+  pub log : List Entry
+  pub progress : ℕ → ℕ
+  pub first : ℕ → ℕ
+  -- the marks as places of the stream; the writer's tail and read place, and the first block that it hasn't entered
+  pub write : ℕ
+  pub wtail : ℕ
+  pub flushed : ℕ
+  pub tail : ℕ
+  pub read : ℕ
+  pub entered : ℕ
+  pub groups_tile : GroupsTile c m.sn actors log
+  pub copied_bytes_stand : CopiedBytesStand c.base m log progress first read entered
+  pub links_are_groups : LinksAreGroups m log progress first tail
+  pub marks_are_ordered : MarksAreOrdered c.base m actors log progress write wtail flushed tail read
+  pub device_holds_stream : DeviceHoldsStream D c p actors log
+  pub part_marks_are_ordered : PartMarksAreOrdered D m p
+  pub failures_show : FailuresShow m.failed actors

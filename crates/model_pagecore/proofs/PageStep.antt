@@ -1,0 +1,311 @@
+-- Steps of the page half in common.
+use Rattle.std.proofs.Common.{Bool, List, [], ap, arith, cond, eq-eqb, eqb, eqb-true, false, get_or-set_other, get_or-set_same, length, ne_eqb, refl, set, subst, suc, sym, true, zero, ℕ, ⊎_elim, ◌+◌, ◌<◌, ◌∙◌, ◌∷◌, ◌≡◌, ◌≢◌, ◌≤◌, ◌⊎◌}
+use Rattle.std.specs.Prelude.{slice_index, slice_set}
+use lib.ListN.{get_elem?}
+use mathlib.Core.Option.{some}
+use native.Mathlib.Decide.{ℕ_discrete}
+use Rattle.model_core.specs.Actors.{Actor}
+use Rattle.model_core.specs.DataSide.{DataSide}
+use Rattle.model_core.specs.FlushLists.{Listed}
+use Rattle.model_core.specs.Groups.{PageChange, Entry, CellWrite}
+use Rattle.model_core.specs.Layout.{PageWords, SharedWords, blank_words, page_words_at, with_page_words}
+use Rattle.model_core.specs.Lsn.{lsn}
+use Rattle.model_core.specs.Setup.{Setup}
+use Rattle.model_core.specs.States.{UserState}
+use Rattle.model_core.specs.UserProgram.{change_at}
+use Rattle.model_pagecore.proofs.PageHistory.{each_more}
+use Rattle.model_pagecore.proofs.PageFrame.{log_same, longer_same, page_later, page_moved, page_others, one_page_later}
+use Rattle.model_pagecore.specs.PageFacts.{ClosedLinks, PageGhost, ListFacts, listed}
+use Rattle.model_pagecore.specs.PageHalf.{At, PageFits, PageHalf, PagesInHand, group_in_hand}
+use Rattle.model_pagecore.specs.Pages.{All, Before, AgreeBelow, Cells, FrameStage, GroupInHand, Last, NewestStage, PageIs, OnePage, ListingStage, IsListed, StartsAt, Agree, cells_on, none_in_hand, touches}
+use Rattle.model_core.specs.Actors as actor
+use Rattle.model_core.specs.declared.limits.TheConstants.{CLOSED_LINKS}
+
+-- the change on a page that a group names, if it names each once
+pub cells_mine : (cs : List PageChange) (k : ℕ) → k < length cs → ((i : ℕ) → i < k → (change_at cs i).page ≢ (change_at cs k).page) → (◌≡◌ {A = List CellWrite} (cells_on (change_at cs k).page cs) (change_at cs k).cells) × (touches (change_at cs k).page cs ≡ true)
+cells_mine [] k l h = absurd (omega arith)
+cells_mine (c ∷ cs) zero l h = (ap (λ (b : Bool). cond b c.cells (cells_on c.page cs)) (eq-eqb c.page c.page refl), ap (λ (b : Bool). cond b true (touches c.page cs)) (eq-eqb c.page c.page refl))
+cells_mine (c ∷ cs) (suc k) l h =
+    let p : ℕ = (change_at cs k).page in
+    let n : c.page ≢ p = h zero (omega arith) in
+    let r = cells_mine cs k (omega arith) (λ i lt. h (suc i) (omega arith)) in
+    (ap (λ (b : Bool). cond b c.cells (cells_on p cs)) (ne_eqb c.page p n) ∙ r.0, ap (λ (b : Bool). cond b true (touches p cs)) (ne_eqb c.page p n) ∙ r.1)
+
+-- a page that a group touches is one that it names
+pub named : (p : ℕ) (cs : List PageChange) → touches p cs ≡ true → (k : ℕ) × (k < length cs) × ((change_at cs k).page ≡ p)
+named p [] e = absurd (cc)
+named p (c ∷ cs) e = at (eqb c.page p) refl e (λ z. named p cs z)
+  where
+    at : (b : Bool) → eqb c.page p ≡ b → cond b true (touches p cs) ≡ true → (touches p cs ≡ true → (k : ℕ) × (k < length cs) × ((change_at cs k).page ≡ p)) → (k : ℕ) × (k < suc (length cs)) × ((change_at (c ∷ cs) k).page ≡ p)
+    at true f e more = (zero, omega arith, eqb-true c.page p f)
+    at false f e more = let r = more e in let r1 = r.1 in (suc r.0, (omega arith), r.2)
+
+module _ (E : DataSide) (c : Setup) (seat_of : ℕ → ℕ) (m : SharedWords) (log : List Entry) (stable : ℕ) (h : PageGhost) (ls : ℕ → List Listed) (d : E.Part) (actors : List Actor) (seat : ℕ) (before : PageHalf E c m log stable h ls d actors)
+    (mates : (j : ℕ) (u : UserState) → get_elem? actors j ≡ some (actor.User u) → seat_of u.user ≡ j) where
+  pub mate : (j : ℕ) (a : Actor) → get_elem? actors j ≡ some a → (u : UserState) → a ≡ actor.User u → seat_of u.user ≡ j
+  mate j a e u same = mates j u (subst (λ (x : Actor). get_elem? actors j ≡ some x) same e)
+
+  -- only numbers grow, and only the words that the page half doesn't read change
+  pub grown : (m' : SharedWords) (stable' : ℕ) (b : Actor) → m'.page_words ≡ m.page_words → m'.lists ≡ m.lists → m'.clinks ≡ m.clinks → m'.ctail ≡ m.ctail → m.sn ≡ m'.sn → m.flushed ≤ m'.flushed → stable ≤ stable' → m'.flushed ≤ stable' → stable' ≤ lsn m'.sn
+      → PageFits E c m' log h ls d seat b → PageHalf E c m' log stable' h ls d (set actors seat b)
+  grown m' stable' b e1 e2 e3 e4 e5 le ge fl tp mine =
+      let P = before.paged in
+      let K = P.closed_links in
+      page_moved E c m m' log log stable stable' h h ls ls d d actors seat b
+      (record {
+        closed_links = subst (λ (x : ℕ). ClosedLinks log h.closed m'.ctail h.tail (lsn x) m'.clinks) e5 (subst (λ (x : ℕ). ClosedLinks log h.closed x h.tail (lsn m.sn) m'.clinks) (sym e4) (subst (λ (x : List ℕ). ClosedLinks log h.closed m.ctail h.tail (lsn m.sn) x) (sym e3) K));
+        lists = subst (λ (x : ℕ). ListFacts ls x) (sym e4) P.lists;
+        each_page = λ p t. one_page_later p (lsn c.base) (c.opened p) log log h.closed h.closed h.given stable stable' (page_words_at m.page_words p) (page_words_at m'.page_words p) (listed ls p) (listed ls p) (h.kept_page p) (h.kept_page p)
+            (longer_same log) (log_same p log) refl (λ _ _ _ _ z. z) (ap (λ (x : List PageWords). page_words_at x p) e1) refl refl ge (P.each_page p t);
+        within = (let z = P.within in omega arith);
+        flushed = fl;
+        stable_top = tp;
+        stored = P.stored;
+      })
+      mine
+      (λ j a n e. page_others E c seat_of m m' log log h h ls ls d d seat j n
+      (record {
+        longer = longer_same log;
+        logs = λ p _ _. log_same p log;
+        page_words = λ p _ _. ap (λ (x : List PageWords). page_words_at x p) e1;
+        holders = λ p _ _. refl;
+        listeds = λ p _ _. refl;
+        opens = λ _ _ _ _. refl;
+        lists = λ i o _. (ap (λ (x : List ℕ). slice_index x i) e2 ∙ o, refl);
+        ctail = omega arith;
+        flushed = le;
+      })
+      (λ _. record { tail = refl; closes = λ _ z. z })
+      (λ _. record { kept_page = λ _. refl; oldest = λ p z. subst (λ (x : List PageWords). 0 < (page_words_at x p).oldest) (sym e1) z; store = refl; unfinished = refl })
+      (λ _. record { given = refl; passed = λ _ _ _ _ z. z })
+      a (mate j a e) (before.each j a e))
+
+  -- nothing but the actor's own state changes
+  pub page_quiet : (b : Actor) → PageFits E c m log h ls d seat b → PageHalf E c m log stable h ls d (set actors seat b)
+  page_quiet b mine = grown m stable b refl refl refl refl refl (omega arith) (omega arith) before.paged.flushed before.paged.stable_top mine
+
+  pub leaf_here : (p : ℕ) (w : PageWords) → p < length m.page_words → ◌≡◌ {A = PageWords} (page_words_at (with_page_words m p w).page_words p) w
+  leaf_here p w l = get_or-set_same m.page_words p w blank_words l
+
+  pub leaf_else : (p : ℕ) (w : PageWords) (q : ℕ) → q ≢ p → ◌≡◌ {A = PageWords} (page_words_at (with_page_words m p w).page_words q) (page_words_at m.page_words q)
+  leaf_else p w q n = get_or-set_other m.page_words p q w blank_words n
+
+  -- a page whose latch is free, or the seat's, and its words are changed
+  module _ (p : ℕ) (w : PageWords) (holders : ℕ → ℕ) (there : p < c.pages) (long : length m.page_words ≡ c.pages) (mine : ((page_words_at m.page_words p).latch ≡ 0) ⊎ (h.holder p ≡ seat)) (same : (q : ℕ) → q ≢ p → holders q ≡ h.holder q) where
+    abbrev pub leaf_mem : SharedWords
+    leaf_mem = with_page_words m p w
+
+    abbrev pub leaf_folio : PageGhost
+    leaf_folio = record h { holder = holders }
+
+    pub not_mine : (q : ℕ) → (page_words_at m.page_words q).latch ≡ 1 → h.holder q ≢ seat → q ≢ p
+    not_mine q la ho e = ⊎_elim (λ z. let y : (page_words_at m.page_words p).latch ≡ 1 = subst (λ (x : ℕ). (page_words_at m.page_words x).latch ≡ 1) e la in absurd (omega arith)) (λ z. absurd (ho (ap h.holder e ∙ z))) mine
+
+    pub at_else : (q : ℕ) (k : GroupInHand) (f : FrameStage) (n : NewestStage) (t : ListingStage) → q ≢ p → At E c m log h ls d seat q k f n t → At E c leaf_mem log leaf_folio ls d seat q k f n t
+    at_else q k f n t ne o = let we = leaf_else p w q ne in record {
+      there = o.there;
+      latched = ap (λ (x : PageWords). x.latch) we ∙ o.latched;
+      mine = same q ne ∙ o.mine;
+      page = page_later q (c.opened q).bytes log log k (page_words_at m.page_words q) (page_words_at leaf_mem.page_words q) (listed ls q) (listed ls q) f n t (log_same q log) refl we refl o.page;
+    }
+
+    pub leaf_step : (b : Actor) → OnePage p (lsn c.base) (c.opened p) log h.closed h.given stable w (listed ls p) (h.kept_page p) → (seat ≢ c.cleaner → 0 < (page_words_at m.page_words p).oldest → 0 < w.oldest)
+        → PageFits E c leaf_mem log leaf_folio ls d seat b → PageHalf E c leaf_mem log stable leaf_folio ls d (set actors seat b)
+    leaf_step b sheet kept fits = let P = before.paged in let l : p < length m.page_words = omega arith in
+        page_moved E c m leaf_mem log log stable stable h leaf_folio ls ls d d actors seat b
+        (record {
+          closed_links = P.closed_links;
+          lists = P.lists;
+          each_page = λ q t. elim (ℕ_discrete q p) [
+            | yes e ↦ subst (λ (x : ℕ). OnePage x (lsn c.base) (c.opened x) log h.closed h.given stable (page_words_at leaf_mem.page_words x) (listed ls x) (h.kept_page x)) (sym e)
+                (subst (λ (x : PageWords). OnePage p (lsn c.base) (c.opened p) log h.closed h.given stable x (listed ls p) (h.kept_page p)) (sym (leaf_here p w l)) sheet)
+            | no n ↦ one_page_later q (lsn c.base) (c.opened q) log log h.closed h.closed h.given stable stable (page_words_at m.page_words q) (page_words_at leaf_mem.page_words q) (listed ls q) (listed ls q) (h.kept_page q) (h.kept_page q)
+                (longer_same log) (log_same q log) refl (λ _ _ _ _ z. z) (leaf_else p w q n) refl refl (omega arith) (P.each_page q t)
+          ];
+          within = P.within;
+          flushed = P.flushed;
+          stable_top = P.stable_top;
+          stored = P.stored;
+        })
+        fits
+        (λ j a n e. page_others E c seat_of m leaf_mem log log h leaf_folio ls ls d d seat j n
+        (record {
+          longer = longer_same log;
+          logs = λ q _ _. log_same q log;
+          page_words = λ q la ho. leaf_else p w q (not_mine q la ho);
+          holders = λ q la ho. same q (not_mine q la ho);
+          listeds = λ q _ _. refl;
+          opens = λ _ _ _ _. refl;
+          lists = λ i o _. (o, refl);
+          ctail = omega arith;
+          flushed = omega arith;
+        })
+        (λ _. record { tail = refl; closes = λ _ z. z })
+        (λ alone. record {
+          kept_page = λ _. refl;
+          oldest = λ q z. elim (ℕ_discrete q p) [
+            | yes e ↦ subst (λ (x : ℕ). 0 < (page_words_at leaf_mem.page_words x).oldest) (sym e) (subst (λ (x : PageWords). 0 < x.oldest) (sym (leaf_here p w l)) (kept alone (subst (λ (x : ℕ). 0 < (page_words_at m.page_words x).oldest) e z)))
+            | no n ↦ subst (λ (x : PageWords). 0 < x.oldest) (sym (leaf_else p w q n)) z
+          ];
+          store = refl;
+          unfinished = refl;
+        })
+        (λ _. record { given = refl; passed = λ _ _ _ _ z. z })
+        a (mate j a e) (before.each j a e))
+
+    -- the page has become this, with the latch kept
+    pub at_here : (k : GroupInHand) (f : FrameStage) (n : NewestStage) (t : ListingStage) → w.latch ≡ 1 → holders p ≡ seat → PageIs p (c.opened p).bytes log k w (listed ls p) f n t → At E c leaf_mem log leaf_folio ls d seat p k f n t
+    at_here k f n t la ho is = let we = leaf_here p w (omega arith) in record {
+      there = there;
+      latched = ap (λ (x : PageWords). x.latch) we ∙ la;
+      mine = ho;
+      page = page_later p (c.opened p).bytes log log k w (page_words_at leaf_mem.page_words p) (listed ls p) (listed ls p) f n t (log_same p log) refl we refl is;
+    }
+
+  -- a latched page with other words in its frame, or another OLDEST
+  pub latched_sheet : (p : ℕ) (w : PageWords) → p < c.pages → w.latch ≡ 1 → (0 < w.oldest → StartsAt p log w.oldest) → OnePage p (lsn c.base) (c.opened p) log h.closed h.given stable w (listed ls p) (h.kept_page p)
+  latched_sheet p w t la o = let S = before.paged.each_page p t in record {
+    latch = omega arith;
+    free = λ z. absurd (omega arith);
+    oldest = o;
+    fold = S.fold;
+    ends = S.ends;
+    early = S.early;
+    behind = S.behind;
+    change = S.change;
+    passed = S.passed;
+  }
+
+  pub freed_sheet : (p : ℕ) (w : PageWords) → p < c.pages → w.latch ≡ 0 → (0 < w.oldest → StartsAt p log w.oldest) → PageIs p (c.opened p).bytes log none_in_hand w (listed ls p) All Last Agree → OnePage p (lsn c.base) (c.opened p) log h.closed h.given stable w (listed ls p) (h.kept_page p)
+  freed_sheet p w t la o is = let S = before.paged.each_page p t in record {
+    latch = omega arith;
+    free = λ z. is;
+    oldest = o;
+    fold = S.fold;
+    ends = S.ends;
+    early = S.early;
+    behind = S.behind;
+    change = S.change;
+    passed = S.passed;
+  }
+
+  -- a group in hand, with the page that its user is at changed
+  module _ (m' : SharedWords) (h' : PageGhost) (ls' : ℕ → List Listed) (d' : E.Part) (g : Entry) (page : ℕ) (apart : (i k : ℕ) → i < k → k < length g.changes → (change_at g.changes i).page ≢ (change_at g.changes k).page) (pl : page < length g.changes) where
+    pub work_here : (f f' : FrameStage) (n n' : NewestStage) (t t' : ListingStage) → (o : PagesInHand E c m log h ls d seat g page f n t) → h'.closed g.start ≡ false
+        → ((q : ℕ) (k : GroupInHand) (f : FrameStage) (n : NewestStage) (t : ListingStage) → q ≢ (change_at g.changes page).page → At E c m log h ls d seat q k f n t → At E c m' log h' ls' d' seat q k f n t)
+        → At E c m' log h' ls' d' seat ((change_at g.changes page).page) (group_in_hand E c m log h ls d g o.at) f' n' t' → PagesInHand E c m' log h' ls' d' seat g page f' n' t'
+    work_here f f' n n' t t' o un else here = record {
+      at = o.at;
+      is = o.is;
+      not_closed = un;
+      last = o.last;
+      before = λ k a b. else ((change_at g.changes k).page) (group_in_hand E c m log h ls d g o.at) All Last IsListed (apart k page a pl) (o.before k a b);
+      here = λ _. here;
+      after = λ k a b. else ((change_at g.changes k).page) (group_in_hand E c m log h ls d g o.at) (Cells 0) Before AgreeBelow (λ z. apart page k a b (sym z)) (o.after k a b);
+    }
+
+  -- it goes on to its next page
+  pub work_next : (g : Entry) (page : ℕ) → page < length g.changes → PagesInHand E c m log h ls d seat g page All Last IsListed → PagesInHand E c m log h ls d seat g (page + 1) (Cells 0) Before AgreeBelow
+  work_next g page pl o = record {
+    at = o.at;
+    is = o.is;
+    not_closed = o.not_closed;
+    last = o.last;
+    before = λ k a b. elim (ℕ_discrete k page) [
+      | yes e ↦ subst (λ (i : ℕ). At E c m log h ls d seat ((change_at g.changes i).page) (group_in_hand E c m log h ls d g o.at) All Last IsListed) (sym e) (o.here pl)
+      | no n ↦ o.before k (omega arith) b
+    ];
+    here = λ l. o.after (page + 1) (omega arith) l;
+    after = λ k a b. o.after k (omega arith) b;
+  }
+
+  -- a list's turn word is taken or given, and what the list says of a page of the seat's may change
+  module _ (i x : ℕ) (turns : ℕ → ℕ) (ls' : ℕ → List Listed) (long : length m.lists ≡ 4) (low : i < 4) (mine : (slice_index m.lists i ≡ 0) ⊎ (h.list_holder i ≡ seat)) (same : (j : ℕ) → j ≢ i → turns j ≡ h.list_holder j) where
+    abbrev pub list_mem : SharedWords
+    list_mem = record m { lists = slice_set m.lists i x }
+
+    abbrev pub list_folio : PageGhost
+    list_folio = record h { list_holder = turns }
+
+    pub list_here : slice_index list_mem.lists i ≡ x
+    list_here = get_or-set_same m.lists i x 0 (omega arith)
+
+    pub list_at : (q : ℕ) (k : GroupInHand) (f : FrameStage) (n : NewestStage) (t : ListingStage) → listed ls' q ≡ listed ls q → At E c m log h ls d seat q k f n t → At E c list_mem log list_folio ls' d seat q k f n t
+    list_at q k f n t e o = record {
+      there = o.there;
+      latched = o.latched;
+      mine = o.mine;
+      page = page_later q (c.opened q).bytes log log k (page_words_at m.page_words q) (page_words_at m.page_words q) (listed ls q) (listed ls' q) f n t (log_same q log) refl refl e o.page;
+    }
+
+    pub list_sheet : (q : ℕ) → q < c.pages → listed ls' q ≡ listed ls q → OnePage q (lsn c.base) (c.opened q) log h.closed h.given stable (page_words_at m.page_words q) (listed ls' q) (h.kept_page q)
+    list_sheet q t e = one_page_later q (lsn c.base) (c.opened q) log log h.closed h.closed h.given stable stable (page_words_at m.page_words q) (page_words_at m.page_words q) (listed ls q) (listed ls' q) (h.kept_page q) (h.kept_page q)
+        (longer_same log) (log_same q log) refl (λ _ _ _ _ z. z) refl e refl (omega arith) (before.paged.each_page q t)
+
+    pub list_step : (b : Actor) → ListFacts ls' m.ctail → ((q : ℕ) → q < c.pages → OnePage q (lsn c.base) (c.opened q) log h.closed h.given stable (page_words_at m.page_words q) (listed ls' q) (h.kept_page q))
+        → ((q : ℕ) → (page_words_at m.page_words q).latch ≡ 1 → h.holder q ≢ seat → listed ls' q ≡ listed ls q) → PageFits E c list_mem log list_folio ls' d seat b → PageHalf E c list_mem log stable list_folio ls' d (set actors seat b)
+    list_step b waits each_page others fits = let P = before.paged in
+        page_moved E c m list_mem log log stable stable h list_folio ls ls' d d actors seat b
+        (record { closed_links = P.closed_links; lists = waits; each_page = each_page; within = P.within; flushed = P.flushed; stable_top = P.stable_top; stored = P.stored })
+        fits
+        (λ j a n e. page_others E c seat_of m list_mem log log h list_folio ls ls' d d seat j n
+        (record {
+          longer = longer_same log;
+          logs = λ q _ _. log_same q log;
+          page_words = λ q _ _. refl;
+          holders = λ q _ _. refl;
+          listeds = others;
+          opens = λ _ _ _ _. refl;
+          lists = λ j o t. let ne : j ≢ i = (λ z. ⊎_elim (λ y. let k : slice_index m.lists i ≡ 1 = subst (λ (r : ℕ). slice_index m.lists r ≡ 1) z o in absurd (omega arith)) (λ y. absurd (t (ap h.list_holder z ∙ y))) mine) in
+              (get_or-set_other m.lists i j x 0 ne ∙ o, same j ne);
+          ctail = omega arith;
+          flushed = omega arith;
+        })
+        (λ _. record { tail = refl; closes = λ _ z. z })
+        (λ _. record { kept_page = λ _. refl; oldest = λ q z. z; store = refl; unfinished = refl })
+        (λ _. record { given = refl; passed = λ _ _ _ _ z. z })
+        a (mate j a e) (before.each j a e))
+
+  -- the links of closed groups, the closer's mark, or which groups are closed change
+  module _ (links : List ℕ) (ctail tail : ℕ) (closed : ℕ → Bool) where
+    abbrev pub ring_mem : SharedWords
+    ring_mem = record m { clinks = links; ctail = ctail }
+
+    abbrev pub ring_folio : PageGhost
+    ring_folio = record h { closed = closed; tail = tail }
+
+    pub ring_at : (q : ℕ) (k : GroupInHand) (f : FrameStage) (n : NewestStage) (t : ListingStage) → At E c m log h ls d seat q k f n t → At E c ring_mem log ring_folio ls d seat q k f n t
+    ring_at q k f n t o = record { there = o.there; latched = o.latched; mine = o.mine; page = o.page }
+
+    pub ring_step : (b : Actor) → ClosedLinks log closed ctail tail (lsn m.sn) links → m.ctail ≤ ctail
+        → ((q : ℕ) → q < c.pages → OnePage q (lsn c.base) (c.opened q) log closed h.given stable (page_words_at m.page_words q) (listed ls q) (h.kept_page q))
+        → ((i : ℕ) (e : Entry) → get_elem? log i ≡ some e → seat_of e.user ≢ seat → closed e.start ≡ h.closed e.start) → ((x : ℕ) → h.closed x ≡ true → closed x ≡ true) → (seat ≢ c.closer → tail ≡ h.tail)
+        → PageFits E c ring_mem log ring_folio ls d seat b → PageHalf E c ring_mem log stable ring_folio ls d (set actors seat b)
+    ring_step b K le each_page opens closes alone fits = let P = before.paged in
+        page_moved E c m ring_mem log log stable stable h ring_folio ls ls d d actors seat b
+        (record {
+          closed_links = K;
+          lists = record { relaxed = P.lists.relaxed; near = λ i. each_more (λ x. x.oldest < m.ctail + CLOSED_LINKS) (λ x. x.oldest < ctail + CLOSED_LINKS) (ls i) (λ x z. omega arith) (P.lists.near i); real = P.lists.real };
+          each_page = each_page;
+          within = P.within;
+          flushed = P.flushed;
+          stable_top = P.stable_top;
+          stored = P.stored;
+        })
+        fits
+        (λ j a n e. page_others E c seat_of m ring_mem log log h ring_folio ls ls d d seat j n
+        (record {
+          longer = longer_same log;
+          logs = λ q _ _. log_same q log;
+          page_words = λ q _ _. refl;
+          holders = λ q _ _. refl;
+          listeds = λ q _ _. refl;
+          opens = opens;
+          lists = λ i o _. (o, refl);
+          ctail = le;
+          flushed = omega arith;
+        })
+        (λ z. record { tail = alone z; closes = closes })
+        (λ _. record { kept_page = λ _. refl; oldest = λ q z. z; store = refl; unfinished = refl })
+        (λ _. record { given = refl; passed = λ _ _ _ _ z. z })
+        a (mate j a e) (before.each j a e))

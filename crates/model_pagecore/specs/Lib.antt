@@ -1,0 +1,4 @@
+pub mod DataLaws
+pub mod PageFacts
+pub mod PageHalf
+pub mod Pages

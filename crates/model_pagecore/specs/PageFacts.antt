@@ -1,0 +1,63 @@
+-- The page half of the invariant: what holds of the words of the pages, of the flush lists and of the data part.
+use Rattle.std.specs.Prelude.{Bool, List, slice_index, true, ℕ, ◌%◌, ◌+◌, ◌<◌, ◌≡◌, ◌≤◌}
+use lib.ListN.{get_elem?}
+use mathlib.Core.Option.{some}
+use Rattle.model_core.specs.DataSide.{DataSide}
+use Rattle.model_core.specs.FlushLists.{Each, Listed, Relaxed, oldest_of}
+use Rattle.model_core.specs.Groups.{Entry, KeptPage}
+use Rattle.model_core.specs.Layout.{SharedWords, page_words_at}
+use Rattle.model_core.specs.Lsn.{lsn}
+use Rattle.model_core.specs.Setup.{Setup}
+use Rattle.model_core.specs.States.{BatchPage}
+use Rattle.model_pagecore.specs.Pages.{OnePage, end_lsn, start_lsn}
+use Rattle.model_core.specs.declared.limits.TheConstants.{CLOSED_LINKS, FLUSH_LISTS}
+
+-- What only the proof knows of the pages
+pub record PageGhost : Type 0 where
+  -- of a group, by its start's sn: its link in the recent-closed buffer was stored
+  pub closed : ℕ → Bool
+  -- who took a page's latch last, and a list
+  pub holder : ℕ → ℕ
+  pub list_holder : ℕ → ℕ
+  -- an upper bound of the newest checkpoints
+  pub given : ℕ
+  -- the closer's tail
+  pub tail : ℕ
+  pub kept_page : ℕ → KeptPage
+  pub unfinished : List BatchPage
+
+-- a link that stands in slot i with the distance n
+pub record ClosedLink (log : List Entry) (closed : ℕ → Bool) (tail i n : ℕ) : Type 0 where
+  pub at : ℕ
+  pub group : Entry
+  pub is : get_elem? log at ≡ some group
+  pub slot : i ≡ start_lsn group % CLOSED_LINKS
+  pub size : start_lsn group + n ≡ end_lsn group
+  pub since : tail ≤ start_lsn group
+  pub done : closed group.start ≡ true
+
+pub record ClosedLinks (log : List Entry) (closed : ℕ → Bool) (ctail tail top : ℕ) (links : List ℕ) : Type 0 where
+  pub order : ctail ≤ tail
+  pub bound : tail ≤ top
+  pub known : (x : ℕ) → closed x ≡ true → lsn x < top
+  pub below : (i : ℕ) (e : Entry) → get_elem? log i ≡ some e → start_lsn e < tail → closed e.start ≡ true
+  pub window : (i : ℕ) (e : Entry) → get_elem? log i ≡ some e → closed e.start ≡ true → start_lsn e < ctail + CLOSED_LINKS
+  pub links_are : (i : ℕ) → i < CLOSED_LINKS → 0 < slice_index links i → ClosedLink log closed tail i (slice_index links i)
+
+pub record ListFacts (ls : ℕ → List Listed) (ctail : ℕ) : Type 0 where
+  pub relaxed : (i : ℕ) → Relaxed (ls i)
+  pub near : (i : ℕ) → Each (λ x. x.oldest < ctail + CLOSED_LINKS) (ls i)
+  pub real : (i : ℕ) → Each (λ x. 0 < x.oldest) (ls i)
+
+abbrev pub listed : (ℕ → List Listed) → ℕ → ℕ
+listed ls p = oldest_of p (ls (p % FLUSH_LISTS))
+
+-- `stable` is the log part's stable mark
+pub record PageFacts (E : DataSide) (c : Setup) (m : SharedWords) (log : List Entry) (stable : ℕ) (h : PageGhost) (ls : ℕ → List Listed) (d : E.Part) : Type 0 where
+  pub closed_links : ClosedLinks log h.closed m.ctail h.tail (lsn m.sn) m.clinks
+  pub lists : ListFacts ls m.ctail
+  pub each_page : (p : ℕ) → p < c.pages → OnePage p (lsn c.base) (c.opened p) log h.closed h.given stable (page_words_at m.page_words p) (listed ls p) (h.kept_page p)
+  pub within : h.given ≤ stable
+  pub flushed : m.flushed ≤ stable
+  pub stable_top : stable ≤ lsn m.sn
+  pub stored : E.Holds h.kept_page h.unfinished d

@@ -1,0 +1,13 @@
+pub mod AnswersFitAll
+pub mod BothKeep
+pub mod BothReady
+pub mod CallConditions
+pub mod Causes
+pub mod EachTurn
+pub mod FailedStays
+pub mod FlatWords
+pub mod RunStarts
+pub mod ListsReady
+pub mod SeatsKeep
+pub mod StartRunning
+pub mod Turns

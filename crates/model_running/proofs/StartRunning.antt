@@ -1,0 +1,99 @@
+-- A run's start: both halves of the invariant hold.
+use Rattle.std.proofs.Common.{List, [], ap, arith, false, get_or, length, refl, subst, sym, ℕ, ◌+◌, ◌<◌, ◌^◌, ◌≡◌, ◌≢◌}
+use lib.ListN.{get_elem?}
+use mathlib.Core.Option.{some, some-ne-none}
+use Rattle.model_core.specs.Actors.{Actor}
+use Rattle.model_core.specs.DataSide.{DataSide}
+use Rattle.model_core.specs.Layout.{SharedWords, flat}
+use Rattle.model_core.specs.LogSide.{LogSide}
+use Rattle.model_core.specs.Lsn.{lsn}
+use Rattle.model_core.specs.Setup.{Setup}
+use Rattle.model_core.specs.States.{CheckpointerState, CleanerState, CloserState, Line, LoadedMarks}
+use Rattle.model_core.specs.UserProgram.{change_at, line_at}
+use Rattle.model_logcore.proofs.DeviceSteps.{alone}
+use Rattle.model_logcore.proofs.StartHolds.{half_starts, start}
+use Rattle.model_logcore.specs.LogFacts.{sum_over_actors}
+use Rattle.model_logcore.specs.LogHalf.{left_to_reserve}
+use Rattle.model_logcore.specs.Start.{StartActor, checkpointer_start, cleaner_start, closer_start, start_checkpoint}
+use Rattle.model_pagecore.proofs.PageStart.{pages_start}
+use Rattle.model_pagecore.specs.PageFacts.{PageGhost}
+use Rattle.model_pagecore.specs.PageHalf.{CheckpointerPageFits, CleanerFits, CloserFits, PageFits, UserPagesAt}
+use Rattle.model_running.specs.RunningStore.{BothHalves, RunningStore}
+use Rattle.model_running.specs.StartStore.{StartStore}
+use Rattle.model_core.specs.Actors as actor
+
+abbrev pub start_pages : Setup → PageGhost
+start_pages c = record {
+  closed = λ _. false;
+  holder = λ _. 0;
+  list_holder = λ _. 0;
+  given = start_checkpoint c;
+  tail = lsn c.base;
+  kept_page = c.opened;
+  unfinished = [];
+}
+
+module _ (D : LogSide) (E : DataSide) (c : Setup) (m : SharedWords) (p : D.Part) (d : E.Part) (seat_of : ℕ → ℕ) (writer : ℕ) (actors : List Actor) (S : StartStore D E c m p d seat_of writer actors) where
+  closer_fits : (seat : ℕ) (t : CloserState) → seat ≡ c.closer → ◌≡◌ {A = CloserState} t (closer_start c) → CloserFits E c m [] (start_pages c) (λ _. []) d seat t
+  closer_fits seat t alone is = subst (λ (z : CloserState). CloserFits E c m [] (start_pages c) (λ _. []) d seat z) (sym is) (record { alone = alone; tail = refl; step = tt })
+
+  cleaner_fits : (seat : ℕ) (v : CleanerState) → seat ≡ c.cleaner → ◌≡◌ {A = CleanerState} v (cleaner_start c) → CleanerFits E c m [] (start_pages c) (λ _. []) d seat v
+  cleaner_fits seat v alone is = subst (λ (z : CleanerState). CleanerFits E c m [] (start_pages c) (λ _. []) d seat z) (sym is) (record {
+    alone = alone;
+    pages = refl;
+    page = S.some_page;
+    flushed = omega arith;
+    sound = λ _. (S.sound, refl);
+    apart = λ i j x y at. absurd (some-ne-none x (sym at));
+    few = omega arith;
+    cause = λ step. absurd (cc);
+    step = tt;
+  })
+
+  checkpointer_fits : (seat : ℕ) (t : CheckpointerState) → seat ≡ c.checkpointer → c.log_only ≡ false → ◌≡◌ {A = CheckpointerState} t (checkpointer_start c) → CheckpointerPageFits E c m [] (start_pages c) (λ _. []) d seat t
+  checkpointer_fits seat t alone with_pages is = subst (λ (z : CheckpointerState). CheckpointerPageFits E c m [] (start_pages c) (λ _. []) d seat z) (sym is) (record {
+    alone = alone;
+    with_pages = with_pages;
+    loaded = (omega arith, omega arith);
+    given = λ _. refl;
+    step = tt;
+  })
+
+  page_fits : (seat : ℕ) (a : Actor) → get_elem? actors seat ≡ some a → StartActor c seat_of writer seat a → PageFits E c m [] (start_pages c) (λ _. []) d seat a
+  page_fits seat (actor.User u) at h = let k = h.1 in record {
+    there = λ j i l. subst (λ (ls : List Line). i < length (line_at ls j).changes → (change_at (line_at ls j).changes i).page < c.pages) (sym k.lines) (S.script.there u.user j i) l;
+    apart = λ j i n l r. subst (λ (ls : List Line). i < n → n < length (line_at ls j).changes → (change_at (line_at ls j).changes i).page ≢ (change_at (line_at ls j).changes n).page) (sym k.lines) (S.changes.apart u.user j i n) l r;
+    within = λ j n i l. subst (λ (ls : List Line). n < length (line_at ls j).changes → (get_or (change_at (line_at ls j).changes n).cells i (record { at = 0; value = 0 })).at < 4096) (sym k.lines) (S.changes.within u.user j n i) l;
+    loaded = (let z : u.loaded.ctail ≡ 0 = ap (λ (z : LoadedMarks). z.ctail) k.loaded in omega arith);
+    step = subst (λ f. UserPagesAt E c m [] (start_pages c) (λ _. []) d seat u f) (sym k.step) tt;
+  }
+  page_fits seat (actor.Writer s) at h = tt
+  page_fits seat (actor.Flusher t) at h = tt
+  page_fits seat (actor.Closer t) at h = closer_fits seat t h.0 h.1
+  page_fits seat (actor.Cleaner v) at h = cleaner_fits seat v h.0 h.1
+  page_fits seat (actor.Checkpointer t) at h = checkpointer_fits seat t h.0 (S.with_pages seat t at) h.1
+  page_fits seat (actor.Joined es) at h = tt
+
+  pub both_start : (spare : ℕ) → c.base + sum_over_actors left_to_reserve actors + spare < 2 ^ 59 → BothHalves D E c spare m (start D c m p seat_of writer S.words S.log_part) (start_pages c) (λ _. []) p d actors
+  both_start spare room = let w = S.words in let f = w.failed in record {
+    script = S.script;
+    cause = λ some_code. absurd (omega arith);
+    logged = half_starts D c m p seat_of writer S.words S.log_part spare actors S.each room;
+    paged = pages_start E c m (D.stable p) (start_pages c) d actors (record {
+      page_words = S.page_words.page_words;
+      early = S.page_words.early;
+      sn = w.sn;
+      stable_is = S.log_part.stable;
+      flushed = w.flushed;
+      ctail = S.page_words.ctail;
+      clinks = S.page_words.clinks;
+      tail = refl;
+      closed = λ _. refl;
+      given = omega arith;
+      kept_page = λ _. refl;
+      stored = S.stored;
+    }) (λ seat a at. page_fits seat a at (S.each seat a at));
+  }
+
+  pub store_starts : (spare : ℕ) (ws : List ℕ) → ws ≡ flat m → c.base + sum_over_actors left_to_reserve actors + spare < 2 ^ 59 → RunningStore D E c spare ws (λ _. []) p d actors
+  store_starts spare ws is room = record { shared = m; log_ghost = start D c m p seat_of writer S.words S.log_part; page_ghost = start_pages c; flat_is = is; both = both_start spare room }

@@ -1,0 +1,154 @@
+-- The one step lemma, over the list of words.
+use Rattle.std.proofs.Common.{Bool, List, [], ap, arith, cond, eqb, false, get_or, length, refl, set, subst, sym, true, ℕ, ◌<◌, ◌∙◌, ◌∷◌, ◌≡◌}
+use Rattle.std.specs.Prelude.{slice_index}
+use lib.ListN.{get_elem?}
+use mathlib.Core.Option.{some}
+use Rattle.model_core.specs.Actors.{Actor}
+use Rattle.model_core.specs.CheckpointerProgram.{checkpointer_op}
+use Rattle.model_core.specs.CleanerProgram.{cleaner_op, first_of_batch, no_page}
+use Rattle.model_core.specs.CloserProgram.{closer_op}
+use Rattle.model_core.specs.DataSide.{DataSide}
+use Rattle.model_core.specs.FlushLists.{Listed}
+use Rattle.model_core.specs.FlusherProgram.{flusher_op}
+use Rattle.model_core.specs.Layout.{IsWord, SharedWords, flat}
+use Rattle.model_core.specs.LogSide.{LogSide}
+use Rattle.model_core.specs.Program.{lent, next, took}
+use Rattle.model_core.specs.Setup.{Setup}
+use Rattle.model_core.specs.States.{CleanerState, CloserState, CheckpointerState, WriterState, FlusherState, BatchPage, UserState}
+use Rattle.model_core.specs.Turn.{LogServed, DataServed}
+use Rattle.model_core.specs.UserProgram.{mode, user_op}
+use Rattle.model_core.specs.WordTurn.{OpWords, answer_of, lists_left, shared_answer, shared_left, words_left}
+use Rattle.model_core.specs.WriterProgram.{writer_op}
+use Rattle.model_core.specs.declared.ops.Answer.{Answer}
+use Rattle.model_core.specs.declared.ops.Op.{Op}
+use Rattle.model_core.specs.declared.steps.CleanerStep.{CleanerStep}
+use Rattle.model_core.specs.declared.steps.CloserStep.{CloserStep}
+use Rattle.model_core.specs.declared.steps.UserStep.{UserStep}
+use Rattle.model_core.specs.declared.steps.CheckpointerStep.{CheckpointerStep}
+use Rattle.model_core.specs.declared.steps.WriterStep.{WriterStep}
+use Rattle.model_core.specs.declared.steps.FlusherStep.{FlusherStep}
+use Rattle.model_logcore.specs.LogFacts.{LogGhost}
+use Rattle.model_logcore.specs.LogLaws.{LogLaws}
+use Rattle.model_pagecore.specs.DataLaws.{DataLaws}
+use Rattle.model_pagecore.specs.PageFacts.{PageGhost}
+use Rattle.model_pagecore.specs.PageHalf.{CleanerAt, CleanerFits, CheckpointerPagesAt, CheckpointerPageFits, Unlisting, UserPagesAt, UserPageFits}
+use Rattle.model_pagecore.specs.Pages.{InWordOnly, Unlisted, ListingStage}
+use Rattle.model_running.proofs.FlatWords.{flat_answer, flat_left}
+use Rattle.model_running.proofs.BothKeep.{keeps_both}
+use Rattle.model_running.specs.RunningStore.{BothHalves, RunningStore}
+use Rattle.model_core.specs.declared.steps.UserStep.TheVariants as user_step
+use Rattle.model_core.specs.declared.steps.CloserStep.TheVariants as closer_step
+use Rattle.model_core.specs.declared.steps.CleanerStep.TheVariants as cleaner_step
+use Rattle.model_core.specs.declared.steps.CheckpointerStep.TheVariants as checkpointer_step
+use Rattle.model_core.specs.Actors as actor
+use Rattle.model_core.specs.declared.words.Word.TheVariants as word
+use Rattle.model_core.specs.declared.ops.Op.TheVariants as op
+use Rattle.model_core.specs.declared.steps.WriterStep.TheVariants as writer_step
+use Rattle.model_core.specs.declared.steps.FlusherStep.TheVariants as flusher_step
+
+module _ (D : LogSide) (E : DataSide) (c : Setup) (spare : ℕ) (m : SharedWords) (g : LogGhost) (h : PageGhost) (ls : ℕ → List Listed) (p : D.Part) (d : E.Part) (actors : List Actor) (seat : ℕ) (both : BothHalves D E c spare m g h ls p d actors) where
+  user_words : (u : UserState) → UserPageFits E c m g.log h ls d seat u → (f : UserStep) → UserPagesAt E c m g.log h ls d seat u f → OpWords c.pages (user_op u f)
+  user_words u F user_step.StoreCell o = omega arith
+  user_words u F user_step.StoreFirst o = omega arith
+  user_words u F user_step.StoreLink o = omega arith
+  user_words u F user_step.AwaitMark o = by (eqb (mode u) 1)
+    where
+      by : (b : Bool) → IsWord c.pages (cond b word.Flushed word.Write)
+      by true = tt
+      by false = tt
+  user_words u F user_step.TakeLatch o = F.there u.k u.page o.1
+  user_words u F user_step.StoreFrame o = (F.there u.k u.page o.1.1, F.within u.k u.page u.cell o.1.1)
+  user_words u F user_step.StoreNewest o = F.there u.k u.page o.1.1
+  user_words u F user_step.LoadOldest o = F.there u.k u.page o.1.1
+  user_words u F user_step.StoreOldest o = F.there u.k u.page o.1.1
+  user_words u F user_step.ReleaseLatch o = F.there u.k u.page o.1
+  user_words u F user_step.GiveList o = omega arith
+  user_words u F user_step.StoreClosedLink o = omega arith
+  user_words u F user_step.AddToList o = tt
+  user_words u F user_step.LoadCheckpoint o = tt
+  user_words u F user_step.LoadSn o = tt
+  user_words u F user_step.Reserve o = tt
+  user_words u F user_step.LoadWrite o = tt
+  user_words u F user_step.LoadWtail o = tt
+  user_words u F user_step.LoadCtail o = tt
+  user_words u F user_step.Done o = tt
+  user_words u F user_step.Failed o = tt
+
+  writer_words : (s : WriterState) (f : WriterStep) → OpWords c.pages (writer_op s f)
+  writer_words s writer_step.LoadLink = omega arith
+  writer_words s writer_step.ClearLink = omega arith
+  writer_words s writer_step.LoadFirst = omega arith
+  writer_words s writer_step.ClearFirst = omega arith
+  writer_words s writer_step.LoadCell = omega arith
+  writer_words s _ = tt
+
+  flusher_words : (f : FlusherState) (w : FlusherStep) → OpWords c.pages (flusher_op f w)
+  flusher_words f flusher_step.LoadWrite = tt
+  flusher_words f _ = tt
+
+  closer_words : (t : CloserState) (f : CloserStep) → OpWords c.pages (closer_op t f)
+  closer_words t closer_step.LoadClosedLink = omega arith
+  closer_words t closer_step.ClearClosedLink = omega arith
+  closer_words t _ = tt
+
+  fore : (x : CleanerState) (t : ListingStage) → Unlisting E c m g.log h ls d seat x t → first_of_batch x < c.pages
+  fore x t o = let r = front x.batch o.3 in let z = (o.2 r.0 r.1).held.there in subst (λ (k : ℕ). k < c.pages) (sym r.2) z
+    where
+      front : (l : List BatchPage) → 0 < length l → (x : BatchPage) × (get_elem? l 0 ≡ some x) × ((get_or l 0 no_page).page ≡ x.page)
+      front [] z = absurd (omega arith)
+      front (x ∷ xs) z = (x, refl, refl)
+
+  cleaner_words : (x : CleanerState) → x.page < c.pages → (f : CleanerStep) → CleanerAt E c m g.log h ls d seat x f → OpWords c.pages (cleaner_op x f)
+  cleaner_words x l cleaner_step.LoadFlushed o = tt
+  cleaner_words x l cleaner_step.LoadOldest o = l
+  cleaner_words x l cleaner_step.TakeLatch o = l
+  cleaner_words x l cleaner_step.LoadNewest o = l
+  cleaner_words x l cleaner_step.ReleaseSkipped o = l
+  cleaner_words x l cleaner_step.LoadFrame o = (l, o.5)
+  cleaner_words x l cleaner_step.WriteBatch o = tt
+  cleaner_words x l cleaner_step.RemoveFromList o = tt
+  cleaner_words x l cleaner_step.ClearOldest o = fore x InWordOnly o.0
+  cleaner_words x l cleaner_step.GiveList o = omega arith
+  cleaner_words x l cleaner_step.ReleaseLatch o = fore x Unlisted o
+  cleaner_words x l cleaner_step.StoreFailed o = tt
+  cleaner_words x l cleaner_step.Failed o = tt
+
+  checkpointer_words : (t : CheckpointerState) (f : CheckpointerStep) → CheckpointerPagesAt E c m g.log h ls d seat t f → OpWords c.pages (checkpointer_op t f)
+  checkpointer_words t checkpointer_step.ReadList o = o.2
+  checkpointer_words t checkpointer_step.GiveList o = o.2
+  checkpointer_words t checkpointer_step.LoadCtail o = tt
+  checkpointer_words t checkpointer_step.LoadFlushed o = tt
+  checkpointer_words t checkpointer_step.TakeDevice o = tt
+  checkpointer_words t checkpointer_step.GiveBroken o = tt
+  checkpointer_words t checkpointer_step.Checkpoint o = tt
+  checkpointer_words t checkpointer_step.StoreCheckpoint o = tt
+  checkpointer_words t checkpointer_step.GiveDevice o = tt
+  checkpointer_words t checkpointer_step.StoreFailed o = tt
+  checkpointer_words t checkpointer_step.GiveFailed o = tt
+  checkpointer_words t checkpointer_step.Failed o = tt
+
+  asked_words : (b : Bool) (o : Op) → OpWords c.pages o → OpWords c.pages (cond b (op.Load word.Failed) o)
+  asked_words true o z = tt
+  asked_words false o z = z
+
+  -- each Op names words that there are
+  pub next_words : (a : Actor) → get_elem? actors seat ≡ some a → OpWords c.pages (next a)
+  next_words (actor.User u) at = let F : UserPageFits E c m g.log h ls d seat u = both.paged.each seat (actor.User u) at in asked_words u.checks (user_op u u.step) (user_words u F u.step F.step)
+  next_words (actor.Writer s) at = asked_words s.checks (writer_op s s.step) (writer_words s s.step)
+  next_words (actor.Flusher f) at = asked_words f.checks (flusher_op f f.step) (flusher_words f f.step)
+  next_words (actor.Closer t) at = asked_words t.checks (closer_op t t.step) (closer_words t t.step)
+  next_words (actor.Cleaner x) at = let F : CleanerFits E c m g.log h ls d seat x = both.paged.each seat (actor.Cleaner x) at in asked_words x.checks (cleaner_op x x.step) (cleaner_words x F.page x.step F.step)
+  next_words (actor.Checkpointer t) at = let F : CheckpointerPageFits E c m g.log h ls d seat t = both.paged.each seat (actor.Checkpointer t) at in asked_words t.checks (checkpointer_op t t.step) (checkpointer_words t t.step F.step)
+  next_words (actor.Joined es) at = tt
+
+module _ (D : LogSide) (L : LogLaws D) (E : DataSide) (EL : DataLaws E) (c : Setup) (spare : ℕ) (ws : List ℕ) (ls : ℕ → List Listed) (p : D.Part) (d : E.Part) (actors : List Actor) (seat : ℕ) (a : Actor) (before : RunningStore D E c spare ws ls p d actors)
+    (at : get_elem? actors seat ≡ some a) (code : ℕ) (q : D.Part) (e : E.Part) (served : LogServed D p (lent a) (next a) code q) (stored : DataServed E d (lent a) (next a) code e) where
+  -- THE step lemma over the list of words
+  pub keeps_turn : RunningStore D E c spare (words_left ws (next a)) (lists_left ls (λ i. slice_index before.shared.lists i) (next a)) q e (set actors seat (took a (answer_of ls (D.failed p) code (D.stable q) ws (next a))))
+  keeps_turn =
+      let m = before.shared in let k = before.both in
+      let r = keeps_both D L E EL c spare m before.log_ghost before.page_ghost ls p d actors seat k code q e a at served stored in
+      let w = next_words D E c spare m before.log_ghost before.page_ghost ls p d actors seat k a at in
+      let left : words_left ws (next a) ≡ flat (shared_left m (next a)) = ap (λ (z : List ℕ). words_left z (next a)) before.flat_is ∙ flat_left c.pages m k.logged.sized (next a) w in
+      let said : ◌≡◌ {A = Answer} (answer_of ls (D.failed p) code (D.stable q) ws (next a)) (shared_answer ls (D.failed p) code (D.stable q) m (next a)) = ap (λ (z : List ℕ). answer_of ls (D.failed p) code (D.stable q) z (next a)) before.flat_is ∙ flat_answer c.pages m k.logged.sized ls (D.failed p) code (D.stable q) (next a) w in
+      subst (λ (z : Answer). RunningStore D E c spare (words_left ws (next a)) (lists_left ls (λ i. slice_index m.lists i) (next a)) q e (set actors seat (took a z))) (sym said) (record { shared = shared_left m (next a); log_ghost = r.0; page_ghost = r.1; flat_is = left; both = r.2 })

@@ -1,0 +1,32 @@
+-- Both halves of the invariant, over one list of actors.
+use Rattle.std.specs.Prelude.{List, ℕ, ◌<◌, ◌≡◌, ◌⊎◌}
+use Rattle.model_core.specs.Actors.{Actor}
+use Rattle.model_core.specs.DataSide.{DataSide}
+use Rattle.model_core.specs.FlushLists.{Listed}
+use Rattle.model_core.specs.Layout.{SharedWords, flat}
+use Rattle.model_core.specs.LogSide.{LogSide}
+use Rattle.model_core.specs.Setup.{IsScripted, Setup}
+use Rattle.model_core.specs.Turn.{Core}
+use Rattle.model_logcore.specs.LogFacts.{LogGhost}
+use Rattle.model_logcore.specs.LogHalf.{LogHalf}
+use Rattle.model_pagecore.specs.PageFacts.{PageGhost}
+use Rattle.model_pagecore.specs.PageHalf.{PageHalf}
+
+pub record BothHalves (D : LogSide) (E : DataSide) (c : Setup) (spare : ℕ) (m : SharedWords) (g : LogGhost) (h : PageGhost) (ls : ℕ → List Listed) (p : D.Part) (d : E.Part) (actors : List Actor) : Type 0 where
+  pub script : IsScripted c
+  -- a failure has a cause
+  pub cause : 0 < m.failed → D.Cause p m.failed ⊎ E.Cause d m.failed
+  pub logged : LogHalf D c spare m g p actors
+  pub paged : PageHalf E c m g.log (D.stable p) h ls d actors
+
+-- the same over the list of words
+pub record RunningStore (D : LogSide) (E : DataSide) (c : Setup) (spare : ℕ) (ws : List ℕ) (ls : ℕ → List Listed) (p : D.Part) (d : E.Part) (actors : List Actor) : Type 0 where
+  pub shared : SharedWords
+  pub log_ghost : LogGhost
+  pub page_ghost : PageGhost
+  pub flat_is : ws ≡ flat shared
+  pub both : BothHalves D E c spare shared log_ghost page_ghost ls p d actors
+
+-- the same of a store's whole state
+abbrev pub IsRunning : (D : LogSide) (E : DataSide) → Setup → ℕ → Core D E → Type 0
+IsRunning D E c spare s = RunningStore D E c spare s.words s.lists s.log_part s.data_part s.actors

@@ -1,0 +1,58 @@
+-- A run by turns: whose turn each is, as a seed tells, and when the run ends.
+use Rattle.std.specs.Prelude.{List, cond, length, nat_lt, suc, zero, ℕ, ◌%◌, ◌+◌, ◌/◌, ◌<◌, ◌^◌, ◌≡◌, ◌≤◌, ◌⊎◌}
+use lib.ListN.{get_elem?}
+use mathlib.Core.Option.{some}
+use Rattle.model_core.specs.Actors.{Actor}
+use Rattle.model_core.specs.DataSide.{DataSide}
+use Rattle.model_core.specs.LogSide.{LogSide}
+use Rattle.model_core.specs.States.{UserState}
+use Rattle.model_core.specs.Turn.{Core, Turn}
+use Rattle.model_core.specs.declared.ops.Answer.{Answer}
+use Rattle.model_core.specs.declared.ops.Step.{Step}
+use Rattle.model_script.specs.Generator.{draw}
+use Rattle.model_core.specs.Actors as actor
+use Rattle.model_core.specs.declared.steps.UserStep.TheVariants as user_step
+
+-- The seat whose turn the i-th is, counted from 0, of so many: as the seed draws in the first half of the turns, then one
+-- after another.
+abbrev pub seat_of_turn : ℕ → ℕ → ℕ → ℕ → ℕ
+seat_of_turn seed max count i = cond (nat_lt i (max / 2)) (draw (i + 1) (seed % 2 ^ 31) % count) (i % count)
+
+-- a user has ended: its last commit is answered, or it ended by a failure
+abbrev pub HasEnded : UserState → Type 0
+HasEnded u = (u.step ≡ user_step.Done) ⊎ (u.step ≡ user_step.Failed)
+
+abbrev pub HaveEnded : List Actor → Type 0
+HaveEnded actors = (seat : ℕ) (u : UserState) → get_elem? actors seat ≡ some (actor.User u) → HasEnded u
+
+module _ (D : LogSide) (E : DataSide) (seed max : ℕ) where
+  -- the run's n-th turn, counted from 0, which is taken only while a user hasn't ended
+  pub record LastTurn (Earlier : Core D E → Type 0) (n : ℕ) (last : Core D E) : Type 0 where
+    pub before : Core D E
+    pub earlier : Earlier before
+    pub open_user : HaveEnded before.actors → ⊥
+    pub answer : Answer
+    pub step : Step
+    pub turn : Turn D E before (seat_of_turn seed max (length before.actors) n) answer step last
+
+  -- so many turns lead from the first state to the last
+  abbrev pub TakesTurns : ℕ → Core D E → Core D E → Type 0
+  TakesTurns zero first last = ◌≡◌ {A = Core D E} last first
+  TakesTurns (suc n) first last = LastTurn (TakesTurns n first) n last
+
+  -- the run has ended: each user has
+  pub record IsDone (first last : Core D E) : Type 0 where
+    pub count : ℕ
+    pub within : count ≤ max
+    pub turns : TakesTurns count first last
+    pub ended : HaveEnded last.actors
+
+  -- the turns are spent, and this is the least user that hasn't ended
+  pub record IsSpent (user : ℕ) (first last : Core D E) : Type 0 where
+    pub turns : TakesTurns max first last
+    pub seat : ℕ
+    pub state : UserState
+    pub is : get_elem? last.actors seat ≡ some (actor.User state)
+    pub number : state.user ≡ user
+    pub not_ended : HasEnded state → ⊥
+    pub least : (j : ℕ) (u : UserState) → get_elem? last.actors j ≡ some (actor.User u) → u.user < user → HasEnded u

@@ -1,0 +1,5 @@
+pub mod Outcome
+pub mod LogPartLaws
+pub mod MayCall
+pub mod PartStarts
+pub mod PartEnds

@@ -1,0 +1,96 @@
+-- The log part as the running store sees it.
+use Rattle.std.specs.Prelude.{Bool, Err, List, [], None, OnErr, OnOk, Ok, Option, Result, Some, false, true, ℕ, ◌%◌, ◌+◌, ◌/◌, ◌^◌, ◌<◌, ◌≡◌, ◌≤◌}
+use Rattle.model_base.specs.Count.{HasRisen}
+use Rattle.model_base.specs.declared.limits.TheConstants.{BLOCK_SIZE}
+use Rattle.model_core.specs.Groups.{Entry}
+use Rattle.model_core.specs.LogSide.{LogSide}
+use Rattle.model_core.specs.Lsn.{lsn}
+use Rattle.model_finish.specs.History.{AreWholesOf}
+use Rattle.model_logdev.specs.Marks.{after_asked, after_checkpoint, after_given, after_synced, after_written, next_number}
+use Rattle.model_logdev.specs.declared.marks.LogMarks.{LogMarks}
+use Rattle.model_record.specs.declared.group.Whole.{Whole}
+use Rattle.redo_disk.specs.Seen.{Seen}
+use Rattle.redo_disk.specs.declared.error.DevError.{DevError}
+use Rattle.redo_disk.specs.declared.error.DevError.TheVariants.{Failed, NoMemory}
+use Rattle.redo_logdev.specs.Part.{KeepsHolding, KeepsNumbered, KeepsWriting, Part, PartHolds, Stays}
+
+-- the code that FAILED gets for what a call answered
+abbrev pub fault_code : DevError → ℕ
+fault_code Failed = 1
+fault_code NoMemory = 3
+
+abbrev pub result_code : Result (Unit {0}) DevError → ℕ
+result_code (Ok done) = 0
+result_code (Err fault) = fault_code fault
+
+-- the last call failed
+abbrev pub has_failed : Option DevError → Bool
+has_failed None = false
+has_failed (Some fault) = true
+
+-- Its number goes round only behind so many checkpoints as a log below the limit has no room for.
+abbrev pub HasFewCheckpoints : LogMarks → Type 0
+HasFewCheckpoints marks = marks.number ≤ 2 ^ 63 + marks.ckpt / BLOCK_SIZE
+
+module _ {L : Type 0} (seen : L → Seen) where
+  -- `faults` is the device's count at the run's start
+  pub record HasFailedBy (faults : ℕ) (part : Part L) (code : ℕ) : Type 0 where
+    pub fault : DevError
+    pub failed : part.failed ≡ Some fault
+    pub code_is : code ≡ fault_code fault
+    pub risen : fault ≡ Failed → HasRisen faults (seen part.dev).faults
+
+  -- The device held nothing but the checkpoint when the run began at this lsn, and the store was in order.
+  pub record HasBegun (start : ℕ) (first : Part L) : Type 0 where
+    pub holds : PartHolds seen start [] first
+    pub few : first.marks.number ≤ 2 ^ 63
+
+  -- What holds of the part of a run, of a log of so many blocks, that started at the sn `base` and has these groups. What
+  -- the device holds it holds if it did so when the run began.
+  pub record HoldsLog (faults : ℕ) (Begun : Type 0) (blocks base : ℕ) (log : List Entry) (part : Part L) : Type 0 where
+    pub blocks_are : part.shape.log_blocks ≡ blocks
+    pub later : faults ≤ (seen part.dev).faults
+    -- as long as no call has failed
+    pub all_given : part.failed ≡ None → part.marks.given ≡ part.marks.written
+    pub all_asked : part.failed ≡ None → part.marks.asked ≡ part.marks.ckpt
+    pub aligned : part.marks.ckpt % BLOCK_SIZE ≡ 0
+    pub ckpt_stable : part.marks.ckpt ≤ part.marks.stable
+    pub stable_written : part.marks.stable ≤ part.marks.written
+    pub small : part.marks.written < 2 ^ 61
+    pub few : Begun → HasFewCheckpoints part.marks
+    pub groups : Begun → (wholes : List Whole) → AreWholesOf log wholes → PartHolds seen (lsn base) wholes part
+
+  -- what a call leaves, whatever it answers
+  pub record LogCalled (code : ℕ) (ok err : LogMarks) (old new : Part L) : Type 0 where
+    pub result : Result (Unit {0}) DevError
+    pub code_is : code ≡ result_code result
+    pub on_ok : OnOk result (new.marks ≡ ok)
+    pub on_err : OnErr result (new.marks ≡ err)
+    pub stays : Stays seen old result new
+
+  pub record LogWrote (mark : ℕ) (bytes firsts : List ℕ) (code : ℕ) (old new : Part L) : Type 0 where
+    pub called : LogCalled code (after_written mark old.marks) (after_given mark old.marks) old new
+    pub holds : KeepsWriting seen old mark bytes firsts new
+
+  pub record LogSynced (code : ℕ) (old new : Part L) : Type 0 where
+    pub called : LogCalled code (after_synced old.marks) old.marks old new
+    pub holds : KeepsHolding seen old new
+
+  pub record LogCheckpointed (lsn code : ℕ) (old new : Part L) : Type 0 where
+    pub called : LogCalled code (after_checkpoint (next_number old.marks.number) lsn old.marks) (after_asked lsn old.marks) old new
+    pub holds : KeepsNumbered seen old new
+
+  abbrev pub log_side : ℕ → Type 0 → LogSide
+  log_side faults Begun = record {
+    Part = Part L;
+    written = λ part. part.marks.written;
+    stable = λ part. part.marks.stable;
+    given = λ part. part.marks.given;
+    ckpt = λ part. part.marks.ckpt;
+    failed = λ part. has_failed part.failed;
+    Holds = HoldsLog faults Begun;
+    Cause = HasFailedBy faults;
+    Wrote = LogWrote;
+    Synced = LogSynced;
+    Checkpointed = LogCheckpointed;
+  }

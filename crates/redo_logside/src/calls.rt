@@ -1,0 +1,47 @@
+// The calls of the log part, answered by a code.
+ghost use Rattle.std.specs.Prelude.{◌≡◌, None};
+ghost use Rattle.model_logdev.specs.Marks.{MayBeNext};
+ghost use Rattle.redo_logdev.specs.Part.{MayWrite};
+ghost use Rattle.redo_logside.specs.LogPartSide.{LogCheckpointed, LogSynced, LogWrote, result_code};
+
+use redo_disk::{DevError, Sectors};
+use redo_logdev::LogPart;
+
+/// What FAILED gets for an answer: 0 for Ok, 1 where the device failed, 3 where it had no memory.
+fn code_of(answer: &Result<(), DevError>) -> u32
+    ensures { result ≡ result_code answer.now }
+{
+    match answer {
+        Ok(()) => 0,
+        Err(DevError::Failed) => 1,
+        Err(DevError::NoMemory) => 3,
+    }
+}
+
+/// Writes the log up to a mark.
+pub fn write_to<L: Sectors>(part: &mut LogPart<L>, mark: u64, bytes: &[u8], firsts: &[u32]) -> u32
+    requires { MayWrite part.old mark bytes.now firsts.now }
+    ensures { LogWrote L.seen mark bytes.now firsts.now result part.old part.new }
+{
+    let answer = part.write_to(mark, bytes, firsts);
+    code_of(&answer)
+}
+
+/// Flushes the log.
+pub fn sync<L: Sectors>(part: &mut LogPart<L>) -> u32
+    requires { part.old.failed ≡ None }
+    ensures { LogSynced L.seen result part.old part.new }
+{
+    let answer = part.sync();
+    code_of(&answer)
+}
+
+/// Writes a checkpoint at an lsn.
+pub fn checkpoint<L: Sectors>(part: &mut LogPart<L>, lsn: u64) -> u32
+    requires live { part.old.failed ≡ None }
+    requires next { MayBeNext part.old.marks lsn }
+    ensures { LogCheckpointed L.seen lsn result part.old part.new }
+{
+    let answer = part.checkpoint(lsn);
+    code_of(&answer)
+}

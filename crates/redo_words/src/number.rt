@@ -1,0 +1,73 @@
+// The numbers of words.
+ghost use Rattle.std.specs.Prelude.{◌≡◌};
+ghost use Rattle.model_core.specs.Layout.{index, word_count};
+ghost use Rattle.model_core.specs.declared.words.Word.TheVariants as word;
+
+use crate::{Layout, Word};
+use model_core::{
+    BUFFER_BLOCKS, CLOSED_LINKS, FLUSH_LISTS, FRAME_CELLS, LOG_BUFFER, WRITTEN_LINKS,
+};
+
+#[cfg(test)]
+mod tests;
+
+// where each kind of word begins
+const LISTS_AT: u64 = 8;
+
+const WRITTEN_LINKS_AT: u64 = LISTS_AT + FLUSH_LISTS;
+
+const CLOSED_LINKS_AT: u64 = WRITTEN_LINKS_AT + WRITTEN_LINKS;
+
+const CELLS_AT: u64 = CLOSED_LINKS_AT + CLOSED_LINKS;
+
+const FIRSTS_AT: u64 = CELLS_AT + LOG_BUFFER;
+
+const PAGES_AT: u64 = FIRSTS_AT + BUFFER_BLOCKS;
+
+// of a page's words: its latch, its newest, its oldest modification, its frame
+const NEWEST_AT: u64 = 1;
+
+const OLDEST_AT: u64 = 2;
+
+const FRAME_AT: u64 = 3;
+
+const PAGE_WORDS: u64 = FRAME_AT + FRAME_CELLS;
+
+/// How many words a layout has.
+pub fn count_of(layout: Layout) -> u64
+    ensures { result ≡ word_count layout.pages }
+{
+    PAGES_AT + layout.pages as u64 * PAGE_WORDS
+}
+
+/// The number of a word, counted from 0. It is the same in each layout that has the word.
+pub fn number_of(word: Word) -> u64
+    ensures { result ≡ index word }
+{
+    match word {
+        Word::Sn => 0,
+        Word::Write => 1,
+        Word::Wtail => 2,
+        Word::Flushed => 3,
+        Word::Ckpt => 4,
+        Word::Ctail => 5,
+        Word::Failed => 6,
+        Word::Device => 7,
+        Word::List(list) => LISTS_AT + list as u64,
+        Word::Wlink(place) => WRITTEN_LINKS_AT + place as u64,
+        Word::Clink(place) => CLOSED_LINKS_AT + place as u64,
+        Word::Cell(place) => CELLS_AT + place as u64,
+        Word::First(block) => FIRSTS_AT + block as u64,
+        Word::Latch(page) => first_word(page),
+        Word::Newest(page) => first_word(page) + NEWEST_AT,
+        Word::Oldest(page) => first_word(page) + OLDEST_AT,
+        Word::Frame(page, cell) => first_word(page) + FRAME_AT + cell as u64,
+    }
+}
+
+// The number of a page's first word.
+fn first_word(page: u32) -> u64
+    ensures { result ≡ index (word.Latch page) }
+{
+    PAGES_AT + page as u64 * PAGE_WORDS
+}

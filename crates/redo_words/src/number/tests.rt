@@ -1,0 +1,21 @@
+// The first and last words of each kind.
+use super::{count_of, number_of};
+use crate::{Layout, Word};
+
+#[test]
+fn words_stand_kind_after_kind(rt: HostRuntime) {
+    assert_eq!(rt; number_of(Word::Sn), 0);
+    assert_eq!(rt; number_of(Word::Device), 7);
+    assert_eq!(rt; number_of(Word::List(0)), 8);
+    assert_eq!(rt; number_of(Word::List(3)), 11);
+    assert_eq!(rt; number_of(Word::Wlink(0)), 12);
+    assert_eq!(rt; number_of(Word::Wlink(32_767)), 32_779);
+    assert_eq!(rt; number_of(Word::Clink(0)), 32_780);
+    assert_eq!(rt; number_of(Word::Cell(0)), 49_164);
+    assert_eq!(rt; number_of(Word::First(0)), 114_700);
+    assert_eq!(rt; number_of(Word::First(127)), 114_827);
+    assert_eq!(rt; number_of(Word::Latch(0)), 114_828);
+    assert_eq!(rt; number_of(Word::Frame(0, 4095)), 118_926);
+    assert_eq!(rt; number_of(Word::Latch(1)), 118_927);
+    assert_eq!(rt; count_of(Layout { pages: 2 }), 123_026);
+}
