@@ -1,0 +1,3 @@
+pub mod CloserView
+pub mod FlusherView
+pub mod WriterView

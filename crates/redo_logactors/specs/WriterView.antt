@@ -1,0 +1,31 @@
+-- What the fields of the writer stand for.
+use Rattle.std.specs.Prelude.{length, vec_capacity, ◌+◌, ◌<◌, ◌^◌, ◌≤◌}
+use Rattle.model_core.specs.States.{WriterState}
+use Rattle.redo_logactors.specs.declared.writer.TheConstants.{KEPT_BLOCKS, KEPT_BYTES}
+use Rattle.redo_logactors.specs.declared.writer.Writer.TheInside.{Inside}
+
+abbrev pub writer_view : Inside → WriterState
+writer_view s = record {
+  blocks = s.blocks;
+  tail = s.tail;
+  write = s.write;
+  from = s.from;
+  kept = s.kept.items;
+  firsts = s.firsts.items;
+  link = s.link;
+  first = s.first;
+  ckpt = s.ckpt;
+  code = s.code;
+  checks = s.checks;
+  step = s.step;
+}
+
+pub record IsWriter (s : Inside) : Type 0 where
+  pub few_blocks : s.blocks < 2 ^ 32
+  pub tail : s.tail + s.link < 2 ^ 61
+  pub write : s.write < 2 ^ 61
+  pub from : s.from + KEPT_BYTES + 1 < 2 ^ 61
+  pub kept : length s.kept.items ≤ KEPT_BYTES
+  pub firsts : length s.firsts.items ≤ KEPT_BLOCKS
+  pub kept_room : KEPT_BYTES ≤ vec_capacity s.kept
+  pub firsts_room : KEPT_BLOCKS ≤ vec_capacity s.firsts

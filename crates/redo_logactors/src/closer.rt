@@ -1,0 +1,24 @@
+// The closer's state.
+use model_core::CloserStep;
+use std::marker::Model;
+
+/// The closer: it follows the links of the recent-closed buffer and moves CTAIL. Contracts see its state.
+#[derive(Debug, Drop)]
+pub struct Closer {
+    pub(crate) tail: u64,
+    pub(crate) link: u64,
+    pub(crate) code: u32,
+    pub(crate) checks: bool,
+    pub(crate) step: CloserStep,
+}
+
+impl Model for Closer {
+    ghost use Rattle.model_core.specs.States.{CloserState};
+    ghost use Rattle.redo_logactors.specs.CloserView.{closer_view, IsCloser};
+
+    ghost Value = { CloserState };
+
+    ghost view = { closer_view };
+
+    ghost invariant = { IsCloser };
+}

@@ -1,0 +1,74 @@
+// The actors of the log as a run begins.
+ghost use Rattle.std.specs.Prelude.{◌≡◌, ◌≤◌, ◌<◌, ◌%◌, ◌^◌, IfOk};
+ghost use Rattle.model_base.specs.Limits.{IsWithinLimits};
+ghost use Rattle.model_core.specs.NewActors.{new_closer, new_flusher, new_writer};
+
+use crate::closer::Closer;
+use crate::flusher::Flusher;
+use crate::writer::{KEPT_BLOCKS, KEPT_BYTES, Writer};
+use model_base::{BLOCK_SIZE, FIRST_DATA_LSN, Shape};
+use model_core::{CloserStep, FlusherStep, WriterStep};
+use model_log::{BLOCK_DATA, BLOCK_HEADER};
+use redo_lsn::NoMemory;
+use std::alloc::Global;
+
+impl Writer {
+    /// The writer of a run that starts at this lsn. It takes the room for all that it will hold.
+    pub fn new(alloc: Global, shape: &Shape, start: u64) -> Result<Writer, NoMemory>
+        requires limits { IsWithinLimits shape.now }
+        requires data { start % BLOCK_SIZE ≡ BLOCK_HEADER }
+        requires first { FIRST_DATA_LSN ≤ start }
+        requires small { start < 2 ^ 61 }
+        ensures { IfOk result (λ writer. writer ≡ new_writer shape.now.log_blocks start) }
+    {
+        let blocks = u64::from(shape.log_blocks);
+        let kept = Vec::with_capacity(alloc, KEPT_BYTES)?;
+        let firsts = Vec::with_capacity(alloc, KEPT_BLOCKS)?;
+        Ok(Writer {
+            blocks,
+            tail: start,
+            write: start,
+            from: start / BLOCK_SIZE * BLOCK_DATA,
+            kept,
+            firsts,
+            link: 0,
+            first: 0,
+            ckpt: 0,
+            code: 0,
+            checks: false,
+            step: WriterStep::LoadLink,
+        })
+    }
+}
+
+impl Flusher {
+    /// The flusher of a run that starts at this lsn.
+    pub fn new(start: u64) -> Flusher
+        ensures { result ≡ new_flusher start }
+    {
+        Flusher {
+            last: start,
+            write: 0,
+            mark: 0,
+            code: 0,
+            checks: false,
+            step: FlusherStep::LoadWrite,
+        }
+    }
+}
+
+impl Closer {
+    /// The closer of a run that starts at this lsn.
+    pub fn new(start: u64) -> Closer
+        requires { start < 2 ^ 61 }
+        ensures { result ≡ new_closer start }
+    {
+        Closer {
+            tail: start,
+            link: 0,
+            code: 0,
+            checks: false,
+            step: CloserStep::LoadClosedLink,
+        }
+    }
+}

@@ -1,0 +1,172 @@
+// What the writer makes of the answers to its own Ops.
+ghost use Rattle.std.specs.Prelude.{◌≡◌, ◌<◌, ◌≤◌, ◌+◌, ◌^◌, ◌==◌, if◌then◌else◌, false, length};
+ghost use Rattle.model_core.specs.Actors as actor;
+ghost use Rattle.model_core.specs.AnswerFits.{AnswerFits};
+ghost use Rattle.model_core.specs.Answers.{old_of};
+ghost use Rattle.model_core.specs.Waiting.{step_of, writer_ending, writer_waits};
+ghost use Rattle.model_core.specs.WriterProgram.{full_blocks, has_log_space, stands_outside, writer_after, writer_took};
+
+use crate::writer::{KEPT_BLOCKS, KEPT_BYTES, Writer};
+use crate::writing::{drop_bytes, drop_firsts};
+use model_base::BLOCK_SIZE;
+use model_core::{WRITTEN_LINKS, WriterStep};
+use model_log::BLOCK_DATA;
+use redo_lsn::lsn_of;
+use redo_words::{Answer, Step, code_of, old_of};
+
+impl Writer {
+    /// Whether the log has space up to its tail, where CKPT is this.
+    fn has_log_space(&self, ckpt: u64) -> bool
+        requires { ckpt < 2 ^ 60 }
+        ensures { result ≡ has_log_space self.now ckpt }
+    {
+        let end = self.tail + (BLOCK_SIZE - 1);
+        end - end % BLOCK_SIZE <= ckpt + BLOCK_SIZE * self.blocks
+    }
+
+    /// Whether it stands at a block that it hasn't entered.
+    fn stands_outside(&self) -> bool
+        ensures { result ≡ stands_outside self.now }
+    {
+        self.kept.len() as u64 == BLOCK_DATA * self.firsts.len() as u64
+    }
+
+    /// The link at its tail was loaded.
+    fn found_link(&mut self, answer: Answer) -> Step
+        requires step { self.old.step ≡ WriterStep.LoadLink }
+        requires small { self.old.tail + old_of answer < 2 ^ 60 }
+        ensures state { self.new ≡ writer_took self.old answer WriterStep.LoadLink }
+        ensures step { result ≡ (if writer_waits self.old answer WriterStep.LoadLink then Step.Idle else Step.Moved) }
+    {
+        let n = old_of(answer);
+        if n != 0 {
+            self.link = n;
+            self.goes_on(WriterStep::ClearLink)
+        } else if self.tail == self.write {
+            self.waits()
+        } else {
+            self.goes_on(WriterStep::StoreWtail)
+        }
+    }
+
+    /// That link was cleared.
+    fn follows_link(&mut self, answer: Answer) -> Step
+        ensures state { self.new ≡ writer_took self.old answer WriterStep.ClearLink }
+        ensures step { result ≡ Step.Moved }
+    {
+        self.tail += self.link;
+        self.link = 0;
+        self.goes_on(if self.tail < self.write + WRITTEN_LINKS {
+            WriterStep::LoadLink
+        } else {
+            WriterStep::StoreWtail
+        })
+    }
+
+    /// The newest checkpoint was loaded.
+    fn checks_space(&mut self, answer: Answer) -> Step
+        requires step { self.old.step ≡ WriterStep.LoadCheckpoint }
+        requires small { old_of answer < 2 ^ 60 }
+        ensures state { self.new ≡ writer_took self.old answer WriterStep.LoadCheckpoint }
+        ensures step { result ≡ (if has_log_space self.old (old_of answer) then Step.Moved else Step.Idle) }
+    {
+        let has_space = self.has_log_space(old_of(answer));
+        self.ckpt = old_of(answer);
+        if !has_space {
+            return self.waits();
+        }
+        if self.stands_outside() {
+            self.goes_on(WriterStep::LoadFirst)
+        } else {
+            self.goes_on(WriterStep::LoadCell)
+        }
+    }
+
+    /// It has entered a block.
+    fn enters(&mut self, answer: Answer) -> Step
+        requires { length self.old.firsts < KEPT_BLOCKS }
+        ensures state { self.new ≡ writer_took self.old answer WriterStep.ClearFirst }
+        ensures step { result ≡ Step.Moved }
+    {
+        self.firsts.push_reserved(self.first);
+        self.first = 0;
+        self.goes_on(WriterStep::LoadCell)
+    }
+
+    /// The byte at its read place was loaded.
+    #[tactic(auto, unfolding(model_core::specs::Lsn::lsn))]
+    fn reads(&mut self, answer: Answer) -> Step
+        requires byte { old_of answer < 256 }
+        requires room { length self.old.kept < KEPT_BYTES }
+        ensures state { self.new ≡ writer_took self.old answer WriterStep.LoadCell }
+        ensures step { result ≡ Step.Moved }
+    {
+        let after = lsn_of(self.from + (self.kept.len() as u64 + 1));
+        self.kept.push_reserved(old_of(answer) as u8);
+        if after == self.tail {
+            self.goes_on(WriterStep::TakeDevice)
+        } else if self.stands_outside() {
+            self.goes_on(WriterStep::LoadFirst)
+        } else {
+            self.goes_on(WriterStep::LoadCell)
+        }
+    }
+
+    /// What it has read is written: the blocks that are full go.
+    fn written(&mut self, answer: Answer) -> Step
+        requires blocks { full_blocks self.old ≤ length self.old.firsts }
+        requires small { self.old.from + length self.old.kept < 2 ^ 59 }
+        ensures state { self.new ≡ writer_took self.old answer WriterStep.StoreWrite }
+        ensures step { result ≡ Step.Moved }
+    {
+        let full = self.kept.len() / BLOCK_DATA as usize;
+        self.write = self.tail;
+        self.from += BLOCK_DATA * full as u64;
+        drop_bytes(&mut self.kept, BLOCK_DATA as usize * full);
+        drop_firsts(&mut self.firsts, full);
+        self.goes_on(WriterStep::GiveDevice)
+    }
+
+    /// Takes the answer to the Op that it asked for.
+    pub fn took(&mut self, answer: Answer) -> Step
+        requires { AnswerFits (actor.Writer self.old) answer }
+        ensures state { self.new ≡ writer_after self.old answer }
+        ensures step { result ≡ step_of (actor.Writer self.old) answer }
+    {
+        if self.checks {
+            return self.checked(old_of(answer));
+        }
+        match self.step {
+            WriterStep::LoadLink => self.found_link(answer),
+            WriterStep::ClearLink => self.follows_link(answer),
+            WriterStep::StoreWtail => self.goes_on(WriterStep::LoadCheckpoint),
+            WriterStep::LoadCheckpoint => self.checks_space(answer),
+            WriterStep::LoadFirst => {
+                self.first = old_of(answer) as u32;
+                self.goes_on(WriterStep::ClearFirst)
+            }
+            WriterStep::ClearFirst => self.enters(answer),
+            WriterStep::LoadCell => self.reads(answer),
+            WriterStep::TakeDevice => match answer {
+                Answer::Taken(_) => self.goes_on(WriterStep::WriteTo),
+                Answer::Broken => self.goes_on(WriterStep::GiveBroken),
+                _ => self.waits(),
+            },
+            WriterStep::GiveBroken => {
+                self.checks = true;
+                self.goes_on(WriterStep::TakeDevice)
+            }
+            WriterStep::WriteTo => {
+                self.code = code_of(answer);
+                match answer {
+                    Answer::Failed(_) => self.goes_on(WriterStep::StoreFailed),
+                    _ => self.goes_on(WriterStep::StoreWrite),
+                }
+            }
+            WriterStep::StoreWrite => self.written(answer),
+            WriterStep::GiveDevice => self.goes_on(WriterStep::LoadLink),
+            WriterStep::StoreFailed => self.goes_on(WriterStep::GiveFailed),
+            WriterStep::GiveFailed | WriterStep::Failed => self.goes_on(WriterStep::Failed),
+        }
+    }
+}

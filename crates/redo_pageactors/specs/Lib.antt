@@ -1,0 +1,3 @@
+pub mod CheckpointerView
+pub mod CleanerView
+pub mod Opened

@@ -1,0 +1,60 @@
+// The actors of the pages as a run begins.
+ghost use Rattle.std.specs.Prelude.{◌≡◌, IfOk};
+ghost use Rattle.model_base.specs.Limits.{IsWithinLimits};
+ghost use Rattle.model_core.specs.NewActors.{new_checkpointer, new_cleaner};
+
+use crate::batch::{PAGE, RIM, USERS};
+use crate::checkpointer::Checkpointer;
+use crate::cleaner::Cleaner;
+use model_base::Shape;
+use model_core::{BATCH_PAGES, CheckpointerStep, CleanerStep};
+use model_log::BLOCK_HEADER;
+use redo_lsn::NoMemory;
+use std::alloc::Global;
+
+impl Cleaner {
+    /// The cleaner of a store of this shape. It takes the room for a batch.
+    pub fn new(alloc: Global, shape: &Shape) -> Result<Cleaner, NoMemory>
+        requires { IsWithinLimits shape.now }
+        ensures { IfOk result (λ cleaner. cleaner ≡ new_cleaner shape.now.pages) }
+    {
+        let pages = shape.pages;
+        let most = BATCH_PAGES as usize;
+        let kept = Vec::with_capacity(alloc, PAGE)?;
+        let batch = Vec::with_capacity(alloc, most)?;
+        let users = Vec::with_capacity(alloc, USERS * most)?;
+        let rims = Vec::with_capacity(alloc, RIM * most)?;
+        Ok(Cleaner {
+            pages,
+            flushed: 0,
+            page: 0,
+            left: 0,
+            newest: 0,
+            kept,
+            batch,
+            users,
+            rims,
+            code: 0,
+            checks: false,
+            step: CleanerStep::LoadFlushed,
+        })
+    }
+}
+
+impl Checkpointer {
+    /// The checkpointer of a run that starts at this lsn; the newest checkpoint stands at the block of that.
+    pub fn new(start: u64) -> Checkpointer
+        ensures { result ≡ new_checkpointer start }
+    {
+        Checkpointer {
+            own: start.saturating_sub(BLOCK_HEADER),
+            ctail: 0,
+            flushed: 0,
+            to: 0,
+            list: 0,
+            code: 0,
+            checks: false,
+            step: CheckpointerStep::LoadCtail,
+        }
+    }
+}

@@ -1,0 +1,27 @@
+-- Each line has bytes, and a user that has a line begins with the first.
+use Rattle.std.proofs.Common.{List, arith, length, rules, subst, sym, ℕ, ◌<◌}
+use Rattle.std.proofs.lemmas.Grind.{common_steps}
+use Rattle.model_core.specs.States.{Line}
+use Rattle.model_core.specs.UserProgram.{line_at}
+use Rattle.model_record.specs.declared.rec.Rec.{Rec}
+use Rattle.redo_useractor.proofs.Texts.{some_texts}
+use Rattle.redo_useractor.specs.Lines.{AreUserLines}
+use Rattle.redo_useractor.proofs.actor.UserActor.new.Goals as goal
+use Rattle.redo_useractor.proofs.actor.UserActor.new.Goals.{then-has_lines, else-has_lines}
+
+pub lines_of-requires-clause-lines : goal.lines_of-requires-clause-lines
+lines_of-requires-clause-lines c = subst (λ (l : List (ℕ × List Rec)). AreUserLines c.args.shape.now l) (sym c.as_slice.ensures.value) c.requires.lines
+
+pub invariant_of-result : goal.invariant_of-result
+invariant_of-result c =
+    let are = subst (λ (l : List (ℕ × List Rec)). AreUserLines c.args.shape.now l) (sym c.as_slice.ensures.value) c.requires.lines in
+    let texts = some_texts c.args.shape.now c.args.log_only c.args.shape.now.pages c.as_slice.result.now are in
+    record {
+      ckpt = omega arith;
+      room = grind (arith, common_steps);
+      some_bytes = subst (λ (l : List Line). (j : ℕ) → j < length l → 0 < length (line_at l j).bytes) (sym c.in_ok-made.ensures) texts;
+      step = elim c.if-has_lines.branch [
+        | then-has_lines w ↦ rw w.step-is (record { line = grind (arith, common_steps); none = grind (arith, common_steps) })
+        | else-has_lines w ↦ rw w.step-is tt
+      ];
+    }

@@ -1,0 +1,23 @@
+-- The lines that a user may have.
+use Rattle.std.specs.Prelude.{Bool, List, Some, map, slice_get, ℕ, ◌<◌, ◌≡◌, ◌≤◌}
+use Rattle.model_base.specs.declared.limits.TheConstants.{MAX_GROUP}
+use Rattle.model_base.specs.declared.shape.Shape.{Shape}
+use Rattle.model_changes.specs.Changes.{line_of}
+use Rattle.model_core.specs.States.{Line}
+use Rattle.model_record.specs.Fits.{GroupFits}
+use Rattle.model_record.specs.Group.{IsGroup, group_length}
+use Rattle.model_record.specs.declared.rec.Rec.{Rec}
+
+-- a mode, as InnoDB numbers it, and a group that fits the store and has a text of at most 8,192 bytes
+pub record IsUserLine (shape : Shape) (line : ℕ × List Rec) : Type 0 where
+  pub mode : line.0 < 3
+  pub is_group : IsGroup line.1
+  pub short : group_length line.1 ≤ MAX_GROUP
+  pub fits : GroupFits shape line.1
+
+abbrev pub AreUserLines : Shape → List (ℕ × List Rec) → Type 0
+AreUserLines shape lines = (i : ℕ) (line : ℕ × List Rec) → slice_get lines i ≡ Some line → IsUserLine shape line
+
+-- the lines as the user's program has them
+abbrev pub lines_of : Bool → ℕ → List (ℕ × List Rec) → List Line
+lines_of log_only pages lines = map (λ (line : ℕ × List Rec). line_of log_only pages line.0 line.1) lines

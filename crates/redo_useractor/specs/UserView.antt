@@ -1,0 +1,67 @@
+-- What the fields of a user stand for.
+use Rattle.std.specs.Prelude.{length, vec_capacity, vec_len, ℕ, ◌+◌, ◌<◌, ◌^◌, ◌≡◌, ◌≤◌}
+use Rattle.model_core.specs.States.{UserState}
+use Rattle.model_core.specs.UserProgram.{cells_of, changes, group_bytes, group_end, line_at}
+use Rattle.model_core.specs.declared.steps.UserStep.{UserStep}
+use Rattle.model_core.specs.declared.steps.UserStep.TheVariants as user_step
+use Rattle.redo_useractor.specs.declared.actor.UserActor.TheInside.{Inside}
+
+abbrev pub user_view : Inside → UserState
+user_view u = record {
+  user = u.user;
+  blocks = u.blocks;
+  lines = u.lines.items;
+  starts = u.starts.items;
+  k = u.k;
+  start = u.start;
+  copied = u.copied;
+  page = u.page;
+  cell = u.cell;
+  loaded = u.loaded;
+  code = u.code;
+  checks = u.checks;
+  step = u.step;
+}
+
+-- a line is left, and no group is in hand
+pub record BeforeGroup (u : Inside) : Type 0 where
+  pub line : u.k < length u.lines.items
+  pub none : vec_len u.starts ≡ u.k
+
+-- the group of a line is in hand, and ends at an sn
+pub record HasGroup (u : Inside) : Type 0 where
+  pub line : u.k < length u.lines.items
+  pub small : group_end (user_view u) < 2 ^ 60
+  pub one : vec_len u.starts ≡ u.k + 1
+
+-- it is at one of the group's pages
+abbrev pub IsAtPage : Inside → Type 0
+IsAtPage u = u.page < length (changes (user_view u))
+
+-- it is at the first of them, if there is one
+abbrev pub IsAtFirst : Inside → Type 0
+IsAtFirst u = (u.page ≡ 0) × (u.cell ≡ 0)
+
+abbrev pub IsAt : Inside → UserStep → Type 0
+IsAt u user_step.LoadCheckpoint = BeforeGroup u
+IsAt u user_step.LoadSn = BeforeGroup u
+IsAt u user_step.TakeLatch = BeforeGroup u × IsAtPage u
+IsAt u user_step.Reserve = BeforeGroup u
+IsAt u user_step.LoadWrite = HasGroup u × IsAtFirst u × (u.copied < length (group_bytes (user_view u)))
+IsAt u user_step.StoreCell = HasGroup u × IsAtFirst u × (u.copied < length (group_bytes (user_view u)))
+IsAt u user_step.StoreFirst = HasGroup u × IsAtFirst u
+IsAt u user_step.LoadWtail = HasGroup u × IsAtFirst u
+IsAt u user_step.StoreLink = HasGroup u × IsAtFirst u
+IsAt u user_step.LoadCtail = HasGroup u × IsAtPage u × (u.cell ≡ 0)
+IsAt u user_step.StoreFrame = HasGroup u × IsAtPage u × (u.cell < length (cells_of (user_view u)))
+IsAt u user_step.StoreClosedLink = HasGroup u × (0 < length (changes (user_view u)))
+IsAt u user_step.AwaitMark = HasGroup u
+IsAt u user_step.Done = Unit {0}
+IsAt u user_step.Failed = Unit {0}
+IsAt u _ = HasGroup u × IsAtPage u
+
+pub record IsUser (u : Inside) : Type 0 where
+  pub ckpt : u.loaded.ckpt < 2 ^ 60
+  pub room : length u.lines.items ≤ vec_capacity u.starts
+  pub some_bytes : (j : ℕ) → j < length u.lines.items → 0 < length (line_at u.lines.items j).bytes
+  pub step : IsAt u u.step

@@ -1,0 +1,52 @@
+// The state of a user.
+use crate::line::UserLine;
+use model_core::UserStep;
+use std::marker::Model;
+
+/// The marks that a user has loaded last.
+#[derive(Debug, Drop)]
+pub struct Marks {
+    pub(crate) ckpt: u64,
+    pub(crate) write: u64,
+    pub(crate) wtail: u64,
+    pub(crate) ctail: u64,
+    pub(crate) flushed: u64,
+}
+
+impl Model for Marks {
+    ghost use Rattle.model_core.specs.States.{LoadedMarks};
+
+    ghost Value = { LoadedMarks };
+
+    ghost view = { λ m. record { ckpt = m.ckpt; write = m.write; wtail = m.wtail; ctail = m.ctail; flushed = m.flushed } };
+}
+
+/// A user: it reserves a place for the group of each of its lines in order, copies the group there, changes its pages, and
+/// awaits the mark that its line names. Contracts see its state.
+#[derive(Debug, Drop)]
+pub struct UserActor {
+    pub(crate) user: u32,
+    pub(crate) blocks: u32,
+    pub(crate) lines: Vec<UserLine>,
+    pub(crate) starts: Vec<u64>,
+    pub(crate) k: usize,
+    pub(crate) start: u64,
+    pub(crate) copied: usize,
+    pub(crate) page: usize,
+    pub(crate) cell: usize,
+    pub(crate) loaded: Marks,
+    pub(crate) code: u32,
+    pub(crate) checks: bool,
+    pub(crate) step: UserStep,
+}
+
+impl Model for UserActor {
+    ghost use Rattle.model_core.specs.States.{UserState};
+    ghost use Rattle.redo_useractor.specs.UserView.{user_view, IsUser};
+
+    ghost Value = { UserState };
+
+    ghost view = { user_view };
+
+    ghost invariant = { IsUser };
+}

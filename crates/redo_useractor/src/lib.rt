@@ -1,0 +1,13 @@
+//! The program of a user. A layer above may rely on `next` and `took` being those of the definitions on the user's own
+//! state, and on no call but `new` taking memory.
+#![tactic(auto)]
+
+mod actor;
+mod asking;
+mod changes;
+mod changing;
+mod line;
+mod making;
+mod taking;
+
+pub use actor::UserActor;
