@@ -180,6 +180,10 @@ fn keeps_the_place_or_the_newest_copy(rt: HostRuntime) -> Result<(), Fail> {
             Outcome::Refused(PageAhead(5, 8723)),
         ),
         (
+            [Data(PLACE + 99, 1), Page(4096, 5, 9000)],
+            Outcome::Refused(PageAhead(5, 9000)),
+        ),
+        (
             [Page(PLACE, 5, 9000), Data(PLACE + 4096, 1)],
             Outcome::Refused(PageLost(6)),
         ),
