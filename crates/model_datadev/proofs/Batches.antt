@@ -8,7 +8,8 @@ use Rattle.model_page.specs.Fits.{FitsPage}
 use Rattle.model_page.specs.Page.{page_text, page_check, user_part}
 use Rattle.model_page.specs.Copies.{place_lsn_by, copy_lsn_by}
 use Rattle.model_page.specs.declared.page.PageState.TheVariants.{Sound}
-use Rattle.model_page.proofs.ReadBack.{page_check-page_text, is_blank-page_text, user_part-page_text}
+use Rattle.model_page.proofs.NotBlank.{is_blank-page_text_whole}
+use Rattle.model_page.proofs.ReadBack.{page_check-page_text, user_part-page_text}
 use Rattle.model_datadev.specs.Batch.{Fresh, IsFreshPage, new_text, batch_text}
 
 pub length-page_text : (number space lsn : ℕ) (user : List ℕ) → length (page_text number space lsn user) ≡ 46 + length user
@@ -28,7 +29,7 @@ check-new_text shape new space pages fresh =
       bytes = fresh.bytes;
     } in
     page_check-page_text new.page shape.space new.content.lsn new.content.user fits
-    (is_blank-page_text new.page shape.space new.content.lsn new.content.user fits fresh.some_lsn)
+    (is_blank-page_text_whole new.page shape.space new.content.lsn new.content.user fresh.long)
 
 pub user-new_text : (shape : Shape) (new : Fresh) → user_part (new_text shape new) ≡ new.content.user
 user-new_text shape new = user_part-page_text new.page shape.space new.content.lsn new.content.user

@@ -58,7 +58,6 @@ batch-from shape pairs users slots is bytes = record {
       let below : i < length pairs = slice_get_within pairs i one.pair one.at in
       subst (λ (x : Fresh). IsFreshPage shape x) (sym one.is) (record {
         below = is.below i one.pair one.at;
-        some_lsn = is.some_lsn i one.pair one.at;
         small_lsn = omega (arith, is.small_lsn i one.pair one.at);
         long = length-take 4050 (drop (i * 4050) users) ∙ omega (arith, length-drop (i * 4050) users, is.count);
         bytes = λ j. get_or-take-byte 4050 (i * 4050) j users bytes;

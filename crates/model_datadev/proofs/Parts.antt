@@ -4,7 +4,7 @@ use Rattle.std.proofs.lemmas.Bool.{cases_lt}
 use Rattle.std.specs.List.{slice_get}
 use Rattle.model_base.specs.declared.shape.Shape.{Shape}
 use Rattle.model_page.specs.Page.{user_part}
-use Rattle.model_page.specs.Copies.{slot_bytes, copy_lsn}
+use Rattle.model_page.specs.Copies.{slot_bytes, copy_lsn, data_device_length}
 use Rattle.model_page.specs.declared.content.Content.{Content}
 use Rattle.model_device.specs.Disk.{Disk, after_write, after_writes, settled}
 use Rattle.model_device.specs.Calls.{written, synced}
@@ -175,9 +175,10 @@ pub record IsOn (shape : Shape) (base : List ℕ) (p : ℕ) (content : Content) 
   pub passes : copy_lsn shape base p slot ≡ Some content.lsn
   pub user : content.user ≡ user_part (slot_bytes shape slot base)
 
-before-ready : (shape : Shape) (was : ℕ → Content) (batch : List Fresh) (disk : Disk) → IsBefore shape was batch disk → IsReady shape (IsOn shape disk.base) was disk.base
-before-ready shape was batch disk before = record {
-  long = before.long;
+before-ready : (shape : Shape) (was : ℕ → Content) (batch : List Fresh) (disk : Disk) → data_device_length shape ≤ length disk.base → IsBefore shape was batch disk
+    → IsReady shape (IsOn shape disk.base) was disk.base
+before-ready shape was batch disk long before = record {
+  long = long;
   places = before.steady.places;
   known = λ p slot lsn page below passes. record { page = page; slot = slot; below = below; passes = passes; user = refl };
 }
@@ -188,26 +189,26 @@ before-older shape was batch disk before = record {
   same = λ p old new on is equal. on.user ∙ before.copies.same p on.slot old.lsn new on.page on.below on.passes is equal;
 }
 
-before-write : (shape : Shape) (was : ℕ → Content) (batch : List Fresh) (old new : Disk) → IsWithinLimits shape → IsBatch shape batch → IsBefore shape was batch old
+before-write : (shape : Shape) (was : ℕ → Content) (batch : List Fresh) (old new : Disk) → IsWithinLimits shape → IsBatch shape batch → data_device_length shape ≤ length old.base → IsBefore shape was batch old
     → new ≡ after_both (slots_write shape batch) (place_writes shape batch) old → Stored shape (IsKnown (IsOn shape old.base) batch) (after_batch batch was) [] false new
-before-write shape was batch old new is batch_is before done =
-    write-done shape (IsOn shape old.base) was batch old new is batch_is (before-ready shape was batch old before) before.steady.nothing_pending done
+before-write shape was batch old new is batch_is long before done =
+    write-done shape (IsOn shape old.base) was batch old new is batch_is (before-ready shape was batch old long before) before.steady.nothing_pending done
 
-pub before-done : (shape : Shape) (was : ℕ → Content) (batch : List Fresh) (old new : Disk) → IsWithinLimits shape → IsBatch shape batch → IsBefore shape was batch old
+pub before-done : (shape : Shape) (was : ℕ → Content) (batch : List Fresh) (old new : Disk) → IsWithinLimits shape → IsBatch shape batch → data_device_length shape ≤ length old.base → IsBefore shape was batch old
     → new ≡ after_both (slots_write shape batch) (place_writes shape batch) old → IsSteady shape (after_batch batch was) new
-before-done shape was batch old new is batch_is before done = (before-write shape was batch old new is batch_is before done).steady refl
+before-done shape was batch old new is batch_is long before done = (before-write shape was batch old new is batch_is long before done).steady refl
 
-pub before-keeps : (shape : Shape) (was : ℕ → Content) (batch : List Fresh) (old new : Disk) → IsWithinLimits shape → IsBatch shape batch → IsBefore shape was batch old
+pub before-keeps : (shape : Shape) (was : ℕ → Content) (batch : List Fresh) (old new : Disk) → IsWithinLimits shape → IsBatch shape batch → data_device_length shape ≤ length old.base → IsBefore shape was batch old
     → new ≡ after_both (slots_write shape batch) (place_writes shape batch) old → KeepsPages shape was batch new
-before-keeps shape was batch old new is batch_is before done image p fair below =
-    let keeps : Keeps shape (IsOn shape old.base) was batch new = after-keeps shape (IsOn shape old.base) was batch false new batch_is (before-write shape was batch old new is batch_is before done) in
+before-keeps shape was batch old new is batch_is long before done image p fair below =
+    let keeps : Keeps shape (IsOn shape old.base) was batch new = after-keeps shape (IsOn shape old.base) was batch false new batch_is (before-write shape was batch old new is batch_is long before done) in
     (keeps.each image fair).pages p below
 
-pub before-failed : (shape : Shape) (was : ℕ → Content) (batch : List Fresh) (old new : Disk) → IsWithinLimits shape → IsBatch shape batch → IsBefore shape was batch old
+pub before-failed : (shape : Shape) (was : ℕ → Content) (batch : List Fresh) (old new : Disk) → IsWithinLimits shape → IsBatch shape batch → data_device_length shape ≤ length old.base → IsBefore shape was batch old
     → FailsBoth (slots_write shape batch) (place_writes shape batch) old new → KeepsPages shape was batch new
-before-failed shape was batch old new is batch_is before calls image p fair below =
+before-failed shape was batch old new is batch_is long before calls image p fair below =
     let keeps : Keeps shape (IsOn shape old.base) was batch new =
-    write-failed shape (IsOn shape old.base) was batch old new is batch_is (before-older shape was batch old before) (before-ready shape was batch old before) before.steady.nothing_pending calls in
+    write-failed shape (IsOn shape old.base) was batch old new is batch_is (before-older shape was batch old before) (before-ready shape was batch old long before) before.steady.nothing_pending calls in
     (keeps.each image fair).pages p below
 
 pub tied-put : (shape : Shape) (top was : ℕ → Content) (batch : List Fresh) (old new : Disk) → IsWithinLimits shape → IsBatch shape batch

@@ -5,7 +5,7 @@ use Rattle.std.proofs.lemmas.Bool.{cases_lt}
 use Rattle.std.proofs.lemmas.List.{take_all}
 use Rattle.model_base.specs.declared.shape.Shape.{Shape}
 use Rattle.model_page.specs.Page.{page_check, user_part}
-use Rattle.model_page.specs.Copies.{stretch_at, slot_bytes, place_bytes, place_lsn, place_lsn_by, copy_lsn, copy_lsn_by, IsBestCopy, IsInSlot, IsKept, data_device_length}
+use Rattle.model_page.specs.Copies.{stretch_at, slot_bytes, place_bytes, place_lsn, place_lsn_by, copy_lsn, copy_lsn_by, IsBestCopy, HasBestCopy, IsInSlot, IsKept, data_device_length}
 use Rattle.model_page.specs.declared.content.Content.{Content}
 use Rattle.model_page.specs.declared.page.PageState.{PageState}
 use Rattle.model_page.specs.declared.page.PageState.TheVariants.{Blank, Sound, Broken}
@@ -13,17 +13,16 @@ use Rattle.model_device.specs.Disk.{Disk, after_write, settled}
 use Rattle.model_device.specs.declared.write.Write.{Write}
 use Rattle.model_store.specs.Fair.{IsFair}
 use Rattle.model_datadev.specs.Batch.{place_at}
-use Rattle.model_datadev.specs.Repair.{IsPutBack, FailsPutBack, repair_write, KeepsSame, IsRepairable, KeepsAll, IsRepaired}
+use Rattle.model_datadev.specs.Repair.{SameSlots, IsCopyPut, IsPutBack, FailsPutBack, repair_write, KeepsSame, IsRepairable, KeepsAll, IsRepaired}
+use Rattle.model_datadev.specs.Stored.{HasNothingPending}
+use Rattle.model_page.proofs.BestCopy.{best-copy}
 use Rattle.model_datadev.proofs.Stretches.{IsApart, IsPut, AreApart, ArePut, fair-apart, fair-put, pieces-apart, pieces-has, length-after, stretch-piece}
 use Rattle.model_datadev.proofs.Writes.{HasSizes, sizes-from}
 use Rattle.model_base.specs.Limits.{IsWithinLimits}
 use Rattle.model_page.proofs.Kept.{same_best}
 use Rattle.model_datadev.proofs.Kept.{same-place, same-place_lsn, same-copy, broken-place}
 
-abbrev SameSlots : Shape → List ℕ → List ℕ → Type 0
-SameSlots shape old new = (slot : ℕ) → slot < shape.slots → slot_bytes shape slot new ≡ slot_bytes shape slot old
-
-same-best : (shape : Shape) (old new : List ℕ) (p slot lsn : ℕ) → SameSlots shape old new → IsBestCopy shape old p slot lsn → IsBestCopy shape new p slot lsn
+pub same-best : (shape : Shape) (old new : List ℕ) (p slot lsn : ℕ) → SameSlots shape old new → IsBestCopy shape old p slot lsn → IsBestCopy shape new p slot lsn
 same-best shape old new p slot lsn same best = record {
   below = best.below;
   passes = same-copy shape old new p slot (same slot best.below) ∙ best.passes;
@@ -197,26 +196,34 @@ keeps-repaired shape page slot lsn old new is below long broken best same =
 reads-base : (disk : Disk) → disk ≡ settled disk.base → disk.reads ≡ disk.base
 reads-base disk is = ap (λ (d : Disk). d.reads) is
 
-pub put-back_done : (shape : Shape) (page : ℕ) (old new : Disk) → IsWithinLimits shape → page < shape.pages → IsRepairable shape page old → IsPutBack shape page old new → HasRepaired shape page old new
-put-back_done shape page old new is below can calls =
-    let reads : old.reads ≡ old.base = reads-base old can.nothing_pending in
-    ⊎_elim (λ done.
-    keeps-repaired shape page done.slot done.lsn old new is below can.long can.broken (subst (λ (b : List ℕ). IsBestCopy shape b page done.slot done.lsn) reads done.best)
-    (done.put ∙ ap (λ b. settled (after_write b (repair_write shape page (slot_bytes shape done.slot b)))) reads))
-    (λ none. absurd (none-some can.lsn (copy_lsn shape old.base page can.slot)
-    (subst (λ (b : List ℕ). copy_lsn shape b page can.slot ≡ None) reads (none.0 can.slot can.best.below)) can.best.passes)) calls
+-- where a copy passes, the one that counts was put into the place
+pub copy-put : (shape : Shape) (page : ℕ) (old new : Disk) → IsRepairable shape page old → IsPutBack shape page old new → IsCopyPut shape page old new
+copy-put shape page old new can calls =
+    ⊎_elim (λ done. done) (λ none. absurd (none-some can.lsn (copy_lsn shape old.reads page can.slot) (none.0 can.slot can.below) can.passes)) calls
 
-pub put-back_failed : (shape : Shape) (page : ℕ) (old new : Disk) → IsWithinLimits shape → page < shape.pages → IsRepairable shape page old → FailsPutBack shape page old new → KeepsAll shape old new
-put-back_failed shape page old new is below can calls =
-    let reads : old.reads ≡ old.base = reads-base old can.nothing_pending in
-    let writes : old.writes ≡ [] = ap (λ (d : Disk). d.writes) can.nothing_pending in
-    ⊎_elim (λ same. keeps-repairing shape page can.slot can.lsn old new is below can.long can.broken can.best
+pub copy-put_done : (shape : Shape) (page : ℕ) (old new : Disk) → IsWithinLimits shape → page < shape.pages → data_device_length shape ≤ length old.base → HasNothingPending old
+    → IsRepairable shape page old → IsCopyPut shape page old new → HasRepaired shape page old new
+copy-put_done shape page old new is below long nothing can done =
+    let reads : old.reads ≡ old.base = reads-base old nothing in
+    keeps-repaired shape page done.slot done.lsn old new is below long (ap (λ b. place_lsn shape b page) (sym reads) ∙ can.broken)
+    (subst (λ (b : List ℕ). IsBestCopy shape b page done.slot done.lsn) reads done.best)
+    (done.put ∙ ap (λ b. settled (after_write b (repair_write shape page (slot_bytes shape done.slot b)))) reads)
+
+pub put-back_failed : (shape : Shape) (page : ℕ) (old new : Disk) → IsWithinLimits shape → page < shape.pages → data_device_length shape ≤ length old.base → HasNothingPending old
+    → IsRepairable shape page old → FailsPutBack shape page old new → KeepsAll shape old new
+put-back_failed shape page old new is below long nothing can calls =
+    let reads : old.reads ≡ old.base = reads-base old nothing in
+    let writes : old.writes ≡ [] = ap (λ (d : Disk). d.writes) nothing in
+    let broken : place_lsn shape old.base page ≡ None = ap (λ b. place_lsn shape b page) (sym reads) ∙ can.broken in
+    ⊎_elim (λ same.
+    let has : HasBestCopy shape old.base page = best-copy shape old.base page can.slot can.lsn can.below (ap (λ b. copy_lsn shape b page can.slot) (sym reads) ∙ can.passes) in
+    keeps-repairing shape page has.slot has.lsn old new is below long broken has.best
     (record { base = ap (λ (d : Disk). d.base) same; writes = inl (ap (λ (d : Disk). d.writes) same ∙ writes) }))
     (λ fails.
     let write : Write = repair_write shape page (slot_bytes shape fails.slot old.reads) in
     let one : old.writes ++ (write ∷ []) ≡ repair_write shape page (slot_bytes shape fails.slot old.base) ∷ [] =
     ap (λ l. l ++ (write ∷ [])) writes ∙ ap (λ b. repair_write shape page (slot_bytes shape fails.slot b) ∷ []) reads in
-    keeps-repairing shape page fails.slot fails.lsn old new is below can.long can.broken (subst (λ (b : List ℕ). IsBestCopy shape b page fails.slot fails.lsn) reads fails.best)
+    keeps-repairing shape page fails.slot fails.lsn old new is below long broken (subst (λ (b : List ℕ). IsBestCopy shape b page fails.slot fails.lsn) reads fails.best)
     (⊎_elim (λ failed. record {
       base = failed.base;
       writes = ⊎_elim (λ not. inl (not.0 ∙ writes)) (λ done. inr (done.0 ∙ one)) failed.pending;

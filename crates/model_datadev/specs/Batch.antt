@@ -27,10 +27,9 @@ abbrev pub after_batch : List Fresh → (ℕ → Content) → ℕ → Content
 after_batch [] was p = was p
 after_batch (new ∷ batch) was p = if new.page == p then new.content else after_batch batch was p
 
--- the page is one of the store's, and what it is to hold fits it; its lsn is that of a group
+-- the page is one of the store's, and what it is to hold fits it
 pub record IsFreshPage (shape : Shape) (new : Fresh) : Type 0 where
   pub below : new.page < shape.pages
-  pub some_lsn : 0 < new.content.lsn
   pub small_lsn : new.content.lsn < 2 ^ 64
   pub long : length new.content.user ≡ USER_BYTES
   pub bytes : (i : ℕ) → slice_index new.content.user i < 256
@@ -42,13 +41,13 @@ pub record IsBatch (shape : Shape) (batch : List Fresh) : Type 0 where
   pub different : (i j : ℕ) (new other : Fresh) → slice_get batch i ≡ Some new → slice_get batch j ≡ Some other
       → new.page ≡ other.page → i ≡ j
 
--- what is asked of the pairs of page and lsn and of the user bytes
+-- What is asked of the pairs of page and lsn and of the user bytes. That an lsn is a number of 64 bits says no more than
+-- its type does, which a clause doesn't know of the numbers in a slice of pairs.
 pub record IsWritable (shape : Shape) (pairs : List (ℕ × ℕ)) (users : List ℕ) : Type 0 where
   pub few : length pairs ≤ shape.slots
   pub count : length users ≡ USER_BYTES * length pairs
   pub below : (i : ℕ) (pair : ℕ × ℕ) → slice_get pairs i ≡ Some pair → pair.0 < shape.pages
-  pub some_lsn : (i : ℕ) (pair : ℕ × ℕ) → slice_get pairs i ≡ Some pair → 0 < pair.1
-  pub small_lsn : (i : ℕ) (pair : ℕ × ℕ) → slice_get pairs i ≡ Some pair → pair.1 < 2 ^ 61
+  pub small_lsn : (i : ℕ) (pair : ℕ × ℕ) → slice_get pairs i ≡ Some pair → pair.1 < 2 ^ 64
   pub different : (i j : ℕ) (pair other : ℕ × ℕ) → slice_get pairs i ≡ Some pair → slice_get pairs j ≡ Some other → pair.0 ≡ other.0 → i ≡ j
 
 -- the bytes of a page that is to be written

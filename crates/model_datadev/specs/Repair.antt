@@ -1,7 +1,7 @@
 -- What the repair of a page does: the copy that counts is put into its place.
-use Rattle.std.specs.Prelude.{ℕ, ◌≡◌, ◌≢◌, ◌≤◌, ◌<◌, ◌⊎◌, ◌↔◌, List, length, None}
+use Rattle.std.specs.Prelude.{ℕ, ◌≡◌, ◌≢◌, ◌<◌, ◌⊎◌, ◌↔◌, List, length, Some, None}
 use Rattle.model_base.specs.declared.shape.Shape.{Shape}
-use Rattle.model_page.specs.Copies.{IsKept, IsBestCopy, HasNoCopy, place_lsn, place_bytes, slot_bytes, data_device_length}
+use Rattle.model_page.specs.Copies.{IsKept, IsBestCopy, HasNoCopy, place_lsn, copy_lsn, place_bytes, slot_bytes}
 use Rattle.model_page.specs.declared.content.Content.{Content}
 use Rattle.model_device.specs.Disk.{Disk, settled}
 use Rattle.model_device.specs.Calls.{written, synced}
@@ -14,14 +14,17 @@ use Rattle.model_store.specs.Fair.{IsFair}
 abbrev pub KeepsSame : Shape → List ℕ → List ℕ → Type 0
 KeepsSame shape old new = (p : ℕ) (content : Content) → p < shape.pages → IsKept shape old p content ↔ IsKept shape new p content
 
--- nothing is pending, the page's place doesn't pass, and a copy does
+-- the slots of the two images hold the same
+abbrev pub SameSlots : Shape → List ℕ → List ℕ → Type 0
+SameSlots shape old new = (slot : ℕ) → slot < shape.slots → slot_bytes shape slot new ≡ slot_bytes shape slot old
+
+-- by what reads give, the page's place doesn't pass, and a copy of it does
 pub record IsRepairable (shape : Shape) (page : ℕ) (disk : Disk) : Type 0 where
-  pub long : data_device_length shape ≤ length disk.base
-  pub nothing_pending : disk ≡ settled disk.base
-  pub broken : place_lsn shape disk.base page ≡ None
+  pub broken : place_lsn shape disk.reads page ≡ None
   pub slot : ℕ
   pub lsn : ℕ
-  pub best : IsBestCopy shape disk.base page slot lsn
+  pub below : slot < shape.slots
+  pub passes : copy_lsn shape disk.reads page slot ≡ Some lsn
 
 -- the write of a copy into the place of its page
 abbrev pub repair_write : Shape → ℕ → List ℕ → Write
@@ -51,12 +54,11 @@ FailsPutBack shape page old new = (new ≡ old) ⊎ FailsCopy shape page old new
 pub record KeepsAll (shape : Shape) (old new : Disk) : Type 0 where
   pub long : length new.base ≡ length old.base
   pub same : (image : List ℕ) → IsFair shape new image → KeepsSame shape old.base image
-  pub slots : (image : List ℕ) → IsFair shape new image → (slot : ℕ) → slot < shape.slots
-      → slot_bytes shape slot image ≡ slot_bytes shape slot old.base
+  pub slots : (image : List ℕ) → IsFair shape new image → SameSlots shape old.base image
 
 -- the place passes now, and the other stretches hold what they held
 pub record IsRepaired (shape : Shape) (page : ℕ) (old new : Disk) : Type 0 where
   pub nothing_pending : new ≡ settled new.base
   pub passes : place_lsn shape new.base page ≢ None
   pub others : (p : ℕ) → p < shape.pages → p ≢ page → place_bytes shape p new.base ≡ place_bytes shape p old.base
-  pub slots : (slot : ℕ) → slot < shape.slots → slot_bytes shape slot new.base ≡ slot_bytes shape slot old.base
+  pub slots : SameSlots shape old.base new.base

@@ -36,9 +36,13 @@ pub record ImageHolds (shape : Shape) (copies : ℕ → Content → Type 0) (was
   pub known : (p slot lsn : ℕ) → p < shape.pages → slot < shape.slots → copy_lsn shape image p slot ≡ Some lsn
       → IsKnown copies batch p (copied shape image slot lsn)
 
+-- there is no write since the last good sync
+abbrev pub HasNothingPending : Disk → Type 0
+HasNothingPending disk = disk ≡ settled disk.base
+
 -- nothing is pending, and each place holds its page
 pub record IsSteady (shape : Shape) (was : ℕ → Content) (disk : Disk) : Type 0 where
-  pub nothing_pending : disk ≡ settled disk.base
+  pub nothing_pending : HasNothingPending disk
   pub places : (p : ℕ) → p < shape.pages → IsInPlace shape disk.base p (was p)
 
 -- The data device of a store: each fair image of it holds the pages, as they were or as the batch has them.
@@ -68,7 +72,7 @@ pub record IsLater (top : ℕ → Content) (batch : List Fresh) : Type 0 where
 -- A device that a part can begin with: nothing is pending, each place holds its page, and each copy is up to a page.
 pub record IsOpened (shape : Shape) (top was : ℕ → Content) (disk : Disk) : Type 0 where
   pub long : data_device_length shape ≤ length disk.base
-  pub nothing_pending : disk ≡ settled disk.base
+  pub nothing_pending : HasNothingPending disk
   pub places : (p : ℕ) → p < shape.pages → IsInPlace shape disk.base p (was p)
   pub known : (p slot lsn : ℕ) → p < shape.pages → slot < shape.slots → copy_lsn shape disk.base p slot ≡ Some lsn → IsUpTo top p (copied shape disk.base slot lsn)
 
@@ -80,7 +84,6 @@ pub record HasNoNewer (shape : Shape) (batch : List Fresh) (image : List ℕ) : 
 
 -- nothing is pending, each place holds its page, and no copy is newer than the batch has its page
 pub record IsBefore (shape : Shape) (was : ℕ → Content) (batch : List Fresh) (disk : Disk) : Type 0 where
-  pub long : data_device_length shape ≤ length disk.base
   pub steady : IsSteady shape was disk
   pub copies : HasNoNewer shape batch disk.base
 

@@ -19,7 +19,8 @@ use Rattle.model_logdev.proofs.Splits.{first-ends}
 use Rattle.model_opening.specs.Cleared.{IsKept, IsOutside, IsClearing}
 use Rattle.model_opening.proofs.Unread.{zeros-unread}
 use Rattle.model_opening.proofs.Rows.{same-view, same-joined, view-none, joined-append, starts-front, starts-back, joined-full}
-use Rattle.model_opening.proofs.Ending.{StartsBehind, starts-behind, count-end, IsGroupsStart, groups-start, AreTaken, EndsWithin, ends-within, start-within, within-list}
+use Rattle.model_store.proofs.Ending.{StartsBehind, starts-behind, count-end, IsGroupsStart, EndsWithin, start-within, within-list}
+use Rattle.model_opening.proofs.Ending.{groups-start, AreTaken, ends-within}
 
 -- LISTS.
 

@@ -1,144 +1,33 @@
 -- Where a scanned log ends among the blocks that were read.
-use Rattle.std.proofs.Common.{◌≡◌, ◌≢◌, ◌≤◌, ◌<◌, ◌+◌, ◌-◌, ◌*◌, ◌%◌, ◌==◌, ℕ, zero, suc, cond, List, [], ◌∷◌, length, Option, Some, None, sym, ap, subst, ◌∙◌, ⊎_elim, length-append, length-drop, arith}
+use Rattle.std.proofs.Common.{◌≡◌, ◌-◌, ◌%◌, ℕ, List, Option, Some, None}
 use Rattle.std.specs.List.{slice_get}
-use Rattle.std.proofs.lemmas.Bool.{cases_Bool, cases_lt}
-use Rattle.std.proofs.lemmas.Bool.Decides.{nat_tests}
 use Rattle.model_base.specs.declared.shape.Shape.{Shape}
 use Rattle.model_record.specs.declared.group.Whole.{Whole}
-use Rattle.model_record.specs.Group.{group_text, stream_of, groups_of}
-use Rattle.model_log.specs.Lsn.{sn_of, block_of, IsDataLsn, start_after}
 use Rattle.model_log.specs.Device.{log_block}
-use Rattle.model_log.specs.Run.{IsRunOf, spans_of, end_of}
 use Rattle.model_log.specs.declared.block.BlockView.{BlockView}
-use Rattle.model_log.proofs.Runs.{First, first-of, run-first, boundary-end, IsReached, boundary-reached, stream-none, stream-first, lsn-before}
-use Rattle.model_log.proofs.BoundaryLengths.{sn_of-block, sn_of-header}
 use Rattle.model_store.specs.Scan.{AreGroupsOf, view_at, lsn_at, joined, groups_start}
+use Rattle.model_store.proofs.Ending.{IsGroupsStart, EndsWithin, AreFirstsIn, first-place, starts-among, ends-behind, ends-among}
 use Rattle.model_store.proofs.Taking.{view_at-some}
-use Rattle.model_opening.proofs.Rows.{StartsIn, starts-in, joined-short, first-place}
-
--- THE START BEHIND AN END.
-
-pub record StartsBehind (end : ℕ) : Type 0 where
-  pub aligned : start_after end % 512 ≡ 12
-  pub behind : end ≤ start_after end
-  pub near : start_after end ≤ end + 512
-  pub here : end % 512 ≡ 12 → start_after end ≡ end
-  pub next : 12 < end % 512 → start_after end ≡ block_of end + 524
-
-pub starts-behind : (end : ℕ) → IsDataLsn end → StartsBehind end
-starts-behind end place =
-    let low : 12 ≤ end % 512 = place.0 in
-    let high : end % 512 < 508 = place.1 in
-    ⊎_elim (λ here.
-    let same : end % 512 ≡ 12 = grind (arith, nat_tests) in
-    let is : start_after end ≡ end = ap (λ t. cond t end (block_of end + 512 + 12)) here in
-    record { aligned = omega arith; behind = omega arith; near = omega arith; here = λ a. is; next = λ more. absurd (omega arith) })
-    (λ later.
-    let other : end % 512 ≢ 12 = grind (arith, nat_tests) in
-    let is : start_after end ≡ block_of end + 512 + 12 = ap (λ t. cond t end (block_of end + 512 + 12)) later in
-    record { aligned = omega arith; behind = omega arith; near = omega arith; here = λ a. absurd (other a); next = λ more. omega arith })
-    (cases_Bool (end % 512 == 12))
-
--- THE END OF A RUN.
-
--- so many bytes of groups precede it
-pub count-end : (s : ℕ) (wholes : List Whole) → IsDataLsn s → IsRunOf s wholes
-    → sn_of (end_of s (spans_of wholes)) ≡ sn_of s + length (stream_of (groups_of wholes))
-count-end s [] place run = omega (arith, ap length stream-none)
-count-end s (whole ∷ wholes) place run =
-    let first : First s whole = first-of s whole wholes place run in
-    let others : sn_of (end_of whole.end (spans_of wholes)) ≡ sn_of whole.end + length (stream_of (groups_of wholes)) =
-    count-end whole.end wholes first.place (run-first run).2 in
-    omega (arith, first.count, ap length (stream-first whole wholes), length-append (group_text whole.group) (stream_of (groups_of wholes)))
-
--- the place where groups start is that of a byte
-pub record IsGroupsStart (ckpt start : ℕ) (views : List BlockView) : Type 0 where
-  pub i : ℕ
-  pub below : i < length views
-  pub place : IsDataLsn start
-  pub from : lsn_at ckpt i + 12 ≤ start
-  pub up_to : start ≤ lsn_at ckpt i + 507
-  pub count : sn_of start ≤ sn_of ckpt + 496 * i + 495
-  pub behind : sn_of ckpt ≤ sn_of start
-
-pub within-list : {X : Type 0} (xs : List X) (i : ℕ) (x : X) → slice_get xs i ≡ Some x → i < length xs
-within-list [] i x at = absurd cc
-within-list (y ∷ xs) zero x at = omega arith
-within-list (y ∷ xs) (suc i) x at = let later : i < length xs = within-list xs i x at in omega arith
-
-sn_of-place : (b first : ℕ) → b % 512 ≡ 0 → 12 ≤ first → first ≤ 507 → sn_of (b + first) ≡ sn_of b + (first - 12)
-sn_of-place b first aligned low high = grind (arith, nat_tests)
+use Rattle.model_opening.proofs.Rows.{joined-short}
 
 -- each of the views is what the scan takes
 abbrev pub AreTaken : Shape → List ℕ → ℕ → List BlockView → Type 0
 AreTaken shape image ckpt views = (i : ℕ) (view : BlockView) → slice_get views i ≡ Some view → view_at shape image (lsn_at ckpt i) ≡ Some view
 
+firsts-taken : (shape : Shape) (image : List ℕ) (ckpt : ℕ) (views : List BlockView) → AreTaken shape image ckpt views → AreFirstsIn views
+firsts-taken shape image ckpt views each i view at some =
+    let b : ℕ = lsn_at ckpt i in
+    let there = view_at-some shape image b view (each i view at) in
+    first-place b (log_block shape b image) view there.1 some
+
 pub groups-start : (shape : Shape) (image : List ℕ) (ckpt start : ℕ) (views : List BlockView) → ckpt % 512 ≡ 0
     → AreTaken shape image ckpt views → groups_start ckpt views ≡ Some start → IsGroupsStart ckpt start views
-groups-start shape image ckpt start views aligned each is =
-    let found : StartsIn ckpt start views = starts-in ckpt start views is in
-    let b : ℕ = lsn_at ckpt found.i in
-    let there = view_at-some shape image b found.view (each found.i found.view found.at) in
-    let own = first-place b (log_block shape b image) found.view there.1 found.some in
-    let low : 12 ≤ found.view.first = own.0 in
-    let high : found.view.first ≤ 507 = own.1 in
-    let start_is : start ≡ b + found.view.first = found.is in
-    let b_aligned : b % 512 ≡ 0 = omega arith in
-    let counts : sn_of (b + found.view.first) ≡ sn_of b + (found.view.first - 12) = sn_of-place b found.view.first b_aligned low high in
-    let blocks : sn_of b ≡ sn_of ckpt + 496 * found.i = sn_of-block ckpt found.i aligned in
-    let same : sn_of start ≡ sn_of (b + found.view.first) = ap sn_of start_is in
-    record {
-      i = found.i;
-      below = within-list views found.i found.view found.at;
-      place = (omega arith, omega arith);
-      from = omega arith;
-      up_to = omega arith;
-      count = omega arith;
-      behind = omega arith;
-    }
-
--- WHERE THE LOG ENDS.
-
-pub record EndsWithin (ckpt end : ℕ) (views : List BlockView) : Type 0 where
-  pub place : IsDataLsn end
-  pub from : ckpt + 12 ≤ end
-  pub up_to : end ≤ lsn_at ckpt (length views) + 12
+groups-start shape image ckpt start views aligned each is = starts-among ckpt start views aligned (firsts-taken shape image ckpt views each) is
 
 -- at most at the first data byte of the block behind those that were read
 pub ends-within : (shape : Shape) (image : List ℕ) (ckpt : ℕ) (views : List BlockView) (start : Option ℕ) (wholes : List Whole) (end : ℕ) → ckpt % 512 ≡ 0
     → AreTaken shape image ckpt views → groups_start ckpt views ≡ start → AreGroupsOf shape image ckpt views start wholes end → EndsWithin ckpt end views
-ends-within shape image ckpt views None wholes end aligned each is (none, at) =
-    let end_is : end ≡ lsn_at ckpt (length views) + 12 = at in
-    record { place = (omega arith, omega arith); from = omega arith; up_to = omega arith }
+ends-within shape image ckpt views None wholes end aligned each is (none, at) = ends-behind ckpt end views aligned at
 ends-within shape image ckpt views (Some start) wholes end aligned each is (rest, groups, front, at) =
-    let starts : IsGroupsStart ckpt start views = groups-start shape image ckpt start views aligned each is in
-    let end_is : end ≡ end_of start (spans_of wholes) = at in
-    let reached : IsReached start wholes (end_of start (spans_of wholes)) =
-    boundary-reached start wholes (end_of start (spans_of wholes)) starts.place groups.run (boundary-end start (spans_of wholes)) in
-    let data_bytes : List ℕ = joined shape image ckpt views in
-    let stream : List ℕ = stream_of (groups_of wholes) in
-    let skipped : ℕ = sn_of start - sn_of ckpt in
-    let short : length data_bytes ≤ 496 * length views = joined-short shape image ckpt views in
-    let room : length stream ≤ length data_bytes - skipped =
-    omega (arith, ap length groups.bytes_are, length-drop skipped data_bytes, length-append stream rest) in
-    let count : sn_of end ≡ sn_of start + length stream = ap sn_of end_is ∙ count-end start wholes starts.place groups.run in
-    let below : starts.i < length views = starts.below in
-    let last : ℕ = lsn_at ckpt (length views) in
-    let last_count : sn_of (last + 12) ≡ sn_of ckpt + 496 * length views =
-    sn_of-header last (omega arith) ∙ sn_of-block ckpt (length views) aligned in
-    let place : IsDataLsn end = subst IsDataLsn (sym end_is) reached.place in
-    let last_place : IsDataLsn (last + 12) = (omega arith, omega arith) in
-    let most : sn_of end ≤ sn_of (last + 12) = omega (arith, starts.count, starts.behind) in
-    record {
-      place = place;
-      from = omega (arith, starts.from, reached.behind);
-      up_to = lsn-before end (last + 12) place last_place most;
-    }
-
--- so the start behind it stands in that block at the most
-pub start-within : (ckpt end : ℕ) (views : List BlockView) → ckpt % 512 ≡ 0 → EndsWithin ckpt end views → start_after end ≤ lsn_at ckpt (length views) + 12
-start-within ckpt end views aligned ends =
-    let start : StartsBehind end = starts-behind end ends.place in
-    let low : 12 ≤ end % 512 = ends.place.0 in
-    let high : end ≤ lsn_at ckpt (length views) + 12 = ends.up_to in
-    ⊎_elim (λ next. omega (arith, start.next next)) (λ not_next. omega (arith, start.here (omega arith))) (cases_lt 12 (end % 512))
+    ends-among ckpt start end views (joined shape image ckpt views) wholes rest aligned (groups-start shape image ckpt start views aligned each is)
+    (joined-short shape image ckpt views) groups.bytes_are groups.run at

@@ -1,12 +1,12 @@
 -- What opening leaves on the two devices, step by step, is read with the opened pages; and in the end a run can start.
-use Rattle.std.proofs.Common.{◌+◌, ℕ, false, List, []}
+use Rattle.std.proofs.Common.{◌≡◌, ◌+◌, ℕ, inl, false, List, [], refl, sym, subst}
 use Rattle.model_datadev.specs.Stored.{Stored, IsUpTo, read_as}
 use Rattle.model_device.specs.Disk.{Disk, IsImage, settled}
 use Rattle.model_store.specs.Fair.{IsFair}
 use Rattle.model_store.specs.Reading.{Reading, IsReading, IsOrderly}
 use Rattle.model_opening.specs.Cleared.{IsCleared, IsClearing, HasSameHeaders}
 use Rattle.model_opening.specs.Next.{IsMarking, IsMarked}
-use Rattle.model_opening.specs.Opened.{KeepsOpened, start_of, start_block}
+use Rattle.model_opening.specs.Opened.{IsOpenable, ReadsOpened, KeepsOpened, start_of, start_block}
 use Rattle.model_opening.specs.Ready.{IsReady}
 use Rattle.model_opening.specs.Rewritten.{IsRewriting}
 use Rattle.model_opening.proofs.Fresh.{marking-reads, marked-fresh}
@@ -39,3 +39,19 @@ opened-ready opened log_bytes data_bytes old_log new_log data_disk orderly heade
   log = marked-fresh opened log_bytes data_bytes old_log new_log orderly headers cleared marked;
   pages = stored;
 }
+
+-- BEFORE THE FIRST STEP.
+
+pub openable-keeps : (opened : Reading) (log_disk data_disk : Disk) → IsOpenable opened log_disk data_disk → KeepsOpened opened log_disk data_disk
+openable-keeps opened log_disk data_disk is log data_image image fair =
+    let log_is : log ≡ log_disk.reads = is.log_rests.one_image log image in
+    let data_is : data_image ≡ data_disk.reads = is.data_rests.one_image data_image fair.possible in
+    subst (λ (bytes : List ℕ). ReadsOpened opened bytes data_image) (sym log_is)
+    (subst (ReadsOpened opened log_disk.reads) (sym data_is) (record {
+      reading = opened;
+      is_read = is.orderly.reads;
+      old_copies = is.orderly.copies;
+      shape = refl;
+      pages = refl;
+      log = inl (record { number = refl; ckpt = refl; wholes = refl; end = refl });
+    }))

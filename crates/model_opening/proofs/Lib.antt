@@ -1,6 +1,7 @@
 pub mod Again
 pub mod Clearing
 pub mod Ending
+pub mod Formatted
 pub mod Fresh
 pub mod Keeping
 pub mod Mended

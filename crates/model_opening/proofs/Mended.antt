@@ -14,7 +14,8 @@ use Rattle.model_store.specs.Scan.{AreGroupsOf, groups_start}
 use Rattle.model_store.proofs.Heads.{checkpoint-bounds}
 use Rattle.model_page.proofs.Kept.{same_kept}
 use Rattle.model_opening.specs.Mended.{IsRepaired, AreHeld}
-use Rattle.model_opening.proofs.Ending.{IsGroupsStart, groups-start, AreTaken}
+use Rattle.model_store.proofs.Ending.{IsGroupsStart}
+use Rattle.model_opening.proofs.Ending.{groups-start, AreTaken}
 use Rattle.model_opening.proofs.Pages.{page-below, read-page}
 use Rattle.model_opening.proofs.Replay.{replayed-blank}
 

@@ -18,7 +18,8 @@ use Rattle.model_opening.specs.Cleared.{IsKept, IsOutside, IsCleared, IsClearing
 use Rattle.model_opening.specs.Next.{IsUnread}
 use Rattle.model_opening.proofs.Unread.{zeros-unread, round-unread}
 use Rattle.model_opening.proofs.Rows.{view-none}
-use Rattle.model_opening.proofs.Ending.{StartsBehind, starts-behind, EndsWithin, ends-within, start-within}
+use Rattle.model_store.proofs.Ending.{StartsBehind, starts-behind, EndsWithin, start-within}
+use Rattle.model_opening.proofs.Ending.{ends-within}
 
 -- a log that is cleared is one that is being cleared
 pub cleared-clearing : (shape : Shape) (ckpt start : ℕ) (old new : List ℕ) → IsCleared shape ckpt start old new → IsClearing shape ckpt start old new

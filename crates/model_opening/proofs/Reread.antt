@@ -23,7 +23,8 @@ use Rattle.model_opening.specs.Next.{IsUnread, IsMarked}
 use Rattle.model_opening.specs.Opened.{start_of, start_block, ReadsOpened}
 use Rattle.model_opening.specs.Rewritten.{KeepsEither, IsRewriting, IsRewritten}
 use Rattle.model_opening.proofs.Clearing.{Rescans, cleared-scan}
-use Rattle.model_opening.proofs.Ending.{IsGroupsStart, groups-start, StartsBehind, starts-behind, EndsWithin, ends-within, start-within, AreTaken}
+use Rattle.model_store.proofs.Ending.{IsGroupsStart, StartsBehind, starts-behind, EndsWithin, start-within}
+use Rattle.model_opening.proofs.Ending.{groups-start, ends-within, AreTaken}
 use Rattle.model_opening.proofs.Next.{cleared-unread, empty-scan, next-newest}
 use Rattle.model_opening.proofs.Replay.{replay-again}
 

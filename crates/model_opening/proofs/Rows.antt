@@ -86,26 +86,6 @@ starts-back lsn (view ∷ front) back is =
     ⊎_elim (λ none. ap both none ∙ starts-back (lsn + 512) front back (sym (ap here none) ∙ is) ∙ ap (λ n. groups_start n back) next)
     (λ some. let wrong : Some (lsn + view.first) ≡ None = sym (ap here some) ∙ is in absurd cc) (cases_Bool (view.first == 0))
 
--- the block in which groups start, and their offset in it
-pub record StartsIn (lsn start : ℕ) (views : List BlockView) : Type 0 where
-  pub i : ℕ
-  pub view : BlockView
-  pub at : slice_get views i ≡ Some view
-  pub some : view.first ≢ 0
-  pub is : start ≡ lsn_at lsn i + view.first
-
-pub starts-in : (lsn start : ℕ) (views : List BlockView) → groups_start lsn views ≡ Some start → StartsIn lsn start views
-starts-in lsn start [] is = absurd cc
-starts-in lsn start (view ∷ views) is =
-    let here : Bool → Option ℕ = λ t. cond t (groups_start (lsn + 512) views) (Some (lsn + view.first)) in
-    ⊎_elim (λ none.
-    let later : StartsIn (lsn + 512) start views = starts-in (lsn + 512) start views (sym (ap here none) ∙ is) in
-    record { i = suc later.i; view = later.view; at = later.at; some = later.some; is = omega (arith, later.is) })
-    (λ some.
-    let found : Some (lsn + view.first) ≡ Some start = sym (ap here some) ∙ is in
-    let same : lsn + view.first ≡ start = cc in
-    record { i = 0; view = view; at = refl; some = λ zero. (let other : (view.first == 0) ≡ true = grind (arith, nat_tests) in absurd cc); is = omega arith }) (cases_Bool (view.first == 0))
-
 -- HOW LONG THE DATA IS.
 
 length-take-most : (n : ℕ) (bytes : List ℕ) → length (take n bytes) ≤ n
@@ -159,32 +139,3 @@ joined-full shape image lsn (view ∷ views) blocks aligned long each full =
     (λ i other found. (let next : lsn_at (lsn + 512) i ≡ lsn_at lsn (suc i) = omega arith in ap (view_at shape image) next ∙ each (suc i) other found))
     (λ i other found. full (suc i) other found) in
     omega (arith, length-append (data_at shape image lsn) (joined shape image (lsn + 512) views))
-
--- WHERE A GROUP MAY START IN A BLOCK.
-
-and-third : (a b c d : Bool) → (a && b && c && d) ≡ true → c ≡ true
-and-third true true true d is = refl
-and-third true true false d is = absurd cc
-and-third true false c d is = absurd cc
-and-third false b c d is = absurd cc
-
-when-some : (t : Bool) (view found : BlockView) → cond t (Some view) None ≡ Some found → (t ≡ true) × (view ≡ found)
-when-some true view found is = (refl, cc)
-when-some false view found is = absurd cc
-
-first-from : (len first : ℕ) → is_first len first ≡ true → first ≢ 0 → (12 ≤ first) × (first ≤ 507)
-first-from len first test some =
-    let low : 12 ≤ first = grind (arith, nat_tests) in
-    let high : first ≤ 507 = grind (arith, nat_tests) in
-    (low, high)
-
--- behind the block's header, and before its checksum
-pub first-place : (lsn : ℕ) (bytes : List ℕ) (view : BlockView) → read_block lsn bytes ≡ Some view → view.first ≢ 0 → (12 ≤ view.first) × (view.first ≤ 507)
-unfolding read_block is_block_at
-first-place lsn bytes view is some =
-    let found = when-some (is_block_at lsn bytes) (view_of bytes) view is in
-    let test : is_first (view_of bytes).length (view_of bytes).first ≡ true =
-    and-third (fits_number lsn bytes) (is_length (view_of bytes).length) (is_first (view_of bytes).length (view_of bytes).first) (fits_checksum bytes) found.0 in
-    let first : (view_of bytes).first ≡ view.first = ap (λ (one : BlockView). one.first) found.1 in
-    let own = first-from (view_of bytes).length (view_of bytes).first test (λ zero. some (sym first ∙ zero)) in
-    (omega (arith, own.0), omega (arith, own.1))

@@ -1,5 +1,6 @@
 pub mod Again
 pub mod Cleared
+pub mod Formatted
 pub mod Mended
 pub mod Next
 pub mod Opened

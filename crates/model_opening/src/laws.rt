@@ -1,5 +1,7 @@
 // What holds of every store while it is opened.
 ghost use Rattle.std.specs.Prelude.{◌≡◌, ◌+◌, ℕ, List, [], length, false};
+ghost use Rattle.model_base.specs.Limits.{IsWithinLimits};
+ghost use Rattle.model_base.specs.declared.shape.Shape.{Shape};
 ghost use Rattle.model_device.specs.Calls.{Crashes};
 ghost use Rattle.model_device.specs.Disk.{Disk, IsImage, settled};
 ghost use Rattle.model_datadev.specs.Batch.{Fresh};
@@ -11,8 +13,9 @@ ghost use Rattle.model_store.specs.Fair.{IsFair};
 ghost use Rattle.model_store.specs.Reading.{Reading, IsReading, IsOrderly};
 ghost use Rattle.model_opening.specs.Again.{HasRoom, OpensAgain};
 ghost use Rattle.model_opening.specs.Cleared.{IsClearing, IsCleared, HasSameHeaders};
+ghost use Rattle.model_opening.specs.Formatted.{IsFormatted, formatted_store};
 ghost use Rattle.model_opening.specs.Next.{IsUnread, IsMarked, IsMarking};
-ghost use Rattle.model_opening.specs.Opened.{ReadsOpened, KeepsOpened, start_of, start_block};
+ghost use Rattle.model_opening.specs.Opened.{IsOpenable, ReadsOpened, KeepsOpened, start_of, start_block};
 ghost use Rattle.model_opening.specs.Ready.{IsReady};
 ghost use Rattle.model_opening.specs.Rewritten.{IsRewriting, IsRewritten};
 ghost use Rattle.model_opening.specs.Written.{IsWrittenOver};
@@ -102,6 +105,18 @@ pub fn opened_is_ready()
         → IsMarked opened.shape (opened.number + 1) (start_block opened) old_log new_log
         → Stored opened.shape (IsUpTo (read_as opened)) (read_as opened) [] false data_disk
         → IsReady opened (settled new_log) data_disk }
+{}
+
+/// A store that may be opened is read so before the first step of opening.
+pub fn openable_reads()
+    ensures { (opened : Reading) (log_disk data_disk : Disk) → IsOpenable opened log_disk data_disk
+        → KeepsOpened opened log_disk data_disk }
+{}
+
+/// A formatted store is in order, and its pages are blank.
+pub fn formatted_is_openable()
+    ensures { (shape : Shape) (log_disk data_disk : Disk) → IsWithinLimits shape → IsFormatted shape log_disk data_disk
+        → IsOpenable (formatted_store shape) log_disk data_disk }
 {}
 
 /// So a store whose opening was stopped by a crash may be opened again, with the same pages.

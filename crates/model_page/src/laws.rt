@@ -1,5 +1,6 @@
 // What holds of every page. Each law is the contract of a function that does nothing.
-ghost use Rattle.std.specs.Prelude.{ℕ, List, ◌≡◌, ◌<◌, false, Some};
+ghost use Rattle.std.specs.Prelude.{ℕ, List, length, ◌≡◌, ◌<◌, false, Some};
+ghost use Rattle.model_base.specs.declared.limits.TheConstants.{USER_BYTES};
 ghost use Rattle.model_base.specs.declared.shape.Shape.{Shape};
 ghost use Rattle.model_page.specs.Copies.{copy_lsn, IsBestCopy, HasBestCopy, IsKept, IsLost};
 ghost use Rattle.model_page.specs.Fits.{FitsPage};
@@ -8,13 +9,16 @@ ghost use Rattle.model_page.specs.declared.content.Content.{Content};
 ghost use Rattle.model_page.specs.declared.page.PageState.TheVariants.{Sound};
 
 /// The bytes of a page pass the check with the page's own fields, and hold its user bytes. Only where all of them are 0
-/// they are blank instead, and under an lsn above 0 they are not.
+/// they are blank instead: under an lsn above 0 they are not, and those of a page of full size never are, since the
+/// checksum of as many zero bytes isn't 0.
 pub fn page_reads_back()
     ensures sound { (number space lsn : ℕ) (user : List ℕ) → FitsPage number space lsn user
         → is_blank (page_text number space lsn user) ≡ false
         → page_check (page_text number space lsn user) ≡ Sound number space lsn }
     ensures not_blank { (number space lsn : ℕ) (user : List ℕ) → FitsPage number space lsn user
         → 0 < lsn → is_blank (page_text number space lsn user) ≡ false }
+    ensures never_blank { (number space lsn : ℕ) (user : List ℕ)
+        → length user ≡ USER_BYTES → is_blank (page_text number space lsn user) ≡ false }
     ensures user { (number space lsn : ℕ) (user : List ℕ)
         → user_part (page_text number space lsn user) ≡ user }
 {}

@@ -1,6 +1,6 @@
 -- What `dump` prints of a store that was read: its shape, the newest checkpoint, each scanned block, each group with
 -- its records, and where the log ends. And the lines of `format`, `recover` and `gen --run`.
-use Rattle.std.specs.Prelude.{ℕ, ◌+◌, List, [], ◌∷◌, ◌++◌, codes, length}
+use Rattle.std.specs.Prelude.{ℕ, ◌≡◌, ◌+◌, List, [], ◌∷◌, ◌++◌, codes, length, Some}
 use Rattle.std.specs.Int.{bytes_high_first}
 use Rattle.std.specs.List.{flat_map}
 use Rattle.std.specs.Fmt.{decimal}
@@ -15,6 +15,7 @@ use Rattle.model_log.specs.Lsn.{block_number}
 use Rattle.model_log.specs.declared.block.BlockView.{BlockView}
 use Rattle.model_page.specs.declared.content.Content.{Content}
 use Rattle.model_store.specs.Reading.{Reading}
+use Rattle.model_script.specs.Grammar.{item_of, words_of}
 use Rattle.model_script.specs.Spelling.{item_text}
 use Rattle.model_script.specs.declared.item.Item.{Item}
 use Rattle.model_script.specs.declared.item.Item.TheVariants.{Num, Text, Init}
@@ -46,6 +47,12 @@ item_of_record (rec.Init space page) = Init page
 
 abbrev pub record_line : Rec → List ℕ
 record_line logged = line_text (codes "rec" ∷ item_text (item_of_record logged) ∷ [])
+
+-- the line names the operation: behind the word `rec` stands a text that a script reads as it
+pub record NamesOperation (line : List ℕ) (item : Item) : Type 0 where
+  pub text : List ℕ
+  pub line_is : line ≡ line_text (codes "rec" ∷ text ∷ [])
+  pub is_read : item_of (words_of text) ≡ Some item
 
 -- a group, and under it its records
 abbrev pub whole_lines : Whole → List ℕ

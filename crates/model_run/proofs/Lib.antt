@@ -7,3 +7,6 @@ pub mod Turns
 pub mod Cuts
 pub mod Closing
 pub mod Safe
+pub mod Growing
+pub mod Played
+pub mod Start

@@ -78,7 +78,7 @@ none-more user entries entry true own none kept =
     (λ last. kept (sym (ap (λ (e : Entry). e.state) last.1) ∙ lost)) (push-place (entries_of_user user entries) entry i one at))
 none-more user entries entry false other none kept = subst HasNoLost (sym (more-other user entries entry other)) none
 
-not-lost : (a b : Bool) → cond a Flushed (cond b Written Copied) ≡ Lost → ⊥
+pub not-lost : (a b : Bool) → cond a Flushed (cond b Written Copied) ≡ Lost → ⊥
 not-lost true b lost = cc
 not-lost false true lost = cc
 not-lost false false lost = cc

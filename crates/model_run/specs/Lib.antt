@@ -1,6 +1,9 @@
 pub mod Closed
 pub mod Crashed
 pub mod Given
+pub mod Growing
 pub mod InTurn
 pub mod Kept
+pub mod PlayedOut
+pub mod Start
 pub mod Stored

@@ -1,11 +1,12 @@
 // What holds of each closed run.
-ghost use Rattle.std.specs.Prelude.{◌≡◌, ◌≤◌, ◌++◌, ℕ, List, Option, Some};
+ghost use Rattle.std.specs.Prelude.{◌≡◌, ◌≢◌, ◌≤◌, ◌<◌, ◌+◌, ◌∷◌, ◌++◌, [], ℕ, List, Option, Some};
 ghost use Rattle.std.specs.List.{AllByRecursion};
 ghost use Rattle.model_base.specs.declared.shape.Shape.{Shape};
-ghost use Rattle.model_record.specs.Group.{groups_of};
+ghost use Rattle.model_record.specs.Group.{group_text, groups_of};
+ghost use Rattle.model_log.specs.Boundary.{IsGivenTo};
 ghost use Rattle.model_record.specs.declared.group.Whole.{Whole};
 ghost use Rattle.model_device.specs.Disk.{Disk, IsImage};
-ghost use Rattle.model_log.specs.Lsn.{IsDataLsn};
+ghost use Rattle.model_log.specs.Lsn.{IsDataLsn, sn_of};
 ghost use Rattle.model_log.specs.Run.{IsRunOf, end_of, spans_of};
 ghost use Rattle.model_page.specs.declared.content.Content.{Content};
 ghost use Rattle.model_store.specs.Apply.{page_folded, upto};
@@ -18,12 +19,19 @@ ghost use Rattle.model_theorem.specs.Run.{IsPrefixRead, ReadsPrefix, RunSafe};
 ghost use Rattle.model_theorem.specs.Values.{Account, Crash, Opened};
 ghost use Rattle.model_run.specs.Closed.{Closed, IsClosed, result_of};
 ghost use Rattle.model_run.specs.Crashed.{IsCrashOf, before_crash};
-ghost use Rattle.model_history.specs.Legal.{IsLegal};
+ghost use Rattle.model_history.specs.Legal.{IsLeft, IsLegal};
 ghost use Rattle.model_history.specs.declared.entry.Marks.{Marks};
 ghost use Rattle.model_script.specs.declared.script.ScriptLine.{ScriptLine};
+ghost use Rattle.model_run.specs.Growing.{AreFirstsFor};
 ghost use Rattle.model_run.specs.InTurn.{AreAnswered, lines_lost, played};
-ghost use Rattle.model_run.specs.Kept.{DataHolds};
+ghost use Rattle.model_run.specs.Kept.{DataHolds, IsUnwritten};
+ghost use Rattle.model_run.specs.PlayedOut.{IsPlayedOut, PlayedOut, closed_of};
+ghost use Rattle.model_run.specs.Start.{IsStart, opened_as, unplayed};
 ghost use Rattle.model_run.specs.Stored.{IsStored};
+ghost use Rattle.model_run.specs.Given.{AreGiven};
+ghost use Rattle.model_logdev.specs.Held.{IsLive};
+ghost use Rattle.model_logdev.specs.Marks.{first_marks};
+ghost use Rattle.model_opening.specs.Opened.{start_of};
 
 use model_logdev::crash_reads;
 use model_store::{one_answer, one_reading};
@@ -79,6 +87,35 @@ pub fn played_lines_are_legal()
     ensures { (script : List ScriptLine) (space s : ℕ) (marks : Marks) (lines rest : List ScriptLine) (lost : Option ScriptLine)
         → script ≡ lines ++ (lines_lost lost ++ rest) → AreAnswered marks space s lines
         → IsLegal script space s marks (played marks space s lines lost) }
+{}
+
+/// A store that opening made ready may be given to a run: its log device holds the run of no group, and its data device
+/// the opened pages. With no line played it is a closed run.
+pub fn opened_store_is_closed()
+    ensures given { (reading : Reading) (script : List ScriptLine) (log_disk data_disk : Disk)
+        → IsStart reading script log_disk data_disk → AreGiven script (opened_as reading) }
+    ensures live { (reading : Reading) (script : List ScriptLine) (log_disk data_disk : Disk)
+        → IsStart reading script log_disk data_disk
+        → IsLive reading.shape (start_of reading) [] (first_marks (start_of reading) (reading.number + 1)) log_disk }
+    ensures unwritten { (reading : Reading) (script : List ScriptLine) (log_disk data_disk : Disk)
+        → IsStart reading script log_disk data_disk → IsUnwritten reading.shape reading.pages data_disk }
+    ensures closed { (failures : ℕ) (reading : Reading) (script : List ScriptLine) (left : List (ℕ × ℕ)) (log_disk data_disk : Disk)
+        → IsStart reading script log_disk data_disk → IsLeft script [] left → (left ≢ [] → 0 < failures)
+        → IsClosed failures (closed_of (unplayed reading script left log_disk data_disk)) }
+{}
+
+/// So a run that plays its lines in turn, and writes no page, is closed.
+pub fn played_run_is_closed()
+    ensures { (failures : ℕ) (out : PlayedOut) → IsPlayedOut failures out → IsClosed failures (closed_of out) }
+{}
+
+/// What a writer hands to a log part, with one more group: the text of the group behind the bytes, and the first offsets
+/// anew.
+pub fn given_grows()
+    ensures { (s : ℕ) (wholes : List Whole) (whole : Whole) (from : ℕ) (bytes firsts more : List ℕ)
+        → IsDataLsn s → IsRunOf s (wholes ++ whole ∷ []) → sn_of s ≤ sn_of from → sn_of from ≤ sn_of whole.start
+        → IsGivenTo s wholes from whole.start bytes firsts → AreFirstsFor s wholes whole from more
+        → IsGivenTo s (wholes ++ whole ∷ []) from whole.end (bytes ++ group_text whole.group) more }
 {}
 
 /// What a data device holds of a run that keeps each page as it was last written, or as the batch at hand has it.

@@ -1,14 +1,13 @@
 -- Lines of which nothing is a misfit fit the store.
-use Rattle.std.proofs.Common.{ℕ, ◌≡◌, ◌≢◌, ◌≤◌, ◌<◌, ◌+◌, ◌^◌, ◌||◌, Bool, true, false, nat_lt, nat_le, List, [], ◌∷◌, ◌++◌, length, map, Option, Some, None, IfSome, ◌⊎◌, inl, inr, refl, arith, rules, tests}
+use Rattle.std.proofs.Common.{ℕ, ◌≡◌, ◌≢◌, ◌≤◌, ◌<◌, ◌+◌, ◌^◌, ◌||◌, Bool, true, false, nat_lt, nat_le, List, [], ◌∷◌, ◌++◌, length, map, Option, Some, None, IfSome, ◌⊎◌, inl, inr, refl, arith}
 use Rattle.std.specs.List.{AllByRecursion}
 use Rattle.std.proofs.lemmas.Bool.Decides.{nat_tests}
 use Rattle.model_base.specs.Limits.{IsWithinLimits}
 use Rattle.model_base.specs.declared.shape.Shape.{Shape}
 use Rattle.model_base.specs.declared.limits.TheConstants.{LSN_LIMIT, MAX_GROUP, USER_START}
-use Rattle.model_record.specs.Fits.{user_end, GroupFits, RecordFits}
-use Rattle.model_record.specs.Group.{IsGroup, group_length}
+use Rattle.model_record.specs.Fits.{user_end, RecordFits}
+use Rattle.model_record.specs.Group.{group_length}
 use Rattle.model_record.specs.Record.{HasSpelling, HasText}
-use Rattle.model_record.specs.declared.rec.Rec.{Rec}
 use Rattle.model_script.specs.Fit.{LineFits, ScriptFits, first_misfit, first_misfit_of, group_misfit, item_misfit, line_misfit, lsn_misfit, misfit_if, page_misfit, script_end, total_misfit, user_misfit, write_misfit}
 use Rattle.model_script.specs.LineGroup.{group_of, record_of}
 use Rattle.model_script.specs.Ranges.{IsInRange, IsScriptLine}
@@ -19,11 +18,11 @@ use Rattle.model_script.specs.declared.misfit.Quantity.{Quantity}
 use Rattle.model_script.specs.declared.misfit.TheConstants.{MARGIN, MAX_USERS}
 use Rattle.model_script.specs.declared.script.ScriptLine.{ScriptLine}
 
-none-head : (first : Option Misfit) (others : List (Option Misfit)) → first_misfit_of (first ∷ others) ≡ None → (first ≡ None) × (first_misfit_of others ≡ None)
+pub none-head : (first : Option Misfit) (others : List (Option Misfit)) → first_misfit_of (first ∷ others) ≡ None → (first ≡ None) × (first_misfit_of others ≡ None)
 none-head None others none = (refl, none)
 none-head (Some misfit) others none = cc
 
-none-misfit_if : (outside : Bool) (what : Quantity) (n : ℕ) → misfit_if outside what n ≡ None → outside ≡ false
+pub none-misfit_if : (outside : Bool) (what : Quantity) (n : ℕ) → misfit_if outside what n ≡ None → outside ≡ false
 none-misfit_if true what n none = cc
 none-misfit_if false what n none = refl
 
@@ -34,7 +33,7 @@ or-false false b e = (refl, e)
 not_below : (a b : ℕ) → nat_lt a b ≡ false → b ≤ a
 not_below a b e = grind (arith, nat_tests)
 
-not_up_to : (a b : ℕ) → nat_le a b ≡ false → b < a
+pub not_up_to : (a b : ℕ) → nat_le a b ≡ false → b < a
 not_up_to a b e = grind (arith, nat_tests)
 
 user_is : (user : ℕ) → user_misfit user ≡ None → (1 ≤ user) × (user ≤ MAX_USERS)
@@ -139,7 +138,7 @@ lines_are shape (line ∷ script) behind limits range none =
     let others = lines_are shape script behind limits range.1 parts.1 in
     record { fit = (line_fits shape line limits range.0 parts.0, others.fit); none = others.none }
 
-room_is : (room_end : Option ℕ) (end : ℕ) → total_misfit room_end end ≡ None → IfSome room_end (λ room_end. end + MARGIN ≤ room_end)
+pub room_is : (room_end : Option ℕ) (end : ℕ) → total_misfit room_end end ≡ None → IfSome room_end (λ room_end. end + MARGIN ≤ room_end)
 room_is None end none = tt
 room_is (Some room_end) end none = not_below room_end (end + MARGIN) (none-misfit_if _ _ _ none)
 

@@ -1,7 +1,7 @@
 -- What of a script doesn't fit a store: the first quantity in the order of its lines, and within a line its user, then
 -- of each operation the page and the offset, then the length of the group; behind the lines the lsn at which the log
 -- would end.
-use Rattle.std.specs.Prelude.{ℕ, ◌≤◌, ◌<◌, ◌+◌, ◌*◌, ◌||◌, nat_lt, nat_le, if◌then◌else◌, Bool, List, [], ◌∷◌, ◌++◌, length, map, Option, Some, None, IfSome}
+use Rattle.std.specs.Prelude.{ℕ, ◌≡◌, ◌≤◌, ◌<◌, ◌+◌, ◌*◌, ◌||◌, nat_lt, nat_le, if◌then◌else◌, Bool, List, [], ◌∷◌, ◌++◌, length, map, Option, Some, None, IfSome}
 use Rattle.std.specs.List.{AllByRecursion}
 use Rattle.model_base.specs.declared.shape.Shape.{Shape}
 use Rattle.model_base.specs.declared.limits.TheConstants.{BLOCK_SIZE, LSN_LIMIT, MAX_GROUP, USER_START}
@@ -96,3 +96,8 @@ pub record ScriptFits (shape : Shape) (start : ℕ) (room_end : Option ℕ) (scr
   pub lines : AllByRecursion (LineFits shape) script
   pub end : script_end shape start script < LSN_LIMIT
   pub room : IfSome room_end (λ room_end. script_end shape start script + MARGIN ≤ room_end)
+
+-- Nothing of a script is a misfit on a store on which it would start at this lsn: what is asked before it is run. Where
+-- no checkpoint frees the log it has room up to `room`; else that isn't judged.
+pub record Fits (shape : Shape) (start room : ℕ) (log_only : Bool) (script : List ScriptLine) : Type 0 where
+  pub no_misfit : first_misfit shape start (if log_only then Some room else None) script ≡ None

@@ -1,5 +1,5 @@
 -- The ranges of what a script's lines say.
-use Rattle.std.specs.Prelude.{ℕ, ◌≡◌, ◌≢◌, ◌≤◌, ◌<◌, ◌^◌, ◌⊎◌, List, [], length, All}
+use Rattle.std.specs.Prelude.{◌≡◌, ◌≢◌, ◌≤◌, ◌<◌, ◌^◌, ◌⊎◌, [], length, All}
 use Rattle.std.specs.List.{AllByRecursion}
 use Rattle.model_record.specs.Record.{IsByte, IsWidth}
 use Rattle.model_script.specs.declared.item.Item.{Item}

@@ -8,6 +8,8 @@ mod misfit;
 mod script;
 
 pub use item::{Item, Items};
-pub use laws::fitting_script;
+pub use laws::{
+    fit_as_facts, fitting_script, fitting_text, read_lines_are_ranged, unfit_is_misfit,
+};
 pub use misfit::{MARGIN, MAX_USERS, Misfit, Quantity};
 pub use script::{Script, ScriptLine};

@@ -83,7 +83,7 @@ ends-below start [] tiled = tt
 ends-below start (whole ∷ wholes) tiled = (ends-after whole.end wholes (run-first tiled).2, ends-below whole.end wholes (run-first tiled).2)
 
 -- replayed, a page has its own lsn or the end of a group
-replayed-below : (p q end : ℕ) (wholes : List Whole) (page : Content) → AllByRecursion (λ (whole : Whole). whole.end ≤ end) wholes → page.lsn ≤ end
+pub replayed-below : (p q end : ℕ) (wholes : List Whole) (page : Content) → AllByRecursion (λ (whole : Whole). whole.end ≤ end) wholes → page.lsn ≤ end
     → (replayed p q wholes page).lsn ≤ end
 replayed-below p q end [] page below low = low
 replayed-below p q end (whole ∷ wholes) page below low =

@@ -6,3 +6,4 @@ pub mod Taking
 pub mod OneScan
 pub mod OneReading
 pub mod OneAnswer
+pub mod Ending

@@ -1,3 +1,3 @@
-pub mod Bests
 pub mod SideBySide
+pub mod Slots
 pub mod Tells

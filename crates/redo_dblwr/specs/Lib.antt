@@ -1,1 +1,1 @@
-pub mod Better
+pub mod Requests

@@ -1,2 +1,4 @@
+pub mod Calls
+pub mod Made
 pub mod Sizes
 pub mod Told

@@ -1,2 +1,3 @@
-pub mod Put
+pub mod Calls
+pub mod Made
 pub mod Seen

@@ -2,9 +2,11 @@
 #![tactic(auto)]
 
 mod error;
+mod laws;
 mod put;
 mod sectors;
 
 pub use error::DevError;
+pub use laws::{calls_end_once, calls_join};
 pub use put::write_and_sync;
 pub use sectors::Sectors;

@@ -1,7 +1,7 @@
 // The calls of a device, and what they say of it.
-ghost use Rattle.std.specs.Prelude.{◌≡◌, ℕ, List, length, Result, IfSome};
-ghost use Rattle.model_device.specs.declared.write.Write.{Write};
-ghost use Rattle.redo_disk.specs.declared.error.DevError.{DevError};
+ghost use Rattle.std.specs.Prelude.{◌≡◌, ℕ, length, IfSome};
+ghost use Rattle.redo_disk.specs.Calls.{Call, Reads, Writes, Syncs};
+ghost use Rattle.redo_disk.specs.Made.{MakesCall};
 ghost use Rattle.redo_disk.specs.Seen.{Seen, IsRange, HasSize, ReadStep, WriteStep, SyncStep, CrashStep, write_at};
 
 use crate::DevError;
@@ -9,22 +9,15 @@ use crate::DevError;
 /// A device of sectors of 512 bytes. A good write is seen by every read after it, and survives a crash for sure only
 /// once a good sync has followed.
 ///
-/// The ghost members whose names end in `_gives` are all that the device's own contract says of one call: the device
-/// before, what the call was given and gave, and the device after. A wrapper that hands such a relation on has passed
-/// the call on, once and as it was.
+/// The ghost members `gives` and `crash_gives` are all that the device's own contract says of one call: the device
+/// before, what the call was given and gave, and the device after. Code that hands them on tells exactly which calls it
+/// made (`MakesCalls`), and a wrapper that does has passed each call on, once and as it was.
 pub trait Sectors {
     /// What a reader of the device sees of it. Its size never changes, and its count of faults never falls.
     ghost seen: { Self → Seen };
 
-    /// What a read gives: the device before, the offset, the buffer before, the answer, the buffer after and the
-    /// device after.
-    ghost read_gives: { Self → ℕ → List ℕ → Result (Unit {0}) DevError → List ℕ → Self → Type 0 } = { λ _ _ _ _ _ _. Unit {0} };
-
-    /// What a write gives.
-    ghost write_gives: { Self → Write → Result (Unit {0}) DevError → Self → Type 0 } = { λ _ _ _ _. Unit {0} };
-
-    /// What a sync gives.
-    ghost sync_gives: { Self → Result (Unit {0}) DevError → Self → Type 0 } = { λ _ _ _. Unit {0} };
+    /// What a call gives: the device before, the call with its answer, and the device after.
+    ghost gives: { Self → Call → Self → Type 0 } = { λ _ _ _. Unit {0} };
 
     /// What a crash with this pick gives.
     ghost crash_gives: { Self → ℕ → Self → Type 0 } = { λ _ _ _. Unit {0} };
@@ -39,18 +32,18 @@ pub trait Sectors {
     fn read(&mut self, at: u64, out: &mut [u8]) -> Result<(), DevError>
         requires { IsRange (seen self.old).size at (length out.old) }
         ensures step { ReadStep at (length out.old) (seen self.old) result out.new (seen self.new) }
-        ensures gives { read_gives self.old at out.old result out.new self.new };
+        ensures gives { MakesCall gives self.old (Reads at out.old result out.new) self.new };
 
     /// Writes bytes from an offset on. Where it fails, the write may be done all the same, whole or in part.
     fn write(&mut self, at: u64, bytes: &[u8]) -> Result<(), DevError>
         requires { IsRange (seen self.old).size at (length bytes.now) }
         ensures step { WriteStep (write_at at bytes.now) (seen self.old) result (seen self.new) }
-        ensures gives { write_gives self.old (write_at at bytes.now) result self.new };
+        ensures gives { MakesCall gives self.old (Writes (write_at at bytes.now) result) self.new };
 
     /// Makes every write before it survive a crash.
     fn sync(&mut self) -> Result<(), DevError>
         ensures step { SyncStep (seen self.old) result (seen self.new) }
-        ensures gives { sync_gives self.old result self.new };
+        ensures gives { MakesCall gives self.old (Syncs result) self.new };
 
     /// A crash, and the start after it. The pick says which of the writes since the last good sync survive, where the
     /// device can choose.

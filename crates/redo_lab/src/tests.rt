@@ -1,20 +1,18 @@
 // What a call prints, and its status: the texts themselves, which clauses name by definitions alone.
 use super::*;
-use redo_disk::{DevError, Sectors, write_and_sync};
 use redo_io::{MemSink, MemSource};
 use redo_memdisk::MemDisk;
 use std::alloc::{AllocError, Global};
 use std::test::Fail;
 
-const LINE: &[u8] = b"1 f b1 3 100 7";
-
-const EMPTY_RUN: &str = "open 8204\nmarks 8204 8204 8204 8192\nrecovered 0 8204\n";
+const LINE: &str = "1 f b1 3 100 7";
 
 const LINE_RUN: &str = "open 8204\n\
     g 8204 8210 1 0 flushed\n\
-    marks 8210 8210 8210 8192\n\
-    recovered 1 8210\n\
-    p 3 8210 \
+    marks 8210 8210 8210 8192\n";
+
+/// The line of page 3 that holds 7 at offset 100.
+const LINE_PAGE: &str = "p 3 8210 \
     00000000000000000000000000000000000000000000000000000000000000\
     00000000000000000000000000000000000000000000000000000000000000\
     07\n";
@@ -27,163 +25,69 @@ fn words(alloc: Global, text: &str) -> Result<Vec<String>, AllocError> {
     Ok(words)
 }
 
-/// Runs the script of the source on these devices. Gives the status and what was printed.
-fn crash_on(
-    alloc: Global,
-    source: &mut MemSource,
-    log: MemDisk,
-    store: MemDisk,
-) -> Result<(u8, MemSink), AllocError> {
+/// A call on devices of the default sizes: its status and what was printed.
+fn call(alloc: Global, text: &str, script: &str) -> Result<(u8, MemSink), AllocError> {
+    let mut source = MemSource::new(script.as_bytes().to_vec(alloc)?);
     let mut sink = MemSink::new(alloc);
-    let words = words(alloc, "crash")?;
-    let ended = lab(alloc, &words, source, &mut sink, log, store);
+    let log = MemDisk::new(alloc, LOG_LENGTH)?;
+    let store = MemDisk::new(alloc, STORE_LENGTH)?;
+    let words = words(alloc, text)?;
+    let ended = lab(alloc, &words, &mut source, &mut sink, log, store);
     Ok((ended.status, sink))
 }
 
-/// Runs the script of the source on devices of the default sizes.
-fn crash_from(alloc: Global, source: &mut MemSource) -> Result<(u8, MemSink), AllocError> {
-    let log = MemDisk::new(alloc, LOG_LENGTH)?;
-    let store = MemDisk::new(alloc, STORE_LENGTH)?;
-    crash_on(alloc, source, log, store)
-}
-
 #[test]
-fn answers_scripts(rt: HostRuntime) -> Result<(), Fail> {
+fn answers_calls(rt: HostRuntime) -> Result<(), Fail> {
     let alloc = rt.alloc();
     let table = [
-        (b"".as_slice(), 0, EMPTY_RUN),
-        (LINE, 0, LINE_RUN),
-        (b"1 f b1 3 100 7\n", 0, LINE_RUN),
-        (b"1 x b1 3 100 7", 3, "fault script line 1\n"),
-        (b"1 f b1 8 100 7", 3, "fault script line 1\n"),
         (
-            b"1 f b1 3 100 7\n1 f b1 3 100 7\n",
-            3,
-            "fault script line 2\n",
+            "crash",
+            "",
+            0,
+            "open 8204\nmarks 8204 8204 8204 8192\nrecovered 0 8204\n",
         ),
+        (
+            "crash --stop-log 0",
+            LINE,
+            0,
+            "open none\nleft 1 1\nrecovered 0 8204\n",
+        ),
+        ("run", LINE, 0, LINE_RUN),
+        (
+            "crash",
+            "1 f i 3",
+            0,
+            "open 8204\ng 8204 8207 1 0 flushed\nmarks 8207 8207 8207 8192\nrecovered 1 8207\np 3 8207 -\n",
+        ),
+        ("crash", "1 x b1 3 100 7", 3, "fault script line 1\n"),
+        ("crash", "1 f b1 9 100 7", 10, "fault fit page 9\n"),
+        ("run", "1 f b2 3 4087 7", 10, "fault fit offset 4087\n"),
+        ("run", "17 f i 3", 10, "fault fit user 17\n"),
+        ("format", LINE, 0, "formatted 8192\n"),
+        ("recover", LINE, 8, "fault store unformatted\n"),
+        ("dump", LINE, 8, "fault store unformatted\n"),
+        ("gen 1 1 1", LINE, 0, "1 n b8 3 3089 5627;b1 3 250 246\n"),
+        ("", LINE, 2, "fault words\n"),
+        ("crash --threads", LINE, 2, "fault words\n"),
     ];
-    for (script, status, text) in table {
-        let mut source = MemSource::new(script.to_vec(alloc)?);
-        let (found, sink) = crash_from(alloc, &mut source)?;
-        assert_eq!(rt; sink.bytes(), text.as_bytes(), "at {script:?}");
-        assert_eq!(rt; found, status, "at {script:?}");
+    for (words, script, status, text) in table {
+        let (found, sink) = call(alloc, words, script)?;
+        assert_eq!(rt;
+            sink.bytes(),
+            text.as_bytes(),
+            "at {words:?} with {script:?}"
+        );
+        assert_eq!(rt; found, status, "at {words:?} with {script:?}");
     }
     Ok(())
 }
 
 #[test]
-fn reads_all_of_the_source(rt: HostRuntime) -> Result<(), Fail> {
+fn reads_what_was_kept(rt: HostRuntime) -> Result<(), Fail> {
     let alloc = rt.alloc();
-    // the line comes in two reads, "1 f b1 3 1" and "00 7"
-    let mut pieces = MemSource::in_pieces(LINE.to_vec(alloc)?, 10);
-    let (status, sink) = crash_from(alloc, &mut pieces)?;
-    assert_eq!(rt; sink.bytes(), LINE_RUN.as_bytes());
+    let (status, sink) = call(alloc, "crash", LINE)?;
     assert_eq!(rt; status, 0);
-    // the second read is the one that finds the end
-    for failing in [0, 1] {
-        let mut source = MemSource::failing(LINE.to_vec(alloc)?, [failing].to_vec(alloc)?);
-        let (status, sink) = crash_from(alloc, &mut source)?;
-        assert_eq!(rt;
-            sink.bytes(),
-            b"fault source\n".as_slice(),
-            "at read {failing}"
-        );
-        assert_eq!(rt; status, 4, "at read {failing}");
-    }
-    Ok(())
-}
-
-#[test]
-fn refuses_words(rt: HostRuntime) -> Result<(), Fail> {
-    let alloc = rt.alloc();
-    for text in ["", "crash now", "crush"] {
-        let mut source = MemSource::new(LINE.to_vec(alloc)?);
-        let mut sink = MemSink::new(alloc);
-        let log = MemDisk::new(alloc, LOG_LENGTH)?;
-        let store = MemDisk::new(alloc, STORE_LENGTH)?;
-        let words = words(alloc, text)?;
-        let ended = lab(alloc, &words, &mut source, &mut sink, log, store);
-        assert_eq!(rt; sink.bytes(), b"fault words\n".as_slice(), "at {text:?}");
-        assert_eq!(rt; ended.status, 2, "at {text:?}");
-    }
-    Ok(())
-}
-
-#[test]
-fn refuses_devices_that_do_not_fit(rt: HostRuntime) -> Result<(), Fail> {
-    let alloc = rt.alloc();
-    let table = [
-        (512, STORE_LENGTH, "fault fit log 2048\n"),
-        (2048, STORE_LENGTH, "fault fit log 1050624\n"),
-        (LOG_LENGTH, 512, "fault fit store 65536\n"),
-    ];
-    for (log_length, store_length, text) in table {
-        assert!(rt; log_length % 512 == 0 && store_length % 512 == 0);
-        let log = MemDisk::new(alloc, log_length)?;
-        let store = MemDisk::new(alloc, store_length)?;
-        let mut source = MemSource::new(LINE.to_vec(alloc)?);
-        let (status, sink) = crash_on(alloc, &mut source, log, store)?;
-        assert_eq!(rt; sink.bytes(), text.as_bytes());
-        assert_eq!(rt; status, 10, "at {text}");
-    }
-    Ok(())
-}
-
-/// Writes a first block whose first byte that isn't 0 stands at 7.
-fn use_first_block<D: Sectors>(device: &mut D) -> Result<(), DevError> {
-    let mut block = [0; 512];
-    block[7] = 5;
-    if device.len() < 512 {
-        return Err(DevError::Failed);
-    }
-    write_and_sync(device, 0, &block)
-}
-
-#[test]
-fn refuses_a_log_that_is_in_use(rt: HostRuntime) -> Result<(), Fail> {
-    let alloc = rt.alloc();
-    let mut log = MemDisk::new(alloc, LOG_LENGTH)?;
-    use_first_block(&mut log)?;
-    let store = MemDisk::new(alloc, STORE_LENGTH)?;
-    let mut source = MemSource::new(LINE.to_vec(alloc)?);
-    let (status, sink) = crash_on(alloc, &mut source, log, store)?;
-    assert_eq!(rt; sink.bytes(), b"fault fit used 7\n".as_slice());
-    assert_eq!(rt; status, 10);
-    Ok(())
-}
-
-#[test]
-fn a_log_device_that_fails_once_ends_the_call(rt: HostRuntime) -> Result<(), Fail> {
-    let alloc = rt.alloc();
-    // a call of the check, of formatting and of opening
-    for failing in [0, 2, 22] {
-        let log = MemDisk::failing(alloc, LOG_LENGTH, [failing].to_vec(alloc)?)?;
-        let store = MemDisk::new(alloc, STORE_LENGTH)?;
-        let mut source = MemSource::new(LINE.to_vec(alloc)?);
-        let (status, sink) = crash_on(alloc, &mut source, log, store)?;
-        assert_eq!(rt;
-            sink.bytes(),
-            b"fault log device\n".as_slice(),
-            "at call {failing}"
-        );
-        assert_eq!(rt; status, 6, "at call {failing}");
-    }
-    Ok(())
-}
-
-#[test]
-fn a_sink_that_fails_decides_after_a_good_run(rt: HostRuntime) -> Result<(), Fail> {
-    let alloc = rt.alloc();
-    let table = [(LINE, 5), (b"1 x b1 3 100 7".as_slice(), 3)];
-    for (script, status) in table {
-        let mut source = MemSource::new(script.to_vec(alloc)?);
-        let mut sink = MemSink::failing(alloc, [0].to_vec(alloc)?);
-        let log = MemDisk::new(alloc, LOG_LENGTH)?;
-        let store = MemDisk::new(alloc, STORE_LENGTH)?;
-        let words = words(alloc, "crash")?;
-        let ended = lab(alloc, &words, &mut source, &mut sink, log, store);
-        assert_eq!(rt; ended.status, status, "at {script:?}");
-        assert!(rt; sink.bytes().is_empty(), "at {script:?}");
-    }
+    let text = format!(in alloc; "{LINE_RUN}recovered 1 8210\n{LINE_PAGE}")?;
+    assert_eq!(rt; sink.bytes(), text.as_bytes());
     Ok(())
 }

@@ -1,3 +1,4 @@
 mod Parts
+mod SomeWrites
 mod Told
 mod WriteTo

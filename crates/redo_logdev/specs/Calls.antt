@@ -1,5 +1,5 @@
 -- What two device calls in a row do to a device.
-use Rattle.std.specs.Prelude.{ℕ, ◌≡◌, ◌-◌, ◌*◌, ◌⊎◌, min, List, [], ◌∷◌, length, take, drop, Result, Ok, Err}
+use Rattle.std.specs.Prelude.{ℕ, ◌≡◌, ◌-◌, ◌*◌, ◌⊎◌, min, List, [], ◌∷◌, ◌++◌, length, take, drop}
 use Rattle.model_base.specs.declared.shape.Shape.{Shape}
 use Rattle.model_device.specs.Disk.{Disk}
 use Rattle.model_device.specs.Calls.{written, FailsWrite}
@@ -9,8 +9,8 @@ use Rattle.model_log.specs.Device.{log_device_length}
 use Rattle.model_log.specs.declared.layout.TheConstants.{HEADER_BYTES}
 use Rattle.model_base.specs.declared.limits.TheConstants.{BLOCK_SIZE}
 use Rattle.model_log.specs.Checkpoint.{checkpoint_text, place_of}
+use Rattle.redo_disk.specs.Calls.{Request, ToWrite}
 use Rattle.redo_disk.specs.Seen.{write_at}
-use Rattle.redo_disk.specs.declared.error.DevError.{DevError}
 
 -- a write of no bytes isn't made
 abbrev pub written_if : ℕ → List ℕ → Disk → Disk
@@ -47,22 +47,12 @@ IsPutOrNot write old new = FailsWrite write old new ⊎ (new ≡ written old wri
 abbrev pub checkpoint_write : Shape → ℕ → ℕ → Write
 checkpoint_write shape number lsn = write_at (BLOCK_SIZE * place_of number) (checkpoint_text number lsn shape)
 
--- what the device's own contract says of a write of these bytes, if there are any
-abbrev pub WritesSome : {L : Type 0} → (L → Write → Result (Unit {0}) DevError → L → Type 0) → ℕ → List ℕ → L
-    → Result (Unit {0}) DevError → L → Type 0
-WritesSome gives at [] old result new = (result ≡ Ok tt) × (new ≡ old)
-WritesSome gives at (byte ∷ bytes) old result new = gives old (write_at at (byte ∷ bytes)) result new
+-- the write of bytes, if there are any
+abbrev pub some_write : ℕ → List ℕ → List Request
+some_write at [] = []
+some_write at (byte ∷ bytes) = ToWrite (write_at at (byte ∷ bytes)) ∷ []
 
--- the write at the log's start behind one that answered Ok; behind one that failed there is none
-abbrev pub WritesAfter : {L : Type 0} → (L → Write → Result (Unit {0}) DevError → L → Type 0) → List ℕ → L
-    → Result (Unit {0}) DevError → Result (Unit {0}) DevError → L → Type 0
-WritesAfter gives back middle (Ok done) result new = WritesSome gives HEADER_BYTES back middle result new
-WritesAfter gives back middle (Err fault) result new = (result ≡ Err fault) × (new ≡ middle)
-
--- The device took one write up to the log's end, and one at the log's start if bytes are left, and nothing else.
-pub record WritesRound {L : Type 0} (gives : L → Write → Result (Unit {0}) DevError → L → Type 0) (shape : Shape) (b : ℕ)
-    (bytes : List ℕ) (old : L) (result : Result (Unit {0}) DevError) (new : L) : Type 0 where
-  pub middle : L
-  pub answer : Result (Unit {0}) DevError
-  pub front : WritesSome gives (offset_of b shape.log_blocks) (front_of shape b bytes) old answer middle
-  pub back : WritesAfter gives (back_of shape b bytes) middle answer result new
+-- the writes of bytes from the block's place on: one up to the log's end, and one at the log's start if bytes are left
+abbrev pub round_writes : Shape → ℕ → List ℕ → List Request
+round_writes shape b bytes =
+    some_write (offset_of b shape.log_blocks) (front_of shape b bytes) ++ some_write HEADER_BYTES (back_of shape b bytes)

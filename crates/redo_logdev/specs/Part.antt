@@ -1,5 +1,5 @@
 -- What callers see of a log part, and what its calls ask for and keep.
-use Rattle.std.specs.Prelude.{ℕ, ◌≡◌, ◌≤◌, ◌<◌, ◌+◌, ◌-◌, ◌%◌, ◌^◌, List, length, Option, Some, None, Result, Ok, Err, IfSome}
+use Rattle.std.specs.Prelude.{ℕ, ◌≡◌, ◌≤◌, ◌<◌, ◌+◌, ◌-◌, ◌%◌, ◌^◌, List, length, Option, None, Result, IfSome}
 use Rattle.model_base.specs.declared.shape.Shape.{Shape}
 use Rattle.model_base.specs.declared.limits.TheConstants.{BLOCK_SIZE, START_LSN, MIN_LOG_BLOCKS, MAX_LOG_BLOCKS}
 use Rattle.model_record.specs.declared.group.Whole.{Whole}
@@ -12,6 +12,7 @@ use Rattle.model_logdev.specs.Held.{LogHolds, IsWritten, round_of}
 use Rattle.model_logdev.specs.Marks.{HasNextNumber}
 use Rattle.model_logdev.specs.declared.marks.LogMarks.{LogMarks}
 use Rattle.redo_block.specs.Framing.{AreFirsts}
+use Rattle.redo_disk.specs.Calls.{error_of}
 use Rattle.redo_disk.specs.Seen.{Seen, HasCause}
 use Rattle.redo_disk.specs.declared.error.DevError.{DevError}
 
@@ -46,11 +47,6 @@ pub record DiskHolds (shape : Shape) (s : ℕ) (wholes : List Whole) (marks : Lo
 -- the same, where the device tells what it means
 abbrev pub PartHolds : {L : Type 0} → (L → Seen) → ℕ → List Whole → Part L → Type 0
 PartHolds seen s wholes part = IfSome (seen part.dev).tells (DiskHolds part.shape s wholes part.marks part.failed)
-
--- what a call leaves as the part's failure
-abbrev pub error_of : {T : Type 0} → Result T DevError → Option DevError
-error_of (Ok value) = None
-error_of (Err error) = Some error
 
 -- What each call leaves, whatever it answers: the shape and the device's size are as before, the device failed if the
 -- call says so, and the part tells what the call answered.

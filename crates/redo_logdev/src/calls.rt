@@ -4,9 +4,10 @@ ghost use Rattle.model_base.specs.declared.limits.TheConstants.{BLOCK_SIZE, STAR
 ghost use Rattle.model_device.specs.Calls.{written, FailsWrite, synced};
 ghost use Rattle.model_log.specs.Device.{log_device_length};
 ghost use Rattle.model_logdev.specs.Held.{round_of};
-ghost use Rattle.redo_disk.specs.Put.{WritesAndSyncs};
+ghost use Rattle.redo_disk.specs.Calls.{Serve, error_of, put_requests};
+ghost use Rattle.redo_disk.specs.Made.{MakesCalls};
 ghost use Rattle.redo_disk.specs.Seen.{IsRange, HasCause, OnTold, write_at};
-ghost use Rattle.redo_logdev.specs.Calls.{written_if, written_round, FailsRound, IsPutOrNot, WritesRound, WritesSome};
+ghost use Rattle.redo_logdev.specs.Calls.{written_if, written_round, FailsRound, IsPutOrNot, round_writes, some_write};
 
 use model_base::{BLOCK_SIZE, Shape};
 use model_log::HEADER_BYTES;
@@ -21,7 +22,7 @@ fn write_some<L: Sectors>(device: &mut L, at: u64, bytes: &[u8]) -> Result<(), D
     ensures err { OnErr result (OnTold (L.seen device.old).tells (L.seen device.new).tells
         (FailsWrite (write_at at bytes.now))) }
     ensures size { (L.seen device.new).size ≡ (L.seen device.old).size }
-    ensures calls { WritesSome L.write_gives at bytes.now device.old result device.new }
+    ensures calls { MakesCalls L.gives device.old device.new (Serve (some_write at bytes.now) (error_of result)) }
     ensures cause { HasCause (L.seen device.old).faults (L.seen device.new).faults result }
 {
     if bytes.is_empty() {
@@ -50,7 +51,7 @@ pub fn write_round<L: Sectors>(
     ensures err { OnErr result (OnTold (L.seen device.old).tells (L.seen device.new).tells
         (FailsRound shape.now from bytes.now)) }
     ensures size { (L.seen device.new).size ≡ (L.seen device.old).size }
-    ensures calls { WritesRound L.write_gives shape.now from bytes.now device.old result device.new }
+    ensures calls { MakesCalls L.gives device.old device.new (Serve (round_writes shape.now from bytes.now) (error_of result)) }
     ensures cause { HasCause (L.seen device.old).faults (L.seen device.new).faults result }
 {
     let at = offset_of(from, shape.log_blocks);
@@ -61,6 +62,7 @@ pub fn write_round<L: Sectors>(
 }
 
 /// Writes bytes, and makes them stay.
+#[tactic(auto, using(redo_disk::proofs::Made::put_cut))]
 pub fn put_sector<L: Sectors>(device: &mut L, at: u64, bytes: &[u8]) -> Result<(), DevError>
     requires { IsRange (L.seen device.old).size at (length bytes.now) }
     ensures ok { OnOk result (OnTold (L.seen device.old).tells (L.seen device.new).tells
@@ -68,7 +70,7 @@ pub fn put_sector<L: Sectors>(device: &mut L, at: u64, bytes: &[u8]) -> Result<(
     ensures err { OnErr result (OnTold (L.seen device.old).tells (L.seen device.new).tells
         (IsPutOrNot (write_at at bytes.now))) }
     ensures size { (L.seen device.new).size ≡ (L.seen device.old).size }
-    ensures calls { WritesAndSyncs L.write_gives L.sync_gives (write_at at bytes.now) device.old result device.new }
+    ensures calls { MakesCalls L.gives device.old device.new (Serve (put_requests (write_at at bytes.now)) (error_of result)) }
     ensures cause { HasCause (L.seen device.old).faults (L.seen device.new).faults result }
 {
     device.write(at, bytes)?;

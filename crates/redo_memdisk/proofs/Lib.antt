@@ -1,5 +1,7 @@
 pub mod Answered
 pub mod Applied
+pub mod Behind
+pub mod Counted
 pub mod Counts
 pub mod Crashed
 pub mod Overlay

@@ -1,8 +1,12 @@
 -- What a device with a fuse shows, and what its calls are of the calls of the device behind the fuse: each is passed on,
 -- once and as it is, or the fuse fails it and the device doesn't notice, but for the first such call where that is a
 -- write.
-use Rattle.std.specs.Prelude.{ℕ, ◌≡◌, ◌<◌, ◌+◌, List, length, false, IsTrue, Result, Err}
+use Rattle.std.specs.Prelude.{ℕ, ◌≡◌, ◌<◌, ◌+◌, List, length, false, IsTrue, Option, Result, Err}
+use Rattle.std.specs.Option.{option_map, option_and_then}
+use Rattle.model_device.specs.Disk.{Disk}
 use Rattle.model_device.specs.declared.write.Write.{Write}
+use Rattle.redo_disk.specs.Calls.{Call, Reads, Writes, Syncs}
+use Rattle.redo_disk.specs.Made.{MakesCall}
 use Rattle.redo_disk.specs.Seen.{Seen, ReadStep, WriteStep, SyncStep, CrashStep}
 use Rattle.redo_disk.specs.declared.error.DevError.{DevError}
 use Rattle.redo_disk.specs.declared.error.DevError.TheVariants.{Failed}
@@ -18,6 +22,14 @@ inner_of fused = fused.inner
 abbrev pub fuse_of : {D : Type 0} → Fused D → Fuse
 fuse_of fused = fused.fuse
 
+-- the device without the fuse as it was when the fuse was armed
+abbrev pub armed_at : {D : Type 0} → Fused D → Option D
+armed_at fused = option_map (λ found. found.value) fused.armed_at
+
+-- what the device meant when the fuse was armed, where it was armed and the device tells
+abbrev pub armed_from : {D : Type 0} → (D → Seen) → Fused D → Option Disk
+armed_from seen fused = option_and_then (λ device. (seen device).tells) (armed_at fused)
+
 -- The device with its fuse, as its readers see it. The fuse's own failures count as the device's.
 abbrev pub seen_through : {D : Type 0} → (D → Seen) → Fused D → Seen
 seen_through seen fused = record {
@@ -28,38 +40,48 @@ seen_through seen fused = record {
 }
 
 -- a read through the fuse
-pub record ReadsThrough {D : Type 0} (seen : D → Seen) (gives : D → ℕ → List ℕ → Result (Unit {0}) DevError → List ℕ → D → Type 0)
+pub record ReadsThrough {D : Type 0} (seen : D → Seen) (gives : D → Call → D → Type 0)
     (old : Fused D) (at : ℕ) (before : List ℕ) (result : Result (Unit {0}) DevError) (out : List ℕ) (new : Fused D) : Type 0 where
-  pub passed : fails_next old.fuse ≡ false → gives old.inner at before result out new.inner
+  pub passed : fails_next old.fuse ≡ false → MakesCall gives old.inner (Reads at before result out) new.inner
   pub passed_step : fails_next old.fuse ≡ false → ReadStep at (length before) (seen old.inner) result out (seen new.inner)
   pub failed : IsTrue (fails_next old.fuse) → result ≡ Err Failed
   pub same_out : IsTrue (fails_next old.fuse) → out ≡ before
   pub same_inner : IsTrue (fails_next old.fuse) → new.inner ≡ old.inner
+  pub same_armed : armed_at new ≡ armed_at old
   pub counts : new.fuse ≡ after_call old.fuse (is_failed result)
 
 -- A write through the fuse. The first call that the fuse fails still reaches the device if it is a write, and nobody
 -- hears the answer.
-pub record WritesThrough {D : Type 0} (seen : D → Seen) (gives : D → Write → Result (Unit {0}) DevError → D → Type 0)
+pub record WritesThrough {D : Type 0} (seen : D → Seen) (gives : D → Call → D → Type 0)
     (old : Fused D) (write : Write) (result : Result (Unit {0}) DevError) (new : Fused D) : Type 0 where
-  pub passed : fails_next old.fuse ≡ false → gives old.inner write result new.inner
+  pub passed : fails_next old.fuse ≡ false → MakesCall gives old.inner (Writes write result) new.inner
   pub passed_step : fails_next old.fuse ≡ false → WriteStep write (seen old.inner) result (seen new.inner)
   pub failed : IsTrue (fails_next old.fuse) → result ≡ Err Failed
   pub first : IsTrue (fails_next old.fuse) → old.fuse.own ≡ 0 →
-      (unheard : Result (Unit {0}) DevError) × gives old.inner write unheard new.inner × WriteStep write (seen old.inner) unheard (seen new.inner)
+      (unheard : Result (Unit {0}) DevError) × MakesCall gives old.inner (Writes write unheard) new.inner × WriteStep write (seen old.inner) unheard (seen new.inner)
   pub later : IsTrue (fails_next old.fuse) → 0 < old.fuse.own → new.inner ≡ old.inner
+  pub same_armed : armed_at new ≡ armed_at old
   pub counts : new.fuse ≡ after_change old.fuse (is_failed result)
 
 -- a sync through the fuse
-pub record SyncsThrough {D : Type 0} (seen : D → Seen) (gives : D → Result (Unit {0}) DevError → D → Type 0)
+pub record SyncsThrough {D : Type 0} (seen : D → Seen) (gives : D → Call → D → Type 0)
     (old : Fused D) (result : Result (Unit {0}) DevError) (new : Fused D) : Type 0 where
-  pub passed : fails_next old.fuse ≡ false → gives old.inner result new.inner
+  pub passed : fails_next old.fuse ≡ false → MakesCall gives old.inner (Syncs result) new.inner
   pub passed_step : fails_next old.fuse ≡ false → SyncStep (seen old.inner) result (seen new.inner)
   pub failed : IsTrue (fails_next old.fuse) → result ≡ Err Failed
   pub same_inner : IsTrue (fails_next old.fuse) → new.inner ≡ old.inner
+  pub same_armed : armed_at new ≡ armed_at old
   pub counts : new.fuse ≡ after_change old.fuse (is_failed result)
+
+-- a call through the fuse
+abbrev pub CallsThrough : {D : Type 0} → (D → Seen) → (D → Call → D → Type 0) → Fused D → Call → Fused D → Type 0
+CallsThrough seen gives old (Reads at before answer after) new = ReadsThrough seen gives old at before answer after new
+CallsThrough seen gives old (Writes write answer) new = WritesThrough seen gives old write answer new
+CallsThrough seen gives old (Syncs answer) new = SyncsThrough seen gives old answer new
 
 -- A crash, with the same pick. It ends the stop.
 pub record CrashesThrough {D : Type 0} (seen : D → Seen) (gives : D → ℕ → D → Type 0) (old : Fused D) (pick : ℕ) (new : Fused D) : Type 0 where
   pub passed : gives old.inner pick new.inner
   pub passed_step : CrashStep (seen old.inner) (seen new.inner)
+  pub same_armed : armed_at new ≡ armed_at old
   pub notes : new.fuse ≡ crashed_with pick old.fuse

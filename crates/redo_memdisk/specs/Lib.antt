@@ -1,3 +1,4 @@
+pub mod Counted
 pub mod File
 pub mod Fuse
 pub mod Fused

@@ -5,6 +5,7 @@ use Rattle.model_device.specs.Calls.{written, synced}
 use Rattle.model_device.specs.Crash.{crashed}
 use Rattle.model_device.specs.declared.write.Write.{Write}
 use Rattle.redo_io.specs.Plan.{Planned, after_call, fails_now}
+use Rattle.redo_disk.specs.Calls.{Call, Reads, Writes, Syncs}
 use Rattle.redo_disk.specs.Seen.{Seen, part}
 use Rattle.redo_disk.specs.declared.error.DevError.{DevError}
 use Rattle.redo_disk.specs.declared.error.DevError.TheVariants.{Failed, NoMemory}
@@ -51,6 +52,12 @@ WritesMemory old write answer new =
 pub record SyncsMemory (old : MemState) (result : Result (Unit {0}) DevError) (new : MemState) : Type 0 where
   pub answer : result ≡ next_answer old.plan
   pub after : new ≡ record old { disk = if fails_now old.plan then old.disk else synced old.disk; plan = after_call old.plan }
+
+-- a call
+abbrev pub MemGives : MemState → Call → MemState → Type 0
+MemGives old (Reads at before answer after) new = ReadsMemory old at before answer after new
+MemGives old (Writes write answer) new = WritesMemory old write answer new
+MemGives old (Syncs answer) new = SyncsMemory old answer new
 
 -- a crash with this pick
 abbrev pub CrashesMemory : MemState → ℕ → MemState → Type 0

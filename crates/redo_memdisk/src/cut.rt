@@ -1,6 +1,8 @@
 // A write that a stop cuts.
 ghost use Rattle.std.specs.Prelude.{◌≡◌, length, Result};
 ghost use Rattle.model_device.specs.Calls.{FailsWrite};
+ghost use Rattle.redo_disk.specs.Calls.{Writes};
+ghost use Rattle.redo_disk.specs.Made.{MakesCall};
 ghost use Rattle.redo_disk.specs.Seen.{IsRange, OnTold, WriteStep, write_at};
 ghost use Rattle.redo_disk.specs.declared.error.DevError.{DevError};
 
@@ -10,7 +12,7 @@ use redo_disk::Sectors;
 pub(crate) fn cut_write<D: Sectors>(device: &mut D, at: u64, bytes: &[u8])
     requires { IsRange (D.seen device.old).size at (length bytes.now) }
     ensures told { OnTold (D.seen device.old).tells (D.seen device.new).tells (FailsWrite (write_at at bytes.now)) }
-    ensures passed { (unheard : Result (Unit {0}) DevError) × D.write_gives device.old (write_at at bytes.now) unheard device.new
+    ensures passed { (unheard : Result (Unit {0}) DevError) × MakesCall D.gives device.old (Writes (write_at at bytes.now) unheard) device.new
         × WriteStep (write_at at bytes.now) (D.seen device.old) unheard (D.seen device.new) }
 {
     // only this call says that the device holds as many bytes as it has, without which a write may change its length

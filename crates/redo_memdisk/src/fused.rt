@@ -1,13 +1,14 @@
 // A device that a fuse stops.
-ghost use Rattle.std.specs.Prelude.{◌≡◌, Option};
+ghost use Rattle.std.specs.Prelude.{◌≡◌, Option, Some, None};
 ghost use Rattle.redo_memdisk.specs.Fuse.{armed, fresh};
 ghost use Rattle.redo_memdisk.specs.declared.fuse.Stage.{Stage};
-ghost use Rattle.redo_memdisk.specs.Fused.{CrashesThrough, ReadsThrough, SyncsThrough, WritesThrough, fuse_of, inner_of, seen_through};
+ghost use Rattle.redo_memdisk.specs.Fused.{CallsThrough, CrashesThrough, armed_at, fuse_of, inner_of, seen_through};
 
 use crate::Fuse;
 use crate::cut::cut_write;
 use crate::fuse::is_failed;
 use redo_disk::{DevError, Sectors};
+use std::snapshot::Snapshot;
 
 /// A device that is stopped at a planned call. From when it is armed to the crash it passes as many calls on as its
 /// limit says, and fails every later one. Of those the first, if it is a write, still reaches the device.
@@ -15,6 +16,8 @@ use redo_disk::{DevError, Sectors};
 pub struct Fused<D> {
     inner: D,
     fuse: Fuse,
+    /// The device as the arming found it, which only clauses read.
+    armed_at: Option<Snapshot<D>>,
 }
 
 impl<D> Fused<D> {
@@ -22,10 +25,12 @@ impl<D> Fused<D> {
     pub fn plain(inner: D) -> Self
         ensures inner { inner_of result ≡ inner }
         ensures fuse { fuse_of result ≡ fresh }
+        ensures armed { armed_at result ≡ None }
     {
         Fused {
             inner,
             fuse: Fuse::new(),
+            armed_at: None,
         }
     }
 
@@ -33,6 +38,7 @@ impl<D> Fused<D> {
     pub fn new(inner: D, limit: Option<u64>) -> Self
         ensures inner { inner_of result ≡ inner }
         ensures fuse { fuse_of result ≡ armed limit fresh }
+        ensures armed { armed_at result ≡ Some inner }
     {
         let mut fused = Fused::plain(inner);
         fused.arm(limit);
@@ -44,7 +50,9 @@ impl<D> Fused<D> {
         requires { (fuse_of self.old).stage ≡ Stage.Before }
         ensures inner { inner_of self.new ≡ inner_of self.old }
         ensures fuse { fuse_of self.new ≡ armed limit (fuse_of self.old) }
+        ensures armed { armed_at self.new ≡ Some (inner_of self.old) }
     {
+        self.armed_at = Some(Snapshot::of(&self.inner));
         self.fuse.arm(limit);
     }
 
@@ -59,7 +67,7 @@ impl<D> Fused<D> {
     pub fn into_inner(self) -> D
         ensures { result ≡ inner_of self }
     {
-        let Fused { inner, fuse: _ } = self;
+        let Fused { inner, .. } = self;
         inner
     }
 }
@@ -67,11 +75,7 @@ impl<D> Fused<D> {
 impl<D: Sectors> Sectors for Fused<D> {
     ghost seen = { seen_through D.seen };
 
-    ghost read_gives = { ReadsThrough D.seen D.read_gives };
-
-    ghost write_gives = { WritesThrough D.seen D.write_gives };
-
-    ghost sync_gives = { SyncsThrough D.seen D.sync_gives };
+    ghost gives = { CallsThrough D.seen D.gives };
 
     ghost crash_gives = { CrashesThrough D.seen D.crash_gives };
 

@@ -8,6 +8,7 @@ mod file;
 mod fuse;
 mod fused;
 mod image;
+mod laws;
 mod medium;
 mod memory;
 mod plan;
@@ -17,6 +18,7 @@ pub use file::{FILE_DISK_LEN, FileDisk};
 pub use fuse::{Fuse, Stage};
 pub use fused::Fused;
 pub use image::is_image;
+pub use laws::a_fuse_counts_calls;
 pub use memory::MemDisk;
 
 /// Bytes of a sector.

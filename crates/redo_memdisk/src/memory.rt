@@ -2,8 +2,10 @@
 ghost use Rattle.std.specs.Prelude.{◌≡◌, ◌%◌, [], length, replicate, IfOk, None};
 ghost use Rattle.model_device.specs.Disk.{settled};
 ghost use Rattle.redo_io.specs.Plan.{unused};
+ghost use Rattle.redo_disk.specs.Calls.{Reads, Writes, Syncs};
+ghost use Rattle.redo_disk.specs.Made.{MakesCall};
 ghost use Rattle.redo_disk.specs.Seen.{IsRange, ReadStep, WriteStep, SyncStep, CrashStep, write_at};
-ghost use Rattle.redo_memdisk.specs.Memory.{CrashesMemory, ReadsMemory, SyncsMemory, WritesMemory, mem_seen};
+ghost use Rattle.redo_memdisk.specs.Memory.{CrashesMemory, MemGives, mem_seen};
 
 use crate::apply::{apply_all, apply_survivors, read_through};
 use crate::medium::Medium;
@@ -76,11 +78,7 @@ impl MemDisk {
 impl Sectors for MemDisk {
     ghost seen = { mem_seen };
 
-    ghost read_gives = { ReadsMemory };
-
-    ghost write_gives = { WritesMemory };
-
-    ghost sync_gives = { SyncsMemory };
+    ghost gives = { MemGives };
 
     ghost crash_gives = { CrashesMemory };
 
@@ -91,7 +89,7 @@ impl Sectors for MemDisk {
     fn read(&mut self, at: u64, out: &mut [u8]) -> Result<(), DevError>
         requires { IsRange (length self.old.disk.base) at (length out.old) }
         ensures step { ReadStep at (length out.old) (mem_seen self.old) result out.new (mem_seen self.new) }
-        ensures gives { ReadsMemory self.old at out.old result out.new self.new }
+        ensures gives { MakesCall MemGives self.old (Reads at out.old result out.new) self.new }
     {
         count_call(&mut self.plan)?;
         read_through(&self.medium.base, &self.medium.pending, at as usize, out);
@@ -101,7 +99,7 @@ impl Sectors for MemDisk {
     fn write(&mut self, at: u64, bytes: &[u8]) -> Result<(), DevError>
         requires { IsRange (length self.old.disk.base) at (length bytes.now) }
         ensures step { WriteStep (write_at at bytes.now) (mem_seen self.old) result (mem_seen self.new) }
-        ensures gives { WritesMemory self.old (write_at at bytes.now) result self.new }
+        ensures gives { MakesCall MemGives self.old (Writes (write_at at bytes.now) result) self.new }
     {
         let copy = Bytes::new(bytes.to_vec(self.alloc)?);
         self.medium.pending.push(Write { at, bytes: copy })?;
@@ -110,7 +108,7 @@ impl Sectors for MemDisk {
 
     fn sync(&mut self) -> Result<(), DevError>
         ensures step { SyncStep (mem_seen self.old) result (mem_seen self.new) }
-        ensures gives { SyncsMemory self.old result self.new }
+        ensures gives { MakesCall MemGives self.old (Syncs result) self.new }
     {
         count_call(&mut self.plan)?;
         apply_all(&mut self.medium.base, &self.medium.pending);

@@ -1,26 +1,34 @@
 -- Both devices at the exits of opening.
-use Rattle.std.proofs.Common.{◌≡◌, ◌≤◌, ◌+◌, ℕ, List, length, Option, Some, None, sym, subst, arith}
+use Rattle.std.proofs.Common.{◌≡◌, ◌≤◌, ◌+◌, ◌∙◌, ℕ, inl, List, length, Option, Some, None, refl, sym, ap, ap₂, subst, arith, lit<}
 use Rattle.std.specs.Prelude.{IfSome}
 use Rattle.model_device.specs.Disk.{Disk}
-use Rattle.model_log.specs.Device.{log_device_length}
+use Rattle.model_log.specs.Checkpoint.{read_checkpoint}
+use Rattle.model_log.specs.Device.{log_device_length, newer, newest_checkpoint}
 use Rattle.model_store.specs.Reading.{Reading, IsOrderly}
 use Rattle.model_opening.specs.Cleared.{IsCleared, HasSameHeaders}
-use Rattle.model_opening.specs.Opened.{KeepsOpened, start_of, start_block}
+use Rattle.model_opening.specs.Opened.{IsOpenable, KeepsOpened, start_of, start_block}
 use Rattle.model_opening.specs.Ready.{IsReady}
-use Rattle.model_opening.proofs.Keeping.{rewriting-keeps, marking-keeps, opened-ready}
+use Rattle.model_opening.proofs.Keeping.{openable-keeps, rewriting-keeps, marking-keeps, opened-ready}
 use Rattle.redo_disk.specs.Seen.{OnTold}
 use Rattle.redo_open.specs.Clear.{IsClearable, ClearsBlocks, HasCleared}
-use Rattle.redo_open.specs.Devices.{IsFrom, WhereBothTell}
+use Rattle.redo_open.specs.Devices.{HasSameCheckpoint, IsFrom, WhereBothTell}
 use Rattle.redo_open.specs.Mark.{IsSettledLog, MarksLog, HasMarked}
 use Rattle.redo_open.specs.Places.{KeepsPlaces, HoldsPlaces}
 use Rattle.redo_open.proofs.Clears.{cleared-clears}
-use Rattle.redo_open.proofs.Told.{told-step}
+use Rattle.redo_open.proofs.Told.{known-as, told-step}
 
 both : (log data_told : Option Disk) (P Q : Disk → Type 0) (R : Disk → Disk → Type 0) → ((l d : Disk) → P l → Q d → R l d)
     → IfSome log P → IfSome data_told Q → WhereBothTell log data_told R
 both None data_told P Q R step first second = tt
 both (Some l) None P Q R step first second = tt
 both (Some l) (Some d) P Q R step first second = step l d first second
+
+-- before the first step
+pub openable-both : (opened : Reading) (log data_told : Option Disk)
+    → WhereBothTell log data_told (λ l d. IsOpenable opened l d → WhereBothTell log data_told (KeepsOpened opened))
+openable-both opened None data_told = tt
+openable-both opened (Some l) None = tt
+openable-both opened (Some l) (Some d) = λ is. openable-keeps opened l d is
 
 clearable : (opened : Reading) (log_bytes data_bytes : List ℕ) (disk : Disk) → IsOrderly log_bytes data_bytes opened → IsFrom log_bytes disk → IsClearable opened.shape disk
 clearable opened log_bytes data_bytes disk orderly is =
@@ -115,3 +123,31 @@ ready-both opened log_bytes data_bytes number lsn mid log data_told number_is ls
           (subst (λ (n : ℕ). HasMarked opened.shape number n a.base b) lsn_is (marks (settled-log opened log_bytes data_bytes a orderly cleared)));
     }) known told)
     second
+
+-- THE OLD CHECKPOINT.
+
+same-newest : (opened : Reading) (log_bytes data_bytes base : List ℕ) → IsOrderly log_bytes data_bytes opened → HasSameHeaders log_bytes base
+    → newest_checkpoint opened.shape base ≡ Some (opened.number, opened.ckpt)
+same-newest opened log_bytes data_bytes base orderly same =
+    ap₂ (λ first second. newer (read_checkpoint 1 opened.shape first) (read_checkpoint 3 opened.shape second)) (same 1 (lit< tt)) (same 3 (lit< tt))
+    ∙ orderly.reads.scan.checkpoint
+
+pub unmoved-clears : (opened : Reading) (log_bytes data_bytes : List ℕ) (log : Option Disk) → IsOrderly log_bytes data_bytes opened
+    → IfSome log (ClearsBlocks opened.shape opened.ckpt (start_of opened) log_bytes) → IfSome log (HasSameCheckpoint opened)
+unmoved-clears opened log_bytes data_bytes log orderly known =
+    known-as log (ClearsBlocks opened.shape opened.ckpt (start_of opened) log_bytes) (HasSameCheckpoint opened)
+    (λ disk clears. same-newest opened log_bytes data_bytes disk.base orderly
+    (clears.headers disk.base (record { same_length = refl; each = λ k inside. inl refl }))) known
+
+pub unmoved-marks : (opened : Reading) (log_bytes data_bytes : List ℕ) (mid log : Option Disk) → IsOrderly log_bytes data_bytes opened
+    → IfSome mid (HasCleared opened.shape opened.ckpt (start_of opened) log_bytes) → OnTold mid log (λ old new. new.base ≡ old.base)
+    → IfSome log (HasSameCheckpoint opened)
+unmoved-marks opened log_bytes data_bytes mid log orderly known told =
+    told-step mid log (HasCleared opened.shape opened.ckpt (start_of opened) log_bytes) (HasSameCheckpoint opened) (λ (a b : Disk). b.base ≡ a.base)
+    (λ a b cleared same. ap (newest_checkpoint opened.shape) same ∙ same-newest opened log_bytes data_bytes a.base orderly cleared.headers) known told
+
+-- before the first step
+pub unmoved-rests : (opened : Reading) (log_disk data_disk : Disk) → IsOpenable opened log_disk data_disk → HasSameCheckpoint opened log_disk
+unmoved-rests opened log_disk data_disk is =
+    ap (newest_checkpoint opened.shape) (is.log_rests.one_image log_disk.base (record { same_length = refl; each = λ k inside. inl refl }))
+    ∙ is.orderly.reads.scan.checkpoint

@@ -8,7 +8,7 @@ use Rattle.model_device.specs.Disk.{Disk}
 use Rattle.redo_disk.specs.Seen.{Seen, OnTold}
 use Rattle.redo_disk.specs.declared.error.DevError.{DevError}
 use Rattle.redo_disk.specs.declared.error.DevError.TheVariants as device
-use Rattle.redo_open.specs.Mend.{IsMended, AreMended, IsMendFault}
+use Rattle.redo_open.specs.Mend.{IsMended, AreMended, IsMendFault, IsPageFault}
 use Rattle.redo_open.specs.Store.{MendStep}
 use Rattle.redo_open.proofs.Mends.{keeps-behind, fault-before}
 use Rattle.redo_open.proofs.Told.{told-then, told-back, risen-since}
@@ -31,6 +31,10 @@ pub device-cause : (shape : Shape) (error : DevError) (told : Option Disk) → I
 device-cause shape device.Failed told = any-known told (λ disk. Unit {0}) (λ disk. tt)
 device-cause shape device.NoMemory told = any-known told (λ disk. Unit {0}) (λ disk. tt)
 
+pub device-own : (error : DevError) → IsPageFault (data_fault_of error)
+device-own device.Failed = tt
+device-own device.NoMemory = tt
+
 pub device-failed : (error : DevError) → IsErrOf {T = Unit {0}} (Err (data_fault_of error)) DataDev → error ≡ device.Failed
 device-failed device.Failed is = refl
 device-failed device.NoMemory is = absurd cc
@@ -45,6 +49,7 @@ mend-failed seen shape Does old new error fault is keeps stays risen =
       ok = tt;
       live = tt;
       fault = device-cause shape error (seen old.dev).tells;
+      own = device-own error;
       shape_stays = stays.shape;
       size = stays.size;
       later = stays.later;
@@ -60,6 +65,7 @@ mend-lost seen shape Does old new page lost keeps stays = record {
   ok = tt;
   live = tt;
   fault = lost;
+  own = tt;
   shape_stays = stays.shape;
   size = stays.size;
   later = stays.later;
@@ -75,6 +81,7 @@ mend-done seen shape Does old new keeps does live stays = record {
   ok = does;
   live = live;
   fault = tt;
+  own = tt;
   shape_stays = stays.shape;
   size = stays.size;
   later = stays.later;
@@ -91,6 +98,7 @@ mend-behind seen shape count page all old mid new fault told stays step = record
   live = tt;
   fault = told-back _ _ (λ disk. IsMendFault shape disk.base fault) (λ disk. IsMendFault shape disk.base fault) (AreMended shape count)
       (λ a b mended is. fault-before shape count a b fault mended is) told step.fault;
+  own = step.own;
   shape_stays = step.shape_stays ∙ stays.shape;
   size = step.size ∙ stays.size;
   later = omega (arith, step.later, stays.later);

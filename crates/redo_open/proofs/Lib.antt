@@ -1,9 +1,16 @@
+pub mod Asked
+pub mod Blanks
 pub mod Both
+pub mod Causes
 pub mod Clears
 pub mod Endings
+pub mod Erases
+pub mod Formats
 pub mod Marks
 pub mod Mends
 pub mod Opens
+pub mod Recovered
 pub mod Rows
+pub mod Stores
 pub mod Told
 pub mod Writings

@@ -28,10 +28,10 @@ pub record IsOneSector (k : ℕ) (text : List ℕ) (write : Write) : Type 0 wher
   pub bytes : write.bytes ≡ text
   pub long : length text ≡ 512
 
-covers-one : (k j : ℕ) (text : List ℕ) (write : Write) → IsOneSector k text write → Covers write j → k ≡ j
+pub covers-one : (k j : ℕ) (text : List ℕ) (write : Write) → IsOneSector k text write → Covers write j → k ≡ j
 covers-one k j text write one covers = omega (arith, one.at, ap length one.bytes, one.long, covers.from, covers.up_to)
 
-writes-text : (k : ℕ) (text : List ℕ) (write : Write) → IsOneSector k text write → written_sector write k ≡ text
+pub writes-text : (k : ℕ) (text : List ℕ) (write : Write) → IsOneSector k text write → written_sector write k ≡ text
 writes-text k text write one =
     let none : 512 * k - write.at ≡ 0 = omega (arith, one.at) in
     ap (λ n. take 512 (drop n write.bytes)) none ∙ take_all 512 write.bytes (omega (arith, ap length one.bytes, one.long)) ∙ one.bytes

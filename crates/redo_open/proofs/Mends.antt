@@ -109,16 +109,15 @@ pub place-passes : (shape : Shape) (page lsn : ℕ) (disk : Disk) (buffer : List
 place-passes shape page lsn disk buffer is bytes found none =
     let some : place_lsn shape disk.base page ≡ Some lsn = read-place shape page disk buffer (Some lsn) is bytes found in cc
 
-pub is-repairable : (shape : Shape) (page slot lsn : ℕ) (disk : Disk) (buffer : List ℕ) → IsSettledData shape disk
+pub is-repairable : (shape : Shape) (page slot lsn : ℕ) (disk : Disk) (buffer : List ℕ)
     → buffer ≡ place_bytes shape page disk.reads → None ≡ place_lsn_by shape page (page_check buffer) → IsBestCopy shape disk.reads page slot lsn
     → IsRepairable shape page disk
-is-repairable shape page slot lsn disk buffer is bytes none best = record {
-  long = is.long;
-  nothing_pending = is.nothing_pending;
-  broken = read-place shape page disk buffer None is bytes none;
+is-repairable shape page slot lsn disk buffer bytes none best = record {
+  broken = sym (none ∙ ap (λ (b : List ℕ). place_lsn_by shape page (page_check b)) bytes);
   slot = slot;
   lsn = lsn;
-  best = subst (λ (image : List ℕ). IsBestCopy shape image page slot lsn) (settled-reads shape disk is) best;
+  below = best.below;
+  passes = best.passes;
 }
 
 pub is-lost : (shape : Shape) (page : ℕ) (disk : Disk) (buffer : List ℕ) → page < shape.pages → IsSettledData shape disk

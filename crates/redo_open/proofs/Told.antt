@@ -89,3 +89,7 @@ told-both (Some a) new R S T step first second =
 pub known-three : (told : Option Disk) (P Q R S : Disk → Type 0) → ((a : Disk) → P a → Q a → R a → S a) → IfSome told P → IfSome told Q → IfSome told R → IfSome told S
 known-three None P Q R S step first second third = tt
 known-three (Some a) P Q R S step first second third = step a first second third
+
+pub on-err : {T E : Type 0} (result : Result T E) (P : Type 0) → P → OnErr result P
+on-err (Ok value) P holds = tt
+on-err (Err error) P holds = holds

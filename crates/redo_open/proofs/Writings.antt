@@ -17,7 +17,7 @@ use Rattle.model_page.specs.declared.content.Content.{Content}
 use Rattle.model_store.proofs.Places.{has_place}
 use Rattle.redo_apply.specs.Fits.{ArePagesOf}
 use Rattle.redo_disk.specs.declared.error.DevError.{DevError}
-use Rattle.redo_store.specs.Part.{error_of}
+use Rattle.redo_disk.specs.Calls.{error_of}
 use Rattle.redo_open.specs.Rewrite.{AreTop, IsWrittenTo, KeepsWritten}
 
 known-as : (told : Option Disk) (P Q : Disk → Type 0) → ((a : Disk) → P a → Q a) → IfSome told P → IfSome told Q
@@ -47,8 +47,7 @@ one-writable shape page lsn user slots below long some small = record {
   few = omega arith;
   count = omega arith;
   below = λ i pair at. (let is = only i pair at in subst (λ (x : ℕ × ℕ). x.0 < shape.pages) is below);
-  some_lsn = λ i pair at. (let is = only i pair at in subst (λ (x : ℕ × ℕ). 0 < x.1) is (omega arith));
-  small_lsn = λ i pair at. (let is = only i pair at in subst (λ (x : ℕ × ℕ). x.1 < 2 ^ 61) is small);
+  small_lsn = λ i pair at. (let is = only i pair at in subst (λ (x : ℕ × ℕ). x.1 < 2 ^ 64) is (omega arith));
   different = λ i j pair other at there same. (let a = first i pair at in let b = first j other there in omega arith);
 }
   where

@@ -1,7 +1,11 @@
+pub mod Blank
 pub mod Clear
 pub mod Devices
+pub mod Erase
+pub mod Formatting
 pub mod Mark
 pub mod Mend
+pub mod Opening
 pub mod Places
 pub mod Rewrite
 pub mod Store

@@ -30,6 +30,13 @@ pub record AreMended (shape : Shape) (count : ℕ) (old new : Disk) : Type 0 whe
   pub stays : StaysKept shape old new
   pub pass : (p : ℕ) → p < count → place_lsn shape new.base p ≢ None
 
+-- the repair ends early where the data device fails, memory runs out or a page is lost, and for nothing else
+abbrev pub IsPageFault : RecFault → Type 0
+IsPageFault DataDev = Unit {0}
+IsPageFault NoMemory = Unit {0}
+IsPageFault (PageLost p) = Unit {0}
+IsPageFault _ = ⊥
+
 -- why the repair ends early: the data device failed, or page p has neither a place nor a copy that passes
 abbrev pub IsMendFault : Shape → List ℕ → RecFault → Type 0
 IsMendFault shape content DataDev = Unit {0}

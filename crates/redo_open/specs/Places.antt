@@ -10,7 +10,7 @@ use Rattle.model_page.specs.declared.content.Content.{Content}
 use Rattle.model_store.specs.Fair.{IsFair}
 use Rattle.model_store.specs.Reading.{Reading, IsOrderly}
 use Rattle.redo_disk.specs.Seen.{Seen}
-use Rattle.redo_open.specs.Mend.{IsMendFault}
+use Rattle.redo_open.specs.Mend.{IsMendFault, IsPageFault}
 use Rattle.redo_open.specs.Rewrite.{AreTop, IsWrittenTo}
 use Rattle.redo_recover.specs.declared.fault.RecFault.{RecFault}
 use Rattle.redo_recover.specs.declared.fault.RecFault.TheVariants.{DataDev}
@@ -45,6 +45,7 @@ pub record PlacesStep {D : Type 0} (seen : D → Seen) (shape : Shape) (pages : 
       → IfSome (seen old.dev).tells (λ disk. disk ≡ settled data_bytes) → OnOk result (IfSome (seen new.dev).tells (HoldsPlaces shape opened))
   pub live : OnOk result (new.failed ≡ None)
   pub fault : IfErr result (λ fault. IfSome (seen old.dev).tells (λ disk. IsMendFault shape disk.base fault))
+  pub own : IfErr result IsPageFault
   pub shape_stays : new.shape ≡ old.shape
   pub size : (seen new.dev).size ≡ (seen old.dev).size
   pub later : (seen old.dev).faults ≤ (seen new.dev).faults

@@ -5,7 +5,7 @@ use Rattle.model_base.specs.declared.shape.Shape.{Shape}
 use Rattle.model_datadev.specs.Repair.{KeepsAll}
 use Rattle.model_device.specs.Disk.{Disk}
 use Rattle.redo_disk.specs.Seen.{Seen, OnTold}
-use Rattle.redo_open.specs.Mend.{IsMendFault}
+use Rattle.redo_open.specs.Mend.{IsMendFault, IsPageFault}
 use Rattle.redo_recover.specs.declared.fault.RecFault.{RecFault}
 use Rattle.redo_recover.specs.declared.fault.RecFault.TheVariants.{DataDev}
 use Rattle.redo_store.specs.Part.{Part}
@@ -17,6 +17,7 @@ pub record MendStep {D : Type 0} (seen : D → Seen) (shape : Shape) (Does : Dis
   pub ok : OnOk result (OnTold (seen old.dev).tells (seen new.dev).tells Does)
   pub live : OnOk result (new.failed ≡ None)
   pub fault : IfErr result (λ fault. IfSome (seen old.dev).tells (λ disk. IsMendFault shape disk.base fault))
+  pub own : IfErr result IsPageFault
   pub shape_stays : new.shape ≡ old.shape
   pub size : (seen new.dev).size ≡ (seen old.dev).size
   pub later : (seen old.dev).faults ≤ (seen new.dev).faults

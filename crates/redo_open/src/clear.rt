@@ -4,16 +4,17 @@ ghost use Rattle.model_base.specs.declared.limits.TheConstants.{BLOCK_SIZE, STAR
 ghost use Rattle.model_base.specs.Limits.{IsWithinLimits};
 ghost use Rattle.model_log.specs.Device.{log_device_length};
 ghost use Rattle.model_log.specs.Lsn.{offset_of};
+ghost use Rattle.redo_disk.specs.Calls.{EndWith, error_of};
+ghost use Rattle.redo_disk.specs.Made.{MakesCalls};
 ghost use Rattle.redo_disk.specs.Seen.{HasCause, OnTold};
 ghost use Rattle.redo_open.specs.Clear.{MayStart, IsClearable, ClearsBlocks, HasCleared};
 
 use crate::PIECE;
-use crate::zeros::{write_zeros, zero_piece};
+use crate::zeros::write_zeros;
 use model_base::{BLOCK_SIZE, Shape};
 use model_log::HEADER_BYTES;
 use redo_disk::{DevError, Sectors};
 use redo_lsn::{block_of, offset_of};
-use std::alloc::Global;
 
 /// How many bytes of blocks one write clears from the block at `at` on: up to `end`, and no farther than the blocks stand
 /// side by side on the device.
@@ -39,7 +40,6 @@ fn piece_length(shape: &Shape, at: u64, end: u64) -> u64
 /// makes that stay. So no block beyond the end can fit later by its number, and those go that hold only an unfinished
 /// group.
 pub(crate) fn clear<L: Sectors>(
-    alloc: Global,
     log: &mut L,
     shape: &Shape,
     ckpt: u64,
@@ -53,18 +53,13 @@ pub(crate) fn clear<L: Sectors>(
         (λ old new. IsClearable shape.now old → HasCleared shape.now ckpt start old.reads new)) }
     ensures size { (L.seen log.new).size ≡ (L.seen log.old).size }
     ensures cause { HasCause (L.seen log.old).faults (L.seen log.new).faults result }
+    ensures calls { MakesCalls L.gives log.old log.new (EndWith (error_of result)) }
 {
-    let zeros = zero_piece(alloc)?;
     let end = ckpt + BLOCK_SIZE * u64::from(shape.log_blocks);
     let mut at = block_of(start);
     while at < end {
         let count = piece_length(shape, at, end);
-        write_zeros(
-            log,
-            offset_of(at, shape.log_blocks),
-            count,
-            zeros.as_slice(),
-        )?;
+        write_zeros(log, offset_of(at, shape.log_blocks), count)?;
         at += count;
     }
     log.sync()

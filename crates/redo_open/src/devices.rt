@@ -1,12 +1,15 @@
 // Opening both devices.
-ghost use Rattle.std.specs.Prelude.{◌≡◌, ◌≤◌, ◌<◌, ◌^◌, ℕ, None, Some, IfSome, slice_get};
+ghost use Rattle.std.specs.Prelude.{◌≡◌, ◌≤◌, ◌<◌, ◌^◌, ℕ, None, Some, IfSome, OnOk, slice_get};
 ghost use Rattle.model_log.specs.Device.{log_device_length};
 ghost use Rattle.model_log.specs.Lsn.{start_after};
 ghost use Rattle.model_page.specs.declared.content.Content.{Content};
 ghost use Rattle.redo_apply.specs.Fits.{ArePagesOf};
+ghost use Rattle.redo_disk.specs.Calls.{MayEndWith};
+ghost use Rattle.redo_disk.specs.Made.{MakesCalls};
 ghost use Rattle.redo_open.specs.Clear.{MayStart};
 ghost use Rattle.redo_open.specs.Devices.{DevicesStep};
 ghost use Rattle.redo_open.specs.Mend.{IsSettledData};
+ghost use Rattle.redo_recover.specs.Calls.{data_error_of, log_error_of};
 ghost use Rattle.redo_recover.specs.Reading.{reading_of};
 
 use crate::clear::clear;
@@ -21,7 +24,7 @@ use std::alloc::Global;
 
 /// Clears the log outside the kept range, repairs and writes the pages, and then writes the next checkpoint where the run
 /// starts.
-pub fn open_devices<L: Sectors, D: Sectors>(
+pub(crate) fn open_devices<L: Sectors, D: Sectors>(
     alloc: Global,
     log: &mut L,
     part: &mut DataPart<D>,
@@ -36,10 +39,14 @@ pub fn open_devices<L: Sectors, D: Sectors>(
     requires settled { IfSome (D.seen part.old.dev).tells (IsSettledData recovered.now.shape) }
     requires pages { ArePagesOf recovered.now.shape recovered.now.pages }
     requires small { (p : ℕ) (content : Content) → slice_get recovered.now.pages p ≡ Some content → content.lsn < 2 ^ 61 }
-    ensures { DevicesStep (reading_of recovered.now) (L.seen log.old).tells (D.seen part.old.dev).tells
-        result (L.seen log.new).tells (D.seen part.new.dev).tells }
+    ensures step { DevicesStep (reading_of recovered.now) (L.seen log.old) (D.seen part.old.dev)
+        result (L.seen log.new) (D.seen part.new.dev) }
+    ensures shape { part.new.shape ≡ part.old.shape }
+    ensures live { OnOk result (part.new.failed ≡ None) }
+    ensures log_calls { MakesCalls L.gives log.old log.new (MayEndWith (log_error_of result)) }
+    ensures data_calls { MakesCalls D.gives part.old.dev part.new.dev (MayEndWith (data_error_of result)) }
 {
-    match clear(alloc, log, &recovered.shape, recovered.ckpt, start) {
+    match clear(log, &recovered.shape, recovered.ckpt, start) {
         Ok(()) => {}
         Err(error) => return Err(log_fault(error)),
     }

@@ -3,16 +3,20 @@
 //! this: wherever opening ends, whatever a crash leaves of the two devices is read with the same pages.
 #![tactic(auto)]
 
+mod blank;
 mod clear;
 mod devices;
 mod faults;
+mod formatting;
 mod mark;
 mod mend;
+mod opening;
 mod places;
 mod rewrite;
 mod zeros;
 
-pub use devices::open_devices;
+pub use formatting::format;
+pub use opening::open_store;
 
 /// How many bytes one call of a device moves at the most.
 const PIECE: usize = 65_536;

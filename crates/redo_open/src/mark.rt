@@ -1,14 +1,17 @@
-// The next checkpoint.
-ghost use Rattle.std.specs.Prelude.{◌≡◌, ◌≤◌, ◌<◌, ◌^◌, OnOk};
+// The next checkpoint, and the header.
+ghost use Rattle.std.specs.Prelude.{◌≡◌, ◌≤◌, ◌<◌, ◌^◌, OnOk, OnErr};
 ghost use Rattle.model_base.specs.Limits.{IsWithinLimits};
 ghost use Rattle.model_base.specs.declared.limits.TheConstants.{START_LSN};
 ghost use Rattle.model_log.specs.Device.{log_device_length};
+ghost use Rattle.redo_disk.specs.Calls.{EndWith, error_of};
+ghost use Rattle.redo_disk.specs.Made.{MakesCalls};
 ghost use Rattle.redo_disk.specs.Seen.{HasCause, OnTold};
+ghost use Rattle.redo_open.specs.Blank.{MayHaveHead, HasHeadNow};
 ghost use Rattle.redo_open.specs.Mark.{IsSettledLog, MarksLog, HasMarked};
 
 use model_base::{BLOCK_SIZE, Shape};
 use redo_disk::{DevError, Sectors};
-use redo_header::{fill_ckpt, place_of};
+use redo_header::{fill_ckpt, fill_head, place_of};
 
 /// Writes the checkpoint of this number at this lsn, and makes it stay.
 pub(crate) fn mark<L: Sectors>(
@@ -25,11 +28,31 @@ pub(crate) fn mark<L: Sectors>(
         (λ old new. IsSettledLog shape.now old → MarksLog shape.now number lsn old.base new) }
     ensures ok { OnOk result (OnTold (L.seen log.old).tells (L.seen log.new).tells
         (λ old new. IsSettledLog shape.now old → HasMarked shape.now number lsn old.base new)) }
+    ensures unmoved { OnErr result (OnTold (L.seen log.old).tells (L.seen log.new).tells (λ old new. new.base ≡ old.base)) }
     ensures size { (L.seen log.new).size ≡ (L.seen log.old).size }
     ensures cause { HasCause (L.seen log.old).faults (L.seen log.new).faults result }
+    ensures calls { MakesCalls L.gives log.old log.new (EndWith (error_of result)) }
 {
     let mut block = [0; 512];
     fill_ckpt(&mut block, number, lsn, shape);
     log.write(BLOCK_SIZE * u64::from(place_of(number)), &block)?;
+    log.sync()
+}
+
+/// Writes the header of a store of this shape, and makes it stay.
+pub(crate) fn put_head<L: Sectors>(log: &mut L, shape: &Shape) -> Result<(), DevError>
+    requires limits { IsWithinLimits shape.now }
+    requires long { log_device_length shape.now ≤ (L.seen log.old).size }
+    ensures keeps { OnTold (L.seen log.old).tells (L.seen log.new).tells
+        (λ old new. IsSettledLog shape.now old → MayHaveHead shape.now old.base new) }
+    ensures ok { OnOk result (OnTold (L.seen log.old).tells (L.seen log.new).tells
+        (λ old new. IsSettledLog shape.now old → HasHeadNow shape.now old.base new)) }
+    ensures size { (L.seen log.new).size ≡ (L.seen log.old).size }
+    ensures cause { HasCause (L.seen log.old).faults (L.seen log.new).faults result }
+    ensures calls { MakesCalls L.gives log.old log.new (EndWith (error_of result)) }
+{
+    let mut block = [0; 512];
+    fill_head(&mut block, shape);
+    log.write(0, &block)?;
     log.sync()
 }

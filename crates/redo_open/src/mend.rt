@@ -1,8 +1,11 @@
 // Repairing the places of pages that don't pass.
 ghost use Rattle.std.specs.Prelude.{◌≡◌, ◌<◌, length, None, IfSome};
 ghost use Rattle.model_base.specs.declared.limits.TheConstants.{PAGE_SIZE};
+ghost use Rattle.redo_disk.specs.Calls.{EndWith};
+ghost use Rattle.redo_disk.specs.Made.{MakesCalls};
 ghost use Rattle.redo_open.specs.Mend.{IsSettledData, IsMended, AreMended};
 ghost use Rattle.redo_open.specs.Store.{MendStep};
+ghost use Rattle.redo_recover.specs.Calls.{data_error_of};
 
 use crate::faults::data_fault;
 use model_base::Shape;
@@ -24,7 +27,8 @@ fn mend_page<D: Sectors>(
     requires buffer { length buffer.old ≡ shape.now.page_size }
     requires sizes { shape.now.page_size ≡ PAGE_SIZE }
     requires settled { IfSome (D.seen part.old.dev).tells (IsSettledData shape.now) }
-    ensures { MendStep D.seen shape.now (IsMended shape.now page) part.old result part.new }
+    ensures step { MendStep D.seen shape.now (IsMended shape.now page) part.old result part.new }
+    ensures calls { MakesCalls D.gives part.old.dev part.new.dev (EndWith (data_error_of result)) }
 {
     match part.read_page(page, buffer) {
         Ok(()) => {}
@@ -56,7 +60,8 @@ pub(crate) fn mend<D: Sectors>(
     requires buffer { length buffer.old ≡ shape.now.page_size }
     requires sizes { shape.now.page_size ≡ PAGE_SIZE }
     requires settled { IfSome (D.seen part.old.dev).tells (IsSettledData shape.now) }
-    ensures { MendStep D.seen shape.now (AreMended shape.now shape.now.pages) part.old result part.new }
+    ensures step { MendStep D.seen shape.now (AreMended shape.now shape.now.pages) part.old result part.new }
+    ensures calls { MakesCalls D.gives part.old.dev part.new.dev (EndWith (data_error_of result)) }
 {
     for page in 0..shape.pages {
         mend_page(part, shape, page, buffer)?;

@@ -3,8 +3,11 @@ ghost use Rattle.std.specs.Prelude.{◌≡◌, ◌<◌, ◌^◌, ℕ, None, Some
 ghost use Rattle.model_base.specs.Limits.{IsWithinLimits};
 ghost use Rattle.model_page.specs.declared.content.Content.{Content};
 ghost use Rattle.redo_apply.specs.Fits.{ArePagesOf};
+ghost use Rattle.redo_disk.specs.Calls.{MayEndWith};
+ghost use Rattle.redo_disk.specs.Made.{MakesCalls};
 ghost use Rattle.redo_open.specs.Mend.{IsSettledData};
 ghost use Rattle.redo_open.specs.Places.{PlacesStep};
+ghost use Rattle.redo_recover.specs.Calls.{data_error_of};
 
 use crate::faults::data_fault;
 use crate::mend::mend;
@@ -29,7 +32,8 @@ pub(crate) fn open_places<D: Sectors>(
     requires settled { IfSome (D.seen part.old.dev).tells (IsSettledData shape.now) }
     requires pages { ArePagesOf shape.now pages.now }
     requires small { (p : ℕ) (content : Content) → slice_get pages.now p ≡ Some content → content.lsn < 2 ^ 61 }
-    ensures { PlacesStep D.seen shape.now pages.now part.old result part.new }
+    ensures step { PlacesStep D.seen shape.now pages.now part.old result part.new }
+    ensures calls { MakesCalls D.gives part.old.dev part.new.dev (MayEndWith (data_error_of result)) }
 {
     let mut buffer = match vec![in alloc; 0u8; shape.page_size as usize] {
         Ok(buffer) => buffer,

@@ -6,6 +6,8 @@ ghost use Rattle.model_page.specs.Copies.{place_lsn_by};
 ghost use Rattle.model_page.specs.Page.{frame_length, page_check, user_part};
 ghost use Rattle.model_page.specs.declared.content.Content.{Content};
 ghost use Rattle.redo_apply.specs.Fits.{ArePagesOf};
+ghost use Rattle.redo_disk.specs.Calls.{EndWith, error_of};
+ghost use Rattle.redo_disk.specs.Made.{MakesCalls};
 ghost use Rattle.redo_open.specs.Rewrite.{WriteStep};
 
 use model_base::{Shape, USER_START};
@@ -50,7 +52,8 @@ fn rewrite_page<D: Sectors>(
     requires buffer { length buffer.old ≡ shape.now.page_size }
     requires pages { ArePagesOf shape.now pages.now }
     requires small { (p : ℕ) (content : Content) → slice_get pages.now p ≡ Some content → content.lsn < 2 ^ 61 }
-    ensures { WriteStep D.seen shape.now pages.now page (page + 1) part.old result part.new }
+    ensures step { WriteStep D.seen shape.now pages.now page (page + 1) part.old result part.new }
+    ensures calls { MakesCalls D.gives part.old.dev part.new.dev (EndWith (error_of result)) }
 {
     part.read_page(page, buffer)?;
     let lsn = pages.lsn(page);
@@ -77,7 +80,8 @@ pub(crate) fn rewrite<D: Sectors>(
     requires buffer { length buffer.old ≡ shape.now.page_size }
     requires pages { ArePagesOf shape.now pages.now }
     requires small { (p : ℕ) (content : Content) → slice_get pages.now p ≡ Some content → content.lsn < 2 ^ 61 }
-    ensures { WriteStep D.seen shape.now pages.now 0 shape.now.pages part.old result part.new }
+    ensures step { WriteStep D.seen shape.now pages.now 0 shape.now.pages part.old result part.new }
+    ensures calls { MakesCalls D.gives part.old.dev part.new.dev (EndWith (error_of result)) }
 {
     for page in 0..shape.pages {
         rewrite_page(part, shape, pages, page, buffer)?;

@@ -1,31 +1,52 @@
 // Writing zeros.
-ghost use Rattle.std.specs.Prelude.{◌≡◌, ◌≤◌, IfOk, replicate};
-ghost use Rattle.redo_disk.specs.Seen.{IsRange, WriteStep, write_at};
+ghost use Rattle.std.specs.Prelude.{◌≡◌, ◌≤◌, ◌%◌, None, OnOk, OnErr, replicate};
+ghost use Rattle.model_base.specs.declared.limits.TheConstants.{BLOCK_SIZE};
+ghost use Rattle.redo_disk.specs.Calls.{EndWith, Writes, error_of};
+ghost use Rattle.redo_disk.specs.Made.{MakesCall, MakesCalls};
+ghost use Rattle.redo_disk.specs.Seen.{HasCause, HasSize, IsRange, OnTold, WriteStep, write_at};
+ghost use Rattle.redo_open.specs.Erase.{Erases, HasErased};
 ghost use Rattle.redo_open.specs.Zeros.{zeros};
 
 use crate::PIECE;
 use redo_disk::{DevError, Sectors};
-use std::alloc::{AllocError, Global};
 
 /// As many zeros as one call writes at the most.
-pub(crate) fn zero_piece(alloc: Global) -> Result<Vec<u8>, AllocError>
-    ensures { IfOk result (λ piece. piece.items ≡ zeros PIECE) }
+fn zero_piece() -> [u8; PIECE]
+    ensures { result ≡ zeros PIECE }
 {
-    let piece = vec![in alloc; 0u8; PIECE]?;
-    Ok(piece)
+    [0; PIECE]
 }
 
 /// Writes so many zeros from an offset on, by one call.
-pub(crate) fn write_zeros<D: Sectors>(
-    device: &mut D,
-    at: u64,
-    count: u64,
-    piece: &[u8],
-) -> Result<(), DevError>
+pub(crate) fn write_zeros<D: Sectors>(device: &mut D, at: u64, count: u64) -> Result<(), DevError>
     requires range { IsRange (D.seen device.old).size at count }
     requires few { count ≤ PIECE }
-    requires zeros { piece.now ≡ zeros PIECE }
-    ensures { WriteStep (write_at at (replicate count 0)) (D.seen device.old) result (D.seen device.new) }
+    ensures step { WriteStep (write_at at (replicate count 0)) (D.seen device.old) result (D.seen device.new) }
+    ensures gives { MakesCall D.gives device.old (Writes (write_at at (replicate count 0)) result) device.new }
 {
+    let piece = zero_piece();
     device.write(at, &piece[..count as usize])
+}
+
+/// Fills the device with zeros from one offset up to another, by as few writes as that takes.
+pub(crate) fn erase<D: Sectors>(device: &mut D, from: u64, end: u64) -> Result<(), DevError>
+    requires aligned { from % BLOCK_SIZE ≡ 0 }
+    requires whole { end % BLOCK_SIZE ≡ 0 }
+    requires order { from ≤ end }
+    requires within { end ≤ (D.seen device.old).size }
+    ensures ok { OnOk result (OnTold (D.seen device.old).tells (D.seen device.new).tells
+        (λ old new. HasSize (D.seen device.old).size old → HasErased (D.seen device.old).size from end old new)) }
+    ensures err { OnErr result (OnTold (D.seen device.old).tells (D.seen device.new).tells
+        (λ old new. HasSize (D.seen device.old).size old → Erases (D.seen device.old).size from end old new)) }
+    ensures size { (D.seen device.new).size ≡ (D.seen device.old).size }
+    ensures cause { HasCause (D.seen device.old).faults (D.seen device.new).faults result }
+    ensures calls { MakesCalls D.gives device.old device.new (EndWith (error_of result)) }
+{
+    let mut at = from;
+    while at < end {
+        let count = (end - at).min(PIECE as u64);
+        write_zeros(device, at, count)?;
+        at += count;
+    }
+    Ok(())
 }

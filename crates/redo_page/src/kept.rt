@@ -1,5 +1,5 @@
 // Which bytes of an image of the data device a page's content is read from.
-ghost use Rattle.std.specs.Prelude.{◌≡◌, ◌+◌, ◌≤◌, ◌<◌, length, IfOk, MatchOption};
+ghost use Rattle.std.specs.Prelude.{◌≡◌, ◌+◌, ◌*◌, ◌≤◌, ◌<◌, length, IfOk, MatchOption};
 ghost use Rattle.model_base.specs.Limits.{IsWithinLimits};
 ghost use Rattle.model_page.specs.Copies.{data_device_length, stretch_at, IsBestCopy, HasNoCopy};
 ghost use Rattle.model_page.specs.Copies.{IsKept, IsLost};
@@ -14,8 +14,7 @@ use std::alloc::{AllocError, Global};
 #[tactic(auto, unfolding(model_page::specs::Copies::stretch_at))]
 fn stretch_at<'a>(image: &'a [u8], shape: &Shape, n: u32) -> &'a [u8]
     requires limits { IsWithinLimits shape.now }
-    requires device { data_device_length shape.now ≤ length image.now }
-    requires inside { n < shape.now.slots + shape.now.pages }
+    requires inside { (n + 1) * shape.now.page_size ≤ length image.now }
     ensures bytes { result.now ≡ stretch_at shape.now n image.now }
     ensures whole { length result.now ≡ shape.now.page_size }
 {
@@ -25,10 +24,10 @@ fn stretch_at<'a>(image: &'a [u8], shape: &Shape, n: u32) -> &'a [u8]
 }
 
 /// The slot and the lsn of the copy of a page that counts: of those that pass the one with the greatest lsn, in the
-/// lowest slot on a tie.
+/// lowest slot on a tie. Of the image the slots are enough.
 pub fn best_copy(image: &[u8], shape: &Shape, page: u32) -> Option<(u32, u64)>
     requires limits { IsWithinLimits shape.now }
-    requires device { data_device_length shape.now ≤ length image.now }
+    requires slots { shape.now.slots * shape.now.page_size ≤ length image.now }
     ensures { MatchOption result (HasNoCopy shape.now image.now page)
         (λ best. IsBestCopy shape.now image.now page best.0 best.1) }
 {

@@ -18,7 +18,7 @@ fn put(page: &mut [u8], at: usize, bytes: &[u8]) -> usize
 }
 
 /// Makes a page of bytes that have its user bytes in their place: the fields and the checksums go round them. What is
-/// left passes the check where its lsn is above 0; at lsn 0 it may be all zero, which is blank.
+/// left of a page of full size passes the check with these fields; it is never all zero.
 pub fn seal(page: &mut [u8], number: u32, space: u32, lsn: u64)
     requires { frame_length ≤ length page.old }
     ensures { page.new ≡ page_text number space lsn (user_part page.old) }

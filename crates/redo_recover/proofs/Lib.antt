@@ -1,3 +1,4 @@
+mod Bounds
 mod Contents
 mod Starting
 mod Unchanged
@@ -7,3 +8,4 @@ mod Paging
 mod Parsing
 mod Scanning
 mod Setting
+mod Making

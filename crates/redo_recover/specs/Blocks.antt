@@ -1,7 +1,7 @@
 -- The blocks of a log that were read from a checkpoint on.
-use Rattle.std.specs.Prelude.{ℕ, ◌≡◌, ◌≤◌, ◌*◌, List, length}
+use Rattle.std.specs.Prelude.{ℕ, ◌≡◌, ◌≢◌, ◌≤◌, ◌<◌, ◌*◌, List, length, slice_get, Some}
 use Rattle.model_base.specs.declared.shape.Shape.{Shape}
-use Rattle.model_log.specs.declared.layout.TheConstants.{BLOCK_DATA}
+use Rattle.model_log.specs.declared.layout.TheConstants.{BLOCK_HEADER, BLOCK_DATA, BLOCK_DATA_END}
 use Rattle.model_log.specs.declared.block.BlockView.{BlockView}
 use Rattle.model_store.specs.Scan.{AreBlocks, joined}
 
@@ -14,3 +14,11 @@ pub record AreBlocksOf (shape : Shape) (ckpt : ℕ) (views : List BlockView) (by
 pub record AreFew (shape : Shape) (views : List BlockView) (bytes : List ℕ) : Type 0 where
   pub few : length views ≤ shape.log_blocks
   pub short : length bytes ≤ BLOCK_DATA * length views
+
+-- the first offset, where there is one, is that of a data byte
+abbrev pub HasFirst : BlockView → Type 0
+HasFirst view = view.first ≢ 0 → (BLOCK_HEADER ≤ view.first) × (view.first < BLOCK_DATA_END)
+
+-- that of each block is
+abbrev pub HaveFirsts : List BlockView → Type 0
+HaveFirsts views = (i : ℕ) (view : BlockView) → slice_get views i ≡ Some view → HasFirst view

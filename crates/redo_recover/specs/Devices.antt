@@ -1,5 +1,5 @@
 -- What recovery says of the devices that it reads, and of the ways in which it may end.
-use Rattle.std.specs.Prelude.{ℕ, ◌≡◌, ◌≤◌, List, Option, Some, None, IfSome}
+use Rattle.std.specs.Prelude.{ℕ, ◌≡◌, ◌≤◌, ◌<◌, List, Option, Some, None, IfSome}
 use Rattle.model_device.specs.Disk.{Disk}
 use Rattle.model_store.specs.Reading.{Refuses}
 use Rattle.model_store.specs.declared.refusal.Refusal.{Refusal}
@@ -43,6 +43,12 @@ refusal_of NoMemory = None
 abbrev pub HasCauseIn : Option Disk → Option Disk → RecFault → Type 0
 HasCauseIn log data_told fault =
     IfSome (refusal_of fault) (λ cause. OnContents log data_told (λ log_bytes data_bytes. Refuses log_bytes data_bytes cause))
+
+-- a device that is answered to be too short is so, whatever the devices tell
+abbrev pub HasLengthCause : ℕ → ℕ → RecFault → Type 0
+HasLengthCause log_size data_size (SmallLog n) = log_size < n
+HasLengthCause log_size data_size (SmallData n) = data_size < n
+HasLengthCause log_size data_size _ = Unit {0}
 
 -- the fault of a program whose log device answered this
 abbrev pub log_fault_of : DevError → RecFault

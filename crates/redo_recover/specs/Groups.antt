@@ -1,12 +1,14 @@
 -- What reading groups one after another off some bytes gives.
-use Rattle.std.specs.Prelude.{ℕ, ◌≡◌, ◌≤◌, ◌+◌, ◌-◌, List, [], length, take, drop, Option, Some, None, ⊤}
+use Rattle.std.specs.Prelude.{ℕ, ◌≡◌, ◌≤◌, ◌+◌, ◌-◌, ◌*◌, List, [], length, take, drop, Option, Some, None, ⊤}
+use Rattle.std.specs.List.{AllByRecursion}
+use Rattle.model_base.specs.declared.limits.TheConstants.{BLOCK_SIZE}
 use Rattle.model_base.specs.declared.shape.Shape.{Shape}
 use Rattle.model_number.specs.declared.got.Got.{Got}
 use Rattle.model_number.specs.declared.got.Got.TheVariants.{Value, Short, Bad}
 use Rattle.model_record.specs.Group.{group_text, IsFront}
 use Rattle.model_record.specs.declared.rec.Rec.{Rec}
 use Rattle.model_record.specs.declared.group.Whole.{Whole}
-use Rattle.model_log.specs.Lsn.{sn_of}
+use Rattle.model_log.specs.Lsn.{sn_of, IsDataLsn}
 use Rattle.model_log.specs.declared.layout.TheConstants.{BLOCK_HEADER}
 use Rattle.model_store.specs.Scan.{IsStorable, AreGroups, HasNoStorable, IsBadRecord, lsn_at}
 use Rattle.redo_recover.specs.declared.fault.RecFault.{RecFault}
@@ -35,6 +37,14 @@ pub record BreakAt (shape : Shape) (bytes : List ℕ) (start lsn : ℕ) : Type 0
   pub no_storable : HasNoStorable shape rest
   pub no_rest : IsFront rest → ⊥
   pub at : lsn ≡ end_of start (spans_of wholes)
+
+-- The log ends at a data byte behind the checkpoint, at most at the first one of the block where the log has gone round,
+-- and none of the groups ends behind that.
+pub record IsEndOf (shape : Shape) (ckpt : ℕ) (wholes : List Whole) (end : ℕ) : Type 0 where
+  pub place : IsDataLsn end
+  pub from : ckpt + BLOCK_HEADER ≤ end
+  pub up_to : end ≤ ckpt + BLOCK_SIZE * shape.log_blocks + BLOCK_HEADER
+  pub groups : AllByRecursion (λ (whole : Whole). whole.end ≤ end) wholes
 
 -- why no groups are read off the bytes from the lsn `start` on
 abbrev pub IsBreakFault : Shape → List ℕ → ℕ → RecFault → Type 0

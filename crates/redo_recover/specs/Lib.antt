@@ -1,4 +1,5 @@
 pub mod Blocks
+pub mod Calls
 pub mod Devices
 pub mod Groups
 pub mod Pages

@@ -6,6 +6,8 @@ use Rattle.model_log.specs.Device.{log_device_length}
 use Rattle.model_page.specs.Copies.{data_device_length}
 use Rattle.model_store.specs.Reading.{Reading}
 use Rattle.redo_apply.specs.Fits.{ArePagesOf}
+use Rattle.redo_recover.specs.Groups.{IsEndOf}
+use Rattle.redo_recover.specs.Pages.{AreNotAhead}
 use Rattle.redo_recover.specs.declared.recovered.Recovered.{Recovered}
 
 -- what was recovered
@@ -21,7 +23,8 @@ reading_of recovered = record {
 }
 
 -- What is known of it whatever the devices tell: the sizes are within the limits and the devices long enough for them,
--- the checkpoint stands at the lsn of a block, and there is each of the pages.
+-- the checkpoint stands at the lsn of a block, the log ends within a round behind it, and there is each of the pages, none
+-- of them ahead of that.
 pub record IsOfDevices (log_size data_size : ℕ) (recovered : Recovered) : Type 0 where
   pub limits : IsWithinLimits recovered.shape
   pub log_long : log_device_length recovered.shape ≤ log_size
@@ -30,3 +33,5 @@ pub record IsOfDevices (log_size data_size : ℕ) (recovered : Recovered) : Type
   pub started : START_LSN ≤ recovered.ckpt
   pub small : recovered.ckpt < LSN_LIMIT
   pub its_pages : ArePagesOf recovered.shape recovered.pages
+  pub end : IsEndOf recovered.shape recovered.ckpt recovered.groups.items recovered.end
+  pub not_ahead : AreNotAhead recovered.pages recovered.end

@@ -6,8 +6,11 @@ ghost use Rattle.model_log.specs.Block.{is_full, read_block};
 ghost use Rattle.model_log.specs.Device.{log_device_length};
 ghost use Rattle.model_log.specs.Lsn.{offset_of};
 ghost use Rattle.model_store.specs.Scan.{groups_start};
+ghost use Rattle.redo_disk.specs.Calls.{error_of};
+ghost use Rattle.redo_disk.specs.Made.{MakesCalls};
 ghost use Rattle.redo_disk.specs.declared.error.DevError.{DevError};
-ghost use Rattle.redo_recover.specs.Blocks.{AreBlocksOf, AreFew};
+ghost use Rattle.redo_recover.specs.Blocks.{AreBlocksOf, AreFew, HasFirst, HaveFirsts};
+ghost use Rattle.redo_recover.specs.Calls.{ReadsPieces};
 ghost use Rattle.redo_recover.specs.Devices.{IsUnchanged, OnContent};
 ghost use Rattle.redo_recover.specs.Piece.{HasSector};
 
@@ -66,8 +69,10 @@ pub(crate) fn read_blocks<L: Sectors>(
     requires small { ckpt < 2 ^ 60 }
     ensures blocks { IfOk result (λ blocks. OnContent (L.seen log.old).tells (AreBlocksOf shape.now ckpt blocks.views.items blocks.joined.items)) }
     ensures few { IfOk result (λ blocks. AreFew shape.now blocks.views.items blocks.joined.items) }
+    ensures firsts { IfOk result (λ blocks. HaveFirsts blocks.views.items) }
     ensures unchanged { IsUnchanged (L.seen log.old) (L.seen log.new) }
     ensures failed { IsErrOf result DevError.Failed → HasRisen (L.seen log.old).faults (L.seen log.new).faults }
+    ensures calls { MakesCalls L.gives log.old log.new (ReadsPieces (error_of result)) }
 {
     let mut views = Vec::new(alloc);
     let mut joined = Vec::new(alloc);
@@ -97,6 +102,7 @@ pub(crate) fn read_blocks<L: Sectors>(
 fn taken(block: &[u8; 512], lsn: u64) -> Option<BlockView>
     ensures view { result ≡ (if nat_lt lsn LSN_LIMIT then read_block lsn block.now else None) }
     ensures length { IfSome result (λ view. (12 ≤ view.length) × (view.length ≤ BLOCK_SIZE)) }
+    ensures first { IfSome result HasFirst }
 {
     if lsn < LSN_LIMIT {
         read(block, lsn)

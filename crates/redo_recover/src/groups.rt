@@ -1,11 +1,11 @@
 // The groups in the data of a log.
-ghost use Rattle.std.specs.Prelude.{◌≡◌, ◌+◌, ◌-◌, ◌≤◌, ◌<◌, ◌^◌, length, drop, IfOk, IfErr};
+ghost use Rattle.std.specs.Prelude.{◌≡◌, ◌+◌, ◌-◌, ◌≤◌, ◌<◌, ◌%◌, ◌^◌, length, drop, IfOk, IfErr};
 ghost use Rattle.model_base.specs.Limits.{IsWithinLimits};
 ghost use Rattle.model_record.specs.Group.{group_text};
 ghost use Rattle.model_log.specs.Lsn.{sn_of};
 ghost use Rattle.model_store.specs.Scan.{groups_start};
-ghost use Rattle.redo_recover.specs.Blocks.{AreFew};
-ghost use Rattle.redo_recover.specs.Groups.{GivesStorable, EndAt, IsBreakFault, AreParsed, IsParseFault};
+ghost use Rattle.redo_recover.specs.Blocks.{AreFew, HaveFirsts};
+ghost use Rattle.redo_recover.specs.Groups.{GivesStorable, EndAt, IsBreakFault, AreParsed, IsEndOf, IsParseFault};
 
 use crate::RecFault;
 use crate::blocks::{Blocks, groups_start};
@@ -86,9 +86,12 @@ pub(crate) fn parse(
 ) -> Result<(Vec<Whole>, u64), RecFault>
     requires limits { IsWithinLimits shape.now }
     requires few { AreFew shape.now blocks.now.views.items blocks.now.joined.items }
+    requires firsts { HaveFirsts blocks.now.views.items }
+    requires aligned { ckpt % BLOCK_SIZE ≡ 0 }
     requires small { ckpt < 2 ^ 60 }
     ensures parsed { IfOk result (λ found. AreParsed ckpt (length blocks.now.views.items) shape.now blocks.now.joined.items
         (groups_start ckpt blocks.now.views.items) found.0.items found.1) }
+    ensures end { IfOk result (λ found. IsEndOf shape.now ckpt found.0.items found.1) }
     ensures fault { IfErr result (IsParseFault ckpt shape.now blocks.now.joined.items (groups_start ckpt blocks.now.views.items)) }
 {
     let Some(start) = groups_start(ckpt, blocks.views.as_slice()) else {

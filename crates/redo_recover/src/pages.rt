@@ -1,13 +1,17 @@
 // The pages of a store: as they are kept, judged, and with the scanned groups applied.
-ghost use Rattle.std.specs.Prelude.{◌≡◌, ◌≤◌, ◌<◌, nat_le, if◌then◌else◌, length, slice_get, slice_set, All, IfOk, IfErr, IfSome, IsErrOf};
+ghost use Rattle.std.specs.Prelude.{ℕ, ◌≡◌, ◌≤◌, ◌<◌, nat_le, if◌then◌else◌, length, slice_get, slice_set, All, IfOk, IfErr, IfSome, IsErrOf};
 ghost use Rattle.model_base.specs.Count.{HasRisen};
 ghost use Rattle.model_base.specs.Limits.{IsWithinLimits};
 ghost use Rattle.model_page.specs.Copies.{data_device_length};
 ghost use Rattle.model_record.specs.Fits.{GroupFits};
+ghost use Rattle.model_record.specs.declared.group.Whole.{Whole};
+ghost use Rattle.std.specs.List.{AllByRecursion};
 ghost use Rattle.model_store.specs.Apply.{page_after};
 ghost use Rattle.model_store.specs.Reading.{AreReadPages, replayed};
 ghost use Rattle.redo_apply.specs.Fits.{ArePagesOf};
-ghost use Rattle.redo_recover.specs.Devices.{IsUnchanged, OnContent};
+ghost use Rattle.redo_disk.specs.Made.{MakesCalls};
+ghost use Rattle.redo_recover.specs.Calls.{ReadsPieces, data_error_of};
+ghost use Rattle.redo_recover.specs.Devices.{HasLengthCause, IsUnchanged, OnContent};
 ghost use Rattle.redo_recover.specs.Pages.{AreKept, IsKeptFault, AreNotAhead, IsAheadFault, AreReplayed, HasPageCause};
 
 use crate::RecFault;
@@ -105,8 +109,11 @@ fn pages_of(
     requires limits { IsWithinLimits shape.now }
     requires long { data_device_length shape.now ≤ length data_bytes.now }
     requires fit { All (λ whole. GroupFits shape.now whole.group) groups.now }
+    requires ends { AllByRecursion (λ (whole : Whole). whole.end ≤ end) groups.now }
     ensures pages { IfOk result (AreReadPages shape.now data_bytes.now groups.now end) }
     ensures its_pages { IfOk result (ArePagesOf shape.now) }
+    ensures not_ahead { IfOk result (λ pages. AreNotAhead pages end) }
+    ensures lengths { (log_size data_size : ℕ) → IfErr result (HasLengthCause log_size data_size) }
     ensures cause { IfErr result (λ fault. HasPageCause shape.now end fault data_bytes.now) }
     ensures no_device { (IsErrOf result RecFault.LogDev → ⊥) × (IsErrOf result RecFault.DataDev → ⊥) }
 {
@@ -127,12 +134,16 @@ pub(crate) fn read_pages<D: Sectors>(
     requires limits { IsWithinLimits shape.now }
     requires long { data_device_length shape.now ≤ (D.seen device.old).size }
     requires fit { All (λ whole. GroupFits shape.now whole.group) groups.now }
+    requires ends { AllByRecursion (λ (whole : Whole). whole.end ≤ end) groups.now }
     ensures pages { IfOk result (λ pages. OnContent (D.seen device.old).tells
         (λ content. AreReadPages shape.now content groups.now end pages)) }
     ensures its_pages { IfOk result (ArePagesOf shape.now) }
+    ensures not_ahead { IfOk result (λ pages. AreNotAhead pages end) }
+    ensures lengths { (log_size data_size : ℕ) → IfErr result (HasLengthCause log_size data_size) }
     ensures cause { IfErr result (λ fault. OnContent (D.seen device.old).tells (HasPageCause shape.now end fault)) }
     ensures unchanged { IsUnchanged (D.seen device.old) (D.seen device.new) }
     ensures failed { IsErrOf result RecFault.DataDev → HasRisen (D.seen device.old).faults (D.seen device.new).faults }
+    ensures calls { MakesCalls D.gives device.old device.new (ReadsPieces (data_error_of result)) }
     ensures apart { IsErrOf result RecFault.LogDev → ⊥ }
 {
     let len = u64::from(shape.slots + shape.pages) * u64::from(shape.page_size);

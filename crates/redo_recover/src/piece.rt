@@ -2,8 +2,11 @@
 ghost use Rattle.std.specs.Prelude.{◌≡◌, ◌≤◌, ◌<◌, ◌+◌, ◌-◌, ◌%◌, length, take, IfOk, IsErrOf, IsTrue, ◌↔◌, ◌^◌};
 ghost use Rattle.model_base.specs.Count.{HasRisen};
 ghost use Rattle.model_log.specs.Device.{sector_at};
+ghost use Rattle.redo_disk.specs.Calls.{error_of};
+ghost use Rattle.redo_disk.specs.Made.{MakesCalls};
 ghost use Rattle.redo_disk.specs.Seen.{IsRange, part};
 ghost use Rattle.redo_disk.specs.declared.error.DevError.{DevError};
+ghost use Rattle.redo_recover.specs.Calls.{ReadsPieces};
 ghost use Rattle.redo_recover.specs.Devices.{IsUnchanged, OnContent};
 ghost use Rattle.redo_recover.specs.Piece.{IsPieceOf, HasSector};
 
@@ -56,6 +59,7 @@ impl Piece {
             → OnContent (D.seen device.old).tells (IsPieceOf piece)) }
         ensures unchanged { IsUnchanged (D.seen device.old) (D.seen device.new) }
         ensures failed { IsErrOf result DevError.Failed → HasRisen (D.seen device.old).faults (D.seen device.new).faults }
+        ensures calls { MakesCalls D.gives device.old device.new (ReadsPieces (error_of result)) }
     {
         if self.has_sector(at) {
             return Ok(self);
@@ -84,11 +88,13 @@ pub(crate) fn read_part<D: Sectors>(
     at: u64,
     count: usize,
 ) -> Result<Vec<u8>, DevError>
-    requires { IsRange (D.seen device.old).size at count }
+    requires range { IsRange (D.seen device.old).size at count }
+    requires few { count ≤ PIECE }
     ensures content { IfOk result (λ bytes. OnContent (D.seen device.old).tells (λ content. bytes.items ≡ part content at count)) }
     ensures count { IfOk result (λ bytes. length bytes.items ≡ count) }
     ensures unchanged { IsUnchanged (D.seen device.old) (D.seen device.new) }
     ensures failed { IsErrOf result DevError.Failed → HasRisen (D.seen device.old).faults (D.seen device.new).faults }
+    ensures calls { MakesCalls D.gives device.old device.new (ReadsPieces (error_of result)) }
 {
     let mut bytes = vec![in alloc; 0u8; count]?;
     device.read(at, bytes.as_mut_slice())?;
@@ -107,6 +113,7 @@ pub(crate) fn read_front<D: Sectors>(
     ensures count { IfOk result (λ bytes. length bytes.items ≡ len) }
     ensures unchanged { IsUnchanged (D.seen device.old) (D.seen device.new) }
     ensures failed { IsErrOf result DevError.Failed → HasRisen (D.seen device.old).faults (D.seen device.new).faults }
+    ensures calls { MakesCalls D.gives device.old device.new (ReadsPieces (error_of result)) }
 {
     let mut bytes = Vec::with_capacity(alloc, len as usize)?;
     'pieces: while (bytes.len() as u64) < len {

@@ -1,8 +1,11 @@
 // Recovery.
-ghost use Rattle.std.specs.Prelude.{◌≡◌, IfOk, IfErr, IsErrOf};
+ghost use Rattle.std.specs.Prelude.{◌≡◌, IfOk, IfErr, IfSome, IsErrOf};
 ghost use Rattle.model_base.specs.Count.{HasRisen};
 ghost use Rattle.model_store.specs.Reading.{IsReading};
-ghost use Rattle.redo_recover.specs.Devices.{HasCauseIn, IsUnchanged, OnContents};
+ghost use Rattle.redo_disk.specs.Seen.{HasSize};
+ghost use Rattle.redo_disk.specs.Made.{MakesCalls};
+ghost use Rattle.redo_recover.specs.Calls.{ReadsLog, ReadsPieces, data_error_of, log_error_of};
+ghost use Rattle.redo_recover.specs.Devices.{HasCauseIn, HasLengthCause, IsUnchanged, OnContents};
 ghost use Rattle.redo_recover.specs.Reading.{IsOfDevices, reading_of};
 
 use crate::pages::read_pages;
@@ -25,10 +28,14 @@ pub fn recover<L: Sectors, D: Sectors>(
 ) -> Result<Recovered, RecFault>
     ensures read { IfOk result (λ recovered. OnContents (L.seen log.old).tells (D.seen data_device.old).tells
         (λ log_bytes data_bytes. IsReading log_bytes data_bytes (reading_of recovered))) }
+    ensures sized { IfOk result (λ _. IfSome (D.seen data_device.old).tells (HasSize (D.seen data_device.old).size)) }
     ensures of_devices { IfOk result (IsOfDevices (L.seen log.old).size (D.seen data_device.old).size) }
+    ensures lengths { IfErr result (HasLengthCause (L.seen log.old).size (D.seen data_device.old).size) }
     ensures cause { IfErr result (HasCauseIn (L.seen log.old).tells (D.seen data_device.old).tells) }
     ensures log { IsUnchanged (L.seen log.old) (L.seen log.new) }
     ensures data_device { IsUnchanged (D.seen data_device.old) (D.seen data_device.new) }
+    ensures log_calls { MakesCalls L.gives log.old log.new (ReadsLog (L.seen log.old).size (log_error_of result)) }
+    ensures data_calls { MakesCalls D.gives data_device.old data_device.new (ReadsPieces (data_error_of result)) }
     ensures log_failed { IsErrOf result RecFault.LogDev → HasRisen (L.seen log.old).faults (L.seen log.new).faults }
     ensures data_failed { IsErrOf result RecFault.DataDev
         → HasRisen (D.seen data_device.old).faults (D.seen data_device.new).faults }
@@ -37,7 +44,7 @@ pub fn recover<L: Sectors, D: Sectors>(
         shape,
         number,
         ckpt,
-    } = read_start(alloc, log, data_device)?;
+    } = read_start(log, data_device)?;
     let Scanned { views, groups, end } = scan_log(alloc, log, &shape, ckpt)?;
     let pages = read_pages(alloc, data_device, &shape, groups.as_slice(), end)?;
     Ok(Recovered {

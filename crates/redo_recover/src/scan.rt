@@ -1,12 +1,14 @@
 // The scan of a log from a checkpoint on.
-ghost use Rattle.std.specs.Prelude.{◌≡◌, ◌≤◌, ◌<◌, ◌^◌, ◌%◌, All, IfOk, IfErr, IsErrOf};
+ghost use Rattle.std.specs.Prelude.{ℕ, ◌≡◌, ◌≤◌, ◌<◌, ◌^◌, ◌%◌, All, IfOk, IfErr, IsErrOf};
 ghost use Rattle.model_base.specs.Count.{HasRisen};
 ghost use Rattle.model_base.specs.Limits.{IsWithinLimits};
 ghost use Rattle.model_log.specs.Device.{log_device_length};
 ghost use Rattle.model_record.specs.Fits.{GroupFits};
 ghost use Rattle.model_store.specs.Scan.{IsScan};
-ghost use Rattle.redo_recover.specs.Devices.{IsUnchanged, OnContent};
-ghost use Rattle.redo_recover.specs.Groups.{IsScanFault};
+ghost use Rattle.redo_disk.specs.Made.{MakesCalls};
+ghost use Rattle.redo_recover.specs.Calls.{ReadsPieces, log_error_of};
+ghost use Rattle.redo_recover.specs.Devices.{HasLengthCause, IsUnchanged, OnContent};
+ghost use Rattle.redo_recover.specs.Groups.{IsEndOf, IsScanFault};
 
 use crate::RecFault;
 use crate::blocks::{Blocks, read_blocks};
@@ -40,10 +42,13 @@ pub(crate) fn scan_log<L: Sectors>(
     requires small { ckpt < 2 ^ 60 }
     ensures scan { IfOk result (λ scanned. OnContent (L.seen log.old).tells
         (λ content. IsScan shape.now content ckpt scanned.views.items scanned.groups.items scanned.end)) }
+    ensures end { IfOk result (λ scanned. IsEndOf shape.now ckpt scanned.groups.items scanned.end) }
     ensures fit { IfOk result (λ scanned. All (λ whole. GroupFits shape.now whole.group) scanned.groups.items) }
     ensures fault { IfErr result (λ fault. OnContent (L.seen log.old).tells (λ content. IsScanFault shape.now ckpt content fault)) }
+    ensures lengths { (log_size data_size : ℕ) → IfErr result (HasLengthCause log_size data_size) }
     ensures unchanged { IsUnchanged (L.seen log.old) (L.seen log.new) }
     ensures failed { IsErrOf result RecFault.LogDev → HasRisen (L.seen log.old).faults (L.seen log.new).faults }
+    ensures calls { MakesCalls L.gives log.old log.new (ReadsPieces (log_error_of result)) }
     ensures apart { IsErrOf result RecFault.DataDev → ⊥ }
 {
     let blocks = match read_blocks(alloc, log, shape, ckpt) {

@@ -5,17 +5,22 @@ ghost use Rattle.model_base.specs.Limits.{IsWithinLimits};
 ghost use Rattle.model_log.specs.Device.{header_block, newer, newest_checkpoint, log_device_length};
 ghost use Rattle.model_log.specs.Head.{read_head};
 ghost use Rattle.model_page.specs.Copies.{data_device_length};
-ghost use Rattle.redo_recover.specs.Devices.{HasCauseIn, IsUnchanged, OnContents};
+ghost use Rattle.redo_disk.specs.Seen.{HasSize};
+ghost use Rattle.redo_disk.specs.Made.{MakesCalls};
+ghost use Rattle.redo_recover.specs.Calls.{ReadsLog, log_error_of};
+ghost use Rattle.redo_recover.specs.Devices.{HasCauseIn, HasLengthCause, IsUnchanged, OnContents};
 ghost use Rattle.redo_recover.specs.Start.{IsHeadFault, IsLengthFault, IsStart, IsUsable};
 
 use crate::RecFault;
 use crate::errors::log_fault;
-use crate::piece::{read_part, sector_at};
+use crate::piece::sector_at;
 use model_base::{BLOCK_SIZE, Shape};
 use model_log::HEADER_BYTES;
 use redo_disk::Sectors;
 use redo_header::{Head, read_ckpt, read_head};
-use std::alloc::Global;
+
+/// Bytes of the header blocks.
+const HEADER: usize = HEADER_BYTES as usize;
 
 /// The sizes of a store, and its newest checkpoint.
 #[derive(Clone, Copy, Debug, PartialEq, Eq)]
@@ -90,26 +95,29 @@ fn newest_in(header: &[u8], shape: &Shape) -> Option<(u64, u64)>
 
 /// Reads the header of the log device, and judges both devices by it.
 pub(crate) fn read_start<L: Sectors, D: Sectors>(
-    alloc: Global,
     log: &mut L,
     device: &D,
 ) -> Result<Start, RecFault>
     ensures start { IfOk result (λ start. OnContents (L.seen log.old).tells (D.seen device.now).tells
         (λ log_bytes data_bytes. IsStart log_bytes data_bytes start)) }
+    ensures sized { IfOk result (λ _. IfSome (D.seen device.now).tells (HasSize (D.seen device.now).size)) }
     ensures usable { IfOk result (IsUsable (L.seen log.old).size (D.seen device.now).size) }
+    ensures lengths { IfErr result (HasLengthCause (L.seen log.old).size (D.seen device.now).size) }
     ensures cause { IfErr result (HasCauseIn (L.seen log.old).tells (D.seen device.now).tells) }
     ensures unchanged { IsUnchanged (L.seen log.old) (L.seen log.new) }
     ensures failed { IsErrOf result RecFault.LogDev → HasRisen (L.seen log.old).faults (L.seen log.new).faults }
+    ensures calls { MakesCalls L.gives log.old log.new (ReadsLog (L.seen log.old).size (log_error_of result)) }
     ensures apart { IsErrOf result RecFault.DataDev → ⊥ }
 {
     let log_len = log.len();
     if log_len < HEADER_BYTES {
         return Err(RecFault::SmallLog(HEADER_BYTES));
     }
-    let header = match read_part(alloc, log, 0, HEADER_BYTES as usize) {
-        Ok(header) => header,
+    let mut header = [0; HEADER];
+    match log.read(0, &mut header) {
+        Ok(()) => {}
         Err(error) => return Err(log_fault(error)),
-    };
+    }
     let shape = shape_in(&header)?;
     check_lengths(&shape, log_len, device.len())?;
     match newest_in(&header, &shape) {

@@ -1,3 +1,4 @@
+pub mod Misfits
 pub mod Cutting
 pub mod FirstScript
 pub mod FrontLemmas

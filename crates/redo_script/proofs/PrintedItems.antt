@@ -1,5 +1,5 @@
 -- A printed operation is read as that operation.
-use Rattle.std.proofs.Common.{ℕ, ◌≡◌, ◌+◌, ◌^◌, ◌<◌, ◌≤◌, inl, inr, false, List, [], ◌∷◌, codes, map, length, get_or, Some, refl, ap, arith}
+use Rattle.std.proofs.Common.{ℕ, ◌≡◌, ◌+◌, ◌^◌, ◌<◌, ◌≤◌, inl, inr, false, List, [], ◌∷◌, codes, map, length, get_or, Some, refl, ap, ◌∙◌, arith}
 use Rattle.std.specs.List.{All, AllByRecursion}
 use Rattle.std.specs.Fmt.{decimal}
 use Rattle.std.specs.Str.{bytes_eq}
@@ -115,3 +115,6 @@ pub items_of-texts : (items : List Item) → AllByRecursion IsInRange items → 
 items_of-texts [] are = refl
 items_of-texts (item ∷ items) are =
     rw (words_of-item_text item are.0, item_of-words item are.0, items_of-texts items are.1) refl
+
+pub item_of-item_text : (item : Item) → IsInRange item → item_of (words_of (item_text item)) ≡ Some item
+item_of-item_text item is = ap item_of (words_of-item_text item is) ∙ item_of-words item is

@@ -2,3 +2,4 @@ pub mod Cut
 pub mod Fault
 pub mod FirstPath
 pub mod Progress
+pub mod Judged

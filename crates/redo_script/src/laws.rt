@@ -3,9 +3,10 @@ ghost use Rattle.std.specs.Prelude.{◌≡◌, ◌≤◌, ℕ, List, Some, Ok};
 ghost use Rattle.redo_script.specs.FirstPath.{first_path_script};
 ghost use Rattle.std.specs.List.{AllByRecursion};
 ghost use Rattle.model_script.specs.Generator.{generated_lines, generated_text};
-ghost use Rattle.model_script.specs.Grammar.{script_line_of, script_of};
-ghost use Rattle.model_script.specs.Ranges.{IsScriptLine};
-ghost use Rattle.model_script.specs.Spelling.{script_line_text, script_text};
+ghost use Rattle.model_script.specs.Grammar.{item_of, script_line_of, script_of, words_of};
+ghost use Rattle.model_script.specs.Ranges.{IsInRange, IsScriptLine};
+ghost use Rattle.model_script.specs.Spelling.{item_text, script_line_text, script_text};
+ghost use Rattle.model_script.specs.declared.item.Item.{Item};
 ghost use Rattle.model_script.specs.declared.misfit.TheConstants.{MAX_USERS};
 ghost use Rattle.model_script.specs.declared.script.ScriptLine.{ScriptLine};
 
@@ -13,6 +14,11 @@ ghost use Rattle.model_script.specs.declared.script.ScriptLine.{ScriptLine};
 pub fn first_path_is_script()
     ensures { (text : List ℕ) (script : List ScriptLine)
         → first_path_script text ≡ Ok script → script_of text ≡ Ok script }
+{}
+
+/// An operation whose numbers are in their ranges is read back from its text as that operation.
+pub fn printed_operation_reads_back()
+    ensures { (item : Item) → IsInRange item → item_of (words_of (item_text item)) ≡ Some item }
 {}
 
 /// A line whose numbers are in their ranges is read back from its text as that line.

@@ -1,5 +1,5 @@
 -- What the texts of a batch in the buffer make of the calls.
-use Rattle.std.proofs.Common.{◌≡◌, ◌<◌, ◌++◌, ℕ, Bool, false, List, length, take, drop, Option, None, is_some, sym, ap, subst, ◌∙◌, get_or}
+use Rattle.std.proofs.Common.{◌≡◌, ◌≤◌, ◌<◌, ◌++◌, IfSome, arith, ℕ, Bool, false, List, length, take, drop, Option, None, is_some, sym, ap, subst, ◌∙◌, get_or}
 use Rattle.std.proofs.lemmas.List.{take_at}
 use Rattle.model_base.specs.Limits.{IsWithinLimits}
 use Rattle.model_base.specs.declared.shape.Shape.{Shape}
@@ -11,9 +11,14 @@ use Rattle.model_datadev.specs.Batch.{Fresh, IsBatch, IsWritable, batch_of, batc
 use Rattle.model_datadev.specs.Steps.{IsPutOrNot, after_both, FailsBoth}
 use Rattle.model_datadev.specs.Stored.{Stored, IsUpTo}
 use Rattle.model_datadev.proofs.Joined.{batch-from}
-use Rattle.redo_disk.specs.Seen.{write_at}
+use Rattle.model_page.specs.Copies.{data_device_length}
+use Rattle.redo_dblwr.proofs.Tells.{told-both}
+use Rattle.redo_disk.specs.Calls.{Call, Serve, put_requests}
+use Rattle.redo_disk.specs.Made.{MakesCalls}
+use Rattle.redo_disk.specs.Seen.{HasSize, write_at}
 use Rattle.redo_disk.specs.declared.error.DevError.{DevError}
 use Rattle.redo_store.specs.Places.{text_writes}
+use Rattle.redo_store.specs.Requests.{all_put, batch_requests}
 use Rattle.redo_store.proofs.TextWrites.{text_writes-batch}
 
 -- the texts in the buffer are those of the batch
@@ -62,3 +67,17 @@ put-is shape pairs users texts old new are done = done ∙ ap (λ (w : Write). s
 
 pub put_fails-is : (shape : Shape) (pairs : List (ℕ × ℕ)) (users texts : List ℕ) (old new : Disk) → AreTexts shape pairs users texts → IsPutOrNot (write_at 0 texts) old new → IsPutOrNot (slots_write shape (batch_of pairs users)) old new
 put_fails-is shape pairs users texts old new are fails = subst (λ (w : Write). IsPutOrNot w old new) are.slots fails
+
+-- the calls that are made of the texts are those of the batch
+pub both-asked : {D : Type 0} (gives : D → Call → D → Type 0) (old new : D) (shape : Shape) (pairs : List (ℕ × ℕ)) (users texts : List ℕ) (error : Option DevError) → AreTexts shape pairs users texts
+    → MakesCalls gives old new (Serve (put_requests (write_at 0 texts) ++ all_put (text_writes shape pairs texts)) error)
+    → MakesCalls gives old new (Serve (batch_requests shape (batch_of pairs users)) error)
+both-asked gives old new shape pairs users texts error are made =
+    subst (λ (ws : List Write). MakesCalls gives old new (Serve (put_requests (slots_write shape (batch_of pairs users)) ++ all_put ws) error)) are.places
+    (subst (λ (w : Write). MakesCalls gives old new (Serve (put_requests w ++ all_put (text_writes shape pairs texts)) error)) are.slots made)
+
+-- what is known of a device that is as long as a store asks
+pub long-known : (told : Option Disk) (shape : Shape) (size : ℕ) (P : Disk → Type 0) → data_device_length shape ≤ size → IfSome told (HasSize size) → IfSome told P
+    → IfSome told (λ (disk : Disk). (data_device_length shape ≤ length disk.base) × P disk)
+long-known told shape size P enough sized known =
+    told-both told (HasSize size) P (λ (disk : Disk). (data_device_length shape ≤ length disk.base) × P disk) (λ disk s is. (omega (arith, s.base, enough), is)) sized known

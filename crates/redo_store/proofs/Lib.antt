@@ -1,2 +1,4 @@
+pub mod Asked
 pub mod Buffered
+pub mod Repaired
 pub mod TextWrites

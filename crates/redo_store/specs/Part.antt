@@ -1,11 +1,12 @@
 -- What a data part is to its callers, and what its device holds.
-use Rattle.std.specs.Prelude.{ℕ, ◌≡◌, ◌≤◌, ◌*◌, List, Option, Some, None, Result, Ok, Err, IfSome, is_some}
+use Rattle.std.specs.Prelude.{ℕ, ◌≡◌, ◌≤◌, ◌*◌, List, Option, Result, IfSome, is_some}
 use Rattle.model_base.specs.Limits.{IsWithinLimits}
 use Rattle.model_base.specs.declared.shape.Shape.{Shape}
 use Rattle.model_page.specs.Copies.{data_device_length}
 use Rattle.model_page.specs.declared.content.Content.{Content}
 use Rattle.model_datadev.specs.Batch.{Fresh}
 use Rattle.model_datadev.specs.Stored.{Keeps, Stored, IsUpTo}
+use Rattle.redo_disk.specs.Calls.{error_of}
 use Rattle.redo_disk.specs.Seen.{Seen, HasCause}
 use Rattle.redo_disk.specs.declared.error.DevError.{DevError}
 
@@ -15,17 +16,11 @@ pub record Part (D : Type 0) : Type 0 where
   pub shape : Shape
   pub failed : Option DevError
 
--- what a call leaves as the part's failure
-abbrev pub error_of : {T : Type 0} → Result T DevError → Option DevError
-error_of (Ok value) = None
-error_of (Err error) = Some error
-
--- what each part has: a device that is long enough, and room for a batch and for one copy
-pub record IsFitted {D : Type 0} (seen : D → Seen) (dev : D) (shape : Shape) (batch_room copy_room : ℕ) : Type 0 where
+-- what each part has: a device that is long enough, and room for all slots
+pub record IsFitted {D : Type 0} (seen : D → Seen) (dev : D) (shape : Shape) (room : ℕ) : Type 0 where
   pub limits : IsWithinLimits shape
   pub long : data_device_length shape ≤ (seen dev).size
-  pub for_batch : batch_room ≡ shape.slots * shape.page_size
-  pub for_copy : copy_room ≡ shape.page_size
+  pub for_slots : room ≡ shape.slots * shape.page_size
 
 -- What each call of a part leaves: the same sizes, and its own answer as the part's failure, which has its cause.
 pub record PartStep {D T : Type 0} (seen : D → Seen) (old : Part D) (result : Result T DevError) (new : Part D) : Type 0 where

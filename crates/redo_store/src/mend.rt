@@ -1,33 +1,65 @@
-// The repair of a page: the copy that counts is put into its place.
-ghost use Rattle.std.specs.Prelude.{◌≡◌, ◌≤◌, ◌<◌, length, OnOk, OnErr};
+// The copies of a page, and its repair: the copy that counts is put into its place.
+ghost use Rattle.std.specs.Prelude.{◌≡◌, ◌≤◌, ◌<◌, ◌*◌, [], ◌∷◌, length, IfOk, IfSome, MatchOption, OnOk, OnErr};
 ghost use Rattle.model_base.specs.Limits.{IsWithinLimits};
 ghost use Rattle.model_datadev.specs.Repair.{IsPutBack, FailsPutBack};
-ghost use Rattle.model_page.specs.Copies.{data_device_length};
+ghost use Rattle.model_page.specs.Copies.{data_device_length, IsBestCopy, HasNoCopy};
+ghost use Rattle.redo_dblwr.specs.Requests.{slots_read};
+ghost use Rattle.redo_disk.specs.Calls.{Serve, error_of};
+ghost use Rattle.redo_disk.specs.Made.{MakesCalls};
 ghost use Rattle.redo_disk.specs.Seen.{HasCause, OnTold};
+ghost use Rattle.redo_store.specs.Requests.{RepairCalls};
 
-use model_base::{PAGE_SIZE, Shape};
-use redo_dblwr::{find_copy, place_at, put_bytes, read_stretch};
+use crate::places::PAGE;
+use model_base::Shape;
+use redo_dblwr::{place_at, put_bytes, read_slots};
 use redo_disk::{DevError, Sectors};
+use redo_page::best_copy;
+
+/// The slot and the lsn of the copy of a page that counts. All slots are read by one read.
+pub(crate) fn find_copy<D: Sectors>(
+    device: &mut D,
+    shape: &Shape,
+    page: u32,
+    slots: &mut [u8],
+) -> Result<Option<(u32, u64)>, DevError>
+    requires limits { IsWithinLimits shape.now }
+    requires long { data_device_length shape.now ≤ (D.seen device.old).size }
+    requires room { length slots.old ≡ shape.now.slots * shape.now.page_size }
+    ensures found { IfOk result (λ found. IfSome (D.seen device.old).tells (λ disk. MatchOption found (HasNoCopy shape.now disk.reads page)
+        (λ best. IsBestCopy shape.now disk.reads page best.0 best.1))) }
+    ensures within { IfOk result (λ found. IfSome found (λ best. best.0 < shape.now.slots)) }
+    ensures same { (D.seen device.new).tells ≡ (D.seen device.old).tells }
+    ensures size { (D.seen device.new).size ≡ (D.seen device.old).size }
+    ensures cause { HasCause (D.seen device.old).faults (D.seen device.new).faults result }
+    ensures calls { MakesCalls D.gives device.old device.new (Serve (slots_read shape.now ∷ []) (error_of result)) }
+{
+    read_slots(device, shape, slots)?;
+    Ok(best_copy(slots, shape, page))
+}
 
 /// Puts the copy of a page that counts into its place, and makes it stay.
 pub(crate) fn put_back<D: Sectors>(
     device: &mut D,
     shape: &Shape,
     page: u32,
-    buffer: &mut [u8],
+    slots: &mut [u8],
 ) -> Result<(), DevError>
     requires limits { IsWithinLimits shape.now }
     requires long { data_device_length shape.now ≤ (D.seen device.old).size }
     requires inside { page < shape.now.pages }
-    requires buffer { length buffer.old ≡ PAGE_SIZE }
+    requires room { length slots.old ≡ shape.now.slots * shape.now.page_size }
     ensures ok { OnOk result (OnTold (D.seen device.old).tells (D.seen device.new).tells (IsPutBack shape.now page)) }
     ensures err { OnErr result (OnTold (D.seen device.old).tells (D.seen device.new).tells (FailsPutBack shape.now page)) }
     ensures size { (D.seen device.new).size ≡ (D.seen device.old).size }
     ensures cause { HasCause (D.seen device.old).faults (D.seen device.new).faults result }
+    ensures calls { MakesCalls D.gives device.old device.new (RepairCalls shape.now page (error_of result)) }
 {
-    let Some((slot, _)) = find_copy(device, shape, page, buffer)? else {
-        return Ok(());
-    };
-    read_stretch(device, shape, slot, buffer)?;
-    put_bytes(device, place_at(shape, page), buffer)
+    read_slots(device, shape, slots)?;
+    match best_copy(slots, shape, page) {
+        None => Ok(()),
+        Some((slot, _)) => {
+            let from = slot as usize * PAGE;
+            put_bytes(device, place_at(shape, page), &slots[from..from + PAGE])
+        }
+    }
 }

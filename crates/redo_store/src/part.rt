@@ -1,20 +1,23 @@
 // The data part.
-ghost use Rattle.std.specs.Prelude.{◌≡◌, ◌≤◌, ◌<◌, ◌*◌, ℕ, List, [], length, None, IfOk, MatchResult, MatchOption, IfSome, OnOk, vec_len};
+ghost use Rattle.std.specs.Prelude.{◌≡◌, ◌≤◌, ◌<◌, ◌*◌, ℕ, ◌+◌, List, [], ◌∷◌, length, None, IfOk, MatchResult, MatchOption, IfSome, OnOk, vec_len};
 ghost use Rattle.model_base.specs.Limits.{IsWithinLimits};
 ghost use Rattle.model_datadev.specs.Batch.{Fresh, batch_of, after_batch, slots_write, IsWritable};
-ghost use Rattle.model_datadev.specs.Repair.{IsPutBack, IsRepairable, KeepsAll, IsRepaired};
-ghost use Rattle.model_datadev.specs.Stored.{IsLater, IsOpened, IsBefore, IsSteady, KeepsPages};
+ghost use Rattle.model_datadev.specs.Repair.{IsCopyPut, IsRepairable, KeepsAll, IsRepaired};
+ghost use Rattle.model_datadev.specs.Stored.{HasNothingPending, IsLater, IsOpened, IsBefore, IsSteady, KeepsPages};
 ghost use Rattle.model_device.specs.Calls.{written, synced};
 ghost use Rattle.model_page.specs.Copies.{data_device_length, place_bytes, IsBestCopy, HasNoCopy};
 ghost use Rattle.model_page.specs.declared.content.Content.{Content};
-ghost use Rattle.redo_disk.specs.Put.{WritesAndSyncs};
+ghost use Rattle.redo_dblwr.specs.Requests.{slots_read, stretch_read};
+ghost use Rattle.redo_disk.specs.Calls.{Serve, error_of, put_requests};
+ghost use Rattle.redo_disk.specs.Made.{MakesCalls};
 ghost use Rattle.redo_disk.specs.Seen.{OnTold};
 ghost use Rattle.redo_store.specs.Part.{PartStep, PartStores, PartKeeps};
+ghost use Rattle.redo_store.specs.Requests.{RepairCalls, batch_requests};
 
-use crate::mend::put_back;
+use crate::mend::{find_copy, put_back};
 use crate::places::{PAGE, put_both};
 use model_base::Shape;
-use redo_dblwr::{fill_texts, find_copy, put_bytes, read_stretch};
+use redo_dblwr::{fill_texts, put_bytes, read_stretch};
 use redo_disk::{DevError, Sectors};
 use redo_lsn::NoMemory;
 use std::alloc::{AllocError, Global};
@@ -26,10 +29,8 @@ use std::marker::Model;
 pub struct DataPart<D: Sectors> {
     dev: D,
     shape: Shape,
-    // room for the pages of a batch
+    // room for all slots: the pages of a batch, or the copies that are read
     buffer: Vec<u8>,
-    // room for one copy
-    page: Vec<u8>,
     failed: Option<DevError>,
 }
 
@@ -41,19 +42,15 @@ impl<D: Sectors> Model for DataPart<D> {
 
     ghost view = { λ part. record { dev = part.dev; shape = part.shape; failed = part.failed } };
 
-    ghost invariant = { λ part. IsFitted D.seen part.dev part.shape (vec_len part.buffer) (vec_len part.page) };
+    ghost invariant = { λ part. IsFitted D.seen part.dev part.shape (vec_len part.buffer) };
 }
 
-/// The room for a batch, and for one copy.
-fn make_room(alloc: Global, shape: &Shape) -> Result<(Vec<u8>, Vec<u8>), AllocError>
-    requires limits { IsWithinLimits shape.now }
-    ensures batch { IfOk result (λ room. vec_len room.0 ≡ shape.now.slots * shape.now.page_size) }
-    ensures copy { IfOk result (λ room. vec_len room.1 ≡ shape.now.page_size) }
+/// The room for all slots.
+fn make_room(alloc: Global, shape: &Shape) -> Result<Vec<u8>, AllocError>
+    requires { IsWithinLimits shape.now }
+    ensures { IfOk result (λ room. vec_len room ≡ shape.now.slots * shape.now.page_size) }
 {
-    let page = shape.page_size as usize;
-    let buffer = vec![in alloc; 0u8; shape.slots as usize * page]?;
-    let copy = vec![in alloc; 0u8; page]?;
-    Ok((buffer, copy))
+    vec![in alloc; 0u8; shape.slots as usize * shape.page_size as usize]
 }
 
 impl<D: Sectors> DataPart<D> {
@@ -68,11 +65,10 @@ impl<D: Sectors> DataPart<D> {
     {
         let shape = *shape;
         match make_room(alloc, &shape) {
-            Ok((buffer, page)) => Ok(DataPart {
+            Ok(buffer) => Ok(DataPart {
                 dev,
                 shape,
                 buffer,
-                page,
                 failed: None,
             }),
             Err(_) => Err((NoMemory, dev)),
@@ -87,7 +83,8 @@ impl<D: Sectors> DataPart<D> {
             → PartStores D.seen top was (batch_of batch.now frames.now) self.new }
         ensures slots { OnOk result (OnTold (D.seen self.old.dev).tells (D.seen self.new.dev).tells
             (λ old new. new ≡ synced (written old (slots_write self.old.shape (batch_of batch.now frames.now))))) }
-        ensures calls { WritesAndSyncs D.write_gives D.sync_gives (slots_write self.old.shape (batch_of batch.now frames.now)) self.old.dev result self.new.dev }
+        ensures calls { MakesCalls D.gives self.old.dev self.new.dev
+            (Serve (put_requests (slots_write self.old.shape (batch_of batch.now frames.now))) (error_of result)) }
         ensures step { PartStep D.seen self.old result self.new }
     {
         let len = PAGE * batch.len();
@@ -119,8 +116,12 @@ impl<D: Sectors> DataPart<D> {
             → IfSome (D.seen self.old.dev).tells (IsBefore self.old.shape was (batch_of batch.now frames.now))
             → OnOk result (IfSome (D.seen self.new.dev).tells
             (IsSteady self.old.shape (after_batch (batch_of batch.now frames.now) was))) }
+        ensures calls { MakesCalls D.gives self.old.dev self.new.dev
+            (Serve (batch_requests self.old.shape (batch_of batch.now frames.now)) (error_of result)) }
         ensures step { PartStep D.seen self.old result self.new }
     {
+        // What the device tells is as long as it says.
+        let _size = self.dev.len();
         let len = PAGE * batch.len();
         fill_texts(&mut self.buffer, &self.shape, batch, frames);
         match put_both(&mut self.dev, &self.shape, batch, &self.buffer[..len]) {
@@ -142,6 +143,8 @@ impl<D: Sectors> DataPart<D> {
         ensures stores { (top was : ℕ → Content) (batch : List Fresh)
             → PartStores D.seen top was batch self.old → PartStores D.seen top was batch self.new }
         ensures same { (D.seen self.new.dev).tells ≡ (D.seen self.old.dev).tells }
+        ensures calls { MakesCalls D.gives self.old.dev self.new.dev
+            (Serve (stretch_read self.old.shape (self.old.shape.slots + page) ∷ []) (error_of result)) }
         ensures step { PartStep D.seen self.old result self.new }
     {
         match read_stretch(&mut self.dev, &self.shape, self.shape.slots + page, out) {
@@ -163,9 +166,11 @@ impl<D: Sectors> DataPart<D> {
         ensures stores { (top was : ℕ → Content) (batch : List Fresh)
             → PartStores D.seen top was batch self.old → PartStores D.seen top was batch self.new }
         ensures same { (D.seen self.new.dev).tells ≡ (D.seen self.old.dev).tells }
+        ensures calls { MakesCalls D.gives self.old.dev self.new.dev
+            (Serve (slots_read self.old.shape ∷ []) (error_of result)) }
         ensures step { PartStep D.seen self.old result self.new }
     {
-        match find_copy(&mut self.dev, &self.shape, page, &mut self.page) {
+        match find_copy(&mut self.dev, &self.shape, page, &mut self.buffer) {
             Ok(found) => Ok(found),
             Err(error) => {
                 self.failed = Some(error);
@@ -174,19 +179,25 @@ impl<D: Sectors> DataPart<D> {
         }
     }
 
-    /// Puts the copy of a page that counts into its place, and makes it stay.
+    /// Puts the copy of a page that counts into its place, and makes it stay. Where nothing was pending, no kept page
+    /// changes, wherever it ends.
     pub fn repair(&mut self, page: u32) -> Result<(), DevError>
         requires live { self.old.failed ≡ None }
         requires page { page < self.old.shape.pages }
         requires repairable { IfSome (D.seen self.old.dev).tells (IsRepairable self.old.shape page) }
-        ensures keeps { OnTold (D.seen self.old.dev).tells (D.seen self.new.dev).tells (KeepsAll self.old.shape) }
+        ensures keeps { IfSome (D.seen self.old.dev).tells HasNothingPending
+            → OnTold (D.seen self.old.dev).tells (D.seen self.new.dev).tells (KeepsAll self.old.shape) }
         ensures put { OnOk result (OnTold (D.seen self.old.dev).tells (D.seen self.new.dev).tells
-            (IsPutBack self.old.shape page)) }
-        ensures ok { OnOk result (OnTold (D.seen self.old.dev).tells (D.seen self.new.dev).tells
+            (IsCopyPut self.old.shape page)) }
+        ensures ok { IfSome (D.seen self.old.dev).tells HasNothingPending
+            → OnOk result (OnTold (D.seen self.old.dev).tells (D.seen self.new.dev).tells
             (IsRepaired self.old.shape page)) }
+        ensures calls { MakesCalls D.gives self.old.dev self.new.dev (RepairCalls self.old.shape page (error_of result)) }
         ensures step { PartStep D.seen self.old result self.new }
     {
-        match put_back(&mut self.dev, &self.shape, page, &mut self.page) {
+        // What the device tells is as long as it says.
+        let _size = self.dev.len();
+        match put_back(&mut self.dev, &self.shape, page, &mut self.buffer) {
             Ok(()) => Ok(()),
             Err(error) => {
                 self.failed = Some(error);

@@ -1,11 +1,14 @@
 // The writes of a batch: its slots, and once they stay there each page's place.
-ghost use Rattle.std.specs.Prelude.{◌≡◌, ◌≤◌, ◌<◌, ◌*◌, ℕ, length, Some, OnOk, OnErr, slice_get};
+ghost use Rattle.std.specs.Prelude.{◌≡◌, ◌≤◌, ◌<◌, ◌*◌, ℕ, ◌++◌, length, map, Some, OnOk, OnErr, slice_get};
 ghost use Rattle.model_base.specs.Limits.{IsWithinLimits};
 ghost use Rattle.model_datadev.specs.Steps.{ArePutOrNot, FailsBoth, FailsOne, after_both, written_all};
 ghost use Rattle.model_device.specs.Calls.{synced};
 ghost use Rattle.model_page.specs.Copies.{data_device_length};
+ghost use Rattle.redo_disk.specs.Calls.{Serve, ToWrite, error_of, put_requests};
+ghost use Rattle.redo_disk.specs.Made.{MakesCalls};
 ghost use Rattle.redo_disk.specs.Seen.{HasCause, OnTold, write_at};
 ghost use Rattle.redo_store.specs.Places.{text_writes};
+ghost use Rattle.redo_store.specs.Requests.{all_put};
 
 use model_base::{PAGE_SIZE, Shape};
 use redo_dblwr::{place_at, put_bytes};
@@ -31,6 +34,7 @@ fn write_texts<D: Sectors>(
         (FailsOne (text_writes shape.now batch.now texts.now))) }
     ensures size { (D.seen device.new).size ≡ (D.seen device.old).size }
     ensures cause { HasCause (D.seen device.old).faults (D.seen device.new).faults result }
+    ensures calls { MakesCalls D.gives device.old device.new (Serve (map ToWrite (text_writes shape.now batch.now texts.now)) (error_of result)) }
 {
     for (i, (page, _)) in batch.iter().enumerate() {
         let from = i * PAGE;
@@ -56,6 +60,7 @@ fn put_texts<D: Sectors>(
         (ArePutOrNot (text_writes shape.now batch.now texts.now))) }
     ensures size { (D.seen device.new).size ≡ (D.seen device.old).size }
     ensures cause { HasCause (D.seen device.old).faults (D.seen device.new).faults result }
+    ensures calls { MakesCalls D.gives device.old device.new (Serve (all_put (text_writes shape.now batch.now texts.now)) (error_of result)) }
 {
     write_texts(device, shape, batch, texts)?;
     device.sync()
@@ -79,6 +84,8 @@ pub(crate) fn put_both<D: Sectors>(
         (FailsBoth (write_at 0 texts.now) (text_writes shape.now batch.now texts.now))) }
     ensures size { (D.seen device.new).size ≡ (D.seen device.old).size }
     ensures cause { HasCause (D.seen device.old).faults (D.seen device.new).faults result }
+    ensures calls { MakesCalls D.gives device.old device.new
+        (Serve (put_requests (write_at 0 texts.now) ++ all_put (text_writes shape.now batch.now texts.now)) (error_of result)) }
 {
     put_bytes(device, 0, texts)?;
     put_texts(device, shape, batch, texts)

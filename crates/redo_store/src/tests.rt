@@ -1,8 +1,6 @@
 // A data part over devices that fail and crash as they are told.
-ghost use Rattle.std.specs.Prelude.{◌≡◌, ◌≤◌, ◌+◌, ◌<◌, ◌*◌, length, None, IfOk, IfSome, OnOk};
+ghost use Rattle.std.specs.Prelude.{◌≡◌, ◌≤◌, ◌+◌, ◌<◌, ◌*◌, length, None, IfOk, OnOk};
 ghost use Rattle.model_base.specs.Limits.{default_shape};
-ghost use Rattle.model_device.specs.Disk.{settled};
-ghost use Rattle.model_page.specs.Copies.{data_device_length};
 
 use crate::DataPart;
 use model_base::{LSN_LIMIT, PAGE_SIZE, Shape, USER_BYTES};
@@ -37,7 +35,6 @@ fn part_over<D: Sectors + Drop>(alloc: Global, dev: D) -> Result<DataPart<D>, Fa
 fn write_eight<D: Sectors>(part: &mut DataPart<D>, lsn: u64, frames: &[u8]) -> Result<(), DevError>
     requires live { part.old.failed ≡ None }
     requires shape { part.old.shape ≡ default_shape }
-    requires some_lsn { 0 < lsn }
     requires small_lsn { lsn < LSN_LIMIT }
     requires count { length frames.now ≡ USER_BYTES * default_shape.pages }
     ensures live { OnOk result (part.new.failed ≡ None) }
@@ -194,8 +191,6 @@ fn the_newer_copy_counts(rt: HostRuntime) -> Result<(), Fail> {
 fn repair_broken<D: Sectors>(part: &mut DataPart<D>, page: u32) -> Result<(), Fail>
     requires live { part.old.failed ≡ None }
     requires page { page < part.old.shape.pages }
-    requires long { IfSome (D.seen part.old.dev).tells (λ disk. data_device_length part.old.shape ≤ length disk.base) }
-    requires nothing_pending { IfSome (D.seen part.old.dev).tells (λ disk. disk ≡ settled disk.base) }
     requires page_size { part.old.shape.page_size ≡ PAGE_SIZE }
     ensures live { IfOk result (λ _. part.new.failed ≡ None) }
     ensures shape { part.new.shape ≡ part.old.shape }
@@ -210,18 +205,12 @@ fn repair_broken<D: Sectors>(part: &mut DataPart<D>, page: u32) -> Result<(), Fa
 }
 
 /// A part of a default store over this device, once a page is repaired whose place is broken and of which a copy passes.
-fn repaired_part<D: Sectors + Drop>(
-    alloc: Global,
-    mut dev: D,
-    page: u32,
-) -> Result<DataPart<D>, Fail>
+fn repaired_part<D: Sectors + Drop>(alloc: Global, dev: D, page: u32) -> Result<DataPart<D>, Fail>
     requires device { SIZE ≤ (D.seen dev).size }
     requires page { page < default_shape.pages }
     ensures live { IfOk result (λ part. part.failed ≡ None) }
     ensures size { IfOk result (λ part. (D.seen part.dev).size ≡ (D.seen dev).size) }
 {
-    dev.sync()?;
-    let _len = dev.len();
     let mut part = part_over(alloc, dev)?;
     repair_broken(&mut part, page)?;
     Ok(part)

@@ -2,7 +2,8 @@
 ghost use Rattle.std.specs.Prelude.{◌≡◌, None, OnOk, OnErr};
 ghost use Rattle.model_log.specs.Checkpoint.{place_of};
 ghost use Rattle.model_logdev.specs.Marks.{MayBeNext, next_number, after_checkpoint, after_asked};
-ghost use Rattle.redo_disk.specs.Put.{WritesAndSyncs};
+ghost use Rattle.redo_disk.specs.Calls.{Serve, error_of, put_requests};
+ghost use Rattle.redo_disk.specs.Made.{MakesCalls};
 ghost use Rattle.redo_logdev.specs.Calls.{checkpoint_write};
 ghost use Rattle.redo_logdev.specs.Part.{Stays, KeepsNumbered};
 
@@ -28,7 +29,8 @@ impl<L: Sectors> LogPart<L> {
             ≡ after_checkpoint (next_number self.old.marks.number) lsn self.old.marks) }
         ensures err { OnErr result (self.new.marks ≡ after_asked lsn self.old.marks) }
         ensures stays { Stays L.seen self.old result self.new }
-        ensures calls { WritesAndSyncs L.write_gives L.sync_gives (checkpoint_write self.old.shape (next_number self.old.marks.number) lsn) self.old.dev result self.new.dev }
+        ensures calls { MakesCalls L.gives self.old.dev self.new.dev (Serve (put_requests
+            (checkpoint_write self.old.shape (next_number self.old.marks.number) lsn)) (error_of result)) }
         ensures holds { KeepsNumbered L.seen self.old self.new }
     {
         let number = self.marks.number.wrapping_add(1);

@@ -1,6 +1,8 @@
 // Making stable what is written.
-ghost use Rattle.std.specs.Prelude.{◌≡◌, None, OnOk, OnErr};
+ghost use Rattle.std.specs.Prelude.{◌≡◌, [], ◌∷◌, None, OnOk, OnErr};
 ghost use Rattle.model_logdev.specs.Marks.{after_synced};
+ghost use Rattle.redo_disk.specs.Calls.{Serve, ToSync, error_of};
+ghost use Rattle.redo_disk.specs.Made.{MakesCalls};
 ghost use Rattle.redo_logdev.specs.Part.{Stays, KeepsHolding};
 
 use crate::LogPart;
@@ -13,7 +15,7 @@ impl<L: Sectors> LogPart<L> {
         ensures ok { OnOk result (self.new.marks ≡ after_synced self.old.marks) }
         ensures err { OnErr result (self.new.marks ≡ self.old.marks) }
         ensures stays { Stays L.seen self.old result self.new }
-        ensures calls { L.sync_gives self.old.dev result self.new.dev }
+        ensures calls { MakesCalls L.gives self.old.dev self.new.dev (Serve (ToSync ∷ []) (error_of result)) }
         ensures holds { KeepsHolding L.seen self.old self.new }
     {
         match self.dev.sync() {

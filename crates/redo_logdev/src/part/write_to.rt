@@ -3,7 +3,9 @@ ghost use Rattle.std.specs.Prelude.{◌≡◌, ◌%◌, ◌^◌, OnOk, OnErr};
 ghost use Rattle.model_logdev.specs.Marks.{after_given, after_written};
 ghost use Rattle.model_log.specs.Boundary.{framed};
 ghost use Rattle.model_log.specs.Lsn.{block_of};
-ghost use Rattle.redo_logdev.specs.Calls.{WritesRound};
+ghost use Rattle.redo_disk.specs.Calls.{Serve, error_of};
+ghost use Rattle.redo_disk.specs.Made.{MakesCalls};
+ghost use Rattle.redo_logdev.specs.Calls.{round_writes};
 ghost use Rattle.redo_logdev.specs.Part.{MayWrite, Stays, KeepsWriting};
 
 use crate::LogPart;
@@ -20,9 +22,10 @@ impl<L: Sectors> LogPart<L> {
         ensures ok { OnOk result (self.new.marks ≡ after_written mark self.old.marks) }
         ensures err { OnErr result (self.new.marks ≡ after_given mark self.old.marks) }
         ensures stays { Stays L.seen self.old result self.new }
-        ensures calls { WritesRound L.write_gives self.old.shape (block_of self.old.marks.written)
-            (framed bytes.now (block_of self.old.marks.written) firsts.now (self.old.marks.number % 2 ^ 32))
-            self.old.dev result self.new.dev }
+        ensures calls { MakesCalls L.gives self.old.dev self.new.dev
+            (Serve (round_writes self.old.shape (block_of self.old.marks.written)
+            (framed bytes.now (block_of self.old.marks.written) firsts.now (self.old.marks.number % 2 ^ 32)))
+            (error_of result)) }
         ensures holds { KeepsWriting L.seen self.old mark bytes.now firsts.now self.new }
     {
         let from = block_of(self.marks.written);

@@ -6,6 +6,7 @@ use Rattle.model_device.specs.Calls.{written, synced}
 use Rattle.redo_disk.specs.Seen.{write_at}
 use Rattle.model_device.proofs.Images.{settled_images}
 use Rattle.redo_disk.proofs.Told.{OnTold-then}
+use Rattle.redo_disk.proofs.Made.{put_synced}
 use Rattle.redo_disk.proofs.put.write_and_sync.Goals as goal
 
 pub returns-clause-ok : goal.returns-clause-ok
@@ -19,3 +20,6 @@ returns-clause-ok g c =
     subst (λ (disk : Disk). HasOneImage disk (after_write a.reads write)) (sym same) (settled_images (after_write a.reads write)).1)
     c.in_ok-write.ensures.step.ok)
     c.sync.ensures.step.ok
+
+pub returns-clause-calls : goal.returns-clause-calls
+returns-clause-calls g c = put_synced c.in_ok-write.ensures.gives c.sync.ensures.gives

@@ -7,6 +7,7 @@ use Rattle.model_device.specs.Disk.{Disk}
 use Rattle.model_device.specs.declared.write.Write.{Write}
 use Rattle.model_log.specs.Lsn.{block_of}
 use Rattle.model_logdev.proofs.Places.{sector-place}
+use Rattle.redo_disk.proofs.Made.{call_ends, ends_then, none_ends}
 use Rattle.redo_disk.specs.Seen.{write_at, HasCause}
 use Rattle.redo_open.specs.Clear.{IsPiece, IsClearable, IsClearingTo, ClearsBlocks, HasCleared}
 use Rattle.redo_open.proofs.Clears.{zeros_at, cleared-clears, clearing-begins, clearing-goes_on, clearing-fails, clearing-synced, clears-blocks}
@@ -33,13 +34,8 @@ loop-at-init g c =
       told = told-same _ _ (λ old new. IsClearable c.args.shape.now old → IsClearingTo c.args.shape.now c.args.ckpt c.args.start at old.reads new)
           (λ disk is. subst (λ (n : ℕ). IsClearingTo c.args.shape.now c.args.ckpt c.args.start n disk.reads disk) (sym at_is)
           (clearing-begins c.args.shape.now c.args.ckpt c.args.start disk c.requires.start is.long is.rests)) refl;
+      calls = none_ends g.L.Sectors.gives c.args.log.now;
     }
-
-pub returns-in_err-zeros-clause-keeps : goal.returns-in_err-zeros-clause-keeps
-returns-in_err-zeros-clause-keeps g c =
-    told-same _ _ (λ old new. IsClearable c.args.shape.now old → ClearsBlocks c.args.shape.now c.args.ckpt c.args.start old.reads new)
-    (λ disk is. clears-blocks c.args.shape.now c.args.ckpt c.args.start disk.reads disk c.requires.start is.long
-    (clearing-begins c.args.shape.now c.args.ckpt c.args.start disk c.requires.start is.long is.rests).may_keep) refl
 
 pub returns-in_err-write_zeros-clause-keeps : goal.returns-in_err-write_zeros-clause-keeps
 returns-in_err-write_zeros-clause-keeps g c =
@@ -60,13 +56,13 @@ returns-in_err-write_zeros-clause-keeps g c =
     (λ a b d so_far fails is. clears-blocks shape c.args.ckpt c.args.start a.reads d c.requires.start is.long
     (clearing-fails shape c.args.ckpt c.args.start at count a.reads b d c.requires.start piece (so_far is)
     (subst (λ (write : Write). FailsWrite write b d) same fails)))
-    c.loop-at.invariant.told c.in_err-write_zeros.ensures.err
+    c.loop-at.invariant.told c.in_err-write_zeros.ensures.step.err
 
 pub returns-in_err-write_zeros-clause-cause : goal.returns-in_err-write_zeros-clause-cause
 returns-in_err-write_zeros-clause-cause g c =
     let cause : HasCause {T = Unit {0}} (g.L.Sectors.seen c.args.log.now).faults (g.L.Sectors.seen c.write_zeros.new.device).faults (Err c.in_err-write_zeros.field-0.0) =
-    cause-since _ _ _ (Err c.in_err-write_zeros.field-0.0) c.loop-at.invariant.later c.in_err-write_zeros.ensures.cause in
-    let p = err_from_is_err_and c.from_residual-in_err-write_zeros.result c.from_residual-in_err-write_zeros.ensures.1 in rw (p.1, p.2) cause
+    cause-since _ _ _ (Err c.in_err-write_zeros.field-0.0) c.loop-at.invariant.later c.in_err-write_zeros.ensures.step.cause in
+    let p = err_from_is_err_and c.from_residual.result c.from_residual.ensures.1 in rw (p.1, p.2) cause
 
 pub loop-at-preserved : goal.loop-at-preserved
 loop-at-preserved g c =
@@ -85,14 +81,15 @@ loop-at-preserved g c =
       aligned = omega (arith, c.loop-at.invariant.aligned, c.piece_length-count.ensures.whole);
       from = omega (arith, c.loop-at.invariant.from);
       up_to = c.piece_length-count.ensures.within;
-      size = c.in_ok-write_zeros.ensures.size ∙ c.loop-at.invariant.size;
-      later = omega (arith, c.loop-at.invariant.later, c.in_ok-write_zeros.ensures.cause.later);
+      size = c.in_ok-write_zeros.ensures.step.size ∙ c.loop-at.invariant.size;
+      later = omega (arith, c.loop-at.invariant.later, c.in_ok-write_zeros.ensures.step.cause.later);
       told = told-then _ _ _ (λ old new. IsClearable shape old → IsClearingTo shape c.args.ckpt c.args.start at old.reads new)
           (λ (old new : Disk). new ≡ written old (write_at c.offset_of.result (replicate count 0)))
           (λ old new. IsClearable shape old → IsClearingTo shape c.args.ckpt c.args.start (at + count) old.reads new)
           (λ a b d so_far is_written is. subst (λ (disk : Disk). IsClearingTo shape c.args.ckpt c.args.start (at + count) a.reads disk) (sym (is_written ∙ ap (written b) same))
           (clearing-goes_on shape c.args.ckpt c.args.start at count a.reads b c.requires.start piece is.long (so_far is)))
-          c.loop-at.invariant.told c.in_ok-write_zeros.ensures.ok;
+          c.loop-at.invariant.told c.in_ok-write_zeros.ensures.step.ok;
+      calls = ends_then c.loop-at.invariant.calls (call_ends c.in_ok-write_zeros.ensures.gives);
     }
 
 pub returns-clause-keeps : goal.returns-clause-keeps
@@ -128,3 +125,11 @@ returns-clause-ok g c =
 
 pub returns-clause-cause : goal.returns-clause-cause
 returns-clause-cause g c = cause-since _ _ _ c.sync.result c.loop-at.invariant.later c.sync.ensures.step.cause
+
+pub returns-in_err-write_zeros-clause-calls : goal.returns-in_err-write_zeros-clause-calls
+returns-in_err-write_zeros-clause-calls g c =
+    let made = ends_then c.loop-at.invariant.calls (call_ends c.in_err-write_zeros.ensures.gives) in
+    let p = err_from_is_err_and c.from_residual.result c.from_residual.ensures.1 in rw (p.1, p.2) made
+
+pub returns-clause-calls : goal.returns-clause-calls
+returns-clause-calls g c = ends_then c.loop-at.invariant.calls (call_ends c.sync.ensures.gives)

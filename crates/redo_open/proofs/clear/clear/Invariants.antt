@@ -1,6 +1,8 @@
 -- The blocks below the lsn are cleared, and no call has failed.
-use Rattle.std.proofs.Common.{◌-◌, ◌≡◌, ◌≤◌, ◌%◌}
+use Rattle.std.proofs.Common.{◌-◌, ◌≡◌, ◌≤◌, ◌%◌, None}
 use Rattle.model_log.specs.Lsn.{block_of}
+use Rattle.redo_disk.specs.Calls.{EndWith}
+use Rattle.redo_disk.specs.Made.{MakesCalls}
 use Rattle.redo_disk.specs.Seen.{OnTold}
 use Rattle.redo_open.specs.Clear.{IsClearable, IsClearingTo}
 use Rattle.redo_open.proofs.clear.clear.Given as goal
@@ -14,6 +16,7 @@ invariant-loop-at g l = record {
   later : (g.L.Sectors.seen l.fn.log).faults ≤ (g.L.Sectors.seen l.log).faults;
   told : OnTold (g.L.Sectors.seen l.fn.log).tells (g.L.Sectors.seen l.log).tells
       (λ old new. IsClearable l.shape old → IsClearingTo l.shape l.ckpt l.start l.at old.reads new);
+  calls : MakesCalls g.L.Sectors.gives l.fn.log l.log (EndWith None);
 }
 
 abbrev pub decreases-loop-at : goal.decreases-loop-at

@@ -1,15 +1,16 @@
 -- The write of one sector, and a sync behind it.
 use Rattle.std.proofs.Common.{◌≡◌, ◌*◌, ℕ, List, length, refl, sym, ap, subst, ◌∙◌, arith}
-use Rattle.std.proofs.lemmas.Result.{err_from_is_err_and, on_ok_weaker}
+use Rattle.std.proofs.lemmas.Result.{err_from_is_err_and, on_ok_weaker, on_err_weaker}
 use Rattle.model_device.specs.Calls.{written, FailsWrite, synced}
 use Rattle.model_device.specs.Disk.{Disk}
 use Rattle.model_device.specs.declared.write.Write.{Write}
 use Rattle.model_log.specs.Checkpoint.{place_of, checkpoint_text}
 use Rattle.model_logdev.proofs.Places.{HasBlocks}
-use Rattle.redo_disk.specs.Seen.{write_at}
+use Rattle.redo_disk.proofs.Made.{call_ends, ends_then}
+use Rattle.redo_disk.specs.Seen.{write_at, OnTold}
 use Rattle.redo_open.specs.Mark.{IsSettledLog, MarksLog, HasMarked}
 use Rattle.redo_open.proofs.Marks.{header-place, IsOneSector, failed-marks, written-marks, synced-marked, marked-marks}
-use Rattle.redo_open.proofs.Told.{told-then, told-as, told-same, cause-since, either-way}
+use Rattle.redo_open.proofs.Told.{told-then, told-as, told-same, cause-since, either-way, on-err}
 use Rattle.redo_open.proofs.mark.mark.Goals as goal
 
 pub write-requires : goal.write-requires
@@ -78,3 +79,27 @@ returns-clause-ok g c =
 
 pub returns-clause-cause : goal.returns-clause-cause
 returns-clause-cause g c = cause-since _ _ _ c.sync.result c.in_ok-write.ensures.step.cause.later c.sync.ensures.step.cause
+
+pub returns-in_err-write-clause-unmoved : goal.returns-in_err-write-clause-unmoved
+returns-in_err-write-clause-unmoved g c =
+    let write : Write = write_at (512 * c.from.result) c.fill_ckpt.new.out in
+    let told : OnTold (g.L.Sectors.seen c.args.log.now).tells (g.L.Sectors.seen c.write.new.self).tells (λ old new. new.base ≡ old.base) =
+    told-as _ _ (FailsWrite write) (λ (old new : Disk). new.base ≡ old.base) (λ a b fails. fails.base) c.in_err-write.ensures.step.err in
+    on-err c.from_residual.result _ told
+
+pub returns-clause-unmoved : goal.returns-clause-unmoved
+returns-clause-unmoved g c =
+    let write : Write = write_at (512 * c.from.result) c.fill_ckpt.new.out in
+    on_err_weaker c.sync.result
+    (λ same. told-then _ _ _ (λ (old new : Disk). new ≡ written old write) (λ (old new : Disk). new ≡ old) (λ (old new : Disk). new.base ≡ old.base)
+    (λ a b d is_written is. ap (λ (disk : Disk). disk.base) (is ∙ is_written))
+    c.in_ok-write.ensures.step.ok (told-same _ _ (λ (old new : Disk). new ≡ old) (λ a. refl) same))
+    c.sync.ensures.step.err
+
+pub returns-in_err-write-clause-calls : goal.returns-in_err-write-clause-calls
+returns-in_err-write-clause-calls g c =
+    let made = call_ends c.in_err-write.ensures.gives in
+    let p = err_from_is_err_and c.from_residual.result c.from_residual.ensures.1 in rw (p.1, p.2) made
+
+pub returns-clause-calls : goal.returns-clause-calls
+returns-clause-calls g c = ends_then (call_ends c.in_ok-write.ensures.gives) (call_ends c.sync.ensures.gives)

@@ -4,6 +4,7 @@ use Rattle.std.proofs.lemmas.Result.{err_from_is_err_and}
 use Rattle.model_datadev.specs.Repair.{KeepsAll}
 use Rattle.redo_open.specs.Mend.{IsSettledData, IsMended, AreMended}
 use Rattle.redo_open.specs.Store.{MendStep}
+use Rattle.redo_disk.proofs.Made.{ends_then, none_ends}
 use Rattle.redo_open.proofs.Endings.{mend-done, mend-behind}
 use Rattle.redo_open.proofs.Mends.{settled-keeps, mended-none, mended-more, keeps-behind, settled-behind}
 use Rattle.redo_open.proofs.Told.{told-known, told-call, told-step, told-then, told-as}
@@ -14,12 +15,12 @@ mend_page-requires-clause-settled g c =
     told-step _ _ (IsSettledData c.args.shape.now) (IsSettledData c.args.shape.now) (AreMended c.args.shape.now c.loop-page.page)
     (λ a b is mended. settled-behind c.args.shape.now c.loop-page.page a b is mended) c.requires.settled c.loop-page.invariant.told
 
-pub returns-in_err-mend_page : goal.returns-in_err-mend_page
-returns-in_err-mend_page g c =
+pub returns-in_err-mend_page-clause-step : goal.returns-in_err-mend_page-clause-step
+returns-in_err-mend_page-clause-step g c =
     let shape = c.args.shape.now in
     let step : MendStep g.D.Sectors.seen shape (AreMended shape shape.pages) c.args.part.now (Err c.in_err-mend_page.field-0.0) c.mend_page.new.part =
     mend-behind g.D.Sectors.seen shape c.loop-page.page c.loop-page.page shape.pages c.args.part.now c.loop-page.part c.mend_page.new.part c.in_err-mend_page.field-0.0
-    c.loop-page.invariant.told (record { shape = c.loop-page.invariant.shape; size = c.loop-page.invariant.size; later = c.loop-page.invariant.later }) c.in_err-mend_page.ensures in
+    c.loop-page.invariant.told (record { shape = c.loop-page.invariant.shape; size = c.loop-page.invariant.size; later = c.loop-page.invariant.later }) c.in_err-mend_page.ensures.step in
     let p = err_from_is_err_and c.from_residual.result c.from_residual.ensures.1 in rw (p.1, p.2) step
 
 pub loop-page-init : goal.loop-page-init
@@ -29,24 +30,26 @@ loop-page-init g c = record {
   size = refl;
   later = omega arith;
   told = told-known _ _ (IsSettledData c.args.shape.now) (AreMended c.args.shape.now 0) (mended-none c.args.shape.now) c.requires.settled refl;
+  calls = none_ends g.D.Sectors.gives c.args.part.now.dev;
 }
 
 pub loop-page-preserved : goal.loop-page-preserved
 loop-page-preserved g c =
     let shape = c.args.shape.now in
     record {
-      live = c.in_ok-mend_page.ensures.live;
-      shape = c.in_ok-mend_page.ensures.shape_stays ∙ c.loop-page.invariant.shape;
-      size = c.in_ok-mend_page.ensures.size ∙ c.loop-page.invariant.size;
-      later = omega (arith, c.in_ok-mend_page.ensures.later, c.loop-page.invariant.later);
+      live = c.in_ok-mend_page.ensures.step.live;
+      shape = c.in_ok-mend_page.ensures.step.shape_stays ∙ c.loop-page.invariant.shape;
+      size = c.in_ok-mend_page.ensures.step.size ∙ c.loop-page.invariant.size;
+      later = omega (arith, c.in_ok-mend_page.ensures.step.later, c.loop-page.invariant.later);
       told = told-then _ _ _ (AreMended shape c.loop-page.page) (IsMended shape c.loop-page.page) (AreMended shape (c.loop-page.page + 1))
           (λ a b d first second. subst (λ (n : ℕ). AreMended shape n a d) (sym (add-one c.loop-page.page))
           (mended-more shape c.loop-page.page a b d c.loop-page-test.true first second))
-          c.loop-page.invariant.told c.in_ok-mend_page.ensures.ok;
+          c.loop-page.invariant.told c.in_ok-mend_page.ensures.step.ok;
+      calls = ends_then c.loop-page.invariant.calls c.in_ok-mend_page.ensures.calls;
     }
 
-pub returns : goal.returns
-returns g c =
+pub returns-clause-step : goal.returns-clause-step
+returns-clause-step g c =
     let shape = c.args.shape.now in
     mend-done g.D.Sectors.seen shape (AreMended shape shape.pages) c.args.part.now c.loop-page.part
     (told-call _ _ (IsSettledData shape) (AreMended shape c.loop-page.page) (KeepsAll shape)
@@ -55,3 +58,8 @@ returns g c =
     (λ a b mended. record { stays = mended.stays; pass = λ p below. mended.pass p (omega (arith, c.loop-page-test.false)) }) c.loop-page.invariant.told)
     c.loop-page.invariant.live
     (record { shape = c.loop-page.invariant.shape; size = c.loop-page.invariant.size; later = c.loop-page.invariant.later })
+
+pub returns-in_err-mend_page-clause-calls : goal.returns-in_err-mend_page-clause-calls
+returns-in_err-mend_page-clause-calls g c =
+    let made = ends_then c.loop-page.invariant.calls c.in_err-mend_page.ensures.calls in
+    let p = err_from_is_err_and c.from_residual.result c.from_residual.ensures.1 in rw (p.1, p.2) made

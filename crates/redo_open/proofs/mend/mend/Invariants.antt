@@ -1,5 +1,7 @@
 -- The places of all pages so far pass, and no call has failed.
 use Rattle.std.proofs.Common.{◌≡◌, ◌≤◌, None}
+use Rattle.redo_disk.specs.Calls.{EndWith}
+use Rattle.redo_disk.specs.Made.{MakesCalls}
 use Rattle.redo_disk.specs.Seen.{OnTold}
 use Rattle.redo_open.specs.Mend.{AreMended}
 use Rattle.redo_open.proofs.mend.mend.Given as goal
@@ -11,4 +13,5 @@ invariant-loop-page g l = record {
   size : (g.D.Sectors.seen l.part.dev).size ≡ (g.D.Sectors.seen l.fn.part.dev).size;
   later : (g.D.Sectors.seen l.fn.part.dev).faults ≤ (g.D.Sectors.seen l.part.dev).faults;
   told : OnTold (g.D.Sectors.seen l.fn.part.dev).tells (g.D.Sectors.seen l.part.dev).tells (AreMended l.shape l.page);
+  calls : MakesCalls g.D.Sectors.gives l.fn.part.dev l.part.dev (EndWith None);
 }

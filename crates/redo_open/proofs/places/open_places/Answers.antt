@@ -5,47 +5,51 @@ use Rattle.model_datadev.specs.Stored.{read_as}
 use Rattle.model_device.specs.Disk.{settled}
 use Rattle.redo_disk.specs.declared.error.DevError.{DevError}
 use Rattle.redo_open.specs.Places.{KeepsPlaces, MayBeWritten, PlacesStep}
-use Rattle.redo_open.proofs.Endings.{any-known, device-cause, device-failed}
+use Rattle.redo_disk.proofs.Made.{ends_then, may_end, none_may_end, out_of_memory}
+use Rattle.redo_open.proofs.Asked.{data_ends}
+use Rattle.redo_open.proofs.Endings.{any-known, device-cause, device-own, device-failed}
 use Rattle.redo_open.proofs.Opens.{repair-keeps, mended-may_write, unchanged-keeps, write-keeps, all-written}
 use Rattle.redo_open.proofs.Told.{told-step, risen-since}
 use Rattle.redo_recover.specs.Devices.{data_fault_of}
 use Rattle.redo_recover.specs.declared.fault.RecFault.{RecFault}
 use Rattle.redo_open.proofs.places.open_places.Goals as goal
 
-pub returns-in-Err : goal.returns-in-Err
-returns-in-Err g c = record {
+pub returns-in-Err-clause-step : goal.returns-in-Err-clause-step
+returns-in-Err-clause-step g c = record {
   keeps = λ log_bytes data_bytes opened is known. unchanged-keeps c.args.shape.now c.args.pages.now log_bytes data_bytes opened _ is c.requires.settled known;
   ok = λ log_bytes data_bytes opened is known. tt;
   live = tt;
   fault = any-known _ (λ disk. Unit {0}) (λ disk. tt);
+  own = tt;
   shape_stays = λ i. c.args.part.now.shape;
   size = λ i. (g.D.Sectors.seen c.args.part.now.dev).size;
   later = omega arith;
   failed = λ is. absurd cc;
 }
 
-pub returns-in-Err-mend : goal.returns-in-Err-mend
-returns-in-Err-mend g c =
+pub returns-in-Err-mend-clause-step : goal.returns-in-Err-mend-clause-step
+returns-in-Err-mend-clause-step g c =
     let shape = c.args.shape.now in
-    let step = c.in-Err-mend.ensures in
+    let step = c.in-Err-mend.ensures.step in
     record {
       keeps = λ log_bytes data_bytes opened is known. told-step _ _ (λ disk. disk ≡ settled data_bytes) (KeepsPlaces shape data_bytes opened) (KeepsAll shape)
           (λ a b same keeps. repair-keeps shape c.args.pages.now log_bytes data_bytes opened a b is same keeps) known step.keeps;
       ok = λ log_bytes data_bytes opened is known. tt;
       live = tt;
       fault = step.fault;
+      own = step.own;
       shape_stays = step.shape_stays;
       size = step.size;
       later = step.later;
       failed = step.failed;
     }
 
-pub returns-in-Ok-rewrite : goal.returns-in-Ok-rewrite
-returns-in-Ok-rewrite g c =
+pub returns-in-Ok-rewrite-clause-step : goal.returns-in-Ok-rewrite-clause-step
+returns-in-Ok-rewrite-clause-step g c =
     let shape = c.args.shape.now in
     let pages = c.args.pages.now in
-    let first = c.in-Ok-mend.ensures in
-    let second = c.in-Ok-rewrite.ensures in
+    let first = c.in-Ok-mend.ensures.step in
+    let second = c.in-Ok-rewrite.ensures.step in
     record {
       keeps = λ log_bytes data_bytes opened is known. (
           let may : MayBeWritten shape pages data_bytes opened _ = mended-may_write shape pages log_bytes data_bytes opened _ _ c.requires.limits is known first.ok in
@@ -55,18 +59,19 @@ returns-in-Ok-rewrite g c =
           all-written shape opened may.start _ (second.ok (read_as opened) may.start may.tops may.written));
       live = second.live;
       fault = tt;
+      own = tt;
       shape_stays = second.shape_stays ∙ first.shape_stays;
       size = second.size ∙ first.size;
       later = omega (arith, first.later, second.cause.later);
       failed = λ is. absurd cc;
     }
 
-pub returns : goal.returns
-returns g c =
+pub returns-clause-step : goal.returns-clause-step
+returns-clause-step g c =
     let shape = c.args.shape.now in
     let pages = c.args.pages.now in
-    let first = c.in-Ok-mend.ensures in
-    let second = c.in-Err-rewrite.ensures in
+    let first = c.in-Ok-mend.ensures.step in
+    let second = c.in-Err-rewrite.ensures.step in
     let step : PlacesStep g.D.Sectors.seen shape pages c.args.part.now (Err (data_fault_of c.in-Err-rewrite.error)) c.rewrite.new.part = record {
       keeps = λ log_bytes data_bytes opened is known. (
           let may : MayBeWritten shape pages data_bytes opened _ = mended-may_write shape pages log_bytes data_bytes opened _ _ c.requires.limits is known first.ok in
@@ -74,6 +79,7 @@ returns g c =
       ok = λ log_bytes data_bytes opened is known. tt;
       live = tt;
       fault = device-cause shape c.in-Err-rewrite.error _;
+      own = device-own c.in-Err-rewrite.error;
       shape_stays = second.shape_stays ∙ first.shape_stays;
       size = second.size ∙ first.size;
       later = omega (arith, first.later, second.cause.later);
@@ -81,3 +87,16 @@ returns g c =
           (second.cause.failed (ap (λ (e : DevError). Err e) (device-failed c.in-Err-rewrite.error failed)));
     } in
     subst (λ (fault : RecFault). PlacesStep g.D.Sectors.seen shape pages c.args.part.now (Err fault) c.rewrite.new.part) (sym c.data_fault.ensures) step
+
+pub returns-in-Err-clause-calls : goal.returns-in-Err-clause-calls
+returns-in-Err-clause-calls g c = out_of_memory (none_may_end g.D.Sectors.gives c.args.part.now.dev)
+
+pub returns-in-Err-mend-clause-calls : goal.returns-in-Err-mend-clause-calls
+returns-in-Err-mend-clause-calls g c = may_end c.in-Err-mend.ensures.calls
+
+pub returns-in-Ok-rewrite-clause-calls : goal.returns-in-Ok-rewrite-clause-calls
+returns-in-Ok-rewrite-clause-calls g c = may_end (ends_then c.in-Ok-mend.ensures.calls c.in-Ok-rewrite.ensures.calls)
+
+pub returns-clause-calls : goal.returns-clause-calls
+returns-clause-calls g c =
+    may_end (data_ends c.in-Err-rewrite.error c.data_fault.result c.data_fault.ensures (ends_then c.in-Ok-mend.ensures.calls c.in-Err-rewrite.ensures.calls))

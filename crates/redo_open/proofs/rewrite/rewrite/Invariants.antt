@@ -1,6 +1,8 @@
 -- The pages so far are written, and no call has failed.
 use Rattle.std.proofs.Common.{◌≡◌, ◌≤◌, ℕ, None}
 use Rattle.model_page.specs.declared.content.Content.{Content}
+use Rattle.redo_disk.specs.Calls.{EndWith}
+use Rattle.redo_disk.specs.Made.{MakesCalls}
 use Rattle.redo_open.specs.Rewrite.{AreTop, IsWrittenTo}
 use Rattle.redo_open.proofs.rewrite.rewrite.Given as goal
 
@@ -12,4 +14,5 @@ invariant-loop-page g l = record {
   later : (g.D.Sectors.seen l.fn.part.dev).faults ≤ (g.D.Sectors.seen l.part.dev).faults;
   told : (top start : ℕ → Content) → AreTop l.pages top start → IsWrittenTo l.shape top start 0 (g.D.Sectors.seen l.fn.part.dev).tells
       → IsWrittenTo l.shape top start l.page (g.D.Sectors.seen l.part.dev).tells;
+  calls : MakesCalls g.D.Sectors.gives l.fn.part.dev l.part.dev (EndWith None);
 }

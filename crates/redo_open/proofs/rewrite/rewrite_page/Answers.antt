@@ -1,4 +1,5 @@
 -- The place holds the page, or a batch of one page is written.
+use Rattle.std.proofs.lemmas.Result.{err_from_is_err_and}
 use Rattle.std.proofs.Common.{◌≡◌, ◌<◌, ◌+◌, ◌^◌, ◌∙◌, ℕ, [], Bool, false, Option, sym, ap, subst}
 use Rattle.std.specs.Prelude.{IfSome, is_some}
 use Rattle.model_base.specs.declared.shape.Shape.{Shape}
@@ -7,6 +8,7 @@ use Rattle.model_datadev.specs.Stored.{IsUpTo, Keeps, Stored}
 use Rattle.model_device.specs.Disk.{Disk}
 use Rattle.model_page.specs.Copies.{place_bytes}
 use Rattle.model_page.specs.declared.content.Content.{Content}
+use Rattle.redo_disk.proofs.Made.{ends_then, serves_end}
 use Rattle.redo_open.specs.Rewrite.{AreTop, IsWrittenTo, KeepsWritten}
 use Rattle.redo_open.proofs.Told.{cause-since}
 use Rattle.redo_open.proofs.Writings.{one_pair, one-writable, IsRead, is-read, is-later, one-keeps, one-done, keeps-steady, PageRead, page-read, live-ok, on-ok-both, blank-written, held-written}
@@ -21,8 +23,8 @@ write_batch-requires-clause-batch g c =
     subst (λ (s : Shape). IsWritable s (one_pair c.args.page c.lsn-lsn.result) c.user_bytes-user.result.now) (c.requires.shape ∙ sym c.in_ok-read_page.ensures.step.shape)
     (one-writable shape c.args.page c.lsn-lsn.result c.user_bytes-user.result.now c.requires.limits.slots c.requires.page read.long c.if-lsn-eq0.false small)
 
-pub returns-then-lsn-eq0 : goal.returns-then-lsn-eq0
-returns-then-lsn-eq0 g c =
+pub returns-then-lsn-eq0-clause-step : goal.returns-then-lsn-eq0-clause-step
+returns-then-lsn-eq0-clause-step g c =
     let shape = c.args.shape.now in
     let pages = c.args.pages.now in
     let read : PageRead pages c.args.page c.lsn-lsn.result c.user_bytes-user.result.now =
@@ -38,8 +40,8 @@ returns-then-lsn-eq0 g c =
       cause = record { later = c.in_ok-read_page.ensures.step.cause.later; failed = λ is. absurd cc };
     }
 
-pub returns-then-holds : goal.returns-then-holds
-returns-then-holds g c =
+pub returns-then-holds-clause-step : goal.returns-then-holds-clause-step
+returns-then-holds-clause-step g c =
     let shape = c.args.shape.now in
     let pages = c.args.pages.now in
     let read : PageRead pages c.args.page c.lsn-lsn.result c.user_bytes-user.result.now =
@@ -58,8 +60,8 @@ returns-then-holds g c =
       cause = record { later = c.in_ok-read_page.ensures.step.cause.later; failed = λ is. absurd cc };
     }
 
-pub returns : goal.returns
-returns g c =
+pub returns-clause-step : goal.returns-clause-step
+returns-clause-step g c =
     let shape = c.args.shape.now in
     let pages = c.args.pages.now in
     let page = c.args.page in
@@ -96,3 +98,17 @@ returns g c =
       size = c.write_batch.ensures.step.size ∙ first.step.size;
       cause = cause-since _ _ _ c.write_batch.result first.step.cause.later c.write_batch.ensures.step.cause;
     }
+
+pub returns-in_err-read_page-clause-calls : goal.returns-in_err-read_page-clause-calls
+returns-in_err-read_page-clause-calls g c =
+    let made = serves_end c.in_err-read_page.ensures.calls in
+    let p = err_from_is_err_and c.from_residual.result c.from_residual.ensures.1 in rw (p.1, p.2) made
+
+pub returns-then-lsn-eq0-clause-calls : goal.returns-then-lsn-eq0-clause-calls
+returns-then-lsn-eq0-clause-calls g c = serves_end c.in_ok-read_page.ensures.calls
+
+pub returns-then-holds-clause-calls : goal.returns-then-holds-clause-calls
+returns-then-holds-clause-calls g c = serves_end c.in_ok-read_page.ensures.calls
+
+pub returns-clause-calls : goal.returns-clause-calls
+returns-clause-calls g c = ends_then (serves_end c.in_ok-read_page.ensures.calls) (serves_end c.write_batch.ensures.calls)

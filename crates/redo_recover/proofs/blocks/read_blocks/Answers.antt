@@ -1,8 +1,11 @@
 use Rattle.std.proofs.Common.{◌≡◌, ◌≤◌, ◌+◌, ◌∙◌, ℕ, List, length, length-append, sym, ap, arith}
 use Rattle.std.proofs.lemmas.List.{length_push}
+use Rattle.std.proofs.lemmas.Result.{err_from_is_err_and}
 use Rattle.redo_recover.specs.Blocks.{AreBlocksOf}
 use Rattle.redo_recover.specs.Piece.{IsPieceOf}
+use Rattle.redo_recover.proofs.Bounds.{firsts-push}
 use Rattle.redo_recover.proofs.Contents.{content-both, content-weaker}
+use Rattle.redo_recover.proofs.Making.{pieces_then, pieces_no_memory}
 use Rattle.redo_recover.proofs.Scanning.{AreBlocksSoFar, IsTakenAt, taken-at, so_far-next, read-stopped, read-last, read-all, length-data_of}
 use Rattle.redo_recover.proofs.Unchanged.{IsUnchanged-then, content-before, content-after}
 use Rattle.redo_recover.proofs.blocks.read_blocks.Goals as goal
@@ -62,7 +65,9 @@ loop-i-preserved g c =
     record {
       unchanged = IsUnchanged-then old middle (g.L.Sectors.seen c.with_sector.new.device) c.loop-i.invariant.unchanged c.with_sector.ensures.unchanged;
       piece = of;
+      calls = pieces_then c.loop-i.invariant.calls c.in_ok-piece.ensures.calls;
       many = omega (arith, views, c.loop-i.invariant.many);
+      firsts = firsts-push c.loop-i.views.items c.push.new.self.items c.in-Some.view c.loop-i.invariant.firsts c.in-Some.ensures.first c.in_ok-push.ensures.items;
       short = omega (arith, bytes, room, c.loop-i.invariant.short);
       so_far = content-both old.tells so_far (IsTakenAt shape c.args.ckpt c.loop-i.i c.taken.result c.sector-block.result.now)
           (AreBlocksSoFar shape c.args.ckpt c.push.new.self.items c.extend_from_slice.new.self.items (c.loop-i.i + 1))
@@ -72,9 +77,40 @@ loop-i-preserved g c =
           c.loop-i.invariant.so_far here;
     }
 
+pub returns-in_default-clause-firsts : goal.returns-in_default-clause-firsts
+returns-in_default-clause-firsts g c = c.loop-i.invariant.firsts
+
+pub returns-then-not-is_full-clause-firsts : goal.returns-then-not-is_full-clause-firsts
+returns-then-not-is_full-clause-firsts g c =
+    firsts-push c.loop-i.views.items c.push.new.self.items c.in-Some.view c.loop-i.invariant.firsts c.in-Some.ensures.first c.in_ok-push.ensures.items
+
+pub returns-clause-firsts : goal.returns-clause-firsts
+returns-clause-firsts g c = c.loop-i.invariant.firsts
+
 pub returns-clause-blocks : goal.returns-clause-blocks
 returns-clause-blocks g c =
     let old = g.L.Sectors.seen c.args.log.now in
     content-weaker old.tells (AreBlocksSoFar c.args.shape.now c.args.ckpt c.loop-i.views.items c.loop-i.joined.items c.loop-i.i)
     (AreBlocksOf c.args.shape.now c.args.ckpt c.loop-i.views.items c.loop-i.joined.items)
     (λ image a. read-all c.args.shape.now c.args.ckpt c.loop-i.views.items c.loop-i.joined.items c.loop-i.i image a (omega arith)) c.loop-i.invariant.so_far
+
+pub returns-in_err-piece-clause-calls : goal.returns-in_err-piece-clause-calls
+returns-in_err-piece-clause-calls g c =
+    let made = pieces_then c.loop-i.invariant.calls c.in_err-piece.ensures.calls in
+    let p = err_from_is_err_and c.from_residual.result c.from_residual.ensures.1 in rw (p.1, p.2) made
+
+pub returns-in_default-clause-calls : goal.returns-in_default-clause-calls
+returns-in_default-clause-calls g c = pieces_then c.loop-i.invariant.calls c.in_ok-piece.ensures.calls
+
+pub returns-in_err-push-clause-calls : goal.returns-in_err-push-clause-calls
+returns-in_err-push-clause-calls g c =
+    let made = pieces_no_memory (pieces_then c.loop-i.invariant.calls c.in_ok-piece.ensures.calls) in
+    let p = err_from_is_err_and c.from_residual-in_err-push.result c.from_residual-in_err-push.ensures.1 in rw (p.1, p.2) made
+
+pub returns-in_err-extend_from_slice-clause-calls : goal.returns-in_err-extend_from_slice-clause-calls
+returns-in_err-extend_from_slice-clause-calls g c =
+    let made = pieces_no_memory (pieces_then c.loop-i.invariant.calls c.in_ok-piece.ensures.calls) in
+    let p = err_from_is_err_and c.from_residual-in_err-extend_from_slice.result c.from_residual-in_err-extend_from_slice.ensures.1 in rw (p.1, p.2) made
+
+pub returns-then-not-is_full-clause-calls : goal.returns-then-not-is_full-clause-calls
+returns-then-not-is_full-clause-calls g c = pieces_then c.loop-i.invariant.calls c.in_ok-piece.ensures.calls

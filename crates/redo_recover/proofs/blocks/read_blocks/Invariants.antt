@@ -1,4 +1,7 @@
-use Rattle.std.proofs.Common.{◌≡◌, ◌≤◌, ◌*◌, length}
+use Rattle.std.proofs.Common.{◌≡◌, ◌≤◌, ◌*◌, length, None}
+use Rattle.redo_disk.specs.Made.{MakesCalls}
+use Rattle.redo_recover.specs.Blocks.{HaveFirsts}
+use Rattle.redo_recover.specs.Calls.{ReadsPieces}
 use Rattle.redo_recover.specs.Devices.{IsUnchanged, OnContent}
 use Rattle.redo_recover.specs.Piece.{IsPieceOf}
 use Rattle.redo_recover.proofs.Scanning.{AreBlocksSoFar}
@@ -9,7 +12,9 @@ abbrev pub invariant-loop-i : goal.invariant-loop-i
 invariant-loop-i g l = record {
   unchanged : IsUnchanged (g.L.Sectors.seen l.fn.log) (g.L.Sectors.seen l.log);
   piece : OnContent (g.L.Sectors.seen l.fn.log).tells (IsPieceOf l.piece);
+  calls : MakesCalls g.L.Sectors.gives l.fn.log l.log (ReadsPieces None);
   many : length l.views.items ≡ l.i;
+  firsts : HaveFirsts l.views.items;
   short : length l.joined.items ≤ 496 * l.i;
   so_far : OnContent (g.L.Sectors.seen l.fn.log).tells (AreBlocksSoFar l.shape l.ckpt l.views.items l.joined.items l.i);
 }

@@ -1,5 +1,7 @@
-use Rattle.std.proofs.Common.{◌≡◌, ◌≤◌, take}
+use Rattle.std.proofs.Common.{◌≡◌, ◌≤◌, map, take, None}
 use Rattle.model_device.specs.Disk.{Disk}
+use Rattle.redo_disk.specs.Calls.{Serve, ToWrite}
+use Rattle.redo_disk.specs.Made.{MakesCalls}
 use Rattle.redo_disk.specs.Seen.{OnTold}
 use Rattle.redo_store.specs.Places.{text_writes}
 use Rattle.model_datadev.specs.Steps.{written_all}
@@ -10,4 +12,5 @@ invariant-loop-i g l = record {
   size : (g.D.Sectors.seen l.device).size ≡ (g.D.Sectors.seen l.fn.device).size;
   later : (g.D.Sectors.seen l.fn.device).faults ≤ (g.D.Sectors.seen l.device).faults;
   told : OnTold (g.D.Sectors.seen l.fn.device).tells (g.D.Sectors.seen l.device).tells (λ (old new : Disk). new ≡ written_all old (take l.i (text_writes l.shape l.batch l.texts)));
+  calls : MakesCalls g.D.Sectors.gives l.fn.device l.device (Serve (map ToWrite (take l.i (text_writes l.shape l.batch l.texts))) None);
 }

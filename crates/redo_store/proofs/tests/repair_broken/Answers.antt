@@ -9,20 +9,16 @@ use Rattle.model_datadev.specs.Repair.{IsRepairable}
 use Rattle.redo_store.proofs.tests.repair_broken.Goals as goal
 
 repairable : (shape : Shape) (page : ℕ) (told : Option Disk) (out : List ℕ) (best : ℕ × ℕ)
-    → IfSome told (λ (disk : Disk). data_device_length shape ≤ length disk.base) → IfSome told (λ (disk : Disk). disk ≡ settled disk.base)
     → IfSome told (λ (disk : Disk). out ≡ place_bytes shape page disk.reads) → page_check out ≡ Broken
     → IfSome told (λ (disk : Disk). IsBestCopy shape disk.reads page best.0 best.1) → IfSome told (IsRepairable shape page)
-repairable shape page None out best long settled_is bytes broken found = tt
-repairable shape page (Some disk) out best long settled_is bytes broken found =
-    let reads : disk.reads ≡ disk.base = ap (λ (d : Disk). d.reads) settled_is in
-    record {
-      long = long;
-      nothing_pending = settled_is;
-      broken = ap (place_lsn_by shape page) (ap page_check (sym (bytes ∙ ap (place_bytes shape page) reads)) ∙ broken);
-      slot = best.0;
-      lsn = best.1;
-      best = subst (λ (image : List ℕ). IsBestCopy shape image page best.0 best.1) reads found;
-    }
+repairable shape page None out best bytes broken found = tt
+repairable shape page (Some disk) out best bytes broken found = record {
+  broken = ap (place_lsn_by shape page) (ap page_check (sym bytes) ∙ broken);
+  slot = best.0;
+  lsn = best.1;
+  below = found.below;
+  passes = found.passes;
+}
 
 best-found : (old new : Shape) (told_old told_new : Option Disk) (page : ℕ) (found : Option (ℕ × ℕ)) (best : ℕ × ℕ) → new ≡ old → told_new ≡ told_old → found ≡ Some best
     → IfSome told_new (λ (disk : Disk). MatchOption found (HasNoCopy new disk.reads page) (λ (b : ℕ × ℕ). IsBestCopy new disk.reads page b.0 b.1))
@@ -45,5 +41,5 @@ repair-requires-clause-repairable g c =
     let told_now : (g.D.Sectors.seen after.dev).tells ≡ (g.D.Sectors.seen middle.dev).tells = c.in_ok-best_copy.ensures.same in
     subst (λ (s : Shape). IfSome (g.D.Sectors.seen after.dev).tells (IsRepairable s page)) (sym (shape_now ∙ shape_then))
     (subst (λ (o : Option Disk). IfSome o (IsRepairable before.shape page)) (sym (told_now ∙ told_then))
-    (repairable before.shape page (g.D.Sectors.seen before.dev).tells c.read_page.new.out best c.requires.long c.requires.nothing_pending c.in_ok-read_page.ensures.bytes (sym c.in-Broken-Some.ensures)
+    (repairable before.shape page (g.D.Sectors.seen before.dev).tells c.read_page.new.out best c.in_ok-read_page.ensures.bytes (sym c.in-Broken-Some.ensures)
     (best-found before.shape middle.shape (g.D.Sectors.seen before.dev).tells (g.D.Sectors.seen middle.dev).tells page c.in_ok-best_copy.field-0 best shape_then told_then c.in-Broken-Some.is-1 c.in_ok-best_copy.ensures.found)))

@@ -23,12 +23,11 @@ in-eight lsn (suc (suc (suc (suc (suc (suc zero)))))) pair at = pair-in lsn 1 6 
 in-eight lsn (suc (suc (suc (suc (suc (suc (suc zero))))))) pair at = pair-in lsn 0 7 pair (cc) (omega arith)
 in-eight lsn (suc (suc (suc (suc (suc (suc (suc (suc i)))))))) pair at = absurd cc
 
-eight-writable : (lsn : ℕ) (users : List ℕ) → 0 < lsn → lsn < 2 ^ 60 → length users ≡ 32400 → IsWritable default_shape (eight lsn) users
-eight-writable lsn users some small count = record {
+eight-writable : (lsn : ℕ) (users : List ℕ) → lsn < 2 ^ 60 → length users ≡ 32400 → IsWritable default_shape (eight lsn) users
+eight-writable lsn users small count = record {
   few = omega arith;
   count = count;
   below = λ i pair at. let is = in-eight lsn i pair at in omega arith;
-  some_lsn = λ i pair at. let is = in-eight lsn i pair at in omega arith;
   small_lsn = λ i pair at. let is = in-eight lsn i pair at in omega arith;
   different = λ i j pair other at at_other same. let is = in-eight lsn i pair at in let also = in-eight lsn j other at_other in omega arith;
 }
@@ -36,4 +35,4 @@ eight-writable lsn users some small count = record {
 pub write_batch-requires-clause-batch : goal.write_batch-requires-clause-batch
 write_batch-requires-clause-batch g c =
     subst (λ (s : Shape). IsWritable s (eight c.args.lsn) c.args.frames.now) (sym c.requires.shape)
-    (eight-writable c.args.lsn c.args.frames.now c.requires.some_lsn c.requires.small_lsn c.requires.count)
+    (eight-writable c.args.lsn c.args.frames.now c.requires.small_lsn c.requires.count)

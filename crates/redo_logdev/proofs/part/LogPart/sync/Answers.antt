@@ -1,10 +1,13 @@
-use Rattle.std.proofs.Common.{◌≡◌, ap, subst, sym, ◌∙◌}
+use Rattle.std.proofs.Common.{◌≡◌, [], ◌∷◌, Some, None, ap, subst, sym, ◌∙◌}
 use Rattle.model_device.specs.Disk.{Disk}
 use Rattle.model_device.specs.Calls.{synced}
 use Rattle.model_logdev.specs.Marks.{after_synced}
 use Rattle.redo_logdev.specs.Part.{Part, PartHolds, DiskHolds}
 use Rattle.redo_logdev.proofs.Told.{told-step}
 use Rattle.redo_logdev.proofs.Parts.{sync-ok}
+use Rattle.redo_disk.specs.Calls.{Serve, ToSync}
+use Rattle.redo_disk.specs.Made.{MakesCalls}
+use Rattle.redo_disk.proofs.Made.{call_serves}
 use Rattle.redo_logdev.proofs.part.LogPart.sync.Goals as goal
 
 pub returns-in-Ok-clause-holds : goal.returns-in-Ok-clause-holds
@@ -14,3 +17,11 @@ returns-in-Ok-clause-holds g c s wholes known =
     told-step _ _ (DiskHolds part.shape s wholes part.marks part.failed) (DiskHolds part.shape s wholes (after_synced part.marks) part.failed)
     (λ (old new : Disk). new ≡ synced old)
     (λ a b before is. sync-ok part.shape s wholes part.marks part.failed a b (ap (λ (p : Part _). p.failed) c.self.view_is ∙ c.requires) before is) before c.in-Ok.ensures.step.ok
+
+pub returns-in-Ok-clause-calls : goal.returns-in-Ok-clause-calls
+returns-in-Ok-clause-calls g c =
+    subst (λ (p : Part _). MakesCalls g.L.Sectors.gives p.dev c.sync.new.self (Serve (ToSync ∷ []) None)) c.self.view_is (call_serves c.in-Ok.ensures.gives)
+
+pub returns-in-Err-clause-calls : goal.returns-in-Err-clause-calls
+returns-in-Err-clause-calls g c =
+    subst (λ (p : Part _). MakesCalls g.L.Sectors.gives p.dev c.sync.new.self (Serve (ToSync ∷ []) (Some c.in-Err.error))) c.self.view_is (call_serves c.in-Err.ensures.gives)

@@ -1,0 +1,37 @@
+-- The start of a run on a store that opening made ready.
+use Rattle.std.specs.Prelude.{ℕ, ◌+◌, List, [], None}
+use Rattle.std.specs.List.{AllByRecursion}
+use Rattle.model_device.specs.Disk.{Disk}
+use Rattle.model_logdev.specs.Marks.{first_marks}
+use Rattle.model_store.specs.Reading.{Reading, IsOrderly}
+use Rattle.model_opening.specs.Opened.{start_of}
+use Rattle.model_opening.specs.Ready.{IsReady}
+use Rattle.model_script.specs.Fit.{LineFits}
+use Rattle.model_script.specs.declared.script.ScriptLine.{ScriptLine}
+use Rattle.model_theorem.specs.Values.{Opened}
+use Rattle.model_run.specs.PlayedOut.{PlayedOut}
+
+-- a store that was read as this, as it is opened
+abbrev pub opened_as : Reading → Opened
+opened_as reading = record { shape = reading.shape; pages = reading.pages; end = reading.end }
+
+-- The store was in order and read as this before it was opened; now its devices are ready for a run; and each line of the
+-- script fits it.
+pub record IsStart (reading : Reading) (script : List ScriptLine) (log_disk data_disk : Disk) : Type 0 where
+  pub log_bytes : List ℕ
+  pub data_bytes : List ℕ
+  pub orderly : IsOrderly log_bytes data_bytes reading
+  pub ready : IsReady reading log_disk data_disk
+  pub fits : AllByRecursion (LineFits reading.shape) script
+
+-- what a run comes to that plays no line on it
+abbrev pub unplayed : Reading → List ScriptLine → List (ℕ × ℕ) → Disk → Disk → PlayedOut
+unplayed reading script left log_disk data_disk = record {
+  script = script;
+  opened = opened_as reading;
+  turns = record { answered = []; lost = None; rest = script };
+  log_marks = first_marks (start_of reading) (reading.number + 1);
+  left = left;
+  log_disk = log_disk;
+  data_disk = data_disk;
+}

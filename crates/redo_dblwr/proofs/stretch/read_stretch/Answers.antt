@@ -1,0 +1,18 @@
+use Rattle.std.proofs.Common.{◌≡◌, ◌*◌, ◌∙◌, ℕ, [], ◌∷◌, length, ap, sym, subst}
+use Rattle.redo_disk.specs.Calls.{Request, ToRead, Serve, error_of}
+use Rattle.redo_disk.specs.Made.{MakesCalls}
+use Rattle.redo_disk.proofs.Made.{call_serves}
+use Rattle.redo_dblwr.specs.Requests.{stretch_read}
+use Rattle.redo_dblwr.proofs.stretch.read_stretch.Goals as goal
+
+pub returns-clause-calls : goal.returns-clause-calls
+returns-clause-calls g c =
+    let n = c.args.n in
+    let shape = c.args.shape.now in
+    let number : c.from.result ≡ n = c.from.ensures in
+    let page : c.from-2.result ≡ shape.page_size = c.from-2.ensures in
+    let size : length c.args.out.now ≡ shape.page_size = c.requires.out ∙ sym c.requires.limits.page_size in
+    let asked : ToRead (c.from.result * c.from-2.result) (length c.args.out.now) ≡ stretch_read shape n =
+    ap (λ m. ToRead (m * c.from-2.result) (length c.args.out.now)) number ∙ ap (λ s. ToRead (n * s) (length c.args.out.now)) page ∙ ap (ToRead (n * shape.page_size)) size in
+    subst (λ (r : Request). MakesCalls g.D.Sectors.gives c.args.device.now c.read.new.self (Serve (r ∷ []) (error_of c.read.result))) asked
+    (call_serves c.read.ensures.gives)

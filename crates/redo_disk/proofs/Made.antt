@@ -1,0 +1,146 @@
+-- What calls were made of a device by code that makes some, and then others.
+use Rattle.std.proofs.Common.{ℕ, List, [], ◌∷◌, ◌++◌, Option, Some, None, Ok, Err, take, drop, refl, subst}
+use Rattle.std.proofs.lemmas.List.{take-append-drop}
+use Rattle.model_device.specs.declared.write.Write.{Write}
+use Rattle.redo_disk.specs.declared.error.DevError.{DevError}
+use Rattle.redo_disk.specs.declared.error.DevError.TheVariants.{NoMemory}
+use Rattle.redo_disk.specs.Calls.{Answer, Call, Reads, Writes, Syncs, answer_of, error_of, Request, ToSync, request_of, put_requests, EndWith, MayEndWith, ReadsEndWith, ReadsMayEndWith, Serve}
+use Rattle.redo_disk.specs.Made.{Makes, MakesCall, MakesCalls}
+use Rattle.redo_disk.proofs.Calls.{EndWith-append, MayEndWith-append, MayEndWith-ends, MayEndWith-no_memory, ReadsEndWith-append, ReadsMayEndWith-append, Serve-append, Serve-cut}
+
+pub Makes-append : {D : Type 0} (gives : D → Call → D → Type 0) (old middle new : D) (xs ys : List Call) → Makes gives old xs middle → Makes gives middle ys new → Makes gives old (xs ++ ys) new
+Makes-append gives old middle new [] ys front back = subst (λ d. Makes gives d ys new) front back
+Makes-append gives old middle new (call ∷ xs) ys front back = (front.0, front.1, Makes-append gives front.0 middle new xs ys front.2 back)
+
+-- calls of which less is told
+pub weaker_calls : {D : Type 0} {gives : D → Call → D → Type 0} {old new : D} {Are Like : List Call → Type 0} → ((calls : List Call) → Are calls → Like calls)
+    → MakesCalls gives old new Are → MakesCalls gives old new Like
+weaker_calls weaker made = record { calls = made.calls; made = made.made; are = weaker made.calls made.are }
+
+-- calls, and others behind them
+pub joined_calls : {D : Type 0} {gives : D → Call → D → Type 0} {old middle new : D} {Front Back Are : List Call → Type 0}
+    → ((xs ys : List Call) → Front xs → Back ys → Are (xs ++ ys)) → MakesCalls gives old middle Front → MakesCalls gives middle new Back → MakesCalls gives old new Are
+joined_calls {D} {gives} {old} {middle} {new} joins front back = record {
+  calls = front.calls ++ back.calls;
+  made = Makes-append gives old middle new front.calls back.calls front.made back.made;
+  are = joins front.calls back.calls front.are back.are;
+}
+
+pub ends_then : {D : Type 0} {gives : D → Call → D → Type 0} {old middle new : D} {error : Option DevError}
+    → MakesCalls gives old middle (EndWith None) → MakesCalls gives middle new (EndWith error) → MakesCalls gives old new (EndWith error)
+ends_then {error = error} = joined_calls (EndWith-append error)
+
+pub may_end_then : {D : Type 0} {gives : D → Call → D → Type 0} {old middle new : D} {error : Option DevError}
+    → MakesCalls gives old middle (MayEndWith None) → MakesCalls gives middle new (MayEndWith error) → MakesCalls gives old new (MayEndWith error)
+may_end_then {error = error} = joined_calls (MayEndWith-append error)
+
+pub reads_then : {D : Type 0} {gives : D → Call → D → Type 0} {old middle new : D} {error : Option DevError}
+    → MakesCalls gives old middle (ReadsEndWith None) → MakesCalls gives middle new (ReadsEndWith error) → MakesCalls gives old new (ReadsEndWith error)
+reads_then {error = error} = joined_calls (ReadsEndWith-append error)
+
+pub reads_may_then : {D : Type 0} {gives : D → Call → D → Type 0} {old middle new : D} {error : Option DevError}
+    → MakesCalls gives old middle (ReadsMayEndWith None) → MakesCalls gives middle new (ReadsMayEndWith error) → MakesCalls gives old new (ReadsMayEndWith error)
+reads_may_then {error = error} = joined_calls (ReadsMayEndWith-append error)
+
+pub serves_then : {D : Type 0} {gives : D → Call → D → Type 0} {old middle new : D} {first then : List Request} {error : Option DevError}
+    → MakesCalls gives old middle (Serve first None) → MakesCalls gives middle new (Serve then error) → MakesCalls gives old new (Serve (first ++ then) error)
+serves_then {first = first} {then = then} {error = error} = joined_calls (Serve-append first then error)
+
+pub serves_cut : {D : Type 0} {gives : D → Call → D → Type 0} {old new : D} {first : List Request} {error : DevError} (then : List Request)
+    → MakesCalls gives old new (Serve first (Some error)) → MakesCalls gives old new (Serve (first ++ then) (Some error))
+serves_cut {first = first} {error = error} then = weaker_calls (Serve-cut first then error)
+
+-- what is told in one way, told in a weaker one
+pub may_end : {D : Type 0} {gives : D → Call → D → Type 0} {old new : D} {error : Option DevError}
+    → MakesCalls gives old new (EndWith error) → MakesCalls gives old new (MayEndWith error)
+may_end {error = error} = weaker_calls (MayEndWith-ends error)
+
+pub reads_may : {D : Type 0} {gives : D → Call → D → Type 0} {old new : D} {error : Option DevError}
+    → MakesCalls gives old new (ReadsEndWith error) → MakesCalls gives old new (ReadsMayEndWith error)
+reads_may {error = error} = weaker_calls (λ calls ends. record { reads = ends.reads; ends = MayEndWith-ends error calls ends.ends })
+
+pub reads_end : {D : Type 0} {gives : D → Call → D → Type 0} {old new : D} {error : Option DevError}
+    → MakesCalls gives old new (ReadsEndWith error) → MakesCalls gives old new (EndWith error)
+reads_end = weaker_calls (λ calls ends. ends.ends)
+
+pub reads_may_end : {D : Type 0} {gives : D → Call → D → Type 0} {old new : D} {error : Option DevError}
+    → MakesCalls gives old new (ReadsMayEndWith error) → MakesCalls gives old new (MayEndWith error)
+reads_may_end = weaker_calls (λ calls ends. ends.ends)
+
+pub serves_end : {D : Type 0} {gives : D → Call → D → Type 0} {old new : D} {requests : List Request} {error : Option DevError}
+    → MakesCalls gives old new (Serve requests error) → MakesCalls gives old new (EndWith error)
+serves_end = weaker_calls (λ calls serve. serve.ends)
+
+-- memory ran out behind the calls
+pub out_of_memory : {D : Type 0} {gives : D → Call → D → Type 0} {old new : D} → MakesCalls gives old new (MayEndWith None) → MakesCalls gives old new (MayEndWith (Some NoMemory))
+out_of_memory = weaker_calls MayEndWith-no_memory
+
+pub reads_out_of_memory : {D : Type 0} {gives : D → Call → D → Type 0} {old new : D}
+    → MakesCalls gives old new (ReadsMayEndWith None) → MakesCalls gives old new (ReadsMayEndWith (Some NoMemory))
+reads_out_of_memory = weaker_calls (λ calls ends. record { reads = ends.reads; ends = MayEndWith-no_memory calls ends.ends })
+
+-- those of the requests up to one that answered an error
+pub serves_front : {D : Type 0} {gives : D → Call → D → Type 0} {old new : D} {error : DevError} (count : ℕ) (requests : List Request)
+    → MakesCalls gives old new (Serve (take count requests) (Some error)) → MakesCalls gives old new (Serve requests (Some error))
+serves_front {gives = gives} {old = old} {new = new} {error = error} count requests made =
+    subst (λ (all : List Request). MakesCalls gives old new (Serve all (Some error))) (take-append-drop count requests) (serves_cut (drop count requests) made)
+
+-- no call
+pub no_calls : {D : Type 0} (gives : D → Call → D → Type 0) (device : D) (Are : List Call → Type 0) → Are [] → MakesCalls gives device device Are
+no_calls gives device Are are = record { calls = []; made = refl; are = are }
+
+-- one call
+pub one_call : {D : Type 0} {gives : D → Call → D → Type 0} {old new : D} {call : Call} (Are : List Call → Type 0) → Are (call ∷ []) → MakesCall gives old call new → MakesCalls gives old new Are
+one_call {new = new} {call = call} Are are given = record { calls = call ∷ []; made = (new, given, refl); are = are }
+
+pub EndWith-one : (call : Call) → EndWith (error_of (answer_of call)) (call ∷ [])
+EndWith-one (Reads at before (Ok done) after) = record { stop = (tt, tt); first = refl }
+EndWith-one (Reads at before (Err error) after) = record { stop = (refl, tt); first = refl }
+EndWith-one (Writes write (Ok done)) = record { stop = (tt, tt); first = refl }
+EndWith-one (Writes write (Err error)) = record { stop = (refl, tt); first = refl }
+EndWith-one (Syncs (Ok done)) = record { stop = (tt, tt); first = refl }
+EndWith-one (Syncs (Err error)) = record { stop = (refl, tt); first = refl }
+
+pub Serve-one : (call : Call) → Serve (request_of call ∷ []) (error_of (answer_of call)) (call ∷ [])
+Serve-one call = record { ends = EndWith-one call; rest = []; asked = refl; all = λ none. refl }
+
+pub call_ends : {D : Type 0} {gives : D → Call → D → Type 0} {old new : D} {call : Call} → MakesCall gives old call new → MakesCalls gives old new (EndWith (error_of (answer_of call)))
+call_ends {call = call} given = one_call {call = call} (EndWith (error_of (answer_of call))) (EndWith-one call) given
+
+pub call_serves : {D : Type 0} {gives : D → Call → D → Type 0} {old new : D} {call : Call} → MakesCall gives old call new → MakesCalls gives old new (Serve (request_of call ∷ []) (error_of (answer_of call)))
+call_serves {call = call} given = one_call {call = call} (Serve (request_of call ∷ []) (error_of (answer_of call))) (Serve-one call) given
+
+pub read_ends : {D : Type 0} {gives : D → Call → D → Type 0} {old new : D} {at : ℕ} {before after : List ℕ} {answer : Answer}
+    → MakesCall gives old (Reads at before answer after) new → MakesCalls gives old new (ReadsEndWith (error_of answer))
+read_ends {at = at} {before = before} {after = after} {answer = answer} given =
+    one_call {call = Reads at before answer after} (ReadsEndWith (error_of answer)) (record { reads = (tt, tt); ends = EndWith-one (Reads at before answer after) }) given
+
+pub read_may_end : {D : Type 0} {gives : D → Call → D → Type 0} {old new : D} {at : ℕ} {before after : List ℕ} {answer : Answer}
+    → MakesCall gives old (Reads at before answer after) new → MakesCalls gives old new (ReadsMayEndWith (error_of answer))
+read_may_end given = reads_may (read_ends given)
+
+-- no call, and no error
+pub none_ends : {D : Type 0} (gives : D → Call → D → Type 0) (device : D) → MakesCalls gives device device (EndWith None)
+none_ends gives device = no_calls gives device (EndWith None) (record { stop = tt; first = refl })
+
+pub none_may_end : {D : Type 0} (gives : D → Call → D → Type 0) (device : D) → MakesCalls gives device device (MayEndWith None)
+none_may_end gives device = may_end (none_ends gives device)
+
+pub none_reads : {D : Type 0} (gives : D → Call → D → Type 0) (device : D) → MakesCalls gives device device (ReadsEndWith None)
+none_reads gives device = no_calls gives device (ReadsEndWith None) (record { reads = tt; ends = record { stop = tt; first = refl } })
+
+pub none_reads_may : {D : Type 0} (gives : D → Call → D → Type 0) (device : D) → MakesCalls gives device device (ReadsMayEndWith None)
+none_reads_may gives device = reads_may (none_reads gives device)
+
+pub none_serves : {D : Type 0} (gives : D → Call → D → Type 0) (device : D) → MakesCalls gives device device (Serve [] None)
+none_serves gives device = no_calls gives device (Serve [] None) (record { ends = record { stop = tt; first = refl }; rest = []; asked = refl; all = λ none. refl })
+
+-- a write that failed, behind which there is no sync
+pub put_cut : {D : Type 0} {gives : D → Call → D → Type 0} {old new : D} {write : Write} {error : DevError}
+    → MakesCall gives old (Writes write (Err error)) new → MakesCalls gives old new (Serve (put_requests write) (Some error))
+put_cut given = serves_cut (ToSync ∷ []) (call_serves given)
+
+-- a write, and a sync behind it
+pub put_synced : {D : Type 0} {gives : D → Call → D → Type 0} {old middle new : D} {write : Write} {done : Unit {0}} {answer : Answer}
+    → MakesCall gives old (Writes write (Ok done)) middle → MakesCall gives middle (Syncs answer) new → MakesCalls gives old new (Serve (put_requests write) (error_of answer))
+put_synced first then = serves_then (call_serves first) (call_serves then)

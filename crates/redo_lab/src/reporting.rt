@@ -1,0 +1,37 @@
+// The report of a run.
+use crate::playing::Played;
+use model_history::History;
+use model_page::Content;
+use model_script::Script;
+use redo_io::Text;
+use redo_lsn::NoMemory;
+use redo_report::{left_of, report};
+use std::alloc::Global;
+
+/// The report of a run of a script, or of none where opening was stopped; behind a crash with what was read.
+pub(crate) fn report_of(
+    alloc: Global,
+    script: &Script,
+    run: Option<&Played>,
+    read: Option<(u64, &[Content])>,
+) -> Result<Text, NoMemory> {
+    match run {
+        None => {
+            let left = left_of(alloc, &History(Vec::new(alloc)), script)?;
+            report(alloc, None, &[], left.as_slice(), None, read)
+        }
+        Some(played) => {
+            let left = left_of(alloc, &played.history, script)?;
+            let entries = played.history.0.as_slice();
+            let marks = Some(played.marks);
+            report(
+                alloc,
+                Some(played.start),
+                entries,
+                left.as_slice(),
+                marks,
+                read,
+            )
+        }
+    }
+}

@@ -1,0 +1,39 @@
+-- The slots and places are erased, and a sync makes that stay.
+use Rattle.std.proofs.Common.{◌≡◌, ◌*◌, sym, subst, arith}
+use Rattle.std.proofs.lemmas.Result.{err_from_is_err_and, on_ok_weaker}
+use Rattle.model_device.specs.Calls.{synced}
+use Rattle.model_device.specs.Disk.{Disk}
+use Rattle.model_page.specs.Copies.{data_device_length}
+use Rattle.redo_disk.specs.Seen.{HasSize}
+use Rattle.redo_disk.proofs.Made.{call_ends, ends_then}
+use Rattle.redo_open.specs.Blank.{HasBlankPages}
+use Rattle.redo_open.specs.Erase.{HasErased}
+use Rattle.redo_open.proofs.Blanks.{synced-blank}
+use Rattle.redo_open.proofs.Told.{told-then, cause-since}
+use Rattle.redo_open.proofs.blank.clear_pages.Goals as goal
+
+pub returns-clause-ok : goal.returns-clause-ok
+returns-clause-ok g c =
+    let size = (g.D.Sectors.seen c.args.device.now).size in
+    let shape = c.args.shape.now in
+    let end = c.from.result * c.from-2.result in
+    let length_is : end ≡ data_device_length shape = cc in
+    on_ok_weaker c.sync.result
+    (told-then _ _ _ (λ old new. HasSize size old → HasErased size 0 end old new) (λ (old new : Disk). new ≡ synced old)
+    (λ old new. HasSize size old → HasBlankPages shape new)
+    (λ a b d erased is sized. subst (HasBlankPages shape) (sym is) (synced-blank shape size end a b length_is (omega (arith, length_is, c.requires.long)) (erased sized))) c.in_ok-erase.ensures.ok)
+    c.sync.ensures.step.ok
+
+pub returns-in_err-erase-clause-cause : goal.returns-in_err-erase-clause-cause
+returns-in_err-erase-clause-cause g c =
+    let p = err_from_is_err_and c.from_residual.result c.from_residual.ensures.1 in rw (p.1, p.2) c.in_err-erase.ensures.cause
+
+pub returns-in_err-erase-clause-calls : goal.returns-in_err-erase-clause-calls
+returns-in_err-erase-clause-calls g c =
+    let p = err_from_is_err_and c.from_residual.result c.from_residual.ensures.1 in rw (p.1, p.2) c.in_err-erase.ensures.calls
+
+pub returns-clause-cause : goal.returns-clause-cause
+returns-clause-cause g c = cause-since _ _ _ c.sync.result c.in_ok-erase.ensures.cause.later c.sync.ensures.step.cause
+
+pub returns-clause-calls : goal.returns-clause-calls
+returns-clause-calls g c = ends_then c.in_ok-erase.ensures.calls (call_ends c.sync.ensures.gives)

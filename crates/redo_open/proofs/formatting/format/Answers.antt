@@ -1,0 +1,15 @@
+use Rattle.std.proofs.Common.{ℕ, subst}
+use Rattle.redo_recover.specs.Start.{IsLengthFault}
+use Rattle.redo_open.proofs.Causes.{length-calls, length-cause}
+use Rattle.redo_open.proofs.formatting.format.Goals as goal
+
+pub returns-in-Err-clause-cause : goal.returns-in-Err-clause-cause
+returns-in-Err-clause-cause g c =
+    length-cause c.args.shape.now (g.L.Sectors.seen c.args.log.now) (g.D.Sectors.seen c.args.data_device.now)
+    (g.L.Sectors.seen c.args.log.now) (g.D.Sectors.seen c.args.data_device.now) c.in-Err.fault
+    (subst (λ (n : ℕ). IsLengthFault c.args.shape.now n (g.D.Sectors.seen c.args.data_device.now).size c.in-Err.fault) c.len.ensures.size
+    (subst (λ (n : ℕ). IsLengthFault c.args.shape.now c.len.result n c.in-Err.fault) c.len-2.ensures.size c.in-Err.ensures.fault))
+
+pub returns-in-Err-clause-calls : goal.returns-in-Err-clause-calls
+returns-in-Err-clause-calls g c =
+    length-calls g.L.Sectors.gives g.D.Sectors.gives c.args.log.now c.args.data_device.now c.args.shape.now _ _ c.in-Err.fault c.in-Err.ensures.fault

@@ -1,0 +1,82 @@
+-- The steps, and then the run.
+use Rattle.std.proofs.Common.{◌≡◌, ◌∙◌, Some, None, Ok, Err, sym, ap, subst}
+use Rattle.model_store.specs.Reading.{Reading}
+use Rattle.redo_disk.specs.Calls.{MayEndWith}
+use Rattle.redo_disk.specs.Made.{MakesCalls}
+use Rattle.redo_disk.specs.Seen.{Seen}
+use Rattle.redo_disk.specs.declared.error.DevError.TheVariants as device
+use Rattle.redo_disk.proofs.Made.{none_may_end, out_of_memory}
+use Rattle.redo_open.proofs.Asked.{started_log, started_data}
+use Rattle.redo_recover.specs.Calls.{data_error}
+use Rattle.redo_open.specs.Clear.{MayStart}
+use Rattle.redo_open.specs.Devices.{DevicesStep}
+use Rattle.redo_open.specs.Opening.{OpensRecovered}
+use Rattle.redo_open.proofs.Recovered.{IsStartable, may-start, recovered-none, recovered-failed, recovered-started}
+use Rattle.redo_recover.specs.Reading.{reading_of}
+use Rattle.redo_recover.specs.declared.fault.RecFault.TheVariants.{NoMemory}
+use Rattle.redo_store.specs.Part.{Part}
+use Rattle.redo_open.proofs.opening.open_recovered.Goals as goal
+
+pub returns-in-Err-clause-step : goal.returns-in-Err-clause-step
+returns-in-Err-clause-step g c =
+    let same : c.in-Err.data_device ≡ c.args.data_device = c.in-Err.ensures.dev in
+    subst (λ device. OpensRecovered g.L.Sectors.seen g.D.Sectors.seen (reading_of c.args.recovered) (g.L.Sectors.seen c.args.log) (g.D.Sectors.seen device)
+    (Err (NoMemory, c.args.log, c.in-Err.data_device))) same
+    (recovered-none g.L.Sectors.seen g.D.Sectors.seen (reading_of c.args.recovered) c.args.log c.in-Err.data_device)
+
+pub returns-in-Err-open_devices-clause-step : goal.returns-in-Err-open_devices-clause-step
+returns-in-Err-open_devices-clause-step g c =
+    let opened : Reading = reading_of c.args.recovered in
+    let seen = g.D.Sectors.seen in
+    let before : seen c.in-Ok.store.dev ≡ seen c.args.data_device = ap (λ (part : Part _). seen part.dev) c.in-Ok.ensures.part in
+    let step = subst (λ (old : Seen). DevicesStep opened (g.L.Sectors.seen c.args.log) old (Err c.in-Err-open_devices.fault) (g.L.Sectors.seen c.open_devices.new.log) (seen c.open_devices.new.part.dev))
+    before c.in-Err-open_devices.ensures.step in
+    let left = subst (λ (new : Seen). DevicesStep opened (g.L.Sectors.seen c.args.log) (seen c.args.data_device) (Err c.in-Err-open_devices.fault) (g.L.Sectors.seen c.open_devices.new.log) new)
+    (sym (ap seen c.into_dev.ensures)) step in
+    recovered-failed g.L.Sectors.seen seen opened (g.L.Sectors.seen c.args.log) (seen c.args.data_device) c.in-Err-open_devices.fault c.open_devices.new.log c.into_dev.result left
+
+pub returns-clause-step : goal.returns-clause-step
+returns-clause-step g c =
+    let opened : Reading = reading_of c.args.recovered in
+    let seen = g.D.Sectors.seen in
+    let of = c.requires.of_devices in
+    let before : seen c.in-Ok.store.dev ≡ seen c.args.data_device = ap (λ (part : Part _). seen part.dev) c.in-Ok.ensures.part in
+    let facts : IsStartable c.args.recovered c.open_devices.new.part c.start_after-start.result = record {
+      may = subst (MayStart c.args.recovered.shape c.args.recovered.ckpt) (sym c.start_after-start.ensures)
+          (may-start c.args.recovered.shape c.args.recovered.ckpt c.args.recovered.groups.items c.args.recovered.end of.limits of.aligned of.started of.small of.end);
+      behind = c.start_after-start.ensures;
+      its_pages = of.its_pages;
+      data_shape = c.in-Ok-open_devices.ensures.shape ∙ ap (λ (part : Part _). part.shape) c.in-Ok.ensures.part;
+      data_live = c.in-Ok-open_devices.ensures.live;
+    } in
+    let step = subst (λ (old : Seen). DevicesStep opened (g.L.Sectors.seen c.args.log) old (Ok tt) (g.L.Sectors.seen c.open_devices.new.log) (seen c.open_devices.new.part.dev))
+    before c.in-Ok-open_devices.ensures.step in
+    recovered-started g.L.Sectors.seen seen c.args.recovered c.start_after-start.result (g.L.Sectors.seen c.args.log) (seen c.args.data_device)
+    c.open_devices.new.log c.open_devices.new.part c.start_run.result facts step c.start_run.ensures
+
+pub returns-in-Err-clause-log_calls : goal.returns-in-Err-clause-log_calls
+returns-in-Err-clause-log_calls g c = out_of_memory (none_may_end g.L.Sectors.gives c.args.log)
+
+pub returns-in-Err-clause-data_calls : goal.returns-in-Err-clause-data_calls
+returns-in-Err-clause-data_calls g c =
+    subst (λ dev. MakesCalls g.D.Sectors.gives c.args.data_device dev (MayEndWith (Some device.NoMemory))) (sym c.in-Err.ensures.dev)
+    (out_of_memory (none_may_end g.D.Sectors.gives c.args.data_device))
+
+pub returns-in-Err-open_devices-clause-log_calls : goal.returns-in-Err-open_devices-clause-log_calls
+returns-in-Err-open_devices-clause-log_calls g c = c.in-Err-open_devices.ensures.log_calls
+
+pub returns-in-Err-open_devices-clause-data_calls : goal.returns-in-Err-open_devices-clause-data_calls
+returns-in-Err-open_devices-clause-data_calls g c =
+    let before = ap (λ (part : Part _). part.dev) c.in-Ok.ensures.part in
+    subst (λ dev. MakesCalls g.D.Sectors.gives c.args.data_device dev (MayEndWith (data_error c.in-Err-open_devices.fault))) (sym c.into_dev.ensures)
+    (subst (λ dev. MakesCalls g.D.Sectors.gives dev c.open_devices.new.part.dev (MayEndWith (data_error c.in-Err-open_devices.fault))) before
+    c.in-Err-open_devices.ensures.data_calls)
+
+pub returns-clause-log_calls : goal.returns-clause-log_calls
+returns-clause-log_calls g c = started_log c.open_devices.new.part c.args.recovered c.start_after-start.result c.start_run.result c.start_run.ensures c.in-Ok-open_devices.ensures.log_calls
+
+pub returns-clause-data_calls : goal.returns-clause-data_calls
+returns-clause-data_calls g c =
+    let before = ap (λ (part : Part _). part.dev) c.in-Ok.ensures.part in
+    started_data c.open_devices.new.log c.open_devices.new.part c.args.recovered c.start_after-start.result c.start_run.result c.start_run.ensures
+    (subst (λ dev. MakesCalls g.D.Sectors.gives dev c.open_devices.new.part.dev (MayEndWith None)) before c.in-Ok-open_devices.ensures.data_calls)

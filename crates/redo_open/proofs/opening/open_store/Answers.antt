@@ -1,0 +1,92 @@
+-- The store is read and opened.
+use Rattle.std.proofs.Common.{◌≢◌, ◌∙◌, Err, ap, arith}
+use Rattle.std.specs.Prelude.{IfOk, IfErr, IfSome}
+use Rattle.model_opening.specs.Opened.{KeepsOpened}
+use Rattle.model_store.specs.Reading.{Reading}
+use Rattle.redo_open.specs.Devices.{HasSameCheckpoint, WhereBothTell}
+use Rattle.redo_open.specs.Opening.{log_left, data_left, IsOpenedReady}
+use Rattle.redo_disk.proofs.Made.{call_ends, may_end, may_end_then}
+use Rattle.redo_open.proofs.Asked.{data_ends, opens_beside, opens_reads, opens_then, reads_ends}
+use Rattle.redo_open.proofs.Stores.{openable-same, opened-read, opening-cause, both-err, kept-same, sync-cause}
+use Rattle.redo_open.proofs.Told.{cause-since}
+use Rattle.redo_recover.specs.Devices.{refusal_of}
+use Rattle.redo_recover.specs.declared.fault.RecFault.{RecFault}
+use Rattle.redo_recover.specs.Reading.{reading_of}
+use Rattle.redo_recover.specs.declared.fault.RecFault.TheVariants.{NoMemory}
+use Rattle.redo_open.proofs.opening.open_store.Goals as goal
+
+pub returns-in-Err-clause-keeps : goal.returns-in-Err-clause-keeps
+returns-in-Err-clause-keeps g c = λ opened. openable-same opened _ _ _ _ c.in-Err.ensures.log.tells c.in-Err.ensures.data_device.tells
+
+pub returns-in-Err-sync-clause-keeps : goal.returns-in-Err-sync-clause-keeps
+returns-in-Err-sync-clause-keeps g c =
+    λ opened. openable-same opened _ _ _ _ c.in-Ok.ensures.log.tells (c.in-Err-sync.ensures.step.err ∙ c.in-Ok.ensures.data_device.tells)
+
+pub returns-clause-keeps : goal.returns-clause-keeps
+returns-clause-keeps g c = λ opened.
+    opened-read opened (reading_of c.in-Ok.recovered) _ _ (g.L.Sectors.seen c.recover.new.log).tells (g.D.Sectors.seen c.recover.new.data_device).tells (g.D.Sectors.seen c.sync.new.self).tells
+    (λ (read : Reading). WhereBothTell (g.L.Sectors.seen (log_left c.open_recovered.result)).tells (g.D.Sectors.seen (data_left c.open_recovered.result)).tells (KeepsOpened read))
+    c.in-Ok.ensures.read c.in-Ok.ensures.log.tells c.in-Ok.ensures.data_device.tells c.in-Ok-sync.ensures.step.ok c.open_recovered.ensures.step.keeps
+
+pub returns-clause-unmoved : goal.returns-clause-unmoved
+returns-clause-unmoved g c = λ opened.
+    opened-read opened (reading_of c.in-Ok.recovered) _ _ (g.L.Sectors.seen c.recover.new.log).tells (g.D.Sectors.seen c.recover.new.data_device).tells (g.D.Sectors.seen c.sync.new.self).tells
+    (λ (read : Reading). IfErr c.open_recovered.result (λ error. error.0 ≢ NoMemory → IfSome (g.L.Sectors.seen error.1).tells (HasSameCheckpoint read)))
+    c.in-Ok.ensures.read c.in-Ok.ensures.log.tells c.in-Ok.ensures.data_device.tells c.in-Ok-sync.ensures.step.ok
+    (λ log_bytes data_bytes orderly log_known data_known. c.open_recovered.ensures.step.unmoved log_bytes data_bytes orderly log_known)
+
+pub returns-clause-ready : goal.returns-clause-ready
+returns-clause-ready g c = λ opened.
+    opened-read opened (reading_of c.in-Ok.recovered) _ _ (g.L.Sectors.seen c.recover.new.log).tells (g.D.Sectors.seen c.recover.new.data_device).tells (g.D.Sectors.seen c.sync.new.self).tells
+    (λ (read : Reading). IfOk c.open_recovered.result (IsOpenedReady g.L.Sectors.seen g.D.Sectors.seen read))
+    c.in-Ok.ensures.read c.in-Ok.ensures.log.tells c.in-Ok.ensures.data_device.tells c.in-Ok-sync.ensures.step.ok c.open_recovered.ensures.step.ready
+
+pub returns-clause-cause : goal.returns-clause-cause
+returns-clause-cause g c =
+    opening-cause g.L.Sectors.seen g.D.Sectors.seen (reading_of c.in-Ok.recovered) (g.L.Sectors.seen c.args.log) (g.D.Sectors.seen c.args.data_device)
+    (g.L.Sectors.seen c.recover.new.log) (g.D.Sectors.seen c.recover.new.data_device) (g.D.Sectors.seen c.sync.new.self) c.open_recovered.result
+    (record {
+      reads = c.in-Ok.ensures.read;
+      data_same = c.in-Ok.ensures.data_device.tells;
+      is_synced = c.in-Ok-sync.ensures.step.ok;
+      log_later = c.in-Ok.ensures.log.later;
+      data_later = omega (arith, c.in-Ok.ensures.data_device.later, c.in-Ok-sync.ensures.step.cause.later);
+    })
+    c.open_recovered.ensures.step.fault c.open_recovered.ensures.step.log_failed c.open_recovered.ensures.step.data_failed
+    (both-err g.L.Sectors.seen g.D.Sectors.seen (g.L.Sectors.seen c.recover.new.log) (g.D.Sectors.seen c.sync.new.self) c.open_recovered.result c.open_recovered.ensures.step.log c.open_recovered.ensures.step.data_device)
+
+pub returns-in-Err-clause-cause : goal.returns-in-Err-clause-cause
+returns-in-Err-clause-cause g c = record {
+  refused = c.in-Err.ensures.cause;
+  lengths = c.in-Err.ensures.lengths;
+  kept = kept-same (refusal_of c.in-Err.fault) _ _ _ _ c.in-Err.ensures.log.tells c.in-Err.ensures.data_device.tells;
+  log_failed = λ is. c.in-Err.ensures.log_failed (ap (λ (f : RecFault). Err f) is);
+  data_failed = λ is. c.in-Err.ensures.data_failed (ap (λ (f : RecFault). Err f) is);
+}
+
+pub returns-in-Err-sync-clause-cause : goal.returns-in-Err-sync-clause-cause
+returns-in-Err-sync-clause-cause g c =
+    sync-cause (g.L.Sectors.seen c.args.log) (g.D.Sectors.seen c.args.data_device) (g.L.Sectors.seen c.recover.new.log) (g.D.Sectors.seen c.sync.new.self)
+    c.in-Err-sync.error c.data_fault.result c.data_fault.ensures
+    (cause-since _ _ _ (Err c.in-Err-sync.error) c.in-Ok.ensures.data_device.later c.in-Err-sync.ensures.step.cause)
+
+pub returns-in-Err-clause-log_calls : goal.returns-in-Err-clause-log_calls
+returns-in-Err-clause-log_calls g c = opens_reads c.in-Err.ensures.log_calls
+
+pub returns-in-Err-clause-data_calls : goal.returns-in-Err-clause-data_calls
+returns-in-Err-clause-data_calls g c = reads_ends c.in-Err.ensures.data_calls
+
+pub returns-in-Err-sync-clause-log_calls : goal.returns-in-Err-sync-clause-log_calls
+returns-in-Err-sync-clause-log_calls g c = opens_beside c.in-Err-sync.error c.data_fault.result c.data_fault.ensures (opens_reads c.in-Ok.ensures.log_calls)
+
+pub returns-in-Err-sync-clause-data_calls : goal.returns-in-Err-sync-clause-data_calls
+returns-in-Err-sync-clause-data_calls g c =
+    may_end_then (reads_ends c.in-Ok.ensures.data_calls)
+    (may_end (data_ends c.in-Err-sync.error c.data_fault.result c.data_fault.ensures (call_ends c.in-Err-sync.ensures.gives)))
+
+pub returns-clause-log_calls : goal.returns-clause-log_calls
+returns-clause-log_calls g c = opens_then (opens_reads c.in-Ok.ensures.log_calls) c.open_recovered.ensures.log_calls
+
+pub returns-clause-data_calls : goal.returns-clause-data_calls
+returns-clause-data_calls g c =
+    may_end_then (may_end_then (reads_ends c.in-Ok.ensures.data_calls) (may_end (call_ends c.in-Ok-sync.ensures.gives))) c.open_recovered.ensures.data_calls

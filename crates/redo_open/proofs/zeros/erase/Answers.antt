@@ -1,0 +1,79 @@
+-- One write behind the other.
+use Rattle.std.proofs.Common.{◌≡◌, ◌+◌, ◌∙◌, ℕ, Err, refl, sym, subst, arith}
+use Rattle.std.proofs.lemmas.Result.{err_from_is_err_and}
+use Rattle.model_device.specs.Calls.{written, FailsWrite}
+use Rattle.model_device.specs.Disk.{Disk}
+use Rattle.redo_disk.specs.Seen.{HasCause, HasSize, OnTold}
+use Rattle.redo_disk.proofs.Made.{call_ends, ends_then, none_ends}
+use Rattle.redo_open.specs.Erase.{Erases, HasErased}
+use Rattle.redo_open.proofs.Erases.{IsPart, zeros_write, erases-failed, erased-none, erased-more}
+use Rattle.redo_open.proofs.Told.{told-then, told-same, cause-since, on-err}
+use Rattle.redo_open.proofs.zeros.erase.Goals as goal
+
+pub loop-at-init : goal.loop-at-init
+loop-at-init g c = record {
+  aligned = c.requires.aligned;
+  from = omega arith;
+  up_to = c.requires.order;
+  size = refl;
+  later = omega arith;
+  told = told-same _ _ (λ old new. HasSize (g.D.Sectors.seen c.args.device.now).size old → HasErased (g.D.Sectors.seen c.args.device.now).size c.args.from c.args.from old new)
+      (λ disk sized. erased-none (g.D.Sectors.seen c.args.device.now).size c.args.from disk sized) refl;
+  calls = none_ends g.D.Sectors.gives c.args.device.now;
+}
+
+pub returns-in_err-write_zeros-clause-err : goal.returns-in_err-write_zeros-clause-err
+returns-in_err-write_zeros-clause-err g c =
+    let size = (g.D.Sectors.seen c.args.device.now).size in
+    let at = c.loop-at.at in
+    let part : IsPart size c.args.from c.args.end at c.min-count.result = record {
+      low = c.loop-at.invariant.from;
+      high = omega arith;
+      range = record { from_sector = c.loop-at.invariant.aligned; whole_sectors = omega (arith, c.loop-at.invariant.aligned, c.requires.whole); within = omega (arith, c.requires.within) };
+    } in
+    on-err c.from_residual.result _
+    (told-then _ _ _ (λ old new. HasSize size old → HasErased size c.args.from at old new) (FailsWrite (zeros_write at c.min-count.result))
+    (λ old new. HasSize size old → Erases size c.args.from c.args.end old new)
+    (λ a b d so_far fails sized. erases-failed size c.args.from c.args.end at c.min-count.result a b d part (so_far sized).erases fails)
+    c.loop-at.invariant.told c.in_err-write_zeros.ensures.step.err)
+
+pub loop-at-preserved : goal.loop-at-preserved
+loop-at-preserved g c =
+    let size = (g.D.Sectors.seen c.args.device.now).size in
+    let at = c.loop-at.at in
+    let part : IsPart size c.args.from (at + c.min-count.result) at c.min-count.result = record {
+      low = c.loop-at.invariant.from;
+      high = omega arith;
+      range = record { from_sector = c.loop-at.invariant.aligned; whole_sectors = omega (arith, c.loop-at.invariant.aligned, c.requires.whole); within = omega (arith, c.requires.within) };
+    } in
+    record {
+      aligned = omega (arith, c.loop-at.invariant.aligned, c.requires.whole);
+      from = omega (arith, c.loop-at.invariant.from);
+      up_to = omega arith;
+      size = c.in_ok-write_zeros.ensures.step.size ∙ c.loop-at.invariant.size;
+      later = omega (arith, c.loop-at.invariant.later, c.in_ok-write_zeros.ensures.step.cause.later);
+      told = told-then _ _ _ (λ old new. HasSize size old → HasErased size c.args.from at old new) (λ (old new : Disk). new ≡ written old (zeros_write at c.min-count.result))
+          (λ old new. HasSize size old → HasErased size c.args.from (at + c.min-count.result) old new)
+          (λ a b d so_far is_written sized. subst (HasErased size c.args.from (at + c.min-count.result) a) (sym is_written)
+          (erased-more size c.args.from at c.min-count.result a b part (so_far sized)))
+          c.loop-at.invariant.told c.in_ok-write_zeros.ensures.step.ok;
+      calls = ends_then c.loop-at.invariant.calls (call_ends c.in_ok-write_zeros.ensures.gives);
+    }
+
+pub returns-in_err-write_zeros-clause-cause : goal.returns-in_err-write_zeros-clause-cause
+returns-in_err-write_zeros-clause-cause g c =
+    let cause : HasCause {T = Unit {0}} (g.D.Sectors.seen c.args.device.now).faults (g.D.Sectors.seen c.write_zeros.new.device).faults (Err c.in_err-write_zeros.field-0.0) =
+    cause-since _ _ _ (Err c.in_err-write_zeros.field-0.0) c.loop-at.invariant.later c.in_err-write_zeros.ensures.step.cause in
+    let p = err_from_is_err_and c.from_residual.result c.from_residual.ensures.1 in rw (p.1, p.2) cause
+
+pub returns-in_err-write_zeros-clause-calls : goal.returns-in_err-write_zeros-clause-calls
+returns-in_err-write_zeros-clause-calls g c =
+    let made = ends_then c.loop-at.invariant.calls (call_ends c.in_err-write_zeros.ensures.gives) in
+    let p = err_from_is_err_and c.from_residual.result c.from_residual.ensures.1 in rw (p.1, p.2) made
+
+pub returns-clause-ok : goal.returns-clause-ok
+returns-clause-ok g c =
+    let size = (g.D.Sectors.seen c.args.device.now).size in
+    let all : c.loop-at.at ≡ c.args.end = omega (arith, c.loop-at-test.false, c.loop-at.invariant.up_to) in
+    subst (λ (n : ℕ). OnTold (g.D.Sectors.seen c.args.device.now).tells (g.D.Sectors.seen c.loop-at.device).tells
+    (λ old new. HasSize size old → HasErased size c.args.from n old new)) all c.loop-at.invariant.told

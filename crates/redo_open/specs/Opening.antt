@@ -1,0 +1,110 @@
+-- Opening a store off two devices that are handed in: what is opened, and what is left of the devices.
+use Rattle.std.specs.Prelude.{ℕ, ◌≡◌, ◌≢◌, ◌≤◌, ◌<◌, ◌+◌, List, Option, Some, None, Result, Ok, Err, IfOk, IfErr, IfSome}
+use Rattle.model_base.specs.Count.{HasRisen}
+use Rattle.model_base.specs.declared.limits.TheConstants.{LSN_LIMIT}
+use Rattle.model_log.specs.declared.layout.TheConstants.{HEADER_BYTES}
+use Rattle.model_logdev.specs.Marks.{first_marks, next_number}
+use Rattle.model_device.specs.Disk.{settled}
+use Rattle.model_opening.specs.Opened.{KeepsOpened, start_of}
+use Rattle.model_opening.specs.Ready.{IsReady}
+use Rattle.model_store.specs.Reading.{Reading, IsReading, IsOrderly}
+use Rattle.redo_disk.specs.Calls.{Call, MayEndWith}
+use Rattle.redo_disk.specs.Seen.{Seen}
+use Rattle.redo_disk.specs.declared.error.DevError.{DevError}
+use Rattle.redo_store.specs.Part.{Part}
+use Rattle.redo_open.specs.Devices.{HasSameCheckpoint, IsFrom, IsOpenFault, IsSameDevice, WhereBothTell}
+use Rattle.redo_pageactors.specs.Opened.{IsRunnable}
+use Rattle.redo_pageactors.specs.declared.opened.Opened.{Opened}
+use Rattle.redo_recover.specs.Calls.{BeginWithHeader, log_error, data_error}
+use Rattle.redo_recover.specs.Devices.{HasCauseIn, HasLengthCause, refusal_of}
+use Rattle.redo_recover.specs.declared.recovered.Recovered.{Recovered}
+use Rattle.redo_recover.specs.declared.fault.RecFault.{RecFault}
+use Rattle.redo_recover.specs.declared.fault.RecFault.TheVariants.{LogDev, DataDev, NoMemory}
+
+-- what opening answers: the opened store, or a fault and the two devices
+abbrev pub Answer : Type 0 → Type 0 → Type 0
+Answer L D = Result (Opened L D) (RecFault × L × D)
+
+-- the devices that are left: in the parts of the opened store, or handed back
+abbrev pub log_left : {L D : Type 0} → Answer L D → L
+log_left (Ok store) = store.log.dev
+log_left (Err error) = error.1
+
+abbrev pub data_left : {L D : Type 0} → Answer L D → D
+data_left (Ok store) = store.store.dev
+data_left (Err error) = error.2
+
+-- The store is opened as it was read: with its shape and its pages, behind its log's end, and under the next number.
+pub record IsOpenedAs {L D : Type 0} (reading : Reading) (store : Opened L D) : Type 0 where
+  pub shape : store.shape ≡ reading.shape
+  pub start : store.start ≡ start_of reading
+  pub pages : store.pages ≡ reading.pages
+  pub number : store.log.marks.number ≡ next_number reading.number
+
+-- what these bytes are read as
+pub record IsOpeningOf {L D : Type 0} (log_bytes data_bytes : List ℕ) (store : Opened L D) : Type 0 where
+  pub reading : Reading
+  pub is_read : IsReading log_bytes data_bytes reading
+  pub opened : IsOpenedAs reading store
+
+-- A store that was in order: its number hasn't gone round, its run starts below the lsn limit, and where both devices tell, both are ready for it.
+pub record IsOpenedReady {L D : Type 0} (log_seen : L → Seen) (data_seen : D → Seen) (reading : Reading) (store : Opened L D) : Type 0 where
+  pub opened : IsOpenedAs reading store
+  pub number : store.log.marks.number ≡ reading.number + 1
+  pub small : store.start < LSN_LIMIT
+  pub ready : WhereBothTell (log_seen store.log.dev).tells (data_seen store.store.dev).tells (IsReady reading)
+
+-- A fault has its cause: the store is refused for it, and nothing was written, a device is too short, or that device has
+-- failed.
+pub record HasFaultCause (log data_device log_after data_after : Seen) (fault : RecFault) : Type 0 where
+  pub refused : HasCauseIn log.tells data_device.tells fault
+  pub lengths : HasLengthCause log.size data_device.size fault
+  pub kept : IfSome (refusal_of fault) (λ _. WhereBothTell log.tells data_device.tells
+      (λ log_disk data_disk. (log_after.tells ≡ Some log_disk) × (data_after.tells ≡ Some data_disk)))
+  pub log_failed : fault ≡ LogDev → HasRisen log.faults log_after.faults
+  pub data_failed : fault ≡ DataDev → HasRisen data_device.faults data_after.faults
+
+-- A run was started on both devices, or memory ran out and they are handed back.
+pub record IsRunOn {L D : Type 0} (log : L) (store : Part D) (recovered : Recovered) (start : ℕ) (opened : Opened L D) : Type 0 where
+  pub shape : opened.shape ≡ recovered.shape
+  pub start_is : opened.start ≡ start
+  pub pages : opened.pages ≡ recovered.pages
+  pub log_part : opened.log ≡ record { dev = log; shape = recovered.shape; marks = first_marks start (next_number recovered.number); failed = None }
+  pub data_part : opened.store ≡ store
+
+abbrev pub IsStarted : {L D : Type 0} → L → Part D → Recovered → ℕ → Answer L D → Type 0
+IsStarted log store recovered start (Ok opened) = IsRunOn log store recovered start opened
+IsStarted log store recovered start (Err error) = (error.0 ≡ NoMemory) × (error.1 ≡ log) × (error.2 ≡ store.dev)
+
+-- A store that was recovered as this is opened. Whatever a crash leaves is read with the opened pages; after Ok a run can
+-- start, and until the next checkpoint stays the log's newest one is the old one.
+pub record OpensRecovered {L D : Type 0} (log_seen : L → Seen) (data_seen : D → Seen) (opened : Reading) (log_old data_old : Seen) (result : Answer L D) : Type 0 where
+  pub keeps : (log_bytes data_bytes : List ℕ) → IsOrderly log_bytes data_bytes opened → IfSome log_old.tells (IsFrom log_bytes)
+      → IfSome data_old.tells (λ disk. disk ≡ settled data_bytes)
+      → WhereBothTell (log_seen (log_left result)).tells (data_seen (data_left result)).tells (KeepsOpened opened)
+  pub unmoved : (log_bytes data_bytes : List ℕ) → IsOrderly log_bytes data_bytes opened → IfSome log_old.tells (IsFrom log_bytes)
+      → IfErr result (λ error. error.0 ≢ NoMemory → IfSome (log_seen error.1).tells (HasSameCheckpoint opened))
+  pub ready : (log_bytes data_bytes : List ℕ) → IsOrderly log_bytes data_bytes opened → IfSome log_old.tells (IsFrom log_bytes)
+      → IfSome data_old.tells (λ disk. disk ≡ settled data_bytes) → IfOk result (IsOpenedReady log_seen data_seen opened)
+  pub opened_as : IfOk result (IsOpenedAs opened)
+  pub runnable : IfOk result IsRunnable
+  pub log : IsSameDevice log_old (log_seen (log_left result))
+  pub data_device : IsSameDevice data_old (data_seen (data_left result))
+  pub fault : IfErr result (λ error. IsOpenFault opened data_old.tells error.0)
+  pub log_failed : IfErr result (λ error. error.0 ≡ LogDev → HasRisen log_old.faults (log_seen error.1).faults)
+  pub data_failed : IfErr result (λ error. error.0 ≡ DataDev → HasRisen data_old.faults (data_seen error.2).faults)
+
+-- the error that the log device may have answered, and the data device
+abbrev pub log_error_in : {L D : Type 0} → Answer L D → Option DevError
+log_error_in (Ok store) = None
+log_error_in (Err error) = log_error error.0
+
+abbrev pub data_error_in : {L D : Type 0} → Answer L D → Option DevError
+data_error_in (Ok store) = None
+data_error_in (Err error) = data_error error.0
+
+-- The calls of a log device of this size. All but the last answered Ok, and the last one answered this error, if any did;
+-- where memory ran out they may all have answered Ok. Where the device has room for a header, the first of them reads that.
+pub record OpensLog (size : ℕ) (error : Option DevError) (calls : List Call) : Type 0 where
+  pub ends : MayEndWith error calls
+  pub header : HEADER_BYTES ≤ size → BeginWithHeader calls

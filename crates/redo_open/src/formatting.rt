@@ -1,0 +1,104 @@
+// Formatting both devices of a store.
+ghost use Rattle.std.specs.Prelude.{◌≤◌, OnOk, IfErr, IfSome};
+ghost use Rattle.model_base.specs.Limits.{IsWithinLimits};
+ghost use Rattle.model_log.specs.Device.{log_device_length};
+ghost use Rattle.model_opening.specs.Formatted.{IsFormatted, KeepsNoStore};
+ghost use Rattle.model_page.specs.Copies.{data_device_length};
+ghost use Rattle.redo_disk.specs.Seen.{HasSize};
+ghost use Rattle.redo_open.specs.Devices.{IsSameDevice, WhereBothTell};
+ghost use Rattle.redo_open.specs.Formatting.{FormatCalls, JudgesLengths, HasFormatCause};
+ghost use Rattle.redo_recover.specs.Start.{IsLengthFault};
+
+use crate::blank::{clear_blocks, clear_head, clear_pages};
+use crate::faults::{data_fault, log_fault};
+use crate::mark::{mark, put_head};
+use model_base::{BLOCK_SIZE, START_LSN, Shape};
+use model_log::HEADER_BYTES;
+use redo_disk::Sectors;
+use redo_recover::RecFault;
+
+/// Whether both devices are as long as the shape asks.
+fn check_lengths(shape: &Shape, log_len: u64, data_len: u64) -> Result<(), RecFault>
+    requires { IsWithinLimits shape.now }
+    ensures judged { JudgesLengths shape.now log_len data_len result }
+    ensures long { OnOk result ((log_device_length shape.now ≤ log_len) × (data_device_length shape.now ≤ data_len)) }
+    ensures fault { IfErr result (IsLengthFault shape.now log_len data_len) }
+{
+    let log_asked = HEADER_BYTES + BLOCK_SIZE * u64::from(shape.log_blocks);
+    if log_len < log_asked {
+        return Err(RecFault::SmallLog(log_asked));
+    }
+    let data_asked = u64::from(shape.slots + shape.pages) * u64::from(shape.page_size);
+    if data_len < data_asked {
+        return Err(RecFault::SmallData(data_asked));
+    }
+    Ok(())
+}
+
+/// Formats both devices, which are long enough. The header goes first and comes back last.
+fn format_devices<L: Sectors, D: Sectors>(
+    log: &mut L,
+    data_device: &mut D,
+    shape: &Shape,
+) -> Result<(), RecFault>
+    requires limits { IsWithinLimits shape.now }
+    requires log_long { log_device_length shape.now ≤ (L.seen log.old).size }
+    requires data_long { data_device_length shape.now ≤ (D.seen data_device.old).size }
+    requires log_sized { IfSome (L.seen log.old).tells (HasSize (L.seen log.old).size) }
+    requires data_sized { IfSome (D.seen data_device.old).tells (HasSize (D.seen data_device.old).size) }
+    ensures formatted { OnOk result (WhereBothTell (L.seen log.new).tells (D.seen data_device.new).tells
+        (IsFormatted shape.now)) }
+    ensures keeps { WhereBothTell (L.seen log.old).tells (D.seen data_device.old).tells (λ log_before data_before.
+        WhereBothTell (L.seen log.new).tells (D.seen data_device.new).tells (KeepsNoStore shape.now log_before data_before)) }
+    ensures cause { IfErr result (HasFormatCause shape.now (L.seen log.old) (D.seen data_device.old)
+        (L.seen log.new) (D.seen data_device.new)) }
+    ensures log { IsSameDevice (L.seen log.old) (L.seen log.new) }
+    ensures data_device { IsSameDevice (D.seen data_device.old) (D.seen data_device.new) }
+    ensures calls { FormatCalls L.gives D.gives log.old log.new data_device.old data_device.new result }
+{
+    match clear_head(log) {
+        Ok(()) => {}
+        Err(error) => return Err(log_fault(error)),
+    }
+    match clear_blocks(log, shape) {
+        Ok(()) => {}
+        Err(error) => return Err(log_fault(error)),
+    }
+    match clear_pages(data_device, shape) {
+        Ok(()) => {}
+        Err(error) => return Err(data_fault(error)),
+    }
+    match mark(log, shape, 0, START_LSN) {
+        Ok(()) => {}
+        Err(error) => return Err(log_fault(error)),
+    }
+    match put_head(log, shape) {
+        Ok(()) => Ok(()),
+        Err(error) => Err(log_fault(error)),
+    }
+}
+
+/// Formats both devices with the sizes of the shape. The header goes first and comes back last, so that a stop between its
+/// first sync and its last write leaves a store that is refused as unformatted.
+pub fn format<L: Sectors, D: Sectors>(
+    log: &mut L,
+    data_device: &mut D,
+    shape: &Shape,
+) -> Result<(), RecFault>
+    requires { IsWithinLimits shape.now }
+    ensures formatted { OnOk result (WhereBothTell (L.seen log.new).tells (D.seen data_device.new).tells
+        (IsFormatted shape.now)) }
+    ensures keeps { WhereBothTell (L.seen log.old).tells (D.seen data_device.old).tells (λ log_before data_before.
+        WhereBothTell (L.seen log.new).tells (D.seen data_device.new).tells (KeepsNoStore shape.now log_before data_before)) }
+    ensures lengths { JudgesLengths shape.now (L.seen log.old).size (D.seen data_device.old).size result }
+    ensures cause { IfErr result (HasFormatCause shape.now (L.seen log.old) (D.seen data_device.old)
+        (L.seen log.new) (D.seen data_device.new)) }
+    ensures log { IsSameDevice (L.seen log.old) (L.seen log.new) }
+    ensures data_device { IsSameDevice (D.seen data_device.old) (D.seen data_device.new) }
+    ensures calls { FormatCalls L.gives D.gives log.old log.new data_device.old data_device.new result }
+{
+    match check_lengths(shape, log.len(), data_device.len()) {
+        Ok(()) => format_devices(log, data_device, shape),
+        Err(fault) => Err(fault),
+    }
+}

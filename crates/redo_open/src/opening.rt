@@ -1,0 +1,123 @@
+// Opening a store.
+ghost use Rattle.std.specs.Prelude.{◌≡◌, ◌≢◌, ◌≤◌, ◌<◌, ◌^◌, IfOk, IfErr, IfSome, None};
+ghost use Rattle.model_base.specs.declared.limits.TheConstants.{MIN_LOG_BLOCKS, MAX_LOG_BLOCKS};
+ghost use Rattle.model_log.specs.Device.{log_device_length};
+ghost use Rattle.model_log.specs.Lsn.{IsAtDataStart};
+ghost use Rattle.model_opening.specs.Opened.{IsOpenable, KeepsOpened};
+ghost use Rattle.model_store.specs.Reading.{Reading};
+ghost use Rattle.redo_disk.specs.Calls.{MayEndWith};
+ghost use Rattle.redo_disk.specs.Made.{MakesCalls};
+ghost use Rattle.redo_open.specs.Devices.{HasSameCheckpoint, IsSameDevice, WhereBothTell};
+ghost use Rattle.redo_open.specs.Mend.{IsSettledData};
+ghost use Rattle.redo_open.specs.Opening.{log_left, data_left, log_error_in, data_error_in, HasFaultCause, IsOpeningOf, IsOpenedReady, IsStarted, OpensLog, OpensRecovered};
+ghost use Rattle.redo_pageactors.specs.Opened.{IsRunnable};
+ghost use Rattle.redo_recover.specs.Devices.{OnContents};
+ghost use Rattle.redo_recover.specs.Reading.{IsOfDevices, reading_of};
+
+use crate::devices::open_devices;
+use crate::faults::data_fault;
+use redo_disk::Sectors;
+use redo_logdev::LogPart;
+use redo_lsn::start_after;
+use redo_pageactors::Opened;
+use redo_recover::{RecFault, Recovered, recover};
+use redo_store::DataPart;
+use std::alloc::Global;
+
+/// What a run takes, once both devices are ready for it. The log part is made last.
+fn start_run<L: Sectors, D: Sectors>(
+    alloc: Global,
+    log: L,
+    store: DataPart<D>,
+    recovered: Recovered,
+    start: u64,
+) -> Result<Opened<L, D>, (RecFault, L, D)>
+    requires long { log_device_length recovered.shape ≤ (L.seen log).size }
+    requires many_blocks { MIN_LOG_BLOCKS ≤ recovered.shape.log_blocks }
+    requires few_blocks { recovered.shape.log_blocks ≤ MAX_LOG_BLOCKS }
+    requires place { IsAtDataStart start }
+    requires first { 8204 ≤ start }
+    requires small { start < 2 ^ 61 }
+    ensures { IsStarted log store recovered start result }
+{
+    let Recovered {
+        shape,
+        number,
+        pages,
+        ..
+    } = recovered;
+    match LogPart::new(alloc, log, &shape, start, number.wrapping_add(1)) {
+        Ok(log) => Ok(Opened {
+            shape,
+            start,
+            pages,
+            log,
+            store,
+        }),
+        Err((_, log)) => Err((RecFault::NoMemory, log, store.into_dev())),
+    }
+}
+
+/// Opens a store that was recovered, on a data device on which nothing is pending.
+fn open_recovered<L: Sectors, D: Sectors>(
+    alloc: Global,
+    mut log: L,
+    data_device: D,
+    recovered: Recovered,
+) -> Result<Opened<L, D>, (RecFault, L, D)>
+    requires of_devices { IsOfDevices (L.seen log).size (D.seen data_device).size recovered }
+    requires settled { IfSome (D.seen data_device).tells (IsSettledData recovered.shape) }
+    ensures step { OpensRecovered L.seen D.seen (reading_of recovered) (L.seen log) (D.seen data_device) result }
+    ensures log_calls { MakesCalls L.gives log (log_left result) (MayEndWith (log_error_in result)) }
+    ensures data_calls { MakesCalls D.gives data_device (data_left result) (MayEndWith (data_error_in result)) }
+{
+    let mut store = match DataPart::new(alloc, data_device, &recovered.shape) {
+        Ok(store) => store,
+        Err((_, data_device)) => return Err((RecFault::NoMemory, log, data_device)),
+    };
+    let start = start_after(recovered.end);
+    match open_devices(alloc, &mut log, &mut store, &recovered, start) {
+        Ok(()) => {}
+        Err(fault) => return Err((fault, log, store.into_dev())),
+    }
+    start_run(alloc, log, store, recovered, start)
+}
+
+/// Opens the store on two devices, so that a run can start on it: reads it, clears away what stands on the log behind its
+/// end, repairs the places of pages that don't pass, writes each page as it was read, and moves the checkpoint.
+///
+/// Wherever it ends, whatever a crash leaves of the two devices is read with the same pages. The devices of a store that
+/// isn't opened are handed back beside the fault.
+pub fn open_store<L: Sectors, D: Sectors>(
+    alloc: Global,
+    mut log: L,
+    mut data_device: D,
+) -> Result<Opened<L, D>, (RecFault, L, D)>
+    ensures keeps { (opened : Reading) → WhereBothTell (L.seen log).tells (D.seen data_device).tells (λ log_disk data_disk.
+        IsOpenable opened log_disk data_disk
+        → WhereBothTell (L.seen (log_left result)).tells (D.seen (data_left result)).tells (KeepsOpened opened)) }
+    ensures unmoved { (opened : Reading) → WhereBothTell (L.seen log).tells (D.seen data_device).tells (λ log_disk data_disk.
+        IsOpenable opened log_disk data_disk
+        → IfErr result (λ error. error.0 ≢ RecFault.NoMemory → IfSome (L.seen error.1).tells (HasSameCheckpoint opened))) }
+    ensures ready { (opened : Reading) → WhereBothTell (L.seen log).tells (D.seen data_device).tells (λ log_disk data_disk.
+        IsOpenable opened log_disk data_disk → IfOk result (IsOpenedReady L.seen D.seen opened)) }
+    ensures read { IfOk result (λ store. OnContents (L.seen log).tells (D.seen data_device).tells
+        (λ log_bytes data_bytes. IsOpeningOf log_bytes data_bytes store)) }
+    ensures runnable { IfOk result (λ store. IsRunnable store) }
+    ensures cause { IfErr result (λ error. HasFaultCause (L.seen log) (D.seen data_device)
+        (L.seen error.1) (D.seen error.2) error.0) }
+    ensures log { IsSameDevice (L.seen log) (L.seen (log_left result)) }
+    ensures data_device { IsSameDevice (D.seen data_device) (D.seen (data_left result)) }
+    ensures log_calls { MakesCalls L.gives log (log_left result) (OpensLog (L.seen log).size (log_error_in result)) }
+    ensures data_calls { MakesCalls D.gives data_device (data_left result) (MayEndWith (data_error_in result)) }
+{
+    let recovered = match recover(alloc, &mut log, &mut data_device) {
+        Ok(recovered) => recovered,
+        Err(fault) => return Err((fault, log, data_device)),
+    };
+    match data_device.sync() {
+        Ok(()) => {}
+        Err(error) => return Err((data_fault(error), log, data_device)),
+    }
+    open_recovered(alloc, log, data_device, recovered)
+}

@@ -1,0 +1,8 @@
+mod Offsets
+mod NextGroup
+mod Playing
+mod Requested
+mod Planning
+mod Lines
+mod Outcome
+mod Owed
