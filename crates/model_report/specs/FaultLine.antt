@@ -36,7 +36,6 @@ abbrev pub quantity_word : Quantity → List ℕ
 quantity_word quantity.Script = codes "script"
 quantity_word quantity.Log = codes "log"
 quantity_word quantity.Store = codes "store"
-quantity_word quantity.Used = codes "used"
 quantity_word quantity.User = codes "user"
 quantity_word quantity.Page = codes "page"
 quantity_word quantity.Offset = codes "offset"

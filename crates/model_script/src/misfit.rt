@@ -14,8 +14,6 @@ pub enum Quantity {
     Log,
     /// The data device is shorter than this many bytes.
     Store,
-    /// The log device is in use; the number is the offset of its first byte that isn't 0.
-    Used,
     /// The number of a user.
     User,
     /// The number of a page.

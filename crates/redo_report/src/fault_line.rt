@@ -79,7 +79,6 @@ fn quantity_words(quantity: Quantity) -> &'static [u8]
         Quantity::Script => b"fault fit script ",
         Quantity::Log => b"fault fit log ",
         Quantity::Store => b"fault fit store ",
-        Quantity::Used => b"fault fit used ",
         Quantity::User => b"fault fit user ",
         Quantity::Page => b"fault fit page ",
         Quantity::Offset => b"fault fit offset ",

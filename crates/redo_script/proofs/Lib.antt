@@ -1,7 +1,5 @@
 pub mod Misfits
 pub mod Cutting
-pub mod FirstScript
-pub mod FrontLemmas
 pub mod GeneratedLines
 pub mod ItemLemmas
 pub mod Joining

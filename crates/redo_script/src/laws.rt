@@ -1,6 +1,5 @@
 // What holds of scripts. A caller learns it by calling a function that does nothing.
 ghost use Rattle.std.specs.Prelude.{◌≡◌, ◌≤◌, ℕ, List, Some, Ok};
-ghost use Rattle.redo_script.specs.FirstPath.{first_path_script};
 ghost use Rattle.std.specs.List.{AllByRecursion};
 ghost use Rattle.model_script.specs.Generator.{generated_lines, generated_text};
 ghost use Rattle.model_script.specs.Grammar.{item_of, script_line_of, script_of, words_of};
@@ -9,12 +8,6 @@ ghost use Rattle.model_script.specs.Spelling.{item_text, script_line_text, scrip
 ghost use Rattle.model_script.specs.declared.item.Item.{Item};
 ghost use Rattle.model_script.specs.declared.misfit.TheConstants.{MAX_USERS};
 ghost use Rattle.model_script.specs.declared.script.ScriptLine.{ScriptLine};
-
-/// A script of today is one by the grammar, with the same lines.
-pub fn first_path_is_script()
-    ensures { (text : List ℕ) (script : List ScriptLine)
-        → first_path_script text ≡ Ok script → script_of text ≡ Ok script }
-{}
 
 /// An operation whose numbers are in their ranges is read back from its text as that operation.
 pub fn printed_operation_reads_back()

@@ -14,7 +14,6 @@ mod number;
 mod operation;
 mod parsing;
 mod printing;
-mod today;
 mod unfit;
 
 pub use fault::ScriptFault;
@@ -22,14 +21,13 @@ pub use fit::judge;
 pub use generator::generate;
 pub use group::group_of;
 pub use laws::{
-    first_path_is_script, generated_script_reads_back, printed_line_reads_back,
-    printed_operation_reads_back, printed_script_reads_back,
+    generated_script_reads_back, printed_line_reads_back, printed_operation_reads_back,
+    printed_script_reads_back,
 };
 pub use model_script::{Item, Items, Script, ScriptLine};
 pub use number::number_up_to;
 pub use parsing::parse;
 pub use printing::{push_init, push_number, push_string};
-pub use today::first_path;
 pub use unfit::Unfit;
 
 #[cfg(test)]

@@ -1,6 +1,8 @@
 // Scripts: which text is one, what its lines say, and the script of a seed.
 use crate::printing::push_line;
-use crate::{Script, ScriptFault, first_path, generate, group_of, number_up_to, parse};
+use crate::{Script, ScriptFault, Unfit, generate, group_of, judge, number_up_to, parse};
+use model_base::{DEFAULT_LOG_BLOCKS, DEFAULT_PAGES, DEFAULT_SPACE, PAGE_SIZE, SLOTS, Shape};
+use model_script::Quantity;
 use std::alloc::{AllocError, Global};
 use std::test::Fail;
 
@@ -177,32 +179,70 @@ fn texts_with_a_bad_line(rt: HostRuntime) -> Result<(), Fail> {
     Ok(())
 }
 
-#[test]
-fn scripts_of_today(rt: HostRuntime) -> Result<(), Fail> {
-    let alloc = rt.alloc();
-    let table = [
-        ("", Ok("")),
-        ("1 f b1 3 100 7", Ok("1 f b1 3 100 7")),
-        ("1 f b1 3 100 7\r\n", Ok("1 f b1 3 100 7")),
-        ("\n", Err(1)),
-        ("1 f b1 3 100 7\n1 f b1 3 100 8", Err(2)),
-        ("1 f b1 3 100 7\n\n", Err(2)),
-        ("1 f b1 8 100 7", Err(1)),
-        ("1 f b1 3 37 7", Err(1)),
-        ("1 f b1 3 4088 7", Err(1)),
-        ("1 f b1 3 100 256", Err(1)),
-        ("01 f b1 3 100 7", Err(1)),
-    ];
-    for (text, want) in table {
-        match (first_path(alloc, text.as_bytes())?, want) {
-            (Ok(script), Ok(want)) => {
-                let lines = printed(alloc, &script)?;
-                assert_eq!(rt; lines.as_str(), want, "of {text:?}");
-            }
-            (Err(line), Err(want)) => assert_eq!(rt; line, want, "of {text:?}"),
-            _ => assert!(rt; false, "of {text:?}"),
+// A line that writes three strings of these lengths, to three pages.
+fn three_strings(alloc: Global, lengths: [usize; 3]) -> Result<String, AllocError> {
+    let mut line = String::from_str(alloc, "1 f ")?;
+    for (page, length) in lengths.into_iter().enumerate() {
+        if page > 0 {
+            line.push_str(";")?;
+        }
+        line.push_str(format!(in alloc; "s {page} 38 ")?.as_str())?;
+        for _ in 0..length {
+            line.push_str("ab")?;
         }
     }
+    line.push_str("\n")?;
+    Ok(line)
+}
+
+// What doesn't fit a store of the default sizes whose run starts behind its first block header, and whose log has one
+// round of room, or frees it.
+fn misfit_of(alloc: Global, text: &str, frees: bool) -> Option<(Quantity, u64)> {
+    let shape = Shape {
+        page_size: PAGE_SIZE,
+        pages: DEFAULT_PAGES,
+        space: DEFAULT_SPACE,
+        log_blocks: DEFAULT_LOG_BLOCKS,
+        slots: SLOTS,
+    };
+    let room_end = if frees { None } else { Some(1_056_768) };
+    let script = parse(alloc, text.as_bytes()).ok()?;
+    match judge(alloc, &shape, 8_204, room_end, &script) {
+        Err(Unfit::Misfit(misfit)) => Some((misfit.quantity, misfit.number)),
+        _ => None,
+    }
+}
+
+#[test]
+fn scripts_that_dont_fit(rt: HostRuntime) -> Result<(), Fail> {
+    let alloc = rt.alloc();
+    let table = [
+        ("", None),
+        ("1 f b1 3 100 7", None),
+        ("16 f b8 7 4080 7", None),
+        ("17 f i 3", Some((Quantity::User, 17))),
+        ("0 f i 9", Some((Quantity::User, 0))),
+        ("1 f b1 9 100 7", Some((Quantity::Page, 9))),
+        ("1 f i 3;b1 3 37 7", Some((Quantity::Offset, 37))),
+        ("1 f b2 3 4087 7", Some((Quantity::Offset, 4087))),
+        ("1 f b1 8 37 7", Some((Quantity::Page, 8))),
+        ("1 f i 3\n2 f i 8\n17 f i 3", Some((Quantity::Page, 8))),
+    ];
+    for (text, want) in table {
+        assert_eq!(rt; misfit_of(alloc, text, false), want, "of {text:?}");
+    }
+    let long = three_strings(alloc, [4_050, 4_050, 71])?;
+    let group = Some((Quantity::Group, 8_193));
+    assert_eq!(rt; misfit_of(alloc, long.as_str(), true), group);
+    let line = three_strings(alloc, [4_050, 4_050, 70])?;
+    assert_eq!(rt; misfit_of(alloc, line.as_str(), false), None);
+    let mut many = String::new(alloc);
+    for _ in 0..130 {
+        many.push_str(line.as_str())?;
+    }
+    let total = Some((Quantity::Total, 1_107_516));
+    assert_eq!(rt; misfit_of(alloc, many.as_str(), false), total);
+    assert_eq!(rt; misfit_of(alloc, many.as_str(), true), None);
     Ok(())
 }
 
