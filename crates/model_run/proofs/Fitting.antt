@@ -12,7 +12,8 @@ use Rattle.model_history.proofs.Filters.{filter-place}
 use Rattle.model_history.proofs.Groups.{HasLine, all-at, group-is}
 use Rattle.model_script.specs.Fit.{LineFits}
 
-line-fits : (shape : Shape) (script : List ScriptLine) (user k : ℕ) (line : ScriptLine) → AllByRecursion (LineFits shape) script
+-- a line of a user fits, as each of the script does
+pub line-fits : (shape : Shape) (script : List ScriptLine) (user k : ℕ) (line : ScriptLine) → AllByRecursion (LineFits shape) script
     → slice_get (lines_of_user user script) k ≡ Some line → LineFits shape line
 line-fits shape script user k line fits at =
     let place = filter-place (λ (line : ScriptLine). line.user == user) script k line at in

@@ -1,6 +1,6 @@
 -- What a crash adds to a run.
 use Rattle.model_store.specs.Fair.{IsFair}
-use Rattle.model_theorem.specs.Crash.{IsWholeScript, AreAnyStops, IsPrinted, IsReadFromDevices}
+use Rattle.model_theorem.specs.Crash.{IsEveryScript, AreAnyStops, IsPrinted, IsReadFromDevices}
 use Rattle.model_theorem.specs.Values.{Crash, Opened, Account, RunResult}
 
 -- what the run of a call left just before the crash
@@ -17,7 +17,7 @@ before_crash crash opened account = record {
 -- The script was read, the stops were those of the words, both devices were crashed and read, the data device with a fair
 -- image, and the report was printed.
 pub record IsCrashOf (crash : Crash) (opened : Opened) (account : Account) : Type 0 where
-  pub every_script : IsWholeScript crash opened account
+  pub every_script : IsEveryScript crash opened account
   pub any_stops : AreAnyStops crash
   pub prints : IsPrinted crash account
   pub read_from_devices : IsReadFromDevices crash account

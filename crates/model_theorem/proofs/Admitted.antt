@@ -21,7 +21,8 @@ use Rattle.model_script.specs.Grammar.{script_of}
 use Rattle.model_base.specs.Limits.{default_shape}
 use Rattle.model_store.specs.Reading.{Reading}
 use Rattle.model_theorem.specs.Crash.{CrashSafe}
-use Rattle.model_script.specs.Fit.{LineFits}
+use Rattle.model_script.specs.Fit.{LineFits, script_end}
+use Rattle.model_base.specs.declared.limits.TheConstants.{LSN_LIMIT}
 use Rattle.model_theorem.specs.Values.{Opened}
 use Rattle.model_theorem.specs.Examples.{new_store, ReadsAsOpened, lost_run, line_of_value, two_lines, text_of_two, text_of_one, empty_account, empty_call, lost_account, lost_call, stopped_account, stopped_call}
 
@@ -50,6 +51,14 @@ seven-short = refl
 eight-short : group_length (group_of 1 (line_of_value 8)) ≡ 6
 unfolding group.group_text text.single_text spelling.spelling32
 eight-short = refl
+
+-- and both end far below the limit
+two-long : length (group.stream_of (group_of 1 (line_of_value 7) ∷ group_of 1 (line_of_value 8) ∷ [])) ≡ 12
+unfolding group.stream_of group.group_text text.single_text spelling.spelling32
+two-long = refl
+
+two-end : script_end default_shape 8204 two_lines < LSN_LIMIT
+two-end = subst (λ n. lsn_of (sn_of 8204 + n) < LSN_LIMIT) (sym two-long) (omega arith)
 
 line-fits : (value : ℕ) → value < 256 → group_length (group_of 1 (line_of_value value)) ≡ 6 → LineFits default_shape (line_of_value value)
 line-fits value small short = record {
@@ -112,11 +121,11 @@ left-none = record {
 pub admits-empty : (log data_bytes : List ℕ) (opened : Opened) (reading : Reading) → ReadsAsOpened log data_bytes opened reading
     → CrashSafe (empty_call log data_bytes opened reading) opened (empty_account opened reading)
 admits-empty log data_bytes opened reading reads = record {
-  every_script = record { all_read = (refl, refl); is_script = empty-text; fits = tt };
+  every_script = record { whole = record { all_read = (refl, refl); is_script = empty-text }; fits = record { lines = tt; end = reads.room; room = tt } };
   any_stops = record {
     log_device = record { limit = refl; passed_at_most = tt; armed_first = refl; cause = λ some. absurd (omega arith) };
     data_device = record { limit = refl; passed_at_most = tt; armed_first = refl; cause = λ some. absurd (omega arith) };
-    armed_first = record { opening_counted = omega arith; log_calls = λ used. omega arith; data_calls = λ used. refl };
+    armed_first = record { opening_counted = omega arith; unused = λ unused. absurd (reads.in_use unused); log_in_use = λ used. refl; data_in_use = λ used. refl; log_calls = λ used. omega arith; data_calls = λ used. refl };
   };
   prints = record { taken = refl; report = refl; left_is = left-none };
   in_lsn_order = record {
@@ -191,14 +200,17 @@ pub admits-lost : (log : List ℕ) (writes : List Write) (reads data_bytes : Lis
     → 8192 ≤ reading.ckpt → CrashSafe (lost_call log writes reads data_bytes reading) new_store (lost_account reading)
 admits-lost log writes reads data_bytes reading as_opened ckpt = record {
   every_script = record {
-    all_read = (refl, refl);
-    is_script = two-text;
-    fits = (line-fits 7 (omega arith) seven-short, (line-fits 8 (omega arith) eight-short, tt));
+    whole = record { all_read = (refl, refl); is_script = two-text };
+    fits = record {
+      lines = (line-fits 7 (omega arith) seven-short, (line-fits 8 (omega arith) eight-short, tt));
+      end = two-end;
+      room = tt;
+    };
   };
   any_stops = record {
     log_device = record { limit = refl; passed_at_most = tt; armed_first = refl; cause = λ some. inl (inl (omega arith)) };
     data_device = record { limit = refl; passed_at_most = tt; armed_first = refl; cause = λ some. absurd (omega arith) };
-    armed_first = record { opening_counted = omega arith; log_calls = λ used. omega arith; data_calls = λ used. refl };
+    armed_first = record { opening_counted = omega arith; unused = λ unused. absurd (as_opened.in_use unused); log_in_use = λ used. refl; data_in_use = λ used. refl; log_calls = λ used. omega arith; data_calls = λ used. refl };
   };
   prints = record { taken = refl; report = refl; left_is = left-one two_lines lost_run.entries refl others-of-two };
   in_lsn_order = record {
@@ -229,11 +241,11 @@ admits-lost log writes reads data_bytes reading as_opened ckpt = record {
 pub admits-stopped : (log data_bytes : List ℕ) (reading : Reading) → ReadsAsOpened log data_bytes new_store reading
     → CrashSafe (stopped_call log data_bytes reading) new_store (stopped_account reading)
 admits-stopped log data_bytes reading as_opened = record {
-  every_script = record { all_read = (refl, refl); is_script = one-text; fits = tt };
+  every_script = record { whole = record { all_read = (refl, refl); is_script = one-text }; fits = tt };
   any_stops = record {
     log_device = record { limit = refl; armed_first = refl; passed_at_most = omega arith; cause = λ some. inr (omega arith) };
     data_device = record { limit = refl; passed_at_most = tt; armed_first = refl; cause = λ some. absurd (omega arith) };
-    armed_first = record { opening_counted = omega arith; log_calls = λ used. omega arith; data_calls = λ used. refl };
+    armed_first = record { opening_counted = omega arith; unused = λ unused. absurd (as_opened.in_use unused); log_in_use = λ used. refl; data_in_use = λ used. refl; log_calls = λ used. omega arith; data_calls = λ used. refl };
   };
   prints = record { taken = refl; report = refl; left_is = left-one (line_of_value 7 ∷ []) [] refl others-of-one };
   in_lsn_order = tt;

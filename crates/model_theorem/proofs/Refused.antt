@@ -4,14 +4,17 @@ use Rattle.std.specs.Prelude.{IfSome, slice_get, take}
 use Rattle.std.proofs.lemmas.Bool.{cases_lt}
 use Rattle.std.proofs.lemmas.Bool.Decides.{nat_tests}
 use Rattle.model_base.specs.Count.{HasRisen}
+use Rattle.model_base.specs.Limits.{default_shape}
+use Rattle.model_opening.specs.Formatted.{formatted_store}
 use Rattle.model_store.specs.Apply.{folded}
+use Rattle.model_store.specs.Reading.{Reading, IsReading}
 use Rattle.model_log.specs.Run.{IsTiled}
 use Rattle.model_history.specs.Legal.{count_up_to, entry_spans, wholes_of}
 use Rattle.model_history.specs.declared.entry.Entry.{Entry}
 use Rattle.model_theorem.specs.Values.{Crash, Opened, Ran, Account, Device, entries_of}
 use Rattle.model_theorem.specs.Run.{IsRun, first_count}
 use Rattle.model_theorem.specs.Crash.{CrashSafe, HasPassedAll, IsStoppedAsAsked}
-use Rattle.model_theorem.specs.Examples.{LacksFlushedGroup, HasGap, StartsElsewhere, ChangesPages, LosesForNothing, StopsOtherwise, StopsForNothing}
+use Rattle.model_theorem.specs.Examples.{LacksFlushedGroup, HasGap, StartsElsewhere, ChangesPages, LosesForNothing, StopsOtherwise, StopsForNothing, ArmsLate}
 
 none-up-to : (end : ℕ) (entry : Entry) → end < entry.end → count_up_to end (entry ∷ []) ≡ 0
 none-up-to end entry below = grind (arith, nat_tests)
@@ -66,3 +69,14 @@ refuses-opening crash opened account safe stops =
     ⊎_elim (no-failure crash.options.stop_log crash.log_device safe.any_stops.log_device stops.log_unasked stops.log_can_count stops.log_well)
     (λ none. no-failure crash.options.stop_data crash.data_device safe.any_stops.data_device stops.data_unasked stops.data_can_count stops.data_well (omega arith))
     (cases_lt 0 crash.log_device.stop.failures)
+
+-- `one` is the law that a store is read in one way
+pub refuses-late : ((log data_bytes : List ℕ) (first second : Reading) → IsReading log data_bytes first → IsReading log data_bytes second → first ≡ second)
+    → (crash : Crash) (opened : Opened) (account : Account) → CrashSafe crash opened account → ArmsLate crash → ⊥
+refuses-late one crash opened account safe late =
+    let formatted = safe.any_stops.armed_first.unused late.unused in
+    let same : late.reading ≡ formatted_store default_shape =
+    one crash.log_device.armed_from.reads crash.data_device.armed_from.reads late.reading (formatted_store default_shape) late.is_read formatted.orderly.reads in
+    let number : late.reading.number ≡ 0 = ap (λ (reading : Reading). reading.number) same in
+    let opened_once = late.was_opened in
+    absurd (omega arith)

@@ -2,25 +2,23 @@
 -- groups in lsn order, each user's as its script orders and once, then the pages read from what the devices kept:
 -- those of applying the first n groups whole to the opened pages, n reaching every group printed flushed; a group is
 -- lost only where a device call failed.
-use Rattle.std.specs.Prelude.{ℕ, ◌≡◌, ◌≤◌, ◌<◌, ◌⊎◌, ◌+◌, ◌++◌, [], Option, Some, None, Ok, IfSome}
-use Rattle.std.specs.List.{AllByRecursion}
+use Rattle.std.specs.Prelude.{ℕ, ◌≡◌, ◌≤◌, ◌<◌, ◌⊎◌, ◌+◌, ◌++◌, Option, Some, None, IfSome}
 use Rattle.model_base.specs.Count.{HasRisen}
-use Rattle.model_device.specs.Disk.{IsImage, settled}
+use Rattle.model_base.specs.Limits.{default_shape}
+use Rattle.model_device.specs.Disk.{Disk, IsImage, HasOneImage, settled}
+use Rattle.model_opening.specs.Formatted.{formatted_store}
 use Rattle.model_store.specs.Opening.{IsUnused}
-use Rattle.model_store.specs.Reading.{IsReading, HasOldCopies}
-use Rattle.model_script.specs.Grammar.{script_of}
-use Rattle.model_script.specs.Fit.{LineFits}
+use Rattle.model_store.specs.Reading.{IsReading, IsOrderly, HasOldCopies}
 use Rattle.model_history.specs.Legal.{IsLeft}
 use Rattle.model_report.specs.Report.{report_text}
 use Rattle.model_theorem.specs.Run.{IsRun, IsPrefixRead, LosesOnlyByFailure}
+use Rattle.model_theorem.specs.Script.{IsWholeScript, FitsOpened}
 use Rattle.model_theorem.specs.Values.{Device, Crash, Opened, Account, entries_of, start_of, marks_of}
 
--- Every script: all that the source had left was read, where it tells, and that is a script by the grammar; where it was
--- run, each of its lines fits the store.
-pub record IsWholeScript (crash : Crash) (opened : Opened) (account : Account) : Type 0 where
-  pub all_read : IfSome crash.source (λ left. (account.text ≡ left) × (crash.source_left ≡ Some []))
-  pub is_script : script_of account.text ≡ Ok account.script
-  pub fits : IfSome account.run (λ run. AllByRecursion (LineFits opened.shape) account.script)
+-- Every script: where it was run, it fits the store.
+pub record IsEveryScript (crash : Crash) (opened : Opened) (account : Account) : Type 0 where
+  pub whole : IsWholeScript crash.source crash.source_left account.text account.script
+  pub fits : IfSome account.run (λ run. FitsOpened crash.options.log_only opened account.script)
 
 -- the fuse has passed on as many calls as it was to
 abbrev pub HasPassedAll : Option ℕ → ℕ → Type 0
@@ -38,10 +36,21 @@ pub record IsStoppedAsAsked (asked : Option ℕ) (device : Device) : Type 0 wher
   pub cause : 0 < device.stop.failures
       → HasRisen device.faults_at_entry device.faults ⊎ HasPassedAll asked device.stop.passed
 
--- The fuses were armed before opening. Opening reads the log device, and the fuse has counted that; before it came the
--- calls that format the devices, or, where they are in use, one read of the log device's first block.
+-- the devices are at rest, and hold what formatting leaves, with the checkpoint of number 0, which the first opening
+-- replaces
+pub record AreFormatted (log_disk data_disk : Disk) : Type 0 where
+  pub log_rests : HasOneImage log_disk log_disk.reads
+  pub data_rests : HasOneImage data_disk data_disk.reads
+  pub orderly : IsOrderly log_disk.reads data_disk.reads (formatted_store default_shape)
+
+-- The fuses were armed before opening. Opening reads the log device, and the fuse has counted that. The devices were then
+-- as formatting leaves them, where the log device was unused; else as they were handed in, and before came at most one read
+-- of the log device's first block.
 pub record AreArmedFirst (log_device data_device : Device) : Type 0 where
   pub opening_counted : 0 < log_device.stop.passed + log_device.stop.failures
+  pub unused : IsUnused log_device.at_entry.reads → AreFormatted log_device.armed_from data_device.armed_from
+  pub log_in_use : (IsUnused log_device.at_entry.reads → ⊥) → log_device.armed_from ≡ log_device.at_entry
+  pub data_in_use : (IsUnused log_device.at_entry.reads → ⊥) → data_device.armed_from ≡ data_device.at_entry
   pub log_calls : (IsUnused log_device.at_entry.reads → ⊥) → log_device.stop.calls_before ≤ 1
   pub data_calls : (IsUnused log_device.at_entry.reads → ⊥) → data_device.stop.calls_before ≡ 0
 
@@ -82,7 +91,7 @@ failures_of crash = crash.log_device.stop.failures + crash.data_device.stop.fail
 
 -- What is promised of a call on devices that open this store: the account is one of it. A field for each phrase.
 pub record CrashSafe (crash : Crash) (opened : Opened) (account : Account) : Type 0 where
-  pub every_script : IsWholeScript crash opened account
+  pub every_script : IsEveryScript crash opened account
   pub any_stops : AreAnyStops crash
   pub prints : IsPrinted crash account
   pub in_lsn_order : IfSome account.run (IsRun account.script opened)

@@ -1,14 +1,16 @@
 -- Calls that the promise is tried on: what it refuses, and what it admits.
-use Rattle.std.specs.Prelude.{ℕ, ◌≡◌, ◌≢◌, ◌<◌, ◌⊎◌, List, [], ◌∷◌, codes, slice_get, Option, Some, None}
+use Rattle.std.specs.Prelude.{ℕ, false, ◌≡◌, ◌≢◌, ◌<◌, ◌⊎◌, List, [], ◌∷◌, codes, slice_get, Option, Some, None}
 use Rattle.model_base.specs.Limits.{default_shape}
-use Rattle.model_base.specs.declared.limits.TheConstants.{FIRST_DATA_LSN}
+use Rattle.model_base.specs.declared.limits.TheConstants.{FIRST_DATA_LSN, LSN_LIMIT}
 use Rattle.model_page.specs.Blank.{blank_pages}
 use Rattle.model_device.specs.Disk.{settled}
 use Rattle.model_device.specs.declared.write.Write.{Write}
 use Rattle.model_log.specs.Lsn.{start_after}
 use Rattle.model_report.specs.Report.{report_text}
+use Rattle.model_script.specs.Fit.{script_end}
 use Rattle.model_script.specs.declared.item.Item.TheVariants.{Num}
 use Rattle.model_script.specs.declared.script.ScriptLine.{ScriptLine}
+use Rattle.model_store.specs.Opening.{IsUnused}
 use Rattle.model_store.specs.Reading.{Reading, IsReading, HasOldCopies}
 use Rattle.model_history.specs.declared.entry.Entry.{Entry}
 use Rattle.model_history.specs.declared.entry.State.TheVariants.{Lost, Flushed}
@@ -69,11 +71,20 @@ pub record StopsForNothing (crash : Crash) (account : Account) : Type 0 where
   pub log_well : crash.log_device.faults ≡ 0
   pub data_well : crash.data_device.faults ≡ 0
 
+-- the log device was unused, and when its fuse was armed the store had been opened
+pub record ArmsLate (crash : Crash) : Type 0 where
+  pub unused : IsUnused crash.log_device.at_entry.reads
+  pub reading : Reading
+  pub is_read : IsReading crash.log_device.armed_from.reads crash.data_device.armed_from.reads reading
+  pub was_opened : 0 < reading.number
+
 -- ADMITTED.
 
--- The devices hold these bytes after a run that logged nothing: they are read as the store that was opened, and the log
--- ends where the run starts.
+-- The devices were in use, and hold these bytes after a run that logged nothing: they are read as the store that was
+-- opened, and the log ends where the run starts.
 pub record ReadsAsOpened (log data_bytes : List ℕ) (opened : Opened) (reading : Reading) : Type 0 where
+  pub in_use : IsUnused log → ⊥
+  pub room : script_end opened.shape (start_after opened.end) [] < LSN_LIMIT
   pub is_read : IsReading log data_bytes reading
   pub old_copies : HasOldCopies data_bytes reading
   pub shape : reading.shape ≡ opened.shape
@@ -85,6 +96,7 @@ abbrev pub quiet_device : List ℕ → Device
 quiet_device bytes = record {
   at_entry = settled bytes;
   faults_at_entry = 0;
+  armed_from = settled bytes;
   crashed_from = settled bytes;
   left = settled bytes;
   faults = 0;
@@ -106,6 +118,7 @@ abbrev pub failed_device : List ℕ → List Write → List ℕ → Option ℕ �
 failed_device bytes writes reads limit passed faults = record {
   at_entry = settled bytes;
   faults_at_entry = 0;
+  armed_from = settled bytes;
   crashed_from = record { base = bytes; writes = writes; reads = reads };
   left = settled bytes;
   faults = faults;
@@ -151,7 +164,7 @@ call_of options log_device data_device account = record {
 
 -- no stop, and a crash that keeps nothing
 abbrev pub no_stop : CrashOptions
-no_stop = record { stop_log = None; stop_data = None; pick = 0 }
+no_stop = record { log_only = false; stop_log = None; stop_data = None; pick = 0 }
 
 -- a run that starts there and logs nothing
 abbrev pub empty_run : ℕ → ℕ → Ran
@@ -200,7 +213,7 @@ stopped_account reading = account_of text_of_one (line_of_value 7 ∷ []) None (
 
 abbrev pub stopped_call : List ℕ → List ℕ → Reading → Crash
 stopped_call log data_bytes reading =
-    call_of (record { stop_log = Some 0; stop_data = None; pick = 0 }) (failed_device log [] log (Some 0) 0 0)
+    call_of (record { log_only = false; stop_log = Some 0; stop_data = None; pick = 0 }) (failed_device log [] log (Some 0) 0 0)
     (quiet_device data_bytes) (stopped_account reading)
 
 -- The script is empty.

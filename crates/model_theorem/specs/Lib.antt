@@ -2,4 +2,5 @@ pub mod Crash
 pub mod Examples
 pub mod Premises
 pub mod Run
+pub mod Script
 pub mod Values

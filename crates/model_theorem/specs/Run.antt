@@ -1,5 +1,5 @@
 -- The two halves of what is promised: what a run is, and what a reading of its devices is of it.
-use Rattle.std.specs.Prelude.{ℕ, ◌≡◌, ◌≢◌, ◌≤◌, ◌<◌, List, [], take, slice_get, Option, Some, None, IfSome}
+use Rattle.std.specs.Prelude.{ℕ, ◌≡◌, ◌≢◌, ◌≤◌, ◌<◌, ◌+◌, List, [], take, slice_get, Option, Some, None, IfSome}
 use Rattle.model_device.specs.Disk.{IsImage}
 use Rattle.model_log.specs.Lsn.{start_after}
 use Rattle.model_log.specs.Run.{IsBoundary}
@@ -10,7 +10,9 @@ use Rattle.model_script.specs.declared.script.ScriptLine.{ScriptLine}
 use Rattle.model_history.specs.Legal.{IsLegal, IsLeft, entry_spans, wholes_of, count_up_to}
 use Rattle.model_history.specs.declared.entry.Entry.{Entry}
 use Rattle.model_history.specs.declared.entry.State.TheVariants.{Lost, Flushed}
-use Rattle.model_theorem.specs.Values.{Opened, Ran, RunResult, entries_of}
+use Rattle.model_report.specs.Report.{report_text}
+use Rattle.model_theorem.specs.Script.{IsWholeScript, FitsOpened}
+use Rattle.model_theorem.specs.Values.{Opened, Ran, RunAccount, RunCall, RunResult, entries_of}
 
 -- THE RUN: a legal history of the script, from the start behind the opened log, with marks between its groups.
 pub record IsRun (script : List ScriptLine) (opened : Opened) (run : Ran) : Type 0 where
@@ -64,3 +66,18 @@ pub record RunSafe (failures : ℕ) (result : RunResult) : Type 0 where
   pub every_image : (log data_bytes : List ℕ) → IsImage result.log_disk log → IsFair result.opened.shape result.data_disk data_bytes
       → ReadsPrefix result.script result.opened result.run log data_bytes
   pub lost_only_by_failure : LosesOnlyByFailure failures result.run result.left
+
+-- What is promised of a call of `run` on devices that open this store: the account is one of it, and the report is that of
+-- the account. A failure of either device counts.
+pub record RunPromise (call : RunCall) (opened : Opened) (account : RunAccount) : Type 0 where
+  pub every_script : IsWholeScript call.source call.source_left account.text account.script
+  pub fits : FitsOpened call.log_only opened account.script
+  pub prints : call.report ≡ report_text (Some account.run.start) account.run.entries account.left (Some account.run.marks) None
+  pub safe : RunSafe (call.log_device.failures + call.data_device.failures) (record {
+    script = account.script;
+    opened = opened;
+    run = Some account.run;
+    left = account.left;
+    log_disk = call.log_device.left;
+    data_disk = call.data_device.left;
+  })

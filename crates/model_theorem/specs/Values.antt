@@ -1,6 +1,6 @@
 -- The plain values of which the crash theorem speaks: what is seen of a call from outside, and an account of what the
 -- call did.
-use Rattle.std.specs.Prelude.{ℕ, List, [], Option, Some, None}
+use Rattle.std.specs.Prelude.{ℕ, Bool, List, [], Option, Some, None}
 use Rattle.model_base.specs.declared.shape.Shape.{Shape}
 use Rattle.model_device.specs.Disk.{Disk}
 use Rattle.model_page.specs.declared.content.Content.{Content}
@@ -11,9 +11,11 @@ use Rattle.model_history.specs.declared.entry.Marks.{Marks}
 
 -- SEEN FROM OUTSIDE.
 
--- What the words of `crash` ask for: after how many calls each device stops, counted from opening's first call, if it is
--- to stop; and the pick that says what the crash leaves.
+-- What the words of `crash` ask for: whether the log runs alone, so that no page and no checkpoint is written; after how
+-- many calls each device stops, counted from opening's first call, if it is to stop; and the pick that says what the crash
+-- leaves.
 pub record CrashOptions : Type 0 where
+  pub log_only : Bool
   pub stop_log : Option ℕ
   pub stop_data : Option ℕ
   pub pick : ℕ
@@ -34,11 +36,14 @@ pub record Stop : Type 0 where
   pub pick : Option ℕ
   pub changes_after : ℕ
 
--- One of the two devices: as it was handed in, as its crash met it, and as it was given back.
+-- One of the two devices: as it was handed in, as it was when its fuse was armed, as its crash met it, and as it was given
+-- back.
 pub record Device : Type 0 where
   -- what it meant when it was handed in, and how often it had failed
   pub at_entry : Disk
   pub faults_at_entry : ℕ
+  -- what it meant when its fuse was armed
+  pub armed_from : Disk
   -- what it meant just before its crash
   pub crashed_from : Disk
   -- what it means now, and how often it has failed by now
@@ -57,6 +62,28 @@ pub record Crash : Type 0 where
   pub taken_now : Option (List ℕ)
   pub log_device : Device
   pub data_device : Device
+
+-- One of the two devices of a call that doesn't crash them.
+pub record RunDevice : Type 0 where
+  -- what it meant when it was handed in, and how often it had failed
+  pub at_entry : Disk
+  pub faults_at_entry : ℕ
+  -- what it means now
+  pub left : Disk
+  -- how many calls of it answered `Failed`
+  pub failures : ℕ
+
+-- A call of `redolab run` whose run came to its end, or was ended by a device that failed. A source need not tell its
+-- bytes.
+pub record RunCall : Type 0 where
+  pub log_only : Bool
+  -- what the source had left at entry, and what it has left now
+  pub source : Option (List ℕ)
+  pub source_left : Option (List ℕ)
+  pub log_device : RunDevice
+  pub data_device : RunDevice
+  -- the report that was to be printed
+  pub report : List ℕ
 
 -- WHAT WAS OPENED, which the devices at entry decide.
 
@@ -93,6 +120,14 @@ pub record Account : Type 0 where
   pub left : List (ℕ × ℕ)
   pub reading : Reading
   pub printed : List ℕ
+
+-- An account of a call of `run`: the text that was read and the script that it is, the run, and for each user that has
+-- lines without an entry, how many.
+pub record RunAccount : Type 0 where
+  pub text : List ℕ
+  pub script : List ScriptLine
+  pub run : Ran
+  pub left : List (ℕ × ℕ)
 
 -- the groups that were reserved: none where opening was stopped
 abbrev pub entries_of : Option Ran → List Entry

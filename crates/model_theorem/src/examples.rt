@@ -3,8 +3,10 @@ ghost use Rattle.std.specs.Prelude.{◌≡◌, ◌≤◌, ℕ, List};
 ghost use Rattle.model_device.specs.declared.write.Write.{Write};
 ghost use Rattle.model_store.specs.Reading.{Reading};
 ghost use Rattle.model_theorem.specs.Crash.{CrashSafe};
-ghost use Rattle.model_theorem.specs.Examples.{LacksFlushedGroup, HasGap, StartsElsewhere, ChangesPages, LosesForNothing, StopsOtherwise, StopsForNothing, new_store, ReadsAsOpened, empty_account, empty_call, lost_account, lost_call, stopped_account, stopped_call};
+ghost use Rattle.model_theorem.specs.Examples.{LacksFlushedGroup, HasGap, StartsElsewhere, ChangesPages, LosesForNothing, StopsOtherwise, StopsForNothing, ArmsLate, new_store, ReadsAsOpened, empty_account, empty_call, lost_account, lost_call, stopped_account, stopped_call};
 ghost use Rattle.model_theorem.specs.Values.{Crash, Opened, Account};
+
+use model_store::one_reading;
 
 /// A group that was printed as flushed and that the recovered log lacks is refused.
 pub fn missing_flushed_group_is_refused()
@@ -47,6 +49,14 @@ pub fn stop_for_nothing_is_refused()
     ensures { (crash : Crash) (opened : Opened) (account : Account) →
         CrashSafe crash opened account → StopsForNothing crash account → ⊥ }
 {}
+
+/// Arming the fuses behind the opening of a new store is refused.
+pub fn late_arming_is_refused()
+    ensures { (crash : Crash) (opened : Opened) (account : Account) →
+        CrashSafe crash opened account → ArmsLate crash → ⊥ }
+{
+    one_reading();
+}
 
 /// An empty script is admitted, over devices that are read as what was opened.
 pub fn empty_run_is_admitted()
