@@ -93,7 +93,7 @@ page-of shape pages rec are fits =
     let there = item-below pages (page_of rec) (omega (arith, are.count, page-below shape rec fits)) in
     record { page = there.0; at = there.1 }
 
-drop-item : (recs : List Rec) (i : ℕ) (rec : Rec) → slice_get recs i ≡ Some rec → drop i recs ≡ rec ∷ drop (i + 1) recs
+pub drop-item : (recs : List Rec) (i : ℕ) (rec : Rec) → slice_get recs i ≡ Some rec → drop i recs ≡ rec ∷ drop (i + 1) recs
 drop-item recs i rec at =
     drop_more recs i rec (slice_get_within recs i rec at) ∙ ap (λ x. x ∷ drop (i + 1) recs) (get_or_from_slice_get recs i rec rec at)
 

@@ -3,3 +3,4 @@ pub mod Frames
 pub mod Grouped
 pub mod Numbers
 pub mod Records
+pub mod Where

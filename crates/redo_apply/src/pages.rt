@@ -6,6 +6,7 @@ ghost use Rattle.model_page.specs.Blank.{blank_pages};
 ghost use Rattle.model_record.specs.Record.{page_of};
 ghost use Rattle.model_store.specs.Apply.{applied, page_after};
 ghost use Rattle.redo_apply.specs.Fits.{ArePagesOf, FitsPages, WritesWithin};
+ghost use Rattle.redo_apply.specs.Replay.{AreAfterWhere, HaveLsns};
 
 use crate::record::{page_of, put_record};
 use model_base::{Shape, USER_START};
@@ -67,6 +68,13 @@ impl Pages {
         self.lsns[page as usize]
     }
 
+    /// The lsns of the pages.
+    pub fn lsns(&self) -> &[u64]
+        ensures { HaveLsns self.now result.now }
+    {
+        self.lsns.as_slice()
+    }
+
     /// The user bytes of a page.
     pub fn user_bytes(&self, page: u32) -> &[u8]
         requires { page < length self.now }
@@ -121,6 +129,21 @@ impl Pages {
     {
         for rec in group.0.iter() {
             if page_of(rec) == page {
+                self.apply_record(rec, end);
+            }
+        }
+    }
+
+    /// Applies a group with this start and this end to those pages for which an lsn is named that is at or below the start;
+    /// the others stay.
+    pub fn apply_where(&mut self, froms: &[u64], group: &Group, start: u64, end: u64)
+        requires count { length froms.now ≡ length self.old }
+        requires fits { FitsPages group.now self.old }
+        ensures pages { AreAfterWhere froms.now group.now start end self.old self.new }
+        ensures its_pages { (shape : Shape) → ArePagesOf shape self.old → ArePagesOf shape self.new }
+    {
+        for rec in group.0.iter() {
+            if froms[page_of(rec) as usize] <= start {
                 self.apply_record(rec, end);
             }
         }

@@ -6,6 +6,8 @@ pub mod Clears
 pub mod Endings
 pub mod Erases
 pub mod Formats
+pub mod Gathers
+pub mod GatherSteps
 pub mod Marks
 pub mod Mends
 pub mod Opens

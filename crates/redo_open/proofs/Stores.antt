@@ -137,6 +137,33 @@ kept read log data_told data_read data_mid log_new data_new NoCheckpoint reads s
 kept read log data_told data_read data_mid log_new data_new (BadRecord lsn) reads same told is = absurd is.0
 kept read log data_told data_read data_mid log_new data_new (PageAhead p lsn) reads same told is = absurd is.0
 
+-- what is so of both, whether they tell or not
+pub where-refused : {C : Type 0} (cause : Option C) (log data_told : Option Disk) {P Q : Type 0} → P → Q
+    → IfSome cause (λ _. WhereBothTell log data_told (λ _ _. P × Q))
+where-refused None log data_told first second = tt
+where-refused (Some cause) None data_told first second = tt
+where-refused (Some cause) (Some l) None first second = tt
+where-refused (Some cause) (Some l) (Some d) first second = (first, second)
+
+-- and nothing that was written is refused, so that there anything is
+unrefused : (read : Reading) (log data_told data_read data_mid : Option Disk) (fault : RecFault) (P : Type 0)
+    → OnContents log data_told (λ log_bytes data_bytes. IsReading log_bytes data_bytes read) → data_read ≡ data_told
+    → OnTold data_read data_mid (λ old new. new ≡ synced old) → IsOpenFault read data_mid fault
+    → IfSome (refusal_of fault) (λ _. WhereBothTell log data_told (λ _ _. P))
+unrefused read log data_told data_read data_mid LogDev P reads same told is = tt
+unrefused read log data_told data_read data_mid DataDev P reads same told is = tt
+unrefused read log data_told data_read data_mid NoMemory P reads same told is = tt
+unrefused read None data_told data_read data_mid (PageLost p) P reads same told is = tt
+unrefused read (Some l) None data_read data_mid (PageLost p) P reads same told is = tt
+unrefused read (Some l) (Some d) data_read data_mid (PageLost p) P reads same told is = absurd (still-kept read l d data_read data_mid p reads same told is)
+unrefused read log data_told data_read data_mid (SmallLog n) P reads same told is = absurd is.0
+unrefused read log data_told data_read data_mid (SmallData n) P reads same told is = absurd is.0
+unrefused read log data_told data_read data_mid NotFormatted P reads same told is = absurd is.0
+unrefused read log data_told data_read data_mid (BadFormat n) P reads same told is = absurd is.0
+unrefused read log data_told data_read data_mid NoCheckpoint P reads same told is = absurd is.0
+unrefused read log data_told data_read data_mid (BadRecord lsn) P reads same told is = absurd is.0
+unrefused read log data_told data_read data_mid (PageAhead p lsn) P reads same told is = absurd is.0
+
 -- what is known of both devices where the store was read, and of its data device where it was synced
 pub record IsRead (read : Reading) (log data_device log_mid data_read data_mid : Seen) : Type 0 where
   pub reads : OnContents log.tells data_device.tells (λ log_bytes data_bytes. IsReading log_bytes data_bytes read)
@@ -156,6 +183,7 @@ opening-cause log_seen data_seen read log data_device log_mid data_read data_mid
   refused = refused read log.tells data_device.tells data_read.tells data_mid.tells error.0 is.reads is.data_same is.is_synced fault;
   lengths = no-length log.size data_device.size read data_mid.tells error.0 fault;
   kept = kept read log.tells data_device.tells data_read.tells data_mid.tells (log_seen error.1).tells (data_seen error.2).tells error.0 is.reads is.data_same is.is_synced fault;
+  kept_crashes = unrefused read log.tells data_device.tells data_read.tells data_mid.tells error.0 _ is.reads is.data_same is.is_synced fault;
   log_failed = λ failed. risen-since _ _ _ is.log_later same.0.later (log_failed failed);
   data_failed = λ failed. risen-since _ _ _ is.data_later same.1.later (data_failed failed);
 }
@@ -171,7 +199,7 @@ pub sync-cause : (log data_device log_after data_after : Seen) (error : DevError
     → HasCause {T = Unit {0}} data_device.faults data_after.faults (Err error) → HasFaultCause log data_device log_after data_after fault
 sync-cause log data_device log_after data_after device.Failed fault is cause =
     subst (HasFaultCause log data_device log_after data_after) (sym is)
-    (record { refused = tt; lengths = tt; kept = tt; log_failed = λ other. absurd cc; data_failed = λ same. cause.failed refl })
+    (record { refused = tt; lengths = tt; kept = tt; kept_crashes = tt; log_failed = λ other. absurd cc; data_failed = λ same. cause.failed refl })
 sync-cause log data_device log_after data_after device.NoMemory fault is cause =
     subst (HasFaultCause log data_device log_after data_after) (sym is)
-    (record { refused = tt; lengths = tt; kept = tt; log_failed = λ other. absurd cc; data_failed = λ other. absurd cc })
+    (record { refused = tt; lengths = tt; kept = tt; kept_crashes = tt; log_failed = λ other. absurd cc; data_failed = λ other. absurd cc })

@@ -3,6 +3,7 @@ pub mod Clear
 pub mod Devices
 pub mod Erase
 pub mod Formatting
+pub mod Gather
 pub mod Mark
 pub mod Mend
 pub mod Opening

@@ -61,6 +61,9 @@ pub record HasFaultCause (log data_device log_after data_after : Seen) (fault : 
   pub lengths : HasLengthCause log.size data_device.size fault
   pub kept : IfSome (refusal_of fault) (λ _. WhereBothTell log.tells data_device.tells
       (λ log_disk data_disk. (log_after.tells ≡ Some log_disk) × (data_after.tells ≡ Some data_disk)))
+  -- also just before their last crash
+  pub kept_crashes : IfSome (refusal_of fault) (λ _. WhereBothTell log.tells data_device.tells
+      (λ _ _. (log_after.crashed_from ≡ log.crashed_from) × (data_after.crashed_from ≡ data_device.crashed_from)))
   pub log_failed : fault ≡ LogDev → HasRisen log.faults log_after.faults
   pub data_failed : fault ≡ DataDev → HasRisen data_device.faults data_after.faults
 

@@ -3,6 +3,7 @@
 //! this: wherever opening ends, whatever a crash leaves of the two devices is read with the same pages.
 #![tactic(auto)]
 
+mod batch;
 mod blank;
 mod clear;
 mod devices;
@@ -13,6 +14,8 @@ mod mend;
 mod opening;
 mod places;
 mod rewrite;
+#[cfg(test)]
+mod tests;
 mod zeros;
 
 pub use formatting::format;

@@ -9,6 +9,7 @@ ghost use Rattle.redo_open.specs.Mend.{IsSettledData};
 ghost use Rattle.redo_open.specs.Places.{PlacesStep};
 ghost use Rattle.redo_recover.specs.Calls.{data_error_of};
 
+use crate::batch::Batch;
 use crate::faults::data_fault;
 use crate::mend::mend;
 use crate::rewrite::rewrite;
@@ -39,11 +40,15 @@ pub(crate) fn open_places<D: Sectors>(
         Ok(buffer) => buffer,
         Err(_) => return Err(RecFault::NoMemory),
     };
+    let mut batch = match Batch::new(alloc) {
+        Ok(batch) => batch,
+        Err(_) => return Err(RecFault::NoMemory),
+    };
     match mend(part, shape, &mut buffer) {
         Ok(()) => {}
         Err(fault) => return Err(fault),
     }
-    match rewrite(part, shape, pages, &mut buffer) {
+    match rewrite(part, shape, pages, &mut buffer, &mut batch) {
         Ok(()) => Ok(()),
         Err(error) => Err(data_fault(error)),
     }

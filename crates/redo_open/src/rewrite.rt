@@ -1,16 +1,20 @@
 // Writing the pages as they were read, where their places hold something else.
-ghost use Rattle.std.specs.Prelude.{◌≡◌, ◌≤◌, ◌<◌, ◌^◌, ◌+◌, ℕ, length, None, Some, slice_get};
+ghost use Rattle.std.specs.Prelude.{◌≡◌, ◌≤◌, ◌<◌, ◌^◌, ◌+◌, ℕ, List, [], length, None, Some, OnOk, slice_get};
 ghost use Rattle.model_base.specs.Limits.{IsWithinLimits};
 ghost use Rattle.std.specs.Bool.{OnTrue};
+ghost use Rattle.model_base.specs.declared.limits.TheConstants.{SLOTS};
+ghost use Rattle.model_datadev.specs.Batch.{IsWritable};
 ghost use Rattle.model_page.specs.Copies.{place_lsn_by};
 ghost use Rattle.model_page.specs.Page.{frame_length, page_check, user_part};
 ghost use Rattle.model_page.specs.declared.content.Content.{Content};
 ghost use Rattle.redo_apply.specs.Fits.{ArePagesOf};
 ghost use Rattle.redo_disk.specs.Calls.{EndWith, error_of};
 ghost use Rattle.redo_disk.specs.Made.{MakesCalls};
+ghost use Rattle.redo_open.specs.Gather.{AreGathered, GatherStep};
 ghost use Rattle.redo_open.specs.Rewrite.{WriteStep};
 
-use model_base::{Shape, USER_START};
+use crate::batch::Batch;
+use model_base::{SLOTS, Shape, USER_START};
 use model_page::TRAILER_LENGTH;
 use redo_apply::Pages;
 use redo_disk::{DevError, Sectors};
@@ -37,13 +41,48 @@ fn holds(place: &[u8], shape: &Shape, page: u32, lsn: u64, user: &[u8]) -> bool
     }
 }
 
-/// Writes a page as it was read, where its place holds something else.
-fn rewrite_page<D: Sectors>(
+/// Writes the pages of the batch, which has none then.
+fn write_gathered<D: Sectors>(part: &mut DataPart<D>, batch: &mut Batch) -> Result<(), DevError>
+    requires live { part.old.failed ≡ None }
+    requires writable { IsWritable part.old.shape batch.old.pairs batch.old.users }
+    ensures step { (pages : List Content) (count : ℕ) → AreGathered part.old.shape pages count batch.old
+        → GatherStep D.seen part.old.shape pages count count part.old batch.old result part.new batch.new }
+    ensures emptied { OnOk result (length batch.new.pairs ≡ 0) }
+    ensures calls { MakesCalls D.gives part.old.dev part.new.dev (EndWith (error_of result)) }
+{
+    if batch.pairs().is_empty() {
+        return Ok(());
+    }
+    part.write_batch(batch.pairs(), batch.users())?;
+    batch.clear();
+    Ok(())
+}
+
+/// Writes the pages of the batch if there are as many as slots.
+fn make_room<D: Sectors>(part: &mut DataPart<D>, batch: &mut Batch) -> Result<(), DevError>
+    requires live { part.old.failed ≡ None }
+    requires slots { part.old.shape.slots ≡ SLOTS }
+    requires writable { IsWritable part.old.shape batch.old.pairs batch.old.users }
+    ensures step { (pages : List Content) (count : ℕ) → AreGathered part.old.shape pages count batch.old
+        → GatherStep D.seen part.old.shape pages count count part.old batch.old result part.new batch.new }
+    ensures room { OnOk result (length batch.new.pairs < SLOTS) }
+    ensures calls { MakesCalls D.gives part.old.dev part.new.dev (EndWith (error_of result)) }
+{
+    if batch.pairs().len() < SLOTS as usize {
+        Ok(())
+    } else {
+        write_gathered(part, batch)
+    }
+}
+
+/// Adds a page as it was read to the batch, where its place holds something else. A full batch is written before.
+fn gather_page<D: Sectors>(
     part: &mut DataPart<D>,
     shape: &Shape,
     pages: &Pages,
     page: u32,
     buffer: &mut [u8],
+    batch: &mut Batch,
 ) -> Result<(), DevError>
     requires live { part.old.failed ≡ None }
     requires shape { shape.now ≡ part.old.shape }
@@ -52,7 +91,8 @@ fn rewrite_page<D: Sectors>(
     requires buffer { length buffer.old ≡ shape.now.page_size }
     requires pages { ArePagesOf shape.now pages.now }
     requires small { (p : ℕ) (content : Content) → slice_get pages.now p ≡ Some content → content.lsn < 2 ^ 61 }
-    ensures step { WriteStep D.seen shape.now pages.now page (page + 1) part.old result part.new }
+    requires gathered { AreGathered shape.now pages.now page batch.old }
+    ensures step { GatherStep D.seen shape.now pages.now page (page + 1) part.old batch.old result part.new batch.new }
     ensures calls { MakesCalls D.gives part.old.dev part.new.dev (EndWith (error_of result)) }
 {
     part.read_page(page, buffer)?;
@@ -64,15 +104,19 @@ fn rewrite_page<D: Sectors>(
     if holds(buffer, shape, page, lsn, user) {
         return Ok(());
     }
-    part.write_batch(&[(page, lsn)], user)
+    make_room(part, batch)?;
+    batch.add(page, lsn, user);
+    Ok(())
 }
 
-/// Writes each page as it was read, where its place holds something else, in ascending order.
+/// Writes each page as it was read, where its place holds something else, in ascending order and as many at a time as
+/// there are slots.
 pub(crate) fn rewrite<D: Sectors>(
     part: &mut DataPart<D>,
     shape: &Shape,
     pages: &Pages,
     buffer: &mut [u8],
+    batch: &mut Batch,
 ) -> Result<(), DevError>
     requires live { part.old.failed ≡ None }
     requires shape { shape.now ≡ part.old.shape }
@@ -80,11 +124,12 @@ pub(crate) fn rewrite<D: Sectors>(
     requires buffer { length buffer.old ≡ shape.now.page_size }
     requires pages { ArePagesOf shape.now pages.now }
     requires small { (p : ℕ) (content : Content) → slice_get pages.now p ≡ Some content → content.lsn < 2 ^ 61 }
+    requires none { batch.old ≡ record { pairs = []; users = [] } }
     ensures step { WriteStep D.seen shape.now pages.now 0 shape.now.pages part.old result part.new }
     ensures calls { MakesCalls D.gives part.old.dev part.new.dev (EndWith (error_of result)) }
 {
     for page in 0..shape.pages {
-        rewrite_page(part, shape, pages, page, buffer)?;
+        gather_page(part, shape, pages, page, buffer, batch)?;
     }
-    Ok(())
+    write_gathered(part, batch)
 }

@@ -1,16 +1,12 @@
 -- Where the log ends, whatever its device tells, and that no page is ahead of that.
-use Rattle.std.proofs.Common.{◌≡◌, ◌≢◌, ◌≤◌, ◌<◌, ◌+◌, ◌-◌, ◌*◌, ◌%◌, ℕ, List, [], ◌∷◌, ◌++◌, length, Bool, cond, ltb, drop, Option, Some, None, inl, inr, true, false, refl, sym, ap, subst, ◌∙◌, arith}
-use Rattle.std.specs.List.{slice_get, AllByRecursion}
+use Rattle.std.proofs.Common.{◌≡◌, ◌≤◌, ◌+◌, ◌%◌, ℕ, List, [], ◌∷◌, ◌++◌, length, Option, Some, None, inl, inr, sym, ap, subst, arith}
+use Rattle.std.specs.List.{AllByRecursion}
 use Rattle.std.specs.Prelude.{IfSome}
 use Rattle.model_base.specs.declared.shape.Shape.{Shape}
-use Rattle.model_base.specs.declared.limits.TheConstants.{LSN_LIMIT}
 use Rattle.model_log.specs.Block.{read_block}
-use Rattle.model_log.specs.Lsn.{sn_of}
-use Rattle.model_log.specs.Run.{end_of, spans_of}
 use Rattle.model_log.specs.declared.block.BlockView.{BlockView}
 use Rattle.model_page.specs.declared.content.Content.{Content}
 use Rattle.model_record.specs.declared.group.Whole.{Whole}
-use Rattle.model_store.specs.Reading.{replayed}
 use Rattle.model_store.specs.Scan.{groups_start, lsn_at}
 use Rattle.model_store.proofs.Ending.{EndsWithin, AreFirstsIn, first-place, starts-among, ends-behind, ends-among}
 use Rattle.model_store.proofs.Folding.{ends-below, replayed-below}

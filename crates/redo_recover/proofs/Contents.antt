@@ -1,9 +1,7 @@
 -- What is known of a device's content, where it tells, and what was read off it.
-use Rattle.std.proofs.Common.{◌≡◌, ℕ, ◌+◌, List, [], ◌++◌, length, take, drop, Option, Some, None, sym, ap, ◌∙◌, refl, length-append}
-use Rattle.std.proofs.Math.Seq.{take-add}
+use Rattle.std.proofs.Common.{ℕ, List, Option, Some, None}
 use Rattle.std.specs.Prelude.{Result, Ok, Err, IfOk, IfErr}
 use Rattle.model_device.specs.Disk.{Disk}
-use Rattle.redo_disk.specs.Seen.{part}
 use Rattle.redo_recover.specs.Devices.{OnContent, OnContents}
 
 -- what follows from what is known of a content is known too
@@ -21,23 +19,6 @@ content-both (Some disk) P Q R joins first second = joins disk.reads first secon
 pub content-any : (told : Option Disk) (P : List ℕ → Type 0) → ((content : List ℕ) → P content) → OnContent told P
 content-any None P any = tt
 content-any (Some disk) P any = any disk.reads
-
--- nothing is the front of any content
-pub front-none : (told : Option Disk) → OnContent told (λ content. [] ≡ take 0 content)
-front-none told = content-any told (λ content. [] ≡ take 0 content) (λ content. refl)
-
--- one more piece behind the front
-pub front-more : (told : Option Disk) (old piece new : List ℕ) (at count : ℕ) → at ≡ length old → length piece ≡ count → new ≡ old ++ piece
-    → OnContent told (λ content. old ≡ take (length old) content) → OnContent told (λ content. piece ≡ part content at count)
-    → OnContent told (λ content. new ≡ take (length new) content)
-front-more told old piece new at count at_is long joined =
-    content-both told (λ content. old ≡ take (length old) content) (λ content. piece ≡ part content at count) (λ content. new ≡ take (length new) content)
-    (λ content front is.
-    let whole : length new ≡ length old + count = ap length joined ∙ length-append old piece ∙ ap (λ n. length old + n) long in
-    joined ∙ ap (λ (l : List ℕ). l ++ piece) front
-    ∙ ap (λ (l : List ℕ). take (length old) content ++ l) (is ∙ ap (λ n. take count (drop n content)) at_is)
-    ∙ sym (take-add (length old) count content)
-    ∙ ap (λ n. take n content) (sym whole))
 
 -- what follows from what is known of both contents
 pub contents-from : (log data_told : Option Disk) (P Q : List ℕ → Type 0) (R : List ℕ → List ℕ → Type 0)

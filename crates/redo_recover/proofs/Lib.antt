@@ -3,6 +3,7 @@ mod Contents
 mod Starting
 mod Unchanged
 mod Grouping
+mod Keeping
 mod Fronts
 mod Paging
 mod Parsing

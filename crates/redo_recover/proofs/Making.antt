@@ -1,9 +1,9 @@
 -- The reads of recovery, one behind the other.
-use Rattle.std.proofs.Common.{◌≡◌, ◌≤◌, ◌++◌, ℕ, List, [], ◌∷◌, length, Option, Some, None, Ok, Err, refl, sym, ap, subst, arith}
+use Rattle.std.proofs.Common.{◌≡◌, ◌≤◌, ◌++◌, ℕ, List, [], ◌∷◌, length, Option, Some, None, Err, refl, sym, ap, subst, arith}
 use Rattle.std.specs.Prelude.{IsErrOf}
 use Rattle.std.specs.List.{AllByRecursion}
 use Rattle.model_base.specs.declared.shape.Shape.{Shape}
-use Rattle.redo_disk.specs.Calls.{Answer, Call, Reads, Writes, Syncs, MayEndWith, error_of}
+use Rattle.redo_disk.specs.Calls.{Answer, Call, Reads, Writes, Syncs, error_of}
 use Rattle.redo_disk.specs.Made.{MakesCall, MakesCalls}
 use Rattle.redo_disk.specs.declared.error.DevError.{DevError}
 use Rattle.redo_disk.specs.declared.error.DevError.TheVariants as device

@@ -1,5 +1,6 @@
 -- The pages of a store while it is read: as they are kept, judged, and with the scanned groups applied.
-use Rattle.std.specs.Prelude.{ℕ, ◌≡◌, ◌≤◌, ◌<◌, List, length, slice_get, Some, IfSome, ⊤}
+use Rattle.std.specs.Prelude.{ℕ, ◌≡◌, ◌≤◌, ◌<◌, ◌*◌, List, length, take, slice_get, slice_set, Option, Some, IfSome, ⊤}
+use Rattle.model_device.specs.Disk.{Disk}
 use Rattle.model_base.specs.declared.shape.Shape.{Shape}
 use Rattle.model_record.specs.declared.group.Whole.{Whole}
 use Rattle.model_page.specs.Copies.{IsKept, IsLost}
@@ -7,9 +8,9 @@ use Rattle.model_page.specs.declared.content.Content.{Content}
 use Rattle.model_store.specs.Reading.{AreKeptBelow, AreNotAheadBelow, IsKeptAt, replayed}
 use Rattle.model_store.specs.declared.refusal.Refusal.{Refusal}
 use Rattle.model_store.specs.declared.refusal.Refusal.TheVariants as refusal
-use Rattle.redo_recover.specs.Devices.{refusal_of}
+use Rattle.redo_recover.specs.Devices.{OnContent, refusal_of}
 use Rattle.redo_recover.specs.declared.fault.RecFault.{RecFault}
-use Rattle.redo_recover.specs.declared.fault.RecFault.TheVariants.{PageLost, PageAhead, NoMemory}
+use Rattle.redo_recover.specs.declared.fault.RecFault.TheVariants.{DataDev, PageLost, PageAhead, NoMemory}
 
 -- the pages of the store as they are kept
 pub record AreKept (shape : Shape) (data_bytes : List ℕ) (pages : List Content) : Type 0 where
@@ -22,11 +23,29 @@ pub record IsFirstLost (shape : Shape) (data_bytes : List ℕ) (p : ℕ) : Type 
   pub lost : IsLost shape data_bytes p
   pub kept : AreKeptBelow shape data_bytes p
 
+-- the slots of the data device
+abbrev pub HoldsSlots : Shape → List ℕ → List ℕ → Type 0
+HoldsSlots shape slots content = slots ≡ take (shape.slots * shape.page_size) content
+
+-- one page is put among the others as it is kept
+pub record PutsKept (shape : Shape) (p : ℕ) (old new : List Content) (data_bytes : List ℕ) : Type 0 where
+  pub kept : Content
+  pub is_kept : IsKept shape data_bytes p kept
+  pub put : new ≡ slice_set old p kept
+
+-- why one page isn't kept: it is lost, where the device tells, the device failed, or memory ran out
+abbrev pub IsLostFault : Shape → ℕ → Option Disk → RecFault → Type 0
+IsLostFault shape page told (PageLost p) = (p ≡ page) × OnContent told (λ content. IsLost shape content page)
+IsLostFault shape page told DataDev = ⊤
+IsLostFault shape page told NoMemory = ⊤
+IsLostFault shape page told _ = ⊥
+
 -- why the pages aren't all kept
-abbrev pub IsKeptFault : Shape → List ℕ → RecFault → Type 0
-IsKeptFault shape data_bytes (PageLost p) = IsFirstLost shape data_bytes p
-IsKeptFault shape data_bytes NoMemory = ⊤
-IsKeptFault shape data_bytes _ = ⊥
+abbrev pub IsFirstLostFault : Shape → Option Disk → RecFault → Type 0
+IsFirstLostFault shape told (PageLost p) = OnContent told (λ content. IsFirstLost shape content p)
+IsFirstLostFault shape told DataDev = ⊤
+IsFirstLostFault shape told NoMemory = ⊤
+IsFirstLostFault shape told _ = ⊥
 
 -- no page has an lsn above the end
 abbrev pub AreNotAhead : List Content → ℕ → Type 0

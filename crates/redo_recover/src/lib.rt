@@ -6,6 +6,7 @@ mod blocks;
 mod errors;
 mod fault;
 mod groups;
+mod kept;
 mod pages;
 mod piece;
 mod recovered;

@@ -100,26 +100,3 @@ pub(crate) fn read_part<D: Sectors>(
     device.read(at, bytes.as_mut_slice())?;
     Ok(bytes)
 }
-
-/// Reads so many bytes off the front of a device.
-pub(crate) fn read_front<D: Sectors>(
-    alloc: Global,
-    device: &mut D,
-    len: u64,
-) -> Result<Vec<u8>, DevError>
-    requires whole { len % 512 ≡ 0 }
-    requires within { len ≤ (D.seen device.old).size }
-    ensures content { IfOk result (λ bytes. OnContent (D.seen device.old).tells (λ content. bytes.items ≡ take len content)) }
-    ensures count { IfOk result (λ bytes. length bytes.items ≡ len) }
-    ensures unchanged { IsUnchanged (D.seen device.old) (D.seen device.new) }
-    ensures failed { IsErrOf result DevError.Failed → HasRisen (D.seen device.old).faults (D.seen device.new).faults }
-    ensures calls { MakesCalls D.gives device.old device.new (ReadsPieces (error_of result)) }
-{
-    let mut bytes = Vec::with_capacity(alloc, len as usize)?;
-    'pieces: while (bytes.len() as u64) < len {
-        let count = (len - bytes.len() as u64).min(PIECE as u64) as usize;
-        let piece = read_part(alloc, device, bytes.len() as u64, count)?;
-        bytes.extend_from_slice(piece.as_slice())?;
-    }
-    Ok(bytes)
-}

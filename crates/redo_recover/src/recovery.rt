@@ -19,8 +19,8 @@ use std::alloc::Global;
 /// and the pages as they are kept, to which each group is applied that starts at or above a page's lsn.
 ///
 /// It writes nothing, and reads nothing twice: the log's blocks in pieces of at most 65,536 bytes, and none behind the
-/// piece in which the scan ends. It holds the data of the scanned blocks, and then the bytes of the data device. A device's
-/// failure ends it at once.
+/// piece in which the scan ends; of the data device the slots at once, and then each place. It holds the data of the scanned
+/// blocks, and then the slots and one place beside the pages. A device's failure ends it at once.
 pub fn recover<L: Sectors, D: Sectors>(
     alloc: Global,
     log: &mut L,

@@ -55,17 +55,22 @@ fn judges_the_header(rt: HostRuntime) -> Result<(), Fail> {
         (Log(510, 1), Outcome::Refused(NotFormatted)),
         (Mended(20, [1, 1]), Outcome::Read(1, 8722, 8600)),
         (Mended(2, [0, 2]), Outcome::Refused(BadFormat(2))),
+        (Mended(0, [1, 0]), Outcome::Refused(BadFormat(0x0100_0001))),
+        (Mended(4, [1, 1]), Outcome::Read(1, 8722, 8600)),
         (Mended(14, [32, 1]), Outcome::Refused(NotFormatted)),
         (Mended(50, [16, 1]), Outcome::Refused(NotFormatted)),
         (Mended(54, [0, 0]), Outcome::Refused(NotFormatted)),
         (Mended(54, [0, 9]), Outcome::Refused(SmallData(69_632))),
+        (Mended(54, [0, 65]), Outcome::Refused(NotFormatted)),
         (
             Mended(58, [0, 2]),
             Outcome::Refused(RecFault::BadRecord(8716)),
         ),
         (Mended(62, [3, 255]), Outcome::Refused(NotFormatted)),
         (Mended(62, [8, 1]), Outcome::Refused(SmallLog(1_051_136))),
+        (Mended(61, [16, 8]), Outcome::Refused(NotFormatted)),
         (Mended(66, [0, 7]), Outcome::Refused(NotFormatted)),
+        (Mended(300, [1, 1]), Outcome::Read(1, 8722, 8600)),
         (LogLength(1536), Outcome::Refused(SmallLog(2048))),
         (LogLength(LOG - 512), Outcome::Refused(SmallLog(LOG))),
         (DataLength(DATA - 512), Outcome::Refused(SmallData(DATA))),
@@ -98,6 +103,15 @@ fn scans_from_the_newest_checkpoint(rt: HostRuntime) -> Result<(), Fail> {
             Outcome::Read(1, 8722, 8600),
         ),
         (
+            [Mended(1544, [16, 0]), Nothing],
+            Outcome::Read(2, 8722, 8600),
+        ),
+        (
+            [Mended(1600, [1, 1]), Nothing],
+            Outcome::Read(1, 8722, 8600),
+        ),
+        ([Log(512, 1), Nothing], Outcome::Read(1, 8722, 8600)),
+        (
             [Log(512, 1), Log(1536, 1)],
             Outcome::Refused(RecFault::NoCheckpoint),
         ),
@@ -125,6 +139,14 @@ fn scans_from_the_newest_checkpoint(rt: HostRuntime) -> Result<(), Fail> {
         (
             [Mended(2566, [0, 0]), Nothing],
             Outcome::Read(0, 9228, 8600),
+        ),
+        (
+            [Mended(2560, [128, 0]), Nothing],
+            Outcome::Read(1, 8722, 8600),
+        ),
+        (
+            [Mended(2600, [1, 1]), Nothing],
+            Outcome::Read(1, 8722, 8600),
         ),
         (
             [Mended(2570, [0, 9]), Nothing],
@@ -190,6 +212,25 @@ fn keeps_the_place_or_the_newest_copy(rt: HostRuntime) -> Result<(), Fail> {
     ] {
         let found = recover_changed(rt.alloc(), changes, (NONE, NONE))?;
         assert_eq!(rt; found, want, "{changes:?}");
+    }
+    Ok(())
+}
+
+/// Each field of page 5, a byte of which is damaged: of its place alone, of its copy alone, and of both.
+#[test]
+fn judges_each_field_of_a_page(rt: HostRuntime) -> Result<(), Fail> {
+    use Change::{Data, Nothing};
+    for at in [2, 5, 10, 18, 24, 30, 35, 50, 4087, 4090, 4094] {
+        let place = Data(PLACE + at, 0xEE);
+        let copy = Data(4096 + at, 0xEE);
+        for (changes, want) in [
+            ([place, Nothing], Outcome::Read(1, 8722, 8500)),
+            ([copy, Nothing], Outcome::Read(1, 8722, 8600)),
+            ([place, copy], Outcome::Refused(RecFault::PageLost(5))),
+        ] {
+            let found = recover_changed(rt.alloc(), changes, (NONE, NONE))?;
+            assert_eq!(rt; found, want, "{changes:?}");
+        }
     }
     Ok(())
 }

@@ -7,7 +7,7 @@ use Rattle.redo_open.specs.Devices.{HasSameCheckpoint, WhereBothTell}
 use Rattle.redo_open.specs.Opening.{log_left, data_left, IsOpenedReady}
 use Rattle.redo_disk.proofs.Made.{call_ends, may_end, may_end_then}
 use Rattle.redo_open.proofs.Asked.{data_ends, opens_beside, opens_reads, opens_then, reads_ends}
-use Rattle.redo_open.proofs.Stores.{openable-same, opened-read, opening-cause, both-err, kept-same, sync-cause}
+use Rattle.redo_open.proofs.Stores.{openable-same, opened-read, opening-cause, both-err, kept-same, sync-cause, where-refused}
 use Rattle.redo_open.proofs.Told.{cause-since}
 use Rattle.redo_recover.specs.Devices.{refusal_of}
 use Rattle.redo_recover.specs.declared.fault.RecFault.{RecFault}
@@ -60,6 +60,7 @@ returns-in-Err-clause-cause g c = record {
   refused = c.in-Err.ensures.cause;
   lengths = c.in-Err.ensures.lengths;
   kept = kept-same (refusal_of c.in-Err.fault) _ _ _ _ c.in-Err.ensures.log.tells c.in-Err.ensures.data_device.tells;
+  kept_crashes = where-refused (refusal_of c.in-Err.fault) _ _ c.in-Err.ensures.log.crashed_from c.in-Err.ensures.data_device.crashed_from;
   log_failed = λ is. c.in-Err.ensures.log_failed (ap (λ (f : RecFault). Err f) is);
   data_failed = λ is. c.in-Err.ensures.data_failed (ap (λ (f : RecFault). Err f) is);
 }

@@ -1,5 +1,12 @@
 -- The steps, one behind the other.
-use Rattle.std.proofs.Common.{◌≡◌, ◌∙◌, Err, sym, ap, subst, arith}
+use Rattle.std.proofs.Common.{◌≡◌, ◌∙◌, Err, List, refl, sym, ap, subst, arith}
+use Rattle.std.specs.Prelude.{IfSome}
+use Rattle.model_base.specs.declared.shape.Shape.{Shape}
+use Rattle.model_page.specs.declared.content.Content.{Content}
+use Rattle.redo_disk.specs.Seen.{Seen}
+use Rattle.redo_open.specs.Mend.{IsSettledData}
+use Rattle.redo_recover.specs.declared.fault.RecFault.TheVariants.{NoMemory}
+use Rattle.redo_store.specs.Part.{Part}
 use Rattle.model_datadev.specs.Repair.{KeepsAll}
 use Rattle.model_datadev.specs.Stored.{read_as}
 use Rattle.model_device.specs.Disk.{settled}
@@ -14,18 +21,26 @@ use Rattle.redo_recover.specs.Devices.{data_fault_of}
 use Rattle.redo_recover.specs.declared.fault.RecFault.{RecFault}
 use Rattle.redo_open.proofs.places.open_places.Goals as goal
 
-pub returns-in-Err-clause-step : goal.returns-in-Err-clause-step
-returns-in-Err-clause-step g c = record {
-  keeps = λ log_bytes data_bytes opened is known. unchanged-keeps c.args.shape.now c.args.pages.now log_bytes data_bytes opened _ is c.requires.settled known;
+-- memory ran out before a call
+no-memory : {D : Type 0} (seen : D → Seen) (shape : Shape) (pages : List Content) (part : Part D) → IfSome (seen part.dev).tells (IsSettledData shape)
+    → PlacesStep seen shape pages part (Err NoMemory) part
+no-memory seen shape pages part settled = record {
+  keeps = λ log_bytes data_bytes opened is known. unchanged-keeps shape pages log_bytes data_bytes opened _ is settled known;
   ok = λ log_bytes data_bytes opened is known. tt;
   live = tt;
   fault = any-known _ (λ disk. Unit {0}) (λ disk. tt);
   own = tt;
-  shape_stays = λ i. c.args.part.now.shape;
-  size = λ i. (g.D.Sectors.seen c.args.part.now.dev).size;
+  shape_stays = refl;
+  size = refl;
   later = omega arith;
   failed = λ is. absurd cc;
 }
+
+pub returns-in-Err-clause-step : goal.returns-in-Err-clause-step
+returns-in-Err-clause-step g c = no-memory g.D.Sectors.seen c.args.shape.now c.args.pages.now c.args.part.now c.requires.settled
+
+pub returns-in-Err-new-clause-step : goal.returns-in-Err-new-clause-step
+returns-in-Err-new-clause-step g c = no-memory g.D.Sectors.seen c.args.shape.now c.args.pages.now c.args.part.now c.requires.settled
 
 pub returns-in-Err-mend-clause-step : goal.returns-in-Err-mend-clause-step
 returns-in-Err-mend-clause-step g c =

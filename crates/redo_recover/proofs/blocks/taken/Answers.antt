@@ -1,4 +1,3 @@
-use Rattle.std.proofs.Common.{◌∙◌}
 use Rattle.redo_recover.proofs.Bounds.{first-of_read}
 use Rattle.redo_recover.proofs.blocks.taken.Goals as goal
 

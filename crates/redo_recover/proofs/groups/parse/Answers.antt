@@ -1,6 +1,5 @@
 use Rattle.std.proofs.lemmas.Result.{IfOk-weaker}
 use Rattle.std.proofs.Common.{◌∙◌, ◌-◌, ℕ, drop, List, Some, sym, ap, subst}
-use Rattle.model_record.specs.declared.group.Whole.{Whole}
 use Rattle.model_log.specs.Lsn.{sn_of}
 use Rattle.model_store.specs.Scan.{groups_start}
 use Rattle.redo_recover.specs.Groups.{EndAt, IsEndOf}

@@ -1,31 +1,55 @@
-use Rattle.std.proofs.Common.{◌≡◌, ◌∙◌, ◌*◌, take, ap}
-use Rattle.model_page.specs.Copies.{data_device_length}
+-- The slots are read and then each place, and the kept pages are judged and replayed.
+use Rattle.std.proofs.Common.{rules}
+use Rattle.std.proofs.lemmas.Result.{err_from_is_err_and}
 use Rattle.model_store.specs.Reading.{AreReadPages}
-use Rattle.redo_recover.specs.Pages.{HasPageCause}
-use Rattle.redo_recover.proofs.Contents.{content-weaker, ok-content, err-content}
-use Rattle.redo_recover.proofs.Fronts.{IsSame, front-same, read-same, cause-same}
+use Rattle.redo_recover.proofs.Bounds.{replayed-not_ahead}
+use Rattle.redo_recover.proofs.Contents.{content-weaker}
+use Rattle.redo_recover.proofs.Fronts.{ahead-cause, ahead-own}
+use Rattle.redo_recover.proofs.Making.{own_pieces, pieces_then}
+use Rattle.redo_recover.proofs.Paging.{pages-read}
+use Rattle.redo_recover.proofs.Unchanged.{content-before}
+use Rattle.redo_recover.specs.Calls.{data_error}
+use Rattle.redo_recover.specs.Devices.{OnContent}
+use Rattle.redo_recover.specs.Pages.{AreKept, HasPageCause}
 use Rattle.redo_recover.proofs.pages.read_pages.Goals as goal
 
-pub returns-in-Ok-clause-pages : goal.returns-in-Ok-clause-pages
-returns-in-Ok-clause-pages g c =
-    let shape = c.args.shape.now in
-    let told = (g.D.Sectors.seen c.args.device.now).tells in
-    let bytes = c.deref.result.now in
-    let len : c.from.result * c.from-2.result ≡ data_device_length shape = cc in
-    let same = content-weaker told _ (IsSame shape bytes)
-    (λ content is. front-same shape bytes content (c.deref.ensures.value ∙ is ∙ ap (λ n. take n content) len)) c.in-Ok.ensures.content in
-    ok-content c.pages_of.result told (AreReadPages shape bytes c.args.groups.now c.args.end) (IsSame shape bytes)
-    (λ pages content. AreReadPages shape content c.args.groups.now c.args.end pages)
-    (λ pages content is read. read-same shape bytes content c.args.groups.now c.args.end pages is read) same c.pages_of.ensures.pages
+pub returns-in_err-pages-clause-calls : goal.returns-in_err-pages-clause-calls
+returns-in_err-pages-clause-calls g c =
+    let made = pieces_then c.in-Ok.ensures.calls c.in_err-pages.ensures.calls in
+    let p = err_from_is_err_and c.from_residual.result c.from_residual.ensures.1 in rw (p.1, p.2) made
 
-pub returns-in-Ok-clause-cause : goal.returns-in-Ok-clause-cause
-returns-in-Ok-clause-cause g c =
+pub returns-in_err-check_ahead-clause-cause : goal.returns-in_err-check_ahead-clause-cause
+returns-in_err-check_ahead-clause-cause g c =
+    let shape = c.args.shape.now in
+    let fault = c.in_err-check_ahead.field-0.0 in
+    let told = (g.D.Sectors.seen c.args.device.now).tells in
+    let cause : OnContent told (HasPageCause shape c.args.end fault) =
+    content-weaker told (λ content. AreKept shape content c.in_ok-pages.pages) (HasPageCause shape c.args.end fault)
+    (λ content kept. ahead-cause shape content c.args.end c.in_ok-pages.pages fault kept c.in_err-check_ahead.ensures.fault)
+    (content-before (g.D.Sectors.seen c.args.device.now) (g.D.Sectors.seen c.read_part.new.device) (λ content. AreKept shape content c.in_ok-pages.pages)
+    c.in-Ok.ensures.unchanged c.in_ok-pages.ensures.kept) in
+    search rules
+
+pub returns-in_err-check_ahead-clause-calls : goal.returns-in_err-check_ahead-clause-calls
+returns-in_err-check_ahead-clause-calls g c =
+    let fault = c.in_err-check_ahead.field-0.0 in
+    let made = own_pieces (data_error fault) (ahead-own c.in_ok-pages.pages c.args.end fault c.in_err-check_ahead.ensures.fault) (pieces_then c.in-Ok.ensures.calls c.in_ok-pages.ensures.calls) in
+    let p = err_from_is_err_and c.from_residual-in_err-check_ahead.result c.from_residual-in_err-check_ahead.ensures.1 in rw (p.1, p.2) made
+
+pub returns-clause-pages : goal.returns-clause-pages
+returns-clause-pages g c =
     let shape = c.args.shape.now in
     let told = (g.D.Sectors.seen c.args.device.now).tells in
-    let bytes = c.deref.result.now in
-    let len : c.from.result * c.from-2.result ≡ data_device_length shape = cc in
-    let same = content-weaker told _ (IsSame shape bytes)
-    (λ content is. front-same shape bytes content (c.deref.ensures.value ∙ is ∙ ap (λ n. take n content) len)) c.in-Ok.ensures.content in
-    err-content c.pages_of.result told (λ fault. HasPageCause shape c.args.end fault bytes) (IsSame shape bytes)
-    (λ fault content. HasPageCause shape c.args.end fault content)
-    (λ fault content is cause. cause-same shape bytes content c.args.end fault is cause) same c.pages_of.ensures.cause
+    content-weaker told (λ content. AreKept shape content c.in_ok-pages.pages) (λ content. AreReadPages shape content c.args.groups.now c.args.end c.replay_pages.new.pages)
+    (λ content kept. pages-read shape content c.args.groups.now c.args.end c.in_ok-pages.pages c.replay_pages.new.pages
+    kept c.in_ok-check_ahead.ensures.fine c.replay_pages.ensures.replayed)
+    (content-before (g.D.Sectors.seen c.args.device.now) (g.D.Sectors.seen c.read_part.new.device) (λ content. AreKept shape content c.in_ok-pages.pages)
+    c.in-Ok.ensures.unchanged c.in_ok-pages.ensures.kept)
+
+pub returns-clause-not_ahead : goal.returns-clause-not_ahead
+returns-clause-not_ahead g c =
+    replayed-not_ahead c.args.groups.now c.in_ok-pages.pages c.replay_pages.new.pages c.args.end c.requires.ends c.in_ok-check_ahead.ensures.fine
+    c.replay_pages.ensures.replayed
+
+pub returns-clause-calls : goal.returns-clause-calls
+returns-clause-calls g c = pieces_then c.in-Ok.ensures.calls c.in_ok-pages.ensures.calls

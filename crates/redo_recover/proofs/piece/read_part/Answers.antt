@@ -1,6 +1,5 @@
 -- One read.
-use Rattle.std.proofs.Common.{◌≡◌, ◌≤◌, ◌∙◌, List, length, ap, arith}
-use Rattle.std.proofs.lemmas.List.{length-replicate}
+use Rattle.std.proofs.Common.{◌≤◌, length, arith}
 use Rattle.std.proofs.lemmas.Result.{err_from_is_err_and}
 use Rattle.redo_recover.proofs.Making.{piece_read}
 use Rattle.redo_recover.proofs.piece.read_part.Goals as goal

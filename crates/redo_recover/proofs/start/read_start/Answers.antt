@@ -1,11 +1,8 @@
-use Rattle.std.proofs.Common.{◌≡◌, ◌∙◌, refl, sym, ap, subst, arith, rules}
+use Rattle.std.proofs.Common.{◌∙◌, refl, sym, subst, arith, rules}
 use Rattle.std.proofs.lemmas.Result.{err_from_is_err_and}
-use Rattle.model_log.specs.Device.{header_block, newest_checkpoint}
-use Rattle.model_log.specs.Head.{read_head}
-use Rattle.model_log.specs.declared.head.Head.TheVariants.{Good}
 use Rattle.model_store.proofs.Heads.{checkpoint-bounds}
 use Rattle.redo_recover.specs.Devices.{HasCauseIn}
-use Rattle.redo_recover.specs.Start.{IsHeadFault, IsLengthFault}
+use Rattle.redo_recover.specs.Start.{IsLengthFault}
 use Rattle.redo_recover.proofs.Starting.{header-of, sized, head-cause, length-cause, checkpoint-cause, starts}
 use Rattle.redo_recover.proofs.Unchanged.{log_fault-cause}
 use Rattle.redo_recover.specs.Calls.{log_error}

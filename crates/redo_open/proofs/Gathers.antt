@@ -1,0 +1,266 @@
+-- Pages that are gathered and written together.
+use Rattle.std.proofs.Common.{◌≡◌, ◌≢◌, ◌≤◌, ◌<◌, ◌+◌, ◌*◌, ◌^◌, ◌==◌, ◌⊎◌, ◌++◌, ℕ, zero, suc, inl, inr, true, false, cond, List, [], ◌∷◌, length, take, drop, Option, Some, None, refl, sym, ap, subst, ◌∙◌, ⊎_elim, eq-eqb, arith}
+use Rattle.std.specs.Prelude.{IfSome}
+use Rattle.std.specs.List.{slice_get}
+use Rattle.std.proofs.lemmas.Bool.{cases_lt}
+use Rattle.std.proofs.lemmas.Bool.Decides.{nat_tests}
+use Rattle.std.proofs.lemmas.List.{drop-append-le, drop_at, length-append, length-drop, length_push, take-append-le, take_all}
+use Rattle.std.proofs.lemmas.Option.{slice_get_within}
+use Rattle.model_base.specs.declared.shape.Shape.{Shape}
+use Rattle.model_datadev.proofs.Joined.{IsPairAt, batch-at, pair-at}
+use Rattle.model_datadev.specs.Batch.{Fresh, batch_of, IsNew, IsWritable, after_batch}
+use Rattle.model_datadev.specs.Stored.{IsUpTo, IsLater, Keeps, Stored}
+use Rattle.model_device.specs.Disk.{Disk}
+use Rattle.model_page.proofs.Kept.{same_content}
+use Rattle.model_page.specs.Copies.{place_lsn_by, place_bytes}
+use Rattle.model_page.specs.Page.{page_check, user_part}
+use Rattle.model_page.specs.declared.content.Content.{Content}
+use Rattle.redo_open.proofs.Writings.{PageRead, any-known, below-next, kept-in_place, known-as}
+use Rattle.redo_open.specs.Gather.{AreGathered, Gathered, IsAmong, IsGatheredTo}
+use Rattle.redo_open.specs.Rewrite.{AreTop, IsWrittenTo, KeepsWritten}
+
+-- LISTS WITH ONE MORE AT THE END.
+
+at-front : {X : Type 0} (xs ys : List X) (i : ℕ) (x : X) → slice_get xs i ≡ Some x → slice_get (xs ++ ys) i ≡ Some x
+at-front [] ys i x at = absurd cc
+at-front (first ∷ xs) ys zero x at = at
+at-front (first ∷ xs) ys (suc i) x at = at-front xs ys i x at
+
+at-end : {X : Type 0} (xs : List X) (y : X) → slice_get (xs ++ y ∷ []) (length xs) ≡ Some y
+at-end [] y = refl
+at-end (first ∷ xs) y = at-end xs y
+
+at-either : {X : Type 0} (xs : List X) (y : X) (i : ℕ) (x : X) → slice_get (xs ++ y ∷ []) i ≡ Some x → (slice_get xs i ≡ Some x) ⊎ ((i ≡ length xs) × (y ≡ x))
+at-either [] y zero x at = inr (refl, cc)
+at-either [] y (suc i) x at = absurd cc
+at-either (first ∷ xs) y zero x at = inl at
+at-either (first ∷ xs) y (suc i) x at = ⊎_elim (λ here. inl here) (λ last. inr (ap suc last.0, last.1)) (at-either xs y i x at)
+
+-- THE PAGES OF A BATCH.
+
+abbrev pub fresh : Gathered → List Fresh
+fresh batch = batch_of batch.pairs batch.users
+
+-- the batch with one more page
+abbrev pub added : Gathered → ℕ → ℕ → List ℕ → Gathered
+added batch page lsn user = record { pairs = batch.pairs ++ (page, lsn) ∷ []; users = batch.users ++ user }
+
+-- what the batch has for a page is the page
+pub record AreTopPages (top : ℕ → Content) (batch : List Fresh) : Type 0 where
+  pub each : (p : ℕ) (content : Content) → IsNew batch p content → content ≡ top p
+
+pub gathered-top : (shape : Shape) (pages : List Content) (top start : ℕ → Content) (count : ℕ) (batch : Gathered) → AreTop pages top start
+    → AreGathered shape pages count batch → AreTopPages top (fresh batch)
+gathered-top shape pages top start count batch tops gathered = record {
+  each = λ p content new.
+      let one : IsPairAt batch.pairs batch.users new.i (record { page = p; content = content }) = pair-at batch.pairs batch.users new.i (record { page = p; content = content }) new.at in
+      let page : p ≡ one.pair.0 = ap (λ (f : Fresh). f.page) one.is in
+      let is : content ≡ record { lsn = one.pair.1; user = take 4050 (drop (new.i * 4050) batch.users) } = ap (λ (f : Fresh). f.content) one.is in
+      is ∙ sym (tops.each one.pair.0 (record { lsn = one.pair.1; user = take 4050 (drop (new.i * 4050) batch.users) }) (gathered.each new.i one.pair one.at)) ∙ ap top (sym page);
+}
+
+pub top-later : (top : ℕ → Content) (batch : List Fresh) → AreTopPages top batch → IsLater top batch
+top-later top batch are = record {
+  no_older = λ p new is. (let same = are.each p new is in omega (arith, ap (λ (c : Content). c.lsn) same));
+  same = λ p new is equal. sym (are.each p new is);
+}
+
+same-or : (a b : ℕ) → (a ≡ b) ⊎ (a ≢ b)
+same-or a b = ⊎_elim (λ less. inr (λ same. absurd (omega arith)))
+    (λ not_less. ⊎_elim (λ more. inr (λ same. absurd (omega arith))) (λ not_more. inl (omega arith)) (cases_lt b a)) (cases_lt a b)
+
+new-in_rest : (first : Fresh) (batch : List Fresh) (p : ℕ) (content : Content) (i : ℕ) → first.page ≢ p
+    → slice_get (first ∷ batch) i ≡ Some (record { page = p; content = content }) → IsNew batch p content
+new-in_rest first batch p content zero other at =
+    let same : first ≡ record { page = p; content = content } = cc in absurd (other (ap (λ (f : Fresh). f.page) same))
+new-in_rest first batch p content (suc i) other at = record { i = i; at = at }
+
+-- behind the batch a page is the one that was read, or the batch doesn't have it and it is as it was
+after-which : (batch : List Fresh) (was top : ℕ → Content) (p : ℕ) → AreTopPages top batch
+    → (after_batch batch was p ≡ top p) ⊎ ((after_batch batch was p ≡ was p) × ((content : Content) → IsNew batch p content → ⊥))
+after-which [] was top p are = inr (refl, λ content new. (let at = new.at in absurd cc))
+after-which (first ∷ batch) was top p are =
+    let rest : AreTopPages top batch = record { each = λ q content new. are.each q content (record { i = suc new.i; at = new.at }) } in
+    ⊎_elim (λ same.
+    let test : (first.page == p) ≡ true = eq-eqb first.page p same in
+    inl (ap (λ t. cond t first.content (after_batch batch was p)) test ∙ are.each first.page first.content (record { i = 0; at = refl }) ∙ ap top same))
+    (λ other.
+    let test : (first.page == p) ≡ false = grind (arith, nat_tests) in
+    let skip : after_batch (first ∷ batch) was p ≡ after_batch batch was p = ap (λ t. cond t first.content (after_batch batch was p)) test in
+    ⊎_elim (λ there. inl (skip ∙ there))
+    (λ none. inr (skip ∙ none.0, λ content new. none.1 content (new-in_rest first batch p content new.i other new.at)))
+    (after-which batch was top p rest))
+    (same-or first.page p)
+
+after-same : (batch : List Fresh) (top : ℕ → Content) → AreTopPages top batch → after_batch batch top ≡ top
+after-same batch top are =
+    let each : (p : ℕ) → after_batch batch top p ≡ top p = λ p. ⊎_elim (λ is. is) (λ none. none.0) (after-which batch top top p are) in
+    λ i p. each p i
+
+among-new : (batch : Gathered) (p : ℕ) (among : IsAmong batch p) → IsNew (fresh batch) p (record { lsn = among.lsn; user = take 4050 (drop (among.i * 4050) batch.users) })
+among-new batch p among = record { i = among.i; at = batch-at batch.pairs batch.users among.i (p, among.lsn) among.at }
+
+-- A BATCH THAT IS WRITTEN.
+
+pub gathered-writable : (shape : Shape) (pages : List Content) (count : ℕ) (batch : Gathered) → AreGathered shape pages count batch
+    → ((p : ℕ) → p < count → p < shape.pages) → ((p : ℕ) (content : Content) → slice_get pages p ≡ Some content → content.lsn < 2 ^ 61)
+    → IsWritable shape batch.pairs batch.users
+gathered-writable shape pages count batch gathered within small = record {
+  few = gathered.few;
+  count = gathered.joined;
+  below = λ i pair at. within pair.0 (gathered.below i pair at);
+  small_lsn = λ i pair at. (
+      let low : pair.1 < 2 ^ 61 = small pair.0 (record { lsn = pair.1; user = take 4050 (drop (i * 4050) batch.users) }) (gathered.each i pair at) in omega arith);
+  different = gathered.different;
+}
+
+pub gathered-keeps : (shape : Shape) (top start : ℕ → Content) (count : ℕ) (batch : Gathered) (told now : Option Disk) → AreTopPages top (fresh batch)
+    → (w : IsGatheredTo shape top start count batch told) → IfSome now (Keeps shape (IsUpTo top) w.was (fresh batch)) → KeepsWritten shape top start now
+gathered-keeps shape top start count batch told now are w keeps = record {
+  was = w.was;
+  batch = fresh batch;
+  keeps = keeps;
+  before = w.before;
+  as_top = are.each;
+}
+
+pub gathered-done : (shape : Shape) (top start : ℕ → Content) (count : ℕ) (batch after : Gathered) (told now : Option Disk) → AreTopPages top (fresh batch)
+    → (w : IsGatheredTo shape top start count batch told)
+    → IfSome now (Stored shape (IsUpTo (after_batch (fresh batch) top)) (after_batch (fresh batch) w.was) [] false)
+    → IsGatheredTo shape top start count after now
+gathered-done shape top start count batch after told now are w done =
+    let next : ℕ → Content = after_batch (fresh batch) w.was in
+    record {
+      was = next;
+      stored = subst (λ (t : ℕ → Content). IfSome now (Stored shape (IsUpTo t) next [] false)) (after-same (fresh batch) top are) done;
+      before = λ p. ⊎_elim (λ is. inr is)
+          (λ old. ⊎_elim (λ start_is. inl (old.0 ∙ start_is)) (λ top_is. inr (old.0 ∙ top_is)) (w.before p)) (after-which (fresh batch) w.was top p are);
+      done = λ p below. inl (⊎_elim (λ is. is)
+          (λ old. ⊎_elim (λ top_is. old.0 ∙ top_is)
+          (λ among. absurd (old.1 (record { lsn = among.lsn; user = take 4050 (drop (among.i * 4050) batch.users) }) (among-new batch p among))) (w.done p below))
+          (after-which (fresh batch) w.was top p are));
+    }
+
+-- NOTHING WRITTEN.
+
+pub gathered-steady : (shape : Shape) (top start : ℕ → Content) (count : ℕ) (batch : Gathered) (told : Option Disk) → IsGatheredTo shape top start count batch told
+    → KeepsWritten shape top start told
+gathered-steady shape top start count batch told w = record {
+  was = w.was;
+  batch = [];
+  keeps = known-as told (Stored shape (IsUpTo top) w.was [] false) (Keeps shape (IsUpTo top) w.was []) (λ disk stored. stored.keeps) w.stored;
+  before = w.before;
+  as_top = λ p content new. (let at = new.at in absurd cc);
+}
+
+pub written-gathered : (shape : Shape) (top start : ℕ → Content) (count : ℕ) (batch : Gathered) (told : Option Disk) → IsWrittenTo shape top start count told
+    → IsGatheredTo shape top start count batch told
+written-gathered shape top start count batch told w = record { was = w.was; stored = w.stored; before = w.before; done = λ p below. inl (w.done p below) }
+
+pub gathered-written : (shape : Shape) (top start : ℕ → Content) (count : ℕ) (batch : Gathered) (told : Option Disk) → length batch.pairs ≡ 0
+    → IsGatheredTo shape top start count batch told → IsWrittenTo shape top start count told
+gathered-written shape top start count batch told none w = record {
+  was = w.was;
+  stored = w.stored;
+  before = w.before;
+  done = λ p below. ⊎_elim (λ is. is)
+      (λ among. (let within = slice_get_within batch.pairs among.i (p, among.lsn) among.at in absurd (omega arith))) (w.done p below);
+}
+
+-- ONE PAGE MORE.
+
+pub already-gathered : (shape : Shape) (top start : ℕ → Content) (page : ℕ) (batch : Gathered) (told : Option Disk) → IsGatheredTo shape top start page batch told
+    → IfSome told (λ disk. (was : ℕ → Content) → ((p : ℕ) → (was p ≡ start p) ⊎ (was p ≡ top p)) → Stored shape (IsUpTo top) was [] false disk → was page ≡ top page)
+    → IsGatheredTo shape top start (page + 1) batch told
+already-gathered shape top start page batch None w holds = record { was = top; stored = tt; before = λ p. inr refl; done = λ p below. inl refl }
+already-gathered shape top start page batch (Some disk) w holds = record {
+  was = w.was;
+  stored = w.stored;
+  before = w.before;
+  done = below-next (λ p. (w.was p ≡ top p) ⊎ IsAmong batch p) page w.done (inl (holds w.was w.before w.stored));
+}
+
+pub gathered-added : (shape : Shape) (top start : ℕ → Content) (page lsn : ℕ) (user : List ℕ) (batch : Gathered) (told : Option Disk)
+    → IsGatheredTo shape top start page batch told → IsGatheredTo shape top start (page + 1) (added batch page lsn user) told
+gathered-added shape top start page lsn user batch told w = record {
+  was = w.was;
+  stored = w.stored;
+  before = w.before;
+  done = below-next (λ p. (w.was p ≡ top p) ⊎ IsAmong (added batch page lsn user) p) page
+      (λ p below. ⊎_elim (λ is. inl is)
+      (λ among. inr (record { i = among.i; lsn = among.lsn; at = at-front batch.pairs ((page, lsn) ∷ []) among.i (p, among.lsn) among.at })) (w.done p below))
+      (inr (record { i = length batch.pairs; lsn = lsn; at = at-end batch.pairs (page, lsn) }));
+}
+
+pub gathered-more : (shape : Shape) (pages : List Content) (count : ℕ) (batch : Gathered) → AreGathered shape pages count batch → AreGathered shape pages (count + 1) batch
+gathered-more shape pages count batch gathered = record {
+  few = gathered.few;
+  joined = gathered.joined;
+  below = λ i pair at. omega (arith, gathered.below i pair at);
+  each = gathered.each;
+  different = gathered.different;
+}
+
+pub gathered-none : (shape : Shape) (pages : List Content) (count : ℕ) → AreGathered shape pages count (record { pairs = []; users = [] })
+gathered-none shape pages count = record {
+  few = omega arith;
+  joined = refl;
+  below = λ i pair at. absurd cc;
+  each = λ i pair at. absurd cc;
+  different = λ i j pair other at there same. absurd cc;
+}
+
+user-front : (i : ℕ) (users user : List ℕ) → (i + 1) * 4050 ≤ length users → take 4050 (drop (i * 4050) (users ++ user)) ≡ take 4050 (drop (i * 4050) users)
+user-front i users user within =
+    ap (take 4050) (drop-append-le (i * 4050) users user (omega arith))
+    ∙ take-append-le 4050 (drop (i * 4050) users) user (omega (arith, length-drop (i * 4050) users))
+
+user-end : (i : ℕ) (users user : List ℕ) → length users ≡ i * 4050 → length user ≡ 4050 → take 4050 (drop (i * 4050) (users ++ user)) ≡ user
+user-end i users user at long = ap (take 4050) (drop_at users user (i * 4050) at) ∙ take_all 4050 user (omega arith)
+
+pub gathered-with : (shape : Shape) (pages : List Content) (page lsn : ℕ) (user : List ℕ) (content : Content) (batch : Gathered) → AreGathered shape pages page batch
+    → length batch.pairs < shape.slots → slice_get pages page ≡ Some content → lsn ≡ content.lsn → user ≡ content.user → length user ≡ 4050
+    → AreGathered shape pages (page + 1) (added batch page lsn user)
+gathered-with shape pages page lsn user content batch gathered room read same_lsn same_user long =
+    let one : ℕ × ℕ = (page, lsn) in
+    let counted : length (batch.pairs ++ one ∷ []) ≡ length batch.pairs + 1 = length_push batch.pairs one in
+    record {
+      few = omega arith;
+      joined = omega (arith, length-append batch.users user, gathered.joined);
+      below = λ i pair at. ⊎_elim (λ old. omega (arith, gathered.below i pair old)) (λ last. omega (arith, ap (λ (x : ℕ × ℕ). x.0) last.1)) (at-either batch.pairs one i pair at);
+      each = λ i pair at. ⊎_elim
+          (λ old. (let within = slice_get_within batch.pairs i pair old in
+          gathered.each i pair old ∙ ap (λ (u : List ℕ). Some (record { lsn = pair.1; user = u })) (sym (user-front i batch.users user (omega (arith, gathered.joined))))))
+          (λ last. (
+          let is : content ≡ record { lsn = lsn; user = user } = same_content content (record { lsn = lsn; user = user }) (sym same_lsn) (sym same_user) in
+          let there : slice_get pages page ≡ Some (record { lsn = lsn; user = take 4050 (drop (i * 4050) (batch.users ++ user)) }) =
+          read ∙ ap Some is ∙ ap (λ (u : List ℕ). Some (record { lsn = lsn; user = u })) (sym (user-end i batch.users user (omega (arith, gathered.joined, last.0)) long)) in
+          subst (λ (x : ℕ × ℕ). slice_get pages x.0 ≡ Some (record { lsn = x.1; user = take 4050 (drop (i * 4050) (batch.users ++ user)) })) last.1 there))
+          (at-either batch.pairs one i pair at);
+      different = λ i j pair other at there same. ⊎_elim
+          (λ old. ⊎_elim (λ other_old. gathered.different i j pair other old other_old same)
+          (λ other_last. absurd (omega (arith, gathered.below i pair old, ap (λ (x : ℕ × ℕ). x.0) other_last.1))) (at-either batch.pairs one j other there))
+          (λ last. ⊎_elim (λ other_old. absurd (omega (arith, gathered.below j other other_old, ap (λ (x : ℕ × ℕ). x.0) last.1)))
+          (λ other_last. omega (arith, last.0, other_last.0)) (at-either batch.pairs one j other there)) (at-either batch.pairs one i pair at);
+    }
+
+-- a page of lsn 0 is as it was
+pub blank-gathered : (shape : Shape) (pages : List Content) (top start : ℕ → Content) (page lsn : ℕ) (user : List ℕ) (batch : Gathered) (told : Option Disk) → AreTop pages top start
+    → PageRead pages page lsn user → lsn ≡ 0 → IsGatheredTo shape top start page batch told → IsGatheredTo shape top start (page + 1) batch told
+blank-gathered shape pages top start page lsn user batch told tops read none w =
+    let same : start page ≡ top page = tops.blank page read.content read.at (sym read.same_lsn ∙ none) in
+    already-gathered shape top start page batch told w
+    (any-known told (λ disk. (was : ℕ → Content) → ((p : ℕ) → (was p ≡ start p) ⊎ (was p ≡ top p)) → Stored shape (IsUpTo top) was [] false disk → was page ≡ top page)
+    (λ disk was before stored. ⊎_elim (λ old. old ∙ same) (λ new. new) (before page)))
+
+-- and so is a place that holds its page
+pub held-gathered : (shape : Shape) (pages : List Content) (top start : ℕ → Content) (page lsn : ℕ) (user buffer : List ℕ) (batch : Gathered) (told : Option Disk) → AreTop pages top start
+    → PageRead pages page lsn user → page < shape.pages → IfSome told (λ disk. buffer ≡ place_bytes shape page disk.reads)
+    → place_lsn_by shape page (page_check buffer) ≡ Some lsn → user ≡ user_part buffer → IsGatheredTo shape top start page batch told → IsGatheredTo shape top start (page + 1) batch told
+held-gathered shape pages top start page lsn user buffer batch told tops read below bytes passes user_is w =
+    let is : (let c : Content = record { lsn = lsn; user = user } in c) ≡ top page =
+    same_content (record { lsn = lsn; user = user }) read.content read.same_lsn read.same_user ∙ sym (tops.each page read.content read.at) in
+    already-gathered shape top start page batch told w
+    (known-as told (λ disk. buffer ≡ place_bytes shape page disk.reads)
+    (λ disk. (was : ℕ → Content) → ((p : ℕ) → (was p ≡ start p) ⊎ (was p ≡ top p)) → Stored shape (IsUpTo top) was [] false disk → was page ≡ top page)
+    (λ disk place was before stored. kept-in_place shape top was page lsn user buffer disk below stored place passes user_is is) bytes)

@@ -1,0 +1,28 @@
+-- The place passes, or a copy counts.
+use Rattle.std.proofs.Common.{◌∙◌, MatchOption, ap, length, subst, sym}
+use Rattle.model_page.specs.Copies.{HasNoCopy, IsBestCopy, slot_bytes}
+use Rattle.model_page.specs.Page.{user_part}
+use Rattle.redo_recover.proofs.Keeping.{lost-off, slice-is, slot-off, slot-size, user-size}
+use Rattle.redo_recover.proofs.kept.kept_in.Goals as goal
+
+pub returns-in-Some-clause-long : goal.returns-in-Some-clause-long
+returns-in-Some-clause-long c = rw (c.user_part.ensures) (user-size c.args.shape.now c.args.place.now c.requires.limits.page_size c.requires.place)
+
+pub returns-in_default-best_copy-clause-kept : goal.returns-in_default-best_copy-clause-kept
+returns-in_default-best_copy-clause-kept c image slots place =
+    lost-off c.args.shape.now c.args.slots.now c.args.place.now image c.args.page slots place (sym c.place_lsn.ensures ∙ c.in_default.is)
+    (subst (λ o. MatchOption o (HasNoCopy c.args.shape.now c.args.slots.now c.args.page) (λ best. IsBestCopy c.args.shape.now c.args.slots.now c.args.page best.0 best.1)) c.in_default-best_copy.is c.best_copy.ensures)
+
+pub returns-clause-kept : goal.returns-clause-kept
+returns-clause-kept c image slots place =
+    let slot = c.in-Some-best_copy.slot in
+    slot-off c.args.shape.now c.args.slots.now c.args.place.now image c.user_part-2.result.now c.args.page slot c.in-Some-best_copy.lsn slots place
+    (sym c.place_lsn.ensures ∙ c.in_default.is) c.in-Some-best_copy.ensures
+    (c.user_part-2.ensures ∙ ap user_part (slice-is c.args.shape.now c.args.slots.now slot))
+
+pub returns-clause-long : goal.returns-clause-long
+returns-clause-long c =
+    let shape = c.args.shape.now in
+    let slot = c.in-Some-best_copy.slot in
+    ap length (c.user_part-2.ensures ∙ ap user_part (slice-is shape c.args.slots.now slot))
+    ∙ user-size shape (slot_bytes shape slot c.args.slots.now) c.requires.limits.page_size (slot-size shape c.args.slots.now slot c.requires.slots c.in-Some-best_copy.ensures.below)

@@ -1,0 +1,117 @@
+// Kept pages, read off the data device place by place.
+ghost use Rattle.std.specs.Prelude.{List, ℕ, ◌≡◌, ◌≤◌, ◌<◌, ◌+◌, ◌*◌, length, take, OnOk, IfOk, IfErr, IfSome, IsErrOf, MatchOption};
+ghost use Rattle.model_base.specs.Count.{HasRisen};
+ghost use Rattle.model_base.specs.Limits.{IsWithinLimits};
+ghost use Rattle.model_page.specs.Blank.{user_length};
+ghost use Rattle.model_page.specs.Copies.{IsKept, IsLost, data_device_length, place_bytes};
+ghost use Rattle.model_page.specs.Page.{frame_length, user_part};
+ghost use Rattle.redo_apply.specs.Fits.{ArePagesOf};
+ghost use Rattle.redo_disk.specs.Made.{MakesCalls};
+ghost use Rattle.redo_recover.specs.Calls.{ReadsPieces, data_error_of};
+ghost use Rattle.redo_recover.specs.Devices.{IsUnchanged, OnContent};
+ghost use Rattle.redo_recover.specs.Pages.{AreKept, HoldsSlots, IsFirstLostFault, IsLostFault, PutsKept};
+
+use crate::RecFault;
+use crate::errors::data_fault;
+use crate::piece::read_part;
+use model_base::{Shape, USER_START};
+use model_page::TRAILER_LENGTH;
+use redo_apply::Pages;
+use redo_disk::Sectors;
+use redo_page::{best_copy, place_lsn};
+use std::alloc::Global;
+
+/// The user bytes of a page.
+fn user_part(page: &[u8]) -> &[u8]
+    requires { frame_length ≤ length page.now }
+    ensures { result.now ≡ user_part page.now }
+{
+    &page[USER_START as usize..page.len() - TRAILER_LENGTH as usize]
+}
+
+/// The lsn of a page and its user bytes: what its place holds if that passes, else what the copy in the slots holds that
+/// counts.
+fn kept_in<'a>(
+    slots: &'a [u8],
+    place: &'a [u8],
+    shape: &Shape,
+    page: u32,
+) -> Option<(u64, &'a [u8])>
+    requires limits { IsWithinLimits shape.now }
+    requires slots { length slots.now ≡ shape.now.slots * shape.now.page_size }
+    requires place { length place.now ≡ shape.now.page_size }
+    ensures kept { (image : List ℕ) → slots.now ≡ take (shape.now.slots * shape.now.page_size) image
+        → place.now ≡ place_bytes shape.now page image → MatchOption result (IsLost shape.now image page)
+        (λ kept. IsKept shape.now image page (record { lsn = kept.0; user = kept.1.now })) }
+    ensures long { IfSome result (λ kept. length kept.1.now ≡ user_length shape.now) }
+{
+    if let Some(lsn) = place_lsn(place, shape, page) {
+        return Some((lsn, user_part(place)));
+    }
+    let Some((slot, lsn)) = best_copy(slots, shape, page) else {
+        return None;
+    };
+    let size = shape.page_size as usize;
+    let at = slot as usize * size;
+    Some((lsn, user_part(&slots[at..at + size])))
+}
+
+/// Reads the place of a page, and puts what is kept of the page among the pages.
+fn keep_page<D: Sectors>(
+    alloc: Global,
+    device: &mut D,
+    shape: &Shape,
+    slots: &[u8],
+    pages: &mut Pages,
+    page: u32,
+) -> Result<(), RecFault>
+    requires limits { IsWithinLimits shape.now }
+    requires long { data_device_length shape.now ≤ (D.seen device.old).size }
+    requires count { length slots.now ≡ shape.now.slots * shape.now.page_size }
+    requires slots { OnContent (D.seen device.old).tells (HoldsSlots shape.now slots.now) }
+    requires page { page < shape.now.pages }
+    requires its_pages { ArePagesOf shape.now pages.old }
+    ensures kept { OnOk result (OnContent (D.seen device.old).tells (PutsKept shape.now page pages.old pages.new)) }
+    ensures its_pages { OnOk result (ArePagesOf shape.now pages.new) }
+    ensures fault { IfErr result (IsLostFault shape.now page (D.seen device.old).tells) }
+    ensures unchanged { IsUnchanged (D.seen device.old) (D.seen device.new) }
+    ensures failed { IsErrOf result RecFault.DataDev → HasRisen (D.seen device.old).faults (D.seen device.new).faults }
+    ensures calls { MakesCalls D.gives device.old device.new (ReadsPieces (data_error_of result)) }
+{
+    let size = shape.page_size as usize;
+    let at = u64::from(shape.slots + page) * u64::from(shape.page_size);
+    let place = match read_part(alloc, device, at, size) {
+        Ok(place) => place,
+        Err(error) => return Err(data_fault(error)),
+    };
+    let Some((lsn, user)) = kept_in(slots, place.as_slice(), shape, page) else {
+        return Err(RecFault::PageLost(page));
+    };
+    pages.put(page, lsn, user);
+    Ok(())
+}
+
+/// All pages of the store as they are kept, where these are the slots of its data device.
+pub(crate) fn keep_pages<D: Sectors>(
+    alloc: Global,
+    device: &mut D,
+    shape: &Shape,
+    slots: &[u8],
+) -> Result<Pages, RecFault>
+    requires limits { IsWithinLimits shape.now }
+    requires long { data_device_length shape.now ≤ (D.seen device.old).size }
+    requires count { length slots.now ≡ shape.now.slots * shape.now.page_size }
+    requires slots { OnContent (D.seen device.old).tells (HoldsSlots shape.now slots.now) }
+    ensures kept { IfOk result (λ pages. OnContent (D.seen device.old).tells (λ content. AreKept shape.now content pages)) }
+    ensures its_pages { IfOk result (ArePagesOf shape.now) }
+    ensures fault { IfErr result (IsFirstLostFault shape.now (D.seen device.old).tells) }
+    ensures unchanged { IsUnchanged (D.seen device.old) (D.seen device.new) }
+    ensures failed { IsErrOf result RecFault.DataDev → HasRisen (D.seen device.old).faults (D.seen device.new).faults }
+    ensures calls { MakesCalls D.gives device.old device.new (ReadsPieces (data_error_of result)) }
+{
+    let mut pages = Pages::blank(alloc, shape)?;
+    for page in 0..shape.pages {
+        keep_page(alloc, device, shape, slots, &mut pages, page)?;
+    }
+    Ok(pages)
+}
