@@ -109,3 +109,11 @@ decided shape group p j user limits fits l h = ⊎_elim
     (λ t. let a = t (replicate 4050 0) (length-replicate {A = ℕ} 4050 0) ∙ get_or-replicate {A = ℕ} 4050 j 0 0 h in let b = t (replicate 4050 255) (length-replicate {A = ℕ} 4050 255) ∙ get_or-replicate {A = ℕ} 4050 j 255 0 h in
     t user l ∙ sym (ap (λ (x : Bool). cond x (value_at p group j) (get_or user j 0)) (ne_eqb (value_at p group j) (byte (after_from 255 p group) j) (λ e. let z : ◌≡◌ {A = ℕ} 0 255 = sym a ∙ (e ∙ b) in absurd (omega arith)))))
     (group_acts p group 4050 j (group_within shape group (limits.page_size) fits) h)
+
+group_long : (p : ℕ) (group : List Rec) (n : ℕ) (u : List ℕ) → AllByRecursion (Within n) group → length u ≡ n → length (user_after p group u) ≡ n
+group_long p [] n u w e = e
+group_long p (rec ∷ recs) n u w e = group_long p recs n (stepped (eqb (page_of rec) p) rec u) w.1 (step_long (eqb (page_of rec) p) rec n u w.0 e)
+
+-- a page keeps as many user bytes as it has
+pub user_long : (shape : Shape) (group : List Rec) (p : ℕ) (user : List ℕ) → IsWithinLimits shape → GroupFits shape group → length user ≡ 4050 → length (user_after p group user) ≡ 4050
+user_long shape group p user limits fits l = group_long p group 4050 user (group_within shape group limits.page_size fits) l

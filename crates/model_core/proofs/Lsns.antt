@@ -1,5 +1,5 @@
 -- Facts on lsns and sns that know nothing of actors: the order, blocks, the windows of the three rings.
-use Rattle.std.proofs.Common.{ap, arith, subst, sym, ℕ, ◌%◌, ◌*◌, ◌+◌, ◌/◌, ◌<◌, ◌^◌, ◌∙◌, ◌≡◌, ◌≤◌}
+use Rattle.std.proofs.Common.{ap, arith, subst, sym, ℕ, ◌%◌, ◌*◌, ◌+◌, ◌/◌, ◌<◌, ◌∙◌, ◌≡◌, ◌≤◌}
 use mathlib.Core.Logic.{dite}
 use native.Mathlib.Decide.{dec_le}
 use Rattle.model_core.proofs.Lists.{one_turn}
@@ -37,9 +37,13 @@ pub lsn_near : (x n : ℕ) → n ≤ MAX_GROUP → lsn (x + n) ≤ lsn x + 8464
 unfolding lsn
 lsn_near x n h = omega arith
 
-pub lsn_small : (x : ℕ) → x < 2 ^ 59 → lsn x < 2 ^ 60
+-- an sn is below the limit of the lsns if a later one's lsn is, and so is its own lsn
+pub lsn_below : (x y limit : ℕ) → x ≤ y → lsn y < limit → lsn x < limit
+lsn_below x y limit le h = let l = lsn_le x y le in omega arith
+
+pub sn_below : (x y limit : ℕ) → x ≤ y → lsn y < limit → x < limit
 unfolding lsn
-lsn_small x h = omega arith
+sn_below x y limit le h = omega arith
 
 pub lsn_block : (x : ℕ) → lsn x / BLOCK_SIZE ≡ x / BLOCK_DATA
 unfolding lsn

@@ -4,7 +4,7 @@ use Rattle.model_core.specs.Actors.{Actor}
 use Rattle.model_core.specs.Answers.{old_of}
 use Rattle.model_core.specs.Program.{is_checking}
 use Rattle.model_core.specs.States.{CloserState}
-use Rattle.model_core.specs.Fitting.{Fitting}
+use Rattle.model_core.specs.Fitting.{Fitting, answer_limit}
 use Rattle.model_core.specs.declared.ops.Answer.{Answer}
 use Rattle.model_core.specs.declared.steps.CleanerStep.{CleanerStep}
 use Rattle.model_core.specs.declared.steps.CloserStep.{CloserStep}
@@ -13,7 +13,7 @@ use Rattle.model_core.specs.declared.steps.CleanerStep.TheVariants as cleaner_st
 use Rattle.model_core.specs.declared.steps.CloserStep.TheVariants as closer_step
 
 abbrev pub closer_fits : CloserState → ℕ → CloserStep → Type 0
-closer_fits t n closer_step.LoadClosedLink = t.tail + n < 2 ^ 60
+closer_fits t n closer_step.LoadClosedLink = t.tail + n < answer_limit
 closer_fits t n _ = Unit {0}
 
 abbrev pub cleaner_fits : ℕ → CleanerStep → Type 0

@@ -13,23 +13,27 @@ use Rattle.model_core.specs.declared.steps.WriterStep.{WriterStep}
 use Rattle.model_core.specs.Actors as actor
 use Rattle.model_core.specs.declared.steps.UserStep.TheVariants as user_step
 use Rattle.model_core.specs.declared.steps.WriterStep.TheVariants as writer_step
-use Rattle.model_base.specs.declared.limits.TheConstants.{BLOCK_SIZE}
+use Rattle.model_base.specs.declared.limits.TheConstants.{BLOCK_SIZE, LSN_LIMIT}
+
+-- each lsn in an answer is below this, and each sn
+abbrev pub answer_limit : ℕ
+answer_limit = LSN_LIMIT + 2 ^ 30
 
 abbrev pub user_fits : UserState → ℕ → UserStep → Type 0
-user_fits u n user_step.LoadCheckpoint = n < 2 ^ 60
-user_fits u n user_step.LoadSn = n < 2 ^ 59
-user_fits u n user_step.Reserve = n + length (group_bytes u) < 2 ^ 59
-user_fits u n user_step.LoadWrite = n < 2 ^ 60
-user_fits u n user_step.LoadWtail = n < 2 ^ 60
+user_fits u n user_step.LoadCheckpoint = n < answer_limit
+user_fits u n user_step.LoadSn = n < answer_limit
+user_fits u n user_step.Reserve = n + length (group_bytes u) < answer_limit
+user_fits u n user_step.LoadWrite = n < answer_limit
+user_fits u n user_step.LoadWtail = n < answer_limit
 user_fits u n _ = Unit {0}
 
 abbrev pub writer_fits : WriterState → ℕ → WriterStep → Type 0
-writer_fits s n writer_step.LoadLink = s.tail + n < 2 ^ 60
-writer_fits s n writer_step.LoadCheckpoint = n < 2 ^ 60
+writer_fits s n writer_step.LoadLink = s.tail + n < answer_limit
+writer_fits s n writer_step.LoadCheckpoint = n < answer_limit
 writer_fits s n writer_step.LoadFirst = n < BLOCK_SIZE
 writer_fits s n writer_step.ClearFirst = length s.firsts < 86
 writer_fits s n writer_step.LoadCell = (n < 256) × (length s.kept < 41736)
-writer_fits s n writer_step.StoreWrite = (full_blocks s ≤ length s.firsts) × (s.from + length s.kept < 2 ^ 59)
+writer_fits s n writer_step.StoreWrite = (full_blocks s ≤ length s.firsts) × (s.from + length s.kept < answer_limit)
 writer_fits s n _ = Unit {0}
 
 abbrev pub own_fits : Actor → ℕ → Type 0

@@ -5,6 +5,7 @@ pub mod CheckpointerProgram
 pub mod CleanerProgram
 pub mod CloserProgram
 pub mod DataSide
+pub mod FailureCodes
 pub mod Fitting
 pub mod FlushLists
 pub mod FlusherProgram

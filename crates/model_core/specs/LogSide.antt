@@ -2,15 +2,16 @@
 use Rattle.std.specs.Prelude.{Bool, List, ℕ}
 use Rattle.model_core.specs.Groups.{Entry}
 
--- Of a part are seen four marks, as lsns, and whether it has failed. What a call may leave is told by relations between its
+-- Of a part are seen five marks, as lsns, and whether it has failed. What a call may leave is told by relations between its
 -- numbers, its code, which is 0 for Ok, and the part before and after.
 pub record LogSide : Type 1 where
   pub Part : Type 0
-  -- written, stable, the last mark given to write_to, the newest checkpoint
+  -- written, stable, the last mark given to write_to; the newest checkpoint, and the last one asked for, good or failed
   pub written : Part → ℕ
   pub stable : Part → ℕ
   pub given : Part → ℕ
   pub ckpt : Part → ℕ
+  pub asked : Part → ℕ
   pub failed : Part → Bool
   -- of a log of so many blocks, a run's start and its groups: in every image the blocks are as they should be
   pub Holds : ℕ → ℕ → List Entry → Part → Type 0

@@ -1,6 +1,7 @@
 -- What the log half of the invariant says of a run that has ended.
-use Rattle.std.proofs.Common.{List, Some, ap, arith, subst, sym, ℕ, ◌<◌, ◌^◌, ◌≡◌, ◌≤◌}
-use Rattle.model_core.proofs.Lsns.{lsn_le, lsn_small}
+use Rattle.std.proofs.Common.{List, Some, ap, arith, subst, sym, ℕ, ◌<◌, ◌≡◌, ◌≤◌}
+use Rattle.model_base.specs.declared.limits.TheConstants.{LSN_LIMIT}
+use Rattle.model_core.proofs.Lsns.{lsn_le}
 use Rattle.model_core.specs.Actors.{Actor}
 use Rattle.model_core.specs.Groups.{IsBound}
 use Rattle.model_core.specs.Layout.{SharedWords, flat}
@@ -17,6 +18,7 @@ use Rattle.model_finish.specs.Script.{HasSeats, IsOfScript}
 use Rattle.model_history.specs.Legal.{IsLeft, entry_spans, wholes_of}
 use Rattle.model_log.specs.Lsn.{start_after}
 use Rattle.model_log.specs.Run.{IsBoundary, Span}
+use Rattle.model_logcore.proofs.AnswersFit.{small_sn}
 use Rattle.model_logcore.specs.LogFacts.{LogGhost}
 use Rattle.model_logcore.specs.LogHalf.{LogHalf}
 use Rattle.model_script.specs.declared.script.ScriptLine.{ScriptLine}
@@ -37,7 +39,7 @@ module _ (D : LogSide) (c : Setup) (spare : ℕ) (m : SharedWords) (g : LogGhost
   pub finished_run : (script : List ScriptLine) (opened : Opened) → IsOfScript c script opened.shape.space → lsn c.base ≡ start_after opened.end → IsRun script opened (run_of c g m)
   finished_run script opened S start = let G = half.global in let O = G.order in record {
     start = start;
-    legal = legal_log c script opened.shape.space m.sn g.log g.place g.answered (word_marks m) G.tiled G.commits S;
+    legal = legal_log c script opened.shape.space m.sn g.log g.place g.state g.answered (word_marks m) G.tiled G.commits S;
     wtail = boundary g.wtail m.wtail O.wtail_is O.wtail_bound;
     write = boundary g.write m.write O.write_is O.write_bound;
     flushed = boundary g.flushed m.flushed O.flushed_is O.flushed_bound;
@@ -58,9 +60,9 @@ module _ (D : LogSide) (c : Setup) (spare : ℕ) (m : SharedWords) (g : LogGhost
   }
 
   -- the marks are no further than those of the log part, and those are below the limit
-  pub finished_marks : (m.flushed ≤ D.stable p) × (m.ckpt ≤ D.ckpt p) × (D.given p < 2 ^ 60)
+  pub finished_marks : (m.flushed ≤ D.stable p) × (m.ckpt ≤ D.ckpt p) × (D.given p < LSN_LIMIT)
   finished_marks = let P = half.global.part in let O = half.global.order in (
     P.flushed_stable,
     P.ckpt_part,
-    (let a = P.given_wtail in let b = O.wtail_is in let l = lsn_le g.wtail m.sn (let x = O.wtail_tail in let y = O.tail_sn in omega arith) in let s = lsn_small m.sn (let r = half.room in omega arith) in omega arith),
+    (let a = P.given_wtail in let b = O.wtail_is in let l = lsn_le g.wtail m.sn (let x = O.wtail_tail in let y = O.tail_sn in omega arith) in let s = small_sn D c spare m g p actors 0 half in omega arith),
   )

@@ -1,5 +1,5 @@
--- A running store all users of which have ended is a finished run.
-use Rattle.std.proofs.Common.{sym, ⊎_elim, ℕ, List, ◌≡◌}
+-- A running store stands for a run; one all users of which have ended is a finished run.
+use Rattle.std.proofs.Common.{List, arith, length, subst, sym, ℕ, ⊎_elim, ◌<◌, ◌≡◌}
 use Rattle.model_core.specs.DataSide.{DataSide}
 use Rattle.model_core.specs.LogSide.{LogSide}
 use Rattle.model_core.specs.Lsn.{lsn}
@@ -7,31 +7,61 @@ use Rattle.model_core.specs.Setup.{Setup}
 use Rattle.model_core.specs.Turn.{Core}
 use Rattle.model_finish.proofs.Finished.{finished_groups, finished_losses, finished_marks, finished_run, marks_same}
 use Rattle.model_finish.proofs.Seated.{seated_end, seated_seats}
-use Rattle.model_finish.specs.Finished.{CausesAreFailures, FinishedStore}
-use Rattle.model_finish.specs.History.{run_of}
+use Rattle.model_finish.proofs.Losses.{lost_entry_exactly, open_line}
+use Rattle.model_finish.specs.Finished.{CausesAreFailures, FinishedStore, SpentStore, StandsForRun}
+use Rattle.model_finish.specs.History.{run_of, word_marks}
 use Rattle.model_finish.specs.Script.{IsOfScript}
+use Rattle.model_history.specs.Legal.{lines_of_user}
 use Rattle.model_log.specs.Lsn.{start_after}
 use Rattle.model_running.specs.RunningStore.{IsRunning}
-use Rattle.model_running.specs.Schedule.{HaveEnded}
+use Rattle.model_running.specs.Schedule.{HaveEnded, IsSpent}
 use Rattle.model_running.specs.Seating.{AreSeated}
 use Rattle.model_script.specs.declared.script.ScriptLine.{ScriptLine}
 use Rattle.model_theorem.specs.Values.{Opened}
 
-pub finished_store : (D : LogSide) (E : DataSide) (c : Setup) (spare : ℕ) (script : List ScriptLine) (opened : Opened) (failures : ℕ) (left : List (ℕ × ℕ)) (s : Core D E) → IsRunning D E c spare s → AreSeated c s.actors → HaveEnded s.actors
-    → IsOfScript c script opened.shape.space → lsn c.base ≡ start_after opened.end → CausesAreFailures D E failures s.log_part s.data_part → FinishedStore D E c script opened failures left s
-finished_store D E c spare script opened failures left s running seated ended of_script start causes =
+-- at any moment the store stands for a run of the script
+unfoldable pub stands_for_run : (D : LogSide) (E : DataSide) (c : Setup) (spare : ℕ) (script : List ScriptLine) (opened : Opened) (s : Core D E) → IsRunning D E c spare s → IsOfScript c script opened.shape.space → lsn c.base ≡ start_after opened.end → StandsForRun D E c script opened s
+stands_for_run D E c spare script opened s running of_script start =
     let m = running.shared in let g = running.log_ghost in let half = running.both.logged in
     let behind = finished_marks D c spare m g s.log_part s.actors half in
     record {
       run = run_of c g m;
       marks = sym (marks_same s.words m running.flat_is);
       is_run = finished_run D c spare m g s.log_part s.actors half script opened of_script start;
-      loses = finished_losses D c spare m g s.log_part s.actors half script opened.shape.space failures left (seated_end c s.actors seated ended) of_script (seated_seats c s.actors seated script opened.shape.space of_script)
-          (λ failed. ⊎_elim (λ cause. causes.log m.failed cause) (λ cause. causes.data_part m.failed cause) (running.both.cause failed));
       log = g.log;
       holds = half.global.part.holds;
       groups = finished_groups D c spare m g s.log_part s.actors half script opened.shape.space of_script;
       flushed = behind.0;
       ckpt = behind.1;
       small = behind.2;
+    }
+
+unfoldable pub finished_store : (D : LogSide) (E : DataSide) (c : Setup) (spare : ℕ) (script : List ScriptLine) (opened : Opened) (failures : ℕ) (left : List (ℕ × ℕ)) (s : Core D E) → IsRunning D E c spare s → AreSeated c s.actors → HaveEnded s.actors
+    → IsOfScript c script opened.shape.space → lsn c.base ≡ start_after opened.end → CausesAreFailures D E failures s.log_part s.data_part → FinishedStore D E c script opened failures left s
+unfolding stands_for_run
+finished_store D E c spare script opened failures left s running seated ended of_script start causes =
+    let m = running.shared in let g = running.log_ghost in let half = running.both.logged in
+    let end = seated_end c s.actors seated ended in
+    record {
+      stands = stands_for_run D E c spare script opened s running of_script start;
+      loses = finished_losses D c spare m g s.log_part s.actors half script opened.shape.space failures left end of_script (seated_seats c s.actors seated script opened.shape.space of_script)
+          (λ failed. ⊎_elim (λ cause. causes.log m.failed cause) (λ cause. causes.data_part m.failed cause) (running.both.cause failed));
+      lost = λ i entry found. lost_entry_exactly D c spare m g s.log_part s.actors half end (word_marks m) i entry found;
+    }
+
+-- where the turns are spent a user has a line left that isn't answered
+pub spent_store : (D : LogSide) (E : DataSide) (c : Setup) (spare : ℕ) (script : List ScriptLine) (opened : Opened) (seed max user : ℕ) (first last : Core D E) → IsRunning D E c spare last → IsOfScript c script opened.shape.space → lsn c.base ≡ start_after opened.end
+    → IsSpent D E seed max user first last → SpentStore D E c script opened user last
+spent_store D E c spare script opened seed max user first last running of_script start spent =
+    let m = running.shared in let g = running.log_ghost in let half = running.both.logged in
+    record {
+      stands = stands_for_run D E c spare script opened last running of_script start;
+      seat = spent.seat;
+      state = spent.state;
+      is = spent.is;
+      number = spent.number;
+      not_ended = spent.not_ended;
+      unanswered = subst (λ (v : ℕ). spent.state.k < length (lines_of_user v script)) spent.number
+          (let count = of_script.count spent.state.user in let below = open_line D c spare m g last.log_part last.actors half spent.seat spent.state spent.is spent.not_ended in omega arith);
+      least = spent.least;
     }

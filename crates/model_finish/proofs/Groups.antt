@@ -5,6 +5,7 @@ use lib.ListN.{get_elem?}
 use Rattle.model_core.specs.Groups.{Tiles, end_of, stream}
 use Rattle.model_core.specs.Lsn.{lsn}
 use Rattle.model_core.specs.Setup.{Setup}
+use Rattle.model_core.specs.States.{Line}
 use Rattle.model_core.specs.UserProgram.{answered, line_at}
 use Rattle.model_finish.proofs.Places.{lsn_is, sn_back, tiled_spans}
 use Rattle.model_finish.specs.History.{AreWholesOf, IsWholeOf, history_of, log_span, log_spans}
@@ -58,8 +59,8 @@ history_wholes c script space answered marks (e ∷ es) S lines =
     let line = lines 0 e refl in
     let l = line_below (lines_of_user e.user script) e.k (let a = line.0 in let b = S.count e.user in omega arith) in
     let one : ScriptLine = l.0 in
-    let of : IsLineOf space one (line_at (c.script e.user) e.k) = S.each e.user e.k one l.1 in (
-      record { place = refl; text = ap (λ o. group_text (group_of_line space o)) l.1 ∙ sym of.bytes ∙ sym line.1 },
+    let of : IsLineOf c space one (line_at (c.script e.user) e.k) = S.each e.user e.k one l.1 in (
+      record { place = refl; text = ap (λ o. group_text (group_of_line space o)) l.1 ∙ sym (ap (λ (z : Line). z.bytes) of) ∙ sym line.1 },
       history_wholes c script space answered marks es S (λ i x is. lines (suc i) x is),
     )
 

@@ -7,6 +7,7 @@ use Rattle.model_core.specs.Groups.{end_of}
 use Rattle.model_core.specs.Lsn.{lsn}
 use Rattle.model_core.specs.Program.{entry}
 use Rattle.model_core.specs.Setup.{Setup}
+use Rattle.model_core.specs.States.{Line}
 use Rattle.model_core.specs.UserProgram.{answered, line_at, mode}
 use Rattle.model_finish.proofs.Groups.{line_below}
 use Rattle.model_finish.proofs.Places.{history_spans, lsn_is, sn_back, tiled_spans}
@@ -97,9 +98,9 @@ fits marks mode end k n false c a = (tt, tt)
 fits marks mode end k n true c a = (state_by-says marks end, state_by-allows marks mode end (a (ltb-true k n c)))
 
 -- What the invariant says of the groups and the answered commits makes the history legal
-pub legal_log : (c : Setup) (script : List ScriptLine) (space sn : ℕ) (log : List core.Entry) (place : ℕ → Place) (answered : ℕ → ℕ) (marks : Marks) → Tiled c sn log place → Commits c marks.write marks.flushed log answered → IsOfScript c script space
+pub legal_log : (c : Setup) (script : List ScriptLine) (space sn : ℕ) (log : List core.Entry) (place : ℕ → Place) (state answered : ℕ → ℕ) (marks : Marks) → Tiled c sn log place → Commits c marks.write marks.flushed log state answered → IsOfScript c script space
     → IsLegal script space (lsn c.base) marks (history_of answered marks log)
-legal_log c script space sn log place answered marks T C S = record {
+legal_log c script space sn log place state answered marks T C S = record {
   tiled = subst (IsTiled (lsn c.base)) (sym (history_spans answered marks log)) (tiled_spans log c.base sn T.tiles);
   each = λ i entry found.
       let r = from_log answered marks log i entry found in
@@ -107,10 +108,10 @@ legal_log c script space sn log place answered marks T C S = record {
       let line = T.lines i e r.1 in
       let l = line_below (lines_of_user e.user script) e.k (let a = line.0 in let b = S.count e.user in omega arith) in
       let one : ScriptLine = l.0 in
-      let of : IsLineOf space one (line_at (c.script e.user) e.k) = S.each e.user e.k one l.1 in
-      let size : length e.bytes ≡ group_length (group_of space one) = ap length (line.1 ∙ of.bytes) in
+      let of : IsLineOf c space one (line_at (c.script e.user) e.k) = S.each e.user e.k one l.1 in
+      let size : length e.bytes ≡ group_length (group_of space one) = ap length (line.1 ∙ ap (λ (z : Line). z.bytes) of) in
       let both = fits marks one.mode (lsn (end_of e)) e.k (answered e.user) (ltb e.k (answered e.user)) refl
-      (λ below. record { flushed = λ f. C.flush i e r.1 below (of.mode ∙ f); written = λ w. C.wrote i e r.1 below (of.mode ∙ w) }) in
+      (λ below. record { flushed = λ f. C.flush i e r.1 below (ap (λ (z : Line). z.mode) of ∙ f); written = λ w. C.wrote i e r.1 below (ap (λ (z : Line). z.mode) of ∙ w) }) in
       subst (IsLegalEntry script space marks) r.2 (record {
         line = one;
         of_line = record {

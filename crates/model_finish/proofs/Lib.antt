@@ -1,4 +1,7 @@
+pub mod CellsApply
+pub mod ClosedStore
 pub mod Finished
+pub mod FinishedPages
 pub mod FinishedStore
 pub mod FirstOffsets
 pub mod FirstsFit
@@ -6,5 +9,8 @@ pub mod Given
 pub mod Groups
 pub mod Legality
 pub mod Losses
+pub mod PagePrefixes
 pub mod Places
+pub mod RunEnds
+pub mod Scripted
 pub mod Seated

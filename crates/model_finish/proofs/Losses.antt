@@ -1,5 +1,5 @@
 -- What is lost at the end of a run, or left, is lost by a user that has met a failure.
-use Rattle.std.proofs.Common.{List, Some, [], ap, arith, cond, length, refl, slice_get, subst, suc, sym, ℕ, ⊎_elim, ◌+◌, ◌<◌, ◌==◌, ◌↔◌, ◌∙◌, ◌∷◌, ◌≡◌, ◌≢◌, ◌≤◌}
+use Rattle.std.proofs.Common.{List, Some, [], ap, arith, cond, inl, inr, length, refl, slice_get, subst, suc, sym, ℕ, ⊎_elim, ◌+◌, ◌<◌, ◌==◌, ◌↔◌, ◌∙◌, ◌∷◌, ◌≡◌, ◌≢◌, ◌≤◌}
 use lib.ListN.{get_elem?}
 use native.Mathlib.Decide.{dec_le, ℕ_discrete}
 use Rattle.model_core.specs.Actors.{Actor}
@@ -24,7 +24,9 @@ use Rattle.model_logcore.proofs.WriterSteps.{own}
 use Rattle.model_logcore.specs.LogFacts.{LogGhost, count_of, sum_over_actors}
 use Rattle.model_logcore.specs.LogFits.{UserAt, UserFits}
 use Rattle.model_logcore.specs.LogHalf.{LogHalf}
+use Rattle.model_running.specs.Schedule.{HasEnded}
 use Rattle.model_script.specs.declared.script.ScriptLine.{ScriptLine}
+use Rattle.model_core.specs.declared.steps.UserStep.{UserStep}
 use Rattle.model_core.specs.declared.steps.UserStep.TheVariants as user_step
 use Rattle.model_core.specs.Actors as actor
 use mathlib.Core.Option as maybe
@@ -125,3 +127,27 @@ module _ (D : LogSide) (c : Setup) (spare : ℕ) (m : SharedWords) (g : LogGhost
               (r.0, r.1)),
           (λ there. unanswered_lost (g.answered e.user) marks e (let k = there.1 in omega arith)),
         )
+
+    -- and so is an entry of the history
+    pub lost_entry_exactly : (marks : Marks) (i : ℕ) (one : Entry) → slice_get (history_of g.answered marks g.log) i ≡ Some one → (one.state ≡ Lost) ↔ IsLostBy actors one.user one.k
+    lost_entry_exactly marks i one found = (
+      (λ lost. (lost_entry marks i one found lost).0),
+      (λ by.
+          let r = from_log g.answered marks g.log i one found in
+          let e : core.Entry = r.0 in
+          let user : e.user ≡ one.user = ap (λ (z : Entry). z.user) r.2 in
+          let k : e.k ≡ one.k = ap (λ (z : Entry). z.k) r.2 in
+          let a : g.answered e.user ≡ by.state.k = ap g.answered (user ∙ sym by.own) ∙ answered_is by.seat by.state by.at in
+          sym (ap (λ (z : Entry). z.state) r.2) ∙ unanswered_lost (g.answered e.user) marks e (let n = by.unanswered in omega arith)),
+    )
+
+  -- a user that hasn't ended has a line left whose commit isn't answered
+  pub open_line : (seat : ℕ) (u : UserState) → get_elem? actors seat ≡ maybe.some (actor.User u) → (HasEnded u → ⊥) → u.k < length (c.script u.user)
+  open_line seat u at open_user = let f : UserFits D c m g p seat u = half.each seat (actor.User u) at in
+      subst (λ (ls : List Line). u.k < length ls) f.lines (by u.step refl f.step)
+    where
+      by : (st : UserStep) → u.step ≡ st → UserAt D c m g p seat u st → u.k < length u.lines
+      by user_step.LoadCheckpoint is h = h.1
+      by user_step.Done is h = absurd (open_user (inl is))
+      by user_step.Failed is h = absurd (open_user (inr is))
+      by _ is h = h.1

@@ -1,32 +1,59 @@
--- What a running store comes to when its users have ended.
-use Rattle.std.specs.Prelude.{List, Some, ℕ, ◌<◌, ◌^◌, ◌≡◌, ◌≤◌}
+-- What a running store stands for at any moment, and what it comes to when its users have ended or its turns are spent.
+use Rattle.std.specs.Prelude.{List, Some, length, slice_get, ℕ, ◌<◌, ◌↔◌, ◌≡◌, ◌≤◌}
+use lib.ListN.{get_elem?}
+use mathlib.Core.Option.{some}
+use Rattle.model_base.specs.declared.limits.TheConstants.{LSN_LIMIT}
 use Rattle.model_core.specs.DataSide.{DataSide}
 use Rattle.model_core.specs.Groups.{Entry}
 use Rattle.model_core.specs.LogSide.{LogSide}
 use Rattle.model_core.specs.Setup.{Setup}
+use Rattle.model_core.specs.States.{UserState}
 use Rattle.model_core.specs.Turn.{Core}
+use Rattle.model_finish.specs.Ended.{IsLostBy}
 use Rattle.model_finish.specs.History.{AreWholesOf, marks_in}
-use Rattle.model_history.specs.Legal.{IsLeft, wholes_of}
+use Rattle.model_history.specs.Legal.{IsLeft, lines_of_user, wholes_of}
 use Rattle.model_history.specs.declared.entry.Marks.{Marks}
+use Rattle.model_history.specs.declared.entry.State.TheVariants.{Lost}
+use Rattle.model_running.specs.Schedule.{HasEnded}
 use Rattle.model_script.specs.declared.script.ScriptLine.{ScriptLine}
 use Rattle.model_theorem.specs.Run.{IsRun, LosesOnlyByFailure}
 use Rattle.model_theorem.specs.Values.{Opened, Ran}
+use Rattle.model_core.specs.Actors as actor
+use Rattle.model_history.specs.declared.entry.Entry as history
 
 -- a cause means that a call failed, of which so many did
 pub record CausesAreFailures (D : LogSide) (E : DataSide) (failures : ℕ) (p : D.Part) (d : E.Part) : Type 0 where
   pub log : (code : ℕ) → D.Cause p code → 0 < failures
   pub data_part : (code : ℕ) → E.Cause d code → 0 < failures
 
--- The run that a store's state stands for: it is a run of the script with the words' marks, it loses only by a failure, the
--- log part holds its groups, and its marks are no further than those of the log part.
-pub record FinishedStore (D : LogSide) (E : DataSide) (c : Setup) (script : List ScriptLine) (opened : Opened) (failures : ℕ) (left : List (ℕ × ℕ)) (s : Core D E) : Type 0 where
+-- The run that a store's state stands for: it is a run of the script with the words' marks, the log part holds its groups,
+-- and its marks are no further than those of the log part.
+pub record StandsForRun (D : LogSide) (E : DataSide) (c : Setup) (script : List ScriptLine) (opened : Opened) (s : Core D E) : Type 0 where
   pub run : Ran
   pub marks : ◌≡◌ {A = Marks} run.marks (marks_in s.words)
   pub is_run : IsRun script opened run
-  pub loses : IsLeft script run.entries left → LosesOnlyByFailure failures (Some run) left
   pub log : List Entry
   pub holds : D.Holds c.blocks c.base log s.log_part
   pub groups : AreWholesOf log (wholes_of script opened.shape.space run.entries)
   pub flushed : run.marks.flushed ≤ D.stable s.log_part
   pub ckpt : run.marks.ckpt ≤ D.ckpt s.log_part
-  pub small : D.given s.log_part < 2 ^ 60
+  pub small : D.given s.log_part < LSN_LIMIT
+
+-- Each user has ended: the run loses something only by a failure, and a group exactly where its user has met a failure and
+-- holds it as not answered.
+pub record FinishedStore (D : LogSide) (E : DataSide) (c : Setup) (script : List ScriptLine) (opened : Opened) (failures : ℕ) (left : List (ℕ × ℕ)) (s : Core D E) : Type 0 where
+  pub stands : StandsForRun D E c script opened s
+  pub open stands use *
+  pub loses : IsLeft script run.entries left → LosesOnlyByFailure failures (Some run) left
+  pub lost : (i : ℕ) (entry : history.Entry) → slice_get run.entries i ≡ Some entry → (entry.state ≡ Lost) ↔ IsLostBy s.actors entry.user entry.k
+
+-- The turns are spent: this is the least user that hasn't ended, and the commit of one of its lines isn't answered.
+pub record SpentStore (D : LogSide) (E : DataSide) (c : Setup) (script : List ScriptLine) (opened : Opened) (user : ℕ) (s : Core D E) : Type 0 where
+  pub stands : StandsForRun D E c script opened s
+  pub seat : ℕ
+  pub state : UserState
+  pub is : get_elem? s.actors seat ≡ some (actor.User state)
+  pub number : state.user ≡ user
+  pub not_ended : HasEnded state → ⊥
+  pub unanswered : state.k < length (lines_of_user user script)
+  pub least : (j : ℕ) (u : UserState) → get_elem? s.actors j ≡ some (actor.User u) → u.user < user → HasEnded u

@@ -1,4 +1,7 @@
+pub mod ClosedStore
 pub mod Ended
 pub mod Finished
+pub mod FinishedPages
 pub mod History
+pub mod PageContents
 pub mod Script

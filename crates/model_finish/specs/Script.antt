@@ -1,26 +1,26 @@
 -- The users of a run, as its script has them.
 use Rattle.std.specs.Prelude.{List, Some, length, slice_get, ℕ, ◌<◌, ◌≡◌}
 use lib.ListN.{get_elem?}
+use Rattle.model_changes.specs.Changes.{line_of}
 use Rattle.model_core.specs.Actors.{Actor}
 use Rattle.model_core.specs.Setup.{Setup}
 use Rattle.model_core.specs.States.{Line, UserState}
 use Rattle.model_core.specs.UserProgram.{line_at}
 use Rattle.model_history.specs.Legal.{lines_of_user}
-use Rattle.model_record.specs.Group.{group_text}
 use Rattle.model_script.specs.LineGroup.{group_of}
 use Rattle.model_script.specs.declared.script.ScriptLine.{ScriptLine}
 use Rattle.model_core.specs.Actors as actor
 use mathlib.Core.Option as maybe
 
--- a line of the script as its user runs it
-pub record IsLineOf (space : ℕ) (one : ScriptLine) (line : Line) : Type 0 where
-  pub mode : line.mode ≡ one.mode
-  pub bytes : line.bytes ≡ group_text (group_of space one)
+-- A line of the script as its user runs it: its mode, the text of its group, and the cells that the group changes, page by
+-- page; with the log alone it changes none.
+abbrev pub IsLineOf : Setup → ℕ → ScriptLine → Line → Type 0
+IsLineOf c space one line = ◌≡◌ {A = Line} line (line_of c.log_only c.pages one.mode (group_of space one))
 
 -- the users' lines are those of the script, in order
 pub record IsOfScript (c : Setup) (script : List ScriptLine) (space : ℕ) : Type 0 where
   pub count : (user : ℕ) → length (c.script user) ≡ length (lines_of_user user script)
-  pub each : (user k : ℕ) (one : ScriptLine) → slice_get (lines_of_user user script) k ≡ Some one → IsLineOf space one (line_at (c.script user) k)
+  pub each : (user k : ℕ) (one : ScriptLine) → slice_get (lines_of_user user script) k ≡ Some one → IsLineOf c space one (line_at (c.script user) k)
 
 -- each user that has a line has a seat
 abbrev pub HasSeats : List ScriptLine → List Actor → Type 0

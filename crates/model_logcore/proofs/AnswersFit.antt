@@ -1,17 +1,18 @@
 -- The answer to an actor's Op is one that it can take: no number of its own wraps, no byte is lost, and no list outgrows its
 -- room.
-use Rattle.std.proofs.Common.{Bool, List, [], ap, arith, cond, drop, false, length, refl, suc, sym, true, zero, ℕ, ⊎_elim, ◌%◌, ◌*◌, ◌+◌, ◌-◌, ◌/◌, ◌<◌, ◌^◌, ◌∙◌, ◌∷◌, ◌≡◌, ◌≤◌}
+use Rattle.std.proofs.Common.{Bool, List, [], ap, arith, cond, drop, false, length, refl, suc, sym, true, zero, ℕ, ⊎_elim, ◌%◌, ◌*◌, ◌+◌, ◌-◌, ◌/◌, ◌<◌, ◌∙◌, ◌∷◌, ◌≡◌, ◌≤◌}
 use Rattle.std.specs.Prelude.{slice_index}
 use lib.ListN.{get_elem?}
 use native.Mathlib.Decide.{dec_le, ℕ_discrete}
+use Rattle.model_base.specs.declared.limits.TheConstants.{LSN_LIMIT}
 use Rattle.model_core.proofs.Groups.{first_base, first_from, tiles_at}
-use Rattle.model_core.proofs.Lsns.{lsn_le, lsn_small, lsn_wide}
+use Rattle.model_core.proofs.Lsns.{lsn_le, lsn_below, lsn_wide, sn_below}
 use Rattle.model_core.specs.Actors.{Actor}
 use Rattle.model_core.specs.Answers.{old_of}
 use Rattle.model_core.specs.CheckpointerProgram.{checkpointer_op}
 use Rattle.model_core.specs.CleanerProgram.{cleaner_op}
 use Rattle.model_core.specs.CloserProgram.{closer_op}
-use Rattle.model_core.specs.Fitting.{Fitting, user_fits, writer_fits}
+use Rattle.model_core.specs.Fitting.{Fitting, answer_limit, user_fits, writer_fits}
 use Rattle.model_core.specs.FlushLists.{Listed}
 use Rattle.model_core.specs.FlusherProgram.{flusher_op}
 use Rattle.model_core.specs.Groups.{end_of, first_of}
@@ -46,34 +47,35 @@ sum_at f (x ∷ xs) zero v e = let s : f x ≡ f v = ap f (maybe.some-injective 
 sum_at f (x ∷ xs) (suc i) v e = let r = sum_at f xs i v e in omega arith
 
 module _ (D : LogSide) (c : Setup) (spare : ℕ) (m : SharedWords) (g : LogGhost) (p : D.Part) (actors : List Actor) (seat : ℕ) (before : LogHalf D c spare m g p actors) where
-  small_sn : lsn m.sn < 2 ^ 60
-  small_sn = lsn_small m.sn (let r = before.room in omega arith)
+  pub small_sn : lsn m.sn < LSN_LIMIT
+  small_sn = lsn_below m.sn (m.sn + sum_over_actors left_to_reserve actors + spare) LSN_LIMIT (omega arith) before.room
 
-  small_wtail : m.wtail < 2 ^ 60
+  small_wtail : m.wtail < LSN_LIMIT
   small_wtail = let O = before.global.order in let a = O.wtail_is in let b = lsn_le g.wtail m.sn (let x = O.wtail_tail in let y = O.tail_sn in omega arith) in let s = small_sn in omega arith
 
-  small_write : m.write < 2 ^ 60
+  small_write : m.write < LSN_LIMIT
   small_write = let P = before.global.part in let a = P.write_written in let b = P.written_wtail in let s = small_wtail in omega arith
 
-  small_ckpt : m.ckpt < 2 ^ 60
-  small_ckpt = let P = before.global.part in let a = P.ckpt_part in let b = P.ckpt_stable in let e = P.stable_written in let f = P.written_wtail in let s = small_wtail in omega arith
+  small_ckpt : m.ckpt < LSN_LIMIT
+  small_ckpt = let P = before.global.part in let a = P.ckpt_part in let b = P.ckpt_asked in let d = P.asked_stable in let e = P.stable_written in let f = P.written_wtail in let s = small_wtail in omega arith
 
   user_can : (u : UserState) → get_elem? actors seat ≡ maybe.some (actor.User u) → (f : UserStep) → UserAt D c m g p seat u f → (ls : ℕ → List Listed) (broken : Bool) (code mark : ℕ) → user_fits u (old_of (shared_answer ls broken code mark m (user_op u f))) f
-  user_can u at user_step.LoadCheckpoint h ls broken code mark = small_ckpt
-  user_can u at user_step.LoadSn h ls broken code mark = let r = before.room in omega arith
-  user_can u at user_step.Reserve h ls broken code mark = let r = before.room in
+  user_can u at user_step.LoadCheckpoint h ls broken code mark = let s = small_ckpt in omega arith
+  user_can u at user_step.LoadSn h ls broken code mark = let s = sn_below m.sn m.sn LSN_LIMIT (omega arith) small_sn in omega arith
+  user_can u at user_step.Reserve h ls broken code mark =
       let t = sum_at left_to_reserve actors seat (actor.User u) at in
       let z : lengths (drop (length u.starts) u.lines) ≡ length (group_bytes u) + lengths (drop (u.k + 1) u.lines) = ap (λ (j : ℕ). lengths (drop j u.lines)) h.0 ∙ lengths_step u.lines u.k h.1 in
+      let s = sn_below (m.sn + length (group_bytes u)) (m.sn + sum_over_actors left_to_reserve actors + spare) LSN_LIMIT (omega arith) before.room in
       omega arith
-  user_can u at user_step.LoadWrite h ls broken code mark = small_write
-  user_can u at user_step.LoadWtail h ls broken code mark = small_wtail
+  user_can u at user_step.LoadWrite h ls broken code mark = let s = small_write in omega arith
+  user_can u at user_step.LoadWtail h ls broken code mark = let s = small_wtail in omega arith
   user_can u at _ h ls broken code mark = tt
 
   module _ (s : WriterState) (at : get_elem? actors seat ≡ maybe.some (actor.Writer s)) where
     mine : WriterFits D c m g p seat s
     mine = before.each seat (actor.Writer s) at
 
-    linked_small : (n : ℕ) → slice_index m.wlinks (s.tail % 32768) ≡ n → s.tail + n < 2 ^ 60
+    linked_small : (n : ℕ) → slice_index m.wlinks (s.tail % 32768) ≡ n → s.tail + n < answer_limit
     linked_small n e = let O = before.global.order in let t = mine.tail in let sm = small_sn in let le = lsn_le g.tail m.sn O.tail_sn in elim (dec_le 1 n) [
       | yes d ↦ (let v : slice_index m.wlinks (lsn g.tail % 32768) ≡ n = ap (λ (k : ℕ). slice_index m.wlinks (k % 32768)) (sym t) ∙ e in
           let o = link_here D c spare m g p actors seat s before at n v (omega arith) in
@@ -102,7 +104,7 @@ module _ (D : LogSide) (c : Setup) (spare : ℕ) (m : SharedWords) (g : LogGhost
 
     writer_can : (f : WriterStep) → WriterAt D c m g p seat s f → (ls : ℕ → List Listed) (broken : Bool) (code mark : ℕ) → writer_fits s (old_of (shared_answer ls broken code mark m (writer_op s f))) f
     writer_can writer_step.LoadLink h ls broken code mark = linked_small (slice_index m.wlinks (s.tail % 32768)) refl
-    writer_can writer_step.LoadCheckpoint h ls broken code mark = small_ckpt
+    writer_can writer_step.LoadCheckpoint h ls broken code mark = let s = small_ckpt in omega arith
     writer_can writer_step.LoadFirst h ls broken code mark = first_small h.3 h.1
     writer_can writer_step.ClearFirst h ls broken code mark = let k = kept_small h.1 in let e = h.3 in omega arith
     writer_can writer_step.LoadCell h ls broken code mark = (
@@ -110,7 +112,7 @@ module _ (D : LogSide) (c : Setup) (spare : ℕ) (m : SharedWords) (g : LogGhost
           let b = before.global.tiled.bytes g.read (let x = O.base_write in let y = O.write_read in omega arith) (let x = h.1 in let y = O.tail_sn in omega arith) in omega arith),
       kept_small h.1,
     )
-    writer_can writer_step.StoreWrite h ls broken code mark = let O = before.global.order in let a = mine.long in let b = mine.wide in let r = O.read_entered in let w = O.read_wtail in let x = O.wtail_tail in let y = O.tail_sn in let z = before.room in (omega arith, omega arith)
+    writer_can writer_step.StoreWrite h ls broken code mark = let O = before.global.order in let a = mine.long in let b = mine.wide in let r = O.read_entered in let w = O.read_wtail in let x = O.wtail_tail in let y = O.tail_sn in let z = sn_below m.sn m.sn LSN_LIMIT (omega arith) small_sn in (omega arith, omega arith)
     writer_can _ h ls broken code mark = tt
 
   checking_fits : (b : Bool) (o : Op) (P : ℕ → Type 0) (ls : ℕ → List Listed) (broken : Bool) (code mark : ℕ) → P (old_of (shared_answer ls broken code mark m o)) → cond b (Unit {0}) (P (old_of (shared_answer ls broken code mark m (cond b (op.Load word.Failed) o))))

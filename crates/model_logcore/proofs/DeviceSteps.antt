@@ -1,8 +1,9 @@
 -- Taking and giving the part, the calls on it, and the flusher's own steps.
-use Rattle.std.proofs.Common.{Bool, List, ap, arith, cond, eqb, false, refl, set, subst, suc, sym, true, ℕ, ◌+◌, ◌<◌, ◌^◌, ◌∙◌, ◌≡◌, ◌≢◌, ◌≤◌}
+use Rattle.std.proofs.Common.{Bool, List, ap, arith, cond, eqb, false, refl, set, subst, suc, sym, true, ℕ, ◌+◌, ◌<◌, ◌∙◌, ◌≡◌, ◌≢◌, ◌≤◌}
 use Rattle.std.proofs.lemmas.Bool.{eqb-false}
 use lib.ListN.{get_elem?}
-use Rattle.model_core.proofs.Lsns.{lsn_le, lsn_small}
+use Rattle.model_base.specs.declared.limits.TheConstants.{LSN_LIMIT}
+use Rattle.model_core.proofs.Lsns.{lsn_le, lsn_below}
 use Rattle.model_core.specs.Actors.{Actor}
 use Rattle.model_core.specs.FlusherProgram.{flusher_took}
 use Rattle.model_core.specs.Groups.{Entry}
@@ -32,7 +33,7 @@ module _ (D : LogSide) (c : Setup) (m : SharedWords) (g : LogGhost) (p : D.Part)
   -- the turn word and its holder are no matter of an actor's own facts
   fits_moot : (d q j : ℕ) (a : Actor) → LogFacts D c m g p → Fits D c m g p j a → Fits D c (record m { device = d }) (record g { holder = q }) p j a
   fits_moot d q j a G h = others_later D c m (record m { device = d }) g (record g { holder = q }) p p (suc j) G
-      (record { write = omega arith; wtail = omega arith; ckpt = omega arith; flushed = omega arith; failed = λ z. z; logs = λ i x z. z; places = λ x _ _. refl; states = λ x _ _. refl; firsts = λ x z. z; seats = λ x. refl; counts = λ x _. refl; answers = λ x _. refl })
+      (record { write = omega arith; wtail = omega arith; ckpt = omega arith; flushed = omega arith; failed = λ z. z; logs = λ i x z. z; places = λ x _ _. refl; states = λ x _ _. refl; linked = λ _ _ two. two; firsts = λ x z. z; seats = λ x. refl; counts = λ x _. refl; answers = λ x _. refl })
       (record { writer = refl; gwrite = refl; gwtail = refl; tail = refl; read = refl; entered = refl; write = refl; ckpt = omega arith; failed = λ z. z; link = λ _. refl; bytes = λ x _ _. refl; firsts = λ x _. refl; written = refl })
       (record { flushed = omega arith; failed = λ z. z; point = refl })
       j a (λ e. omega arith) (λ _. refl) h
@@ -59,7 +60,9 @@ module _ (D : LogSide) (c : Setup) (m : SharedWords) (g : LogGhost) (p : D.Part)
       flushed_stable = P.flushed_stable;
       stable_written = P.stable_written;
       ckpt_part = P.ckpt_part;
-      ckpt_stable = P.ckpt_stable;
+      written_given = P.written_given;
+      ckpt_asked = P.ckpt_asked;
+      asked_stable = P.asked_stable;
       turn_word = le;
     };
   }
@@ -131,7 +134,7 @@ module _ (D : LogSide) (L : LogLaws D) (c : Setup) (spare : ℕ) (m : SharedWord
     high = O.tail_bound;
     lent = lends D c spare m g p actors seat s before at h.1;
     fits = (let a = h.2 in let k = mine.ckpt in let q = P.ckpt_part in let b = mine.blocks in let t : ceiling s.tail ≡ ceiling (lsn g.tail) = ap ceiling mine.tail in omega arith);
-    small = lsn_small g.tail (let a = O.tail_sn in let r = before.room in omega arith);
+    small = lsn_below g.tail (m.sn + sum_over_actors left_to_reserve actors + spare) LSN_LIMIT (let a = O.tail_sn in omega arith) before.room;
     near = (let a = mine.small in let b = mine.tail in let d = mine.write in let e = O.write_is in let t : lsn g.tail ≤ lsn g.write + 41240 = omega arith in let f : lsn g.write < floor (lsn g.write) + 512 = omega arith in omega arith);
   }
 
@@ -181,7 +184,9 @@ module _ (D : LogSide) (L : LogLaws D) (c : Setup) (spare : ℕ) (m : SharedWord
             flushed_stable = (let z = P.flushed_stable in omega arith);
             stable_written = omega arith;
             ckpt_part = (let z = P.ckpt_part in omega arith);
-            ckpt_stable = (let z = P.ckpt_stable in let y = P.stable_written in omega arith);
+            written_given = (let z = P.written_given in omega arith);
+            ckpt_asked = (let z = P.ckpt_asked in let y = A.asked in omega arith);
+            asked_stable = (let z = P.asked_stable in let y = A.asked in let x = P.stable_written in omega arith);
             turn_word = P.turn_word;
           }
       parted false e = let w = written_by false e in let P = G.part in let O = G.order in let t = wtail_is in let st = A.stable in let gi = A.given in let ck = A.ckpt in
@@ -199,7 +204,9 @@ module _ (D : LogSide) (L : LogLaws D) (c : Setup) (spare : ℕ) (m : SharedWord
             flushed_stable = (let z = P.flushed_stable in omega arith);
             stable_written = (let z = P.stable_written in omega arith);
             ckpt_part = (let z = P.ckpt_part in omega arith);
-            ckpt_stable = (let z = P.ckpt_stable in let y = P.stable_written in omega arith);
+            written_given = (let z = P.written_given in omega arith);
+            ckpt_asked = (let z = P.ckpt_asked in let y = A.asked in omega arith);
+            asked_stable = (let z = P.asked_stable in let y = A.asked in let x = P.stable_written in omega arith);
             turn_word = P.turn_word;
           }
 
@@ -248,7 +255,7 @@ module _ (D : LogSide) (L : LogLaws D) (c : Setup) (spare : ℕ) (m : SharedWord
       (λ e. let t = before.turns seat (actor.Flusher f) at (sym keep ∙ e) in (device ∙ t.0, t.1 ∙ sym holder))
       (λ j a n e h. let t = before.turns j a e h in (device ∙ t.0, t.1 ∙ sym holder))
       (subst (λ (l : List Entry). Counted (set actors seat (actor.Flusher w)) l) (sym log) (counted_same actors g.log seat (actor.Flusher f) (actor.Flusher w) at refl before.counted))
-      (subst (λ (n : ℕ). n + sum_over_actors left_to_reserve (set actors seat (actor.Flusher w)) + spare < 2 ^ 59) (sym sn) (budget_same actors seat spare m.sn (actor.Flusher f) (actor.Flusher w) at (omega arith) before.room))
+      (subst (λ (n : ℕ). lsn (n + sum_over_actors left_to_reserve (set actors seat (actor.Flusher w)) + spare) < LSN_LIMIT) (sym sn) (budget_same actors seat spare m.sn (actor.Flusher f) (actor.Flusher w) at (omega arith) before.room))
       (λ d. subst (λ (k : ℕ). HasTaker (set actors seat (actor.Flusher w)) k) (sym holder) (taken_same actors seat (actor.Flusher f) (actor.Flusher w) g.holder at (λ e. keep ∙ e) (before.taken (sym device ∙ d))))
 
   flater : (m' : SharedWords) (g' : LogGhost) → m'.write ≡ m.write → m'.wtail ≡ m.wtail → m'.ckpt ≡ m.ckpt → m.flushed ≤ m'.flushed → (0 < m.failed → 0 < m'.failed) → g'.log ≡ g.log → ((x : ℕ) → ◌≡◌ {A = Place} (g'.place x) (g.place x)) → ((x : ℕ) → g'.state x ≡ g.state x) → ((x : ℕ) → g'.first x ≡ g.first x) → ((x : ℕ) → g'.seat_of x ≡ g.seat_of x) → ((x : ℕ) → g'.answered x ≡ g.answered x)
@@ -262,6 +269,7 @@ module _ (D : LogSide) (L : LogLaws D) (c : Setup) (spare : ℕ) (m : SharedWord
     logs = λ j x z. ap (λ (l : List Entry). get_elem? l j) lo ∙ z;
     places = λ x l o. pl x;
     states = λ x l o. st x;
+    linked = λ x l two. st x ∙ two;
     firsts = λ q z. let y = fi q in omega arith;
     seats = se;
     counts = λ x n. ap (count_of x) lo;
@@ -312,7 +320,7 @@ module _ (D : LogSide) (L : LogLaws D) (c : Setup) (spare : ℕ) (m : SharedWord
               ring_cells = G.ring_cells;
               first_offsets = G.first_offsets;
               written_links = G.written_links;
-              commits = record { flush = λ i e a b d. let o = G.commits.flush i e a b d in omega arith; wrote = G.commits.wrote; last = G.commits.last };
+              commits = record { flush = λ i e a b d. let o = G.commits.flush i e a b d in omega arith; wrote = G.commits.wrote; linked = G.commits.linked; last = G.commits.last };
               part = record {
                 holds = P.holds;
                 written = P.written;
@@ -327,7 +335,9 @@ module _ (D : LogSide) (L : LogLaws D) (c : Setup) (spare : ℕ) (m : SharedWord
                 flushed_stable = omega arith;
                 stable_written = P.stable_written;
                 ckpt_part = P.ckpt_part;
-                ckpt_stable = P.ckpt_stable;
+                written_given = P.written_given;
+                ckpt_asked = P.ckpt_asked;
+                asked_stable = P.asked_stable;
                 turn_word = P.turn_word;
               };
             })
@@ -367,7 +377,9 @@ module _ (D : LogSide) (L : LogLaws D) (c : Setup) (spare : ℕ) (m : SharedWord
           flushed_stable = P.flushed_stable;
           stable_written = P.stable_written;
           ckpt_part = P.ckpt_part;
-          ckpt_stable = P.ckpt_stable;
+          written_given = P.written_given;
+          ckpt_asked = P.ckpt_asked;
+          asked_stable = P.asked_stable;
           turn_word = P.turn_word;
         };
       })
@@ -417,7 +429,9 @@ module _ (D : LogSide) (L : LogLaws D) (c : Setup) (spare : ℕ) (m : SharedWord
         flushed_stable = (let z = P.flushed_stable in omega arith);
         stable_written = omega arith;
         ckpt_part = (let z = P.ckpt_part in omega arith);
-        ckpt_stable = (let z = P.ckpt_stable in let y = P.stable_written in omega arith);
+        written_given = (let z = P.written_given in omega arith);
+        ckpt_asked = (let z = P.ckpt_asked in let y = A.asked in omega arith);
+        asked_stable = (let z = P.asked_stable in let y = A.asked in let x = P.stable_written in omega arith);
         turn_word = P.turn_word;
       }
       parted false e = let P = before.global.part in let st = stable_by false e in let wr = A.written in let gi = A.given in let ck = A.ckpt in record {
@@ -434,7 +448,9 @@ module _ (D : LogSide) (L : LogLaws D) (c : Setup) (spare : ℕ) (m : SharedWord
         flushed_stable = (let z = P.flushed_stable in omega arith);
         stable_written = (let z = P.stable_written in omega arith);
         ckpt_part = (let z = P.ckpt_part in omega arith);
-        ckpt_stable = (let z = P.ckpt_stable in let y = P.stable_written in omega arith);
+        written_given = (let z = P.written_given in omega arith);
+        ckpt_asked = (let z = P.ckpt_asked in let y = A.asked in omega arith);
+        asked_stable = (let z = P.asked_stable in let y = A.asked in let x = P.stable_written in omega arith);
         turn_word = P.turn_word;
       }
 

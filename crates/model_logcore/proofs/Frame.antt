@@ -1,12 +1,13 @@
 -- What stays of the invariant when one actor moves.
-use Rattle.std.proofs.Common.{List, [], ap, arith, length, refl, set, subst, suc, sym, true, zero, ℕ, ⊎_elim, ◌%◌, ◌*◌, ◌+◌, ◌/◌, ◌<◌, ◌^◌, ◌∙◌, ◌∷◌, ◌≡◌, ◌≢◌, ◌≤◌}
+use Rattle.std.proofs.Common.{List, [], ap, arith, length, refl, set, subst, suc, sym, true, zero, ℕ, ⊎_elim, ◌%◌, ◌*◌, ◌+◌, ◌/◌, ◌<◌, ◌∙◌, ◌∷◌, ◌≡◌, ◌≢◌, ◌≤◌, inl, inr}
 use Rattle.std.specs.Prelude.{slice_index}
 use lib.ListN.{get_elem?}
 use mathlib.Core.Option.{some, some-injective, some-ne-none}
 use native.Mathlib.Decide.{ℕ_discrete}
+use Rattle.model_base.specs.declared.limits.TheConstants.{LSN_LIMIT}
 use Rattle.model_core.proofs.Lists.{at_set, set_else}
 use Rattle.model_core.proofs.Groups.{tiles_at}
-use Rattle.model_core.proofs.Lsns.{floor_grows}
+use Rattle.model_core.proofs.Lsns.{floor_grows, lsn_below}
 use Rattle.model_core.specs.Actors.{Actor}
 use Rattle.model_core.specs.Groups.{Entry, Tiles, byte_at, first_of, sum_of}
 use Rattle.model_core.specs.Holding.{holds, checkpointer_holds, writer_holds, flusher_holds}
@@ -22,7 +23,7 @@ use Rattle.model_core.specs.declared.steps.CheckpointerStep.{CheckpointerStep}
 use Rattle.model_core.specs.declared.steps.WriterStep.{WriterStep}
 use Rattle.model_core.specs.declared.steps.FlusherStep.{FlusherStep}
 use Rattle.model_logcore.specs.LogFacts.{LogGhost, LogFacts, Place, count_of, sum_over_actors}
-use Rattle.model_logcore.specs.LogFits.{AreBelow, CheckpointerAt, CheckpointerFits, CleanerTold, Fits, FlusherAt, FlusherFits, Hand, UserAt, UserFits, WriterAt, WriterFits}
+use Rattle.model_logcore.specs.LogFits.{AreBelow, CheckpointerAt, CheckpointerFits, CleanerTold, Fits, FlusherAt, FlusherFits, Hand, UserAt, UserFits, WriterAt, WriterFits, HasLinked, HasStoppedAt}
 use Rattle.model_logcore.specs.LogHalf.{Counted, LogHalf, HasTaker, left_to_reserve}
 use Rattle.model_core.specs.declared.steps.UserStep.TheVariants as user_step
 use Rattle.model_core.specs.declared.steps.WriterStep.TheVariants as writer_step
@@ -57,8 +58,9 @@ taken_same actors seat a b holder at kept t = elim (ℕ_discrete holder seat) [
   | no n ↦ (t.0, set_else actors seat holder b n ∙ t.1, t.2)
 ]
 
-pub budget_same : (actors : List Actor) (seat spare n : ℕ) (a b : Actor) → get_elem? actors seat ≡ some a → left_to_reserve b ≤ left_to_reserve a → n + sum_over_actors left_to_reserve actors + spare < 2 ^ 59 → n + sum_over_actors left_to_reserve (set actors seat b) + spare < 2 ^ 59
-budget_same actors seat spare n a b e le h = let s = total_set left_to_reserve actors seat a b e in omega arith
+pub budget_same : (actors : List Actor) (seat spare n : ℕ) (a b : Actor) → get_elem? actors seat ≡ some a → left_to_reserve b ≤ left_to_reserve a → lsn (n + sum_over_actors left_to_reserve actors + spare) < LSN_LIMIT → lsn (n + sum_over_actors left_to_reserve (set actors seat b) + spare) < LSN_LIMIT
+budget_same actors seat spare n a b e le h = let s = total_set left_to_reserve actors seat a b e in
+    lsn_below (n + sum_over_actors left_to_reserve (set actors seat b) + spare) (n + sum_over_actors left_to_reserve actors + spare) LSN_LIMIT (omega arith) h
 
 module _ (D : LogSide) (c : Setup) where
   -- the actor at one seat moves
@@ -68,7 +70,7 @@ module _ (D : LogSide) (c : Setup) where
       → (holds b ≡ true → (m'.device ≡ 1) × (seat ≡ g'.holder))
       → ((j : ℕ) (a : Actor) → j ≢ seat → get_elem? actors j ≡ some a → holds a ≡ true → (m'.device ≡ 1) × (j ≡ g'.holder))
       → Counted (set actors seat b) g'.log
-      → m'.sn + sum_over_actors left_to_reserve (set actors seat b) + spare < 2 ^ 59
+      → lsn (m'.sn + sum_over_actors left_to_reserve (set actors seat b) + spare) < LSN_LIMIT
       → (m'.device ≡ 1 → HasTaker (set actors seat b) g'.holder)
       → LogHalf D c spare m' g' p' (set actors seat b)
   moved spare m m' g g' p p' actors seat b before sized global mine others turn turns counted room taken = record {
@@ -91,6 +93,7 @@ module _ (D : LogSide) (c : Setup) where
     pub logs : (i : ℕ) (e : Entry) → get_elem? g.log i ≡ some e → get_elem? g'.log i ≡ some e
     pub places : (x : ℕ) → x < m.sn → (g.place x).owner ≢ seat → ◌≡◌ {A = Place} (g'.place x) (g.place x)
     pub states : (x : ℕ) → x < m.sn → (g.place x).owner ≢ seat → g'.state x ≡ g.state x
+    pub linked : (x : ℕ) → x < m.sn → g.state x ≡ 2 → g'.state x ≡ 2
     pub firsts : (q : ℕ) → 0 < g.first q → 0 < g'.first q
     pub seats : (v : ℕ) → g'.seat_of v ≡ g.seat_of v
     pub counts : (v : ℕ) → g.seat_of v ≢ seat → count_of v g'.log ≡ count_of v g.log
@@ -109,6 +112,12 @@ module _ (D : LogSide) (c : Setup) where
           bare = λ x lo hi. let o = other x (omega arith) hi in later.states x o.0 o.1 ∙ h.bare x lo hi;
         }
 
+    linked_later : {seat : ℕ} (j : ℕ) (u : UserState) → Tiles c.base g.log m.sn → Later m g m' g' seat → HasLinked D c m g p u → HasLinked D c m' g' p' u
+    linked_later j u T later h = let w = (tiles_at g.log c.base m.sn h.0 _ T h.1).1 in (h.0, later.logs _ _ h.1, λ x lo hi. later.linked x (omega arith) (h.2 x lo hi))
+
+    stopped_later : (seat j : ℕ) (u : UserState) → Tiles c.base g.log m.sn → Later m g m' g' seat → j ≢ seat → HasStoppedAt D c m g p j u → HasStoppedAt D c m' g' p' j u
+    stopped_later seat j u T later ne h = ⊎_elim (λ z. inl (in_hand_later seat j u T later ne z.1 z.0, z.1)) (λ z. inr (linked_later j u T later z)) h
+
     user_at_later : (seat j : ℕ) (u : UserState) → Tiles c.base g.log m.sn → Later m g m' g' seat → j ≢ seat → (f : UserStep) → UserAt D c m g p j u f → UserAt D c m' g' p' j u f
     user_at_later seat j u T later ne user_step.LoadCheckpoint h = h
     user_at_later seat j u T later ne user_step.LoadSn h = h
@@ -118,19 +127,19 @@ module _ (D : LogSide) (c : Setup) where
     user_at_later seat j u T later ne user_step.StoreFirst h = (h.0, h.1, in_hand_later seat j u T later ne (let e = h.3 in omega arith) h.2, h.3, (let e = h.4 in let f = floor_grows m.write m'.write later.write in omega arith), h.5)
     user_at_later seat j u T later ne user_step.LoadWtail h = (h.0, h.1, in_hand_later seat j u T later ne (let e = h.3 in omega arith) h.2, h.3, (λ l. later.firsts _ (h.4 l)))
     user_at_later seat j u T later ne user_step.StoreLink h = (h.0, h.1, in_hand_later seat j u T later ne (let e = h.3 in omega arith) h.2, h.3, (λ l. later.firsts _ (h.4 l)), (let e = h.5 in let w = later.wtail in omega arith))
-    user_at_later seat j u T later ne user_step.AwaitMark h = (h.0, h.1, (h.2.0, later.logs _ _ h.2.1), h.3)
+    user_at_later seat j u T later ne user_step.AwaitMark h = (h.0, h.1, linked_later j u T later h.2, h.3)
     user_at_later seat j u T later ne user_step.TakeLatch h = h
-    user_at_later seat j u T later ne user_step.LoadCtail h = (h.0, h.1, (h.2.0, later.logs _ _ h.2.1))
-    user_at_later seat j u T later ne user_step.StoreFrame h = (h.0, h.1, (h.2.0, later.logs _ _ h.2.1))
-    user_at_later seat j u T later ne user_step.StoreNewest h = (h.0, h.1, (h.2.0, later.logs _ _ h.2.1))
-    user_at_later seat j u T later ne user_step.LoadOldest h = (h.0, h.1, (h.2.0, later.logs _ _ h.2.1))
-    user_at_later seat j u T later ne user_step.AddToList h = (h.0, h.1, (h.2.0, later.logs _ _ h.2.1))
-    user_at_later seat j u T later ne user_step.StoreOldest h = (h.0, h.1, (h.2.0, later.logs _ _ h.2.1))
-    user_at_later seat j u T later ne user_step.GiveList h = (h.0, h.1, (h.2.0, later.logs _ _ h.2.1))
-    user_at_later seat j u T later ne user_step.StoreClosedLink h = (h.0, h.1, (h.2.0, later.logs _ _ h.2.1))
-    user_at_later seat j u T later ne user_step.ReleaseLatch h = (h.0, h.1, (h.2.0, later.logs _ _ h.2.1))
+    user_at_later seat j u T later ne user_step.LoadCtail h = (h.0, h.1, linked_later j u T later h.2)
+    user_at_later seat j u T later ne user_step.StoreFrame h = (h.0, h.1, linked_later j u T later h.2)
+    user_at_later seat j u T later ne user_step.StoreNewest h = (h.0, h.1, linked_later j u T later h.2)
+    user_at_later seat j u T later ne user_step.LoadOldest h = (h.0, h.1, linked_later j u T later h.2)
+    user_at_later seat j u T later ne user_step.AddToList h = (h.0, h.1, linked_later j u T later h.2)
+    user_at_later seat j u T later ne user_step.StoreOldest h = (h.0, h.1, linked_later j u T later h.2)
+    user_at_later seat j u T later ne user_step.GiveList h = (h.0, h.1, linked_later j u T later h.2)
+    user_at_later seat j u T later ne user_step.StoreClosedLink h = (h.0, h.1, linked_later j u T later h.2)
+    user_at_later seat j u T later ne user_step.ReleaseLatch h = (h.0, h.1, linked_later j u T later h.2)
     user_at_later seat j u T later ne user_step.Done h = h
-    user_at_later seat j u T later ne user_step.Failed h = (h.0, later.failed h.1)
+    user_at_later seat j u T later ne user_step.Failed h = (h.0, later.failed h.1, h.2, λ held. stopped_later seat j u T later ne (h.3 held))
 
     below_later : {seat : ℕ} (l : LoadedMarks) → Later m g m' g' seat → AreBelow l m.ckpt m.write m.wtail m.flushed → AreBelow l m'.ckpt m'.write m'.wtail m'.flushed
     below_later l later h = record {

@@ -1,8 +1,10 @@
 -- A seat takes in the groups of another, and stays as one that has joined them. Neither holds the log part.
-use Rattle.std.proofs.Common.{List, [], ap, arith, false, set, subst, sym, true, ℕ, ⊎_elim, ◌++◌, ◌∙◌, ◌≡◌, ◌≢◌}
+use Rattle.std.proofs.Common.{List, [], ap, arith, false, set, subst, sym, true, ℕ, ⊎_elim, ◌++◌, ◌∙◌, ◌≡◌, ◌≢◌, ◌+◌}
 use lib.ListN.{get_elem?}
+use Rattle.model_base.specs.declared.limits.TheConstants.{LSN_LIMIT}
 use Rattle.model_core.proofs.Groups.{sum_of_append}
 use Rattle.model_core.proofs.Lists.{at_set, set_else}
+use Rattle.model_core.proofs.Lsns.{lsn_below}
 use Rattle.model_core.specs.Actors.{Actor}
 use Rattle.model_core.specs.Groups.{Entry, sum_of}
 use Rattle.model_core.specs.Holding.{holds}
@@ -11,7 +13,7 @@ use Rattle.model_core.specs.LogSide.{LogSide}
 use Rattle.model_core.specs.Program.{entries}
 use Rattle.model_core.specs.Setup.{Setup}
 use Rattle.model_logcore.proofs.Frame.{total_set}
-use Rattle.model_logcore.specs.LogFacts.{LogGhost}
+use Rattle.model_logcore.specs.LogFacts.{LogGhost, sum_over_actors}
 use Rattle.model_logcore.specs.LogFits.{Fits}
 use Rattle.model_logcore.specs.LogHalf.{LogHalf, left_to_reserve}
 use Rattle.model_core.specs.Actors as actor
@@ -48,6 +50,5 @@ half_joins D c spare m g p actors seat other a b at ne at' free free' k =
       room =
           let s1 = total_set left_to_reserve actors seat a both at in
           let s2 = total_set left_to_reserve (set actors seat both) other b none at' in
-          let r = k.room in
-          omega arith;
+          lsn_below (m.sn + sum_over_actors left_to_reserve (set (set actors seat both) other none) + spare) (m.sn + sum_over_actors left_to_reserve actors + spare) LSN_LIMIT (omega arith) k.room;
     }

@@ -6,6 +6,7 @@ pub mod LinkSteps
 pub mod LogAside
 pub mod LogKeeps
 pub mod NewUser
+pub mod NewUsers
 pub mod Ready
 pub mod RingSteps
 pub mod StartHolds

@@ -7,9 +7,10 @@ use Rattle.std.specs.Prelude.{slice_index, slice_set}
 use lib.ListN.{get_elem?}
 use mathlib.Core.Option.{some}
 use native.Mathlib.Decide.{dec_le, ℕ_discrete}
+use Rattle.model_base.specs.declared.limits.TheConstants.{LSN_LIMIT}
 use Rattle.model_core.proofs.Lists.{at_last, at_longer}
 use Rattle.model_core.proofs.Groups.{at_end, at_less, back, bound_snoc, byte_snoc, changed, changed_else, changed_here, crosses_is, first_from, first_snoc, ranged, ranged_below, ranged_in, ranged_out, stream_long, stream_snoc, tiles_at, tiles_snoc, sum_of_append}
-use Rattle.model_core.proofs.Lsns.{link_same, lsn_le, lsn_less, lsn_wide}
+use Rattle.model_core.proofs.Lsns.{link_same, lsn_below, lsn_le, lsn_less, lsn_wide}
 use Rattle.model_core.specs.Actors.{Actor}
 use Rattle.model_core.specs.Groups.{Entry, PageChange, Tiles, byte_at, end_of, first_of, stream, sum_of}
 use Rattle.model_core.specs.Layout.{IsSized, SharedWords}
@@ -21,8 +22,8 @@ use Rattle.model_core.specs.States.{Line, LoadedMarks, UserState}
 use Rattle.model_core.specs.UserProgram.{answered, changes, line, line_at, mode, group_end, group_bytes, user_took}
 use Rattle.model_logcore.proofs.UserGroups.{count_snoc, entries_snoc, lengths_step, none_of, one_of, rank_same}
 use Rattle.model_logcore.proofs.Frame.{Later, moved, others_later, taken_same, total_set}
-use Rattle.model_logcore.proofs.RingSteps.{above_tail, hand_lies, steps, still_words}
-use Rattle.model_logcore.specs.LogFacts.{LogGhost, LogFacts, WrittenLink, Place, count_of}
+use Rattle.model_logcore.proofs.RingSteps.{above_tail, hand_lies, steps, still_words, commits_states}
+use Rattle.model_logcore.specs.LogFacts.{LogGhost, LogFacts, WrittenLink, Place, count_of, sum_over_actors}
 use Rattle.model_logcore.specs.LogFits.{AreBelow, UserAt, UserFits}
 use Rattle.model_logcore.specs.LogHalf.{LogHalf, left_to_reserve, lengths}
 use Rattle.model_logcore.specs.LogLaws.{LogLaws}
@@ -151,6 +152,7 @@ module _ (D : LogSide) (L : LogLaws D) (c : Setup) (spare : ℕ) (m : SharedWord
               commits = record {
                 flush = λ i x x_is k. ⊎_elim (λ z. G.commits.flush i x z k) (λ z. let y : u.k < g.answered u.user = subst (λ (r : Entry). r.k < g.answered r.user) (sym z.1) k in let v = mine.answers in absurd (omega arith)) (at_end g.log e x i x_is);
                 wrote = λ i x x_is k. ⊎_elim (λ z. G.commits.wrote i x z k) (λ z. let y : u.k < g.answered u.user = subst (λ (r : Entry). r.k < g.answered r.user) (sym z.1) k in let v = mine.answers in absurd (omega arith)) (at_end g.log e x i x_is);
+                linked = λ i x x_is k y lo hi. ⊎_elim (λ z. let v = (lies i x z).1 in state_below y (omega arith) ∙ G.commits.linked i x z k y lo hi) (λ z. let low : u.k < g.answered u.user = subst (λ (r : Entry). r.k < g.answered r.user) (sym z.1) k in let v = mine.answers in absurd (omega arith)) (at_end g.log e x i x_is);
                 last = λ v. let a = count_snoc v g.log e in elim (ℕ_discrete u.user v) [
                   | yes z ↦ (let o = one_of v e z in let k = mine.answers in let w = mine.counted in let y = is.0 in
                       let k' : g.answered v ≡ u.k = ap g.answered (sym z) ∙ k in
@@ -173,7 +175,9 @@ module _ (D : LogSide) (L : LogLaws D) (c : Setup) (spare : ℕ) (m : SharedWord
                 flushed_stable = P.flushed_stable;
                 stable_written = P.stable_written;
                 ckpt_part = P.ckpt_part;
-                ckpt_stable = P.ckpt_stable;
+                written_given = P.written_given;
+                ckpt_asked = P.ckpt_asked;
+                asked_stable = P.asked_stable;
                 turn_word = P.turn_word;
               };
             })
@@ -209,6 +213,7 @@ module _ (D : LogSide) (L : LogLaws D) (c : Setup) (spare : ℕ) (m : SharedWord
               logs = λ i x z. at_longer g.log (e ∷ []) i x z;
               places = λ x l o. below x l;
               states = λ x l o. state_below x l;
+              linked = λ x l two. state_below x l ∙ two;
               firsts = λ r z. z;
               seats = λ v. refl;
               counts = λ v other. let a = count_snoc v g.log e in let z = none_of v e (λ y. other (ap g.seat_of (sym y) ∙ mine.own_seat)) in omega arith;
@@ -225,22 +230,21 @@ module _ (D : LogSide) (L : LogLaws D) (c : Setup) (spare : ℕ) (m : SharedWord
             let l : sum_of h (g.log ++ e ∷ []) ≡ sum_of h g.log + (h e + 0) = sum_of_append h g.log (e ∷ []) in
             omega arith)
             (let s = total_set left_to_reserve actors seat (actor.User u) (actor.User w) at in
-            let r = before.room in
-            omega arith)
+            lsn_below (m.sn + length (group_bytes u) + sum_over_actors left_to_reserve (set actors seat (actor.User w)) + spare) (m.sn + sum_over_actors left_to_reserve actors + spare) LSN_LIMIT (omega arith) before.room)
             (λ d. taken_same actors seat (actor.User u) (actor.User w) g.holder at (λ h. absurd (cc)) (before.taken d)),
         refl,
       )
 
   -- one more commit of the user is answered, as its mode asks
   pub answer_global : (m' : SharedWords) (h : LogGhost) (i : ℕ) → get_elem? h.log i ≡ some (entry u.user u.k u.start (line u)) → h.answered u.user ≡ u.k → (mode u ≡ 1 → lsn (group_end u) ≤ m'.flushed) → (mode u ≡ 2 → lsn (group_end u) ≤ m'.write)
-      → LogFacts D c m' h p → LogFacts D c m' (record h { answered = changed h.answered u.user (u.k + 1) }) p
-  answer_global m' h i is before_k flush wrote G = record {
+      → ((x : ℕ) → u.start ≤ x → x < group_end u → h.state x ≡ 2) → LogFacts D c m' h p → LogFacts D c m' (record h { answered = changed h.answered u.user (u.k + 1) }) p
+  answer_global m' h i is before_k flush wrote whole G = record {
     tiled = G.tiled;
     order = G.order;
     ring_cells = G.ring_cells;
     first_offsets = G.first_offsets;
     written_links = G.written_links;
-    commits = record { flush = by 1 m'.flushed flush (λ j e at k md. G.commits.flush j e at k md); wrote = by 2 m'.write wrote (λ j e at k md. G.commits.wrote j e at k md); last = λ v. more v };
+    commits = record { flush = by 1 m'.flushed flush (λ j e at k md. G.commits.flush j e at k md); wrote = by 2 m'.write wrote (λ j e at k md. G.commits.wrote j e at k md); linked = linked_by; last = λ v. more v };
     part = G.part;
   }
     where
@@ -248,6 +252,16 @@ module _ (D : LogSide) (L : LogLaws D) (c : Setup) (spare : ℕ) (m : SharedWord
       more v = let l = G.commits.last v in elim (ℕ_discrete v u.user) [
         | yes z ↦ (let a = changed_here h.answered u.user (u.k + 1) v z in let b : h.answered v ≡ u.k = ap h.answered z ∙ before_k in omega arith)
         | no n ↦ (let a = changed_else h.answered u.user (u.k + 1) v n in omega arith)
+      ]
+
+      linked_by : (j : ℕ) (e : Entry) → get_elem? h.log j ≡ some e → e.k < changed h.answered u.user (u.k + 1) e.user → (x : ℕ) → e.start ≤ x → x < end_of e → h.state x ≡ 2
+      linked_by j e at k = elim (ℕ_discrete e.user u.user) [
+        | yes d ↦ (let k' : e.k < u.k + 1 = subst (λ (z : ℕ). e.k < z) (changed_here h.answered u.user (u.k + 1) e.user d) k in
+            elim (ℕ_discrete e.k u.k) [
+              | yes same ↦ subst (λ (z : Entry). (x : ℕ) → z.start ≤ x → x < end_of z → h.state x ≡ 2) (rank_same c m'.sn h.log h.place i j (entry u.user u.k u.start (line u)) e G.tiled is at (sym d) (sym same)) whole
+              | no other ↦ G.commits.linked j e at (let z : h.answered e.user ≡ u.k = ap h.answered d ∙ before_k in omega arith)
+            ])
+        | no n ↦ G.commits.linked j e at (subst (λ (z : ℕ). e.k < z) (changed_else h.answered u.user (u.k + 1) e.user n) k)
       ]
 
       by : (kind mark : ℕ) → (mode u ≡ kind → lsn (group_end u) ≤ mark) → ((j : ℕ) (e : Entry) → get_elem? h.log j ≡ some e → e.k < h.answered e.user → (line_at (c.script e.user) e.k).mode ≡ kind → lsn (end_of e) ≤ mark)
@@ -278,7 +292,7 @@ module _ (D : LogSide) (L : LogLaws D) (c : Setup) (spare : ℕ) (m : SharedWord
   }
     where
       ends : (b : Bool) → eqb (u.k + 1) (length u.lines) ≡ b → UserAt D c m' h p seat (record u { loaded = marks; k = u.k + 1; checks = cond b false true; step = cond b user_step.Done user_step.LoadCheckpoint }) (cond b user_step.Done user_step.LoadCheckpoint)
-      ends true e = (long, eqb-true (u.k + 1) (length u.lines) e)
+      ends true e = (long, eqb-true (u.k + 1) (length u.lines) e, refl)
       ends false e = (long, (let n = eqb-false (u.k + 1) (length u.lines) e in omega arith))
 
   abbrev tied : LogGhost
@@ -406,7 +420,7 @@ module _ (D : LogSide) (L : LogLaws D) (c : Setup) (spare : ℕ) (m : SharedWord
                 (λ z. (subst (λ (k : ℕ). 0 < slice_index (chained i v).wlinks (lsn k % 32768)) (sym z.0) (let y = value_here (lsn u.start % 32768) (sym i_is) in let k = positive in omega arith), subst (λ (k : ℕ). lsn k < m.wtail + 32768) (sym z.0) h.5))
                 (who j e e_is two);
           };
-          commits = G.commits;
+          commits = commits_states g.state tied.state new_two G.commits;
           part = G.part;
         }
 
@@ -422,6 +436,7 @@ module _ (D : LogSide) (L : LogLaws D) (c : Setup) (spare : ℕ) (m : SharedWord
       logs = λ j e z. ap (λ (l : List Entry). get_elem? l j) lo ∙ z;
       places = λ x l o. pl x;
       states = λ x l o. st x ∙ outside x (λ a b. o (h.2.own x a b));
+      linked = λ x l two. st x ∙ new_two x two;
       firsts = λ q z. let y = fi q in omega arith;
       seats = se;
       counts = λ x n. ap (count_of x) lo;
@@ -441,7 +456,7 @@ module _ (D : LogSide) (L : LogLaws D) (c : Setup) (spare : ℕ) (m : SharedWord
     tie_by true e = let g' : LogGhost = record tied { answered = changed g.answered u.user (u.k + 1) } in
         let none : mode u ≡ 0 = eqb-true (mode u) 0 e in (
           g',
-          steps D c spare m g p actors seat u before at (chained i v) g' (answered u) tie_sized (answer_global (chained i v) tied h.2.at h.2.is mine.answers (λ z. absurd (omega arith)) (λ z. absurd (omega arith)) tie_global)
+          steps D c spare m g p actors seat u before at (chained i v) g' (answered u) tie_sized (answer_global (chained i v) tied h.2.at h.2.is mine.answers (λ z. absurd (omega arith)) (λ z. absurd (omega arith)) inside tie_global)
               (answered_fits u.loaded (chained i v) g' refl refl (changed_here g.answered u.user (u.k + 1) u.user refl) mine.loaded h.0 h.1)
               (tie_later g' refl (λ x. refl) (λ x. refl) (λ x. refl) (λ x. refl) (λ x n. changed_else g.answered u.user (u.k + 1) x (other_user x n)))
               (still_words D c spare m g p actors seat u before at (chained i v) g' refl refl refl refl refl refl refl refl refl refl link_still)
@@ -460,7 +475,7 @@ module _ (D : LogSide) (L : LogLaws D) (c : Setup) (spare : ℕ) (m : SharedWord
             counted = mine.counted;
             answers = mine.answers;
             loaded = mine.loaded;
-            step = (h.0, h.1, (h.2.at, h.2.is), eqb-false (mode u) 0 e);
+            step = (h.0, h.1, (h.2.at, h.2.is, inside), eqb-false (mode u) 0 e);
           })
           (tie_later tied refl (λ x. refl) (λ x. refl) (λ x. refl) (λ x. refl) (λ x n. refl))
           (still_words D c spare m g p actors seat u before at (chained i v) tied refl refl refl refl refl refl refl refl refl refl link_still)
@@ -482,7 +497,7 @@ module _ (D : LogSide) (L : LogLaws D) (c : Setup) (spare : ℕ) (m : SharedWord
             counted = mine.counted;
             answers = mine.answers;
             loaded = mine.loaded;
-            step = (h.0, h.1, (h.2.at, h.2.is));
+            step = (h.0, h.1, (h.2.at, h.2.is, inside));
           })
           (tie_later tied refl (λ x. refl) (λ x. refl) (λ x. refl) (λ x. refl) (λ x n. refl))
           (still_words D c spare m g p actors seat u before at (chained i v) tied refl refl refl refl refl refl refl refl refl refl link_still)

@@ -54,13 +54,15 @@ module _ (D : LogSide) (c : Setup) (spare : ℕ) (m : SharedWords) (g : LogGhost
           flushed_stable = P.flushed_stable;
           stable_written = P.stable_written;
           ckpt_part = low;
-          ckpt_stable = P.ckpt_stable;
+          written_given = P.written_given;
+          ckpt_asked = P.ckpt_asked;
+          asked_stable = P.asked_stable;
           turn_word = P.turn_word;
         };
       })
       f
       (λ j x n e. others_later D c m m' g g p p seat G
-      (record { write = omega arith; wtail = omega arith; ckpt = up; flushed = omega arith; failed = fails; logs = λ i y z. z; places = λ y _ _. refl; states = λ y _ _. refl; firsts = λ y z. z; seats = λ y. refl; counts = λ y _. refl; answers = λ y _. refl })
+      (record { write = omega arith; wtail = omega arith; ckpt = up; flushed = omega arith; failed = fails; logs = λ i y z. z; places = λ y _ _. refl; states = λ y _ _. refl; linked = λ _ _ two. two; firsts = λ y z. z; seats = λ y. refl; counts = λ y _. refl; answers = λ y _. refl })
       (record { writer = refl; gwrite = refl; gwtail = refl; tail = refl; read = refl; entered = refl; write = refl; ckpt = up; failed = fails; link = λ _. refl; bytes = λ y _ _. refl; firsts = λ y _. refl; written = refl })
       (record { flushed = omega arith; failed = fails; point = refl })
       j x n (λ _. refl) (before.each j x e))
@@ -107,9 +109,9 @@ module _ (D : LogSide) (c : Setup) (spare : ℕ) (m : SharedWords) (g : LogGhost
       let keep : (b : Bool) → holds (actor.Checkpointer (checkpointer_took t (cond b (answer.Called 0) (answer.Failed code)) checkpointer_step.Checkpoint)) ≡ true = λ b. elim b as (λ (x : Bool). holds (actor.Checkpointer (checkpointer_took t (cond x (answer.Called 0) (answer.Failed code)) checkpointer_step.Checkpoint)) ≡ true) [ true ↦ refl | false ↦ refl ] in
       let never : t.checks ≡ true → ⊥ = λ z. let y = his.no_device_while_checking z in let x : true ≡ false = sym held ∙ y in cc in
       let ckpt_by : (b : Bool) → eqb code 0 ≡ b → D.ckpt q ≡ cond b t.to (D.ckpt p) = λ b e. A.ckpt ∙ ap (λ (z : Bool). cond z t.to (D.ckpt p)) e in
-      let span : (b : Bool) → eqb code 0 ≡ b → (D.ckpt p ≤ D.ckpt q) × (D.ckpt q ≤ D.stable p) = λ b. elim b as (λ (x : Bool). eqb code 0 ≡ x → (D.ckpt p ≤ D.ckpt q) × (D.ckpt q ≤ D.stable p)) [
+      let span : (b : Bool) → eqb code 0 ≡ b → (D.ckpt p ≤ D.ckpt q) × (D.ckpt q ≤ t.to) = λ b. elim b as (λ (x : Bool). eqb code 0 ≡ x → (D.ckpt p ≤ D.ckpt q) × (D.ckpt q ≤ t.to)) [
         | true ↦ (λ e. let k = ckpt_by true e in (omega arith, omega arith))
-        | false ↦ (λ e. let k = ckpt_by false e in let z = P.ckpt_stable in (omega arith, omega arith))
+        | false ↦ (λ e. let k = ckpt_by false e in (omega arith, omega arith))
       ] in
       let sp = span b b_is in let s0 = sp.0 in let s1 = sp.1 in
       let fit : (b : Bool) → eqb code 0 ≡ b → CheckpointerFits D c m g q seat (checkpointer_took t (cond b (answer.Called 0) (answer.Failed code)) checkpointer_step.Checkpoint) = λ b. elim b as (λ (x : Bool). eqb code 0 ≡ x → CheckpointerFits D c m g q seat (checkpointer_took t (cond x (answer.Called 0) (answer.Failed code)) checkpointer_step.Checkpoint)) [
@@ -138,13 +140,15 @@ module _ (D : LogSide) (c : Setup) (spare : ℕ) (m : SharedWords) (g : LogGhost
           flushed_stable = (let z = P.flushed_stable in omega arith);
           stable_written = (let z = P.stable_written in omega arith);
           ckpt_part = (let z = P.ckpt_part in omega arith);
-          ckpt_stable = omega arith;
+          written_given = (let z = P.written_given in omega arith);
+          ckpt_asked = (let z = A.asked in omega arith);
+          asked_stable = (let z = A.asked in omega arith);
           turn_word = P.turn_word;
         };
       })
       (fit b b_is)
       (λ j x n e. others_pointer D c m m g g p q seat his.alone G
-      (record { write = omega arith; wtail = omega arith; ckpt = omega arith; flushed = omega arith; failed = λ z. z; logs = λ i y z. z; places = λ y _ _. refl; states = λ y _ _. refl; firsts = λ y z. z; seats = λ y. refl; counts = λ y _. refl; answers = λ y _. refl })
+      (record { write = omega arith; wtail = omega arith; ckpt = omega arith; flushed = omega arith; failed = λ z. z; logs = λ i y z. z; places = λ y _ _. refl; states = λ y _ _. refl; linked = λ _ _ two. two; firsts = λ y z. z; seats = λ y. refl; counts = λ y _. refl; answers = λ y _. refl })
       (record { writer = refl; gwrite = refl; gwtail = refl; tail = refl; read = refl; entered = refl; write = refl; ckpt = omega arith; failed = λ z. z; link = λ _. refl; bytes = λ y _ _. refl; firsts = λ y _. refl; written = w1 })
       (omega arith) j x n (λ h. absurd (n ((before.turns j x e h).1 ∙ sym (before.turns seat (actor.Checkpointer t) at held).1))) (before.each j x e))
       (λ e. before.turns seat (actor.Checkpointer t) at held)

@@ -2,6 +2,8 @@
 use Rattle.std.proofs.Common.{List, [], ap, arith, false, length, refl, subst, sym, true, ℕ, ⊎_elim, ◌++◌, ◌+◌, ◌<◌, ◌∙◌, ◌∷◌, ◌≡◌, ◌≢◌}
 use lib.ListN.{get_elem?}
 use native.Mathlib.Decide.{ℕ_discrete}
+use Rattle.model_base.specs.declared.limits.TheConstants.{LSN_LIMIT}
+use Rattle.model_core.proofs.Lsns.{lsn_below}
 use Rattle.model_core.proofs.Groups.{at_end, changed, changed_else, changed_here}
 use Rattle.model_core.proofs.Lists.{at_longer}
 use Rattle.model_core.specs.Actors.{Actor}
@@ -16,6 +18,7 @@ use Rattle.model_logcore.proofs.UserGroups.{count_some}
 use Rattle.model_logcore.specs.LogFacts.{LogGhost, count_of, sum_over_actors}
 use Rattle.model_logcore.specs.LogFits.{AreBelow, Fits, UserAt, UserFits}
 use Rattle.model_logcore.specs.LogHalf.{LogHalf, left_to_reserve}
+use Rattle.model_logcore.proofs.NewUsers.{new_user_is}
 use Rattle.model_logcore.specs.Start.{StartUser}
 use Rattle.model_core.specs.Actors as actor
 use mathlib.Core.Option as maybe
@@ -42,6 +45,7 @@ half_seats_user D c spare m g p actors u S k other none =
         commits = record {
           flush = λ i e z l. G.commits.flush i e z (subst (λ (n : ℕ). e.k < n) (old e.user (not_mine i e z)) l);
           wrote = λ i e z l. G.commits.wrote i e z (subst (λ (n : ℕ). e.k < n) (old e.user (not_mine i e z)) l);
+          linked = λ i e z l. G.commits.linked i e z (subst (λ (n : ℕ). e.k < n) (old e.user (not_mine i e z)) l);
           last = λ v. elim (ℕ_discrete v u.user) [
             | yes z ↦ (let y : count_of v g.log ≡ 0 = ap (λ (n : ℕ). count_of n g.log) z ∙ none in omega arith)
             | no n ↦ (let o = old v n in let l = G.commits.last v in omega arith)
@@ -54,8 +58,9 @@ half_seats_user D c spare m g p actors u S k other none =
           (at_end actors (actor.User u) a j e);
       turns = λ j a e h. ⊎_elim (λ t. k.turns j a t h) (λ t. let z : false ≡ true = ap holds t.1 ∙ h in absurd (cc)) (at_end actors (actor.User u) a j e);
       taken = λ d. let t = k.taken d in (t.0, at_longer actors (actor.User u ∷ []) g.holder t.0 t.1, t.2);
-      counted = λ h. let t = sum_end (λ x. sum_of h (entries x)) actors (actor.User u) in let z : sum_of h (entries (actor.User u)) ≡ 0 = ap (λ (s : List ℕ). sum_of h (entries_from u.user u.lines 0 s)) S.starts in let v = k.counted h in omega arith;
-      room = let r = k.room in let t = sum_end left_to_reserve actors (actor.User u) in omega arith;
+      counted = λ h. let t = sum_end (λ x. sum_of h (entries x)) actors (actor.User u) in let z : sum_of h (entries (actor.User u)) ≡ 0 = ap (λ (s : List ℕ). sum_of h (entries_from u.user u.lines 0 s)) (new_user_is c u S).starts in let v = k.counted h in omega arith;
+      room = let t = sum_end left_to_reserve actors (actor.User u) in
+          lsn_below (m.sn + sum_over_actors left_to_reserve (actors ++ actor.User u ∷ []) + spare) (m.sn + sum_over_actors left_to_reserve actors + (left_to_reserve (actor.User u) + spare)) LSN_LIMIT (omega arith) k.room;
     }
   where
     sum_end : {V : Type 0} (f : V → ℕ) (vs : List V) (v : V) → sum_over_actors f (vs ++ v ∷ []) ≡ sum_over_actors f vs + f v
@@ -82,7 +87,7 @@ half_seats_user D c spare m g p actors u S k other none =
     others D c m g p user n j (actor.Joined es) ne h = tt
 
     new_fits : (D : LogSide) (c : Setup) (m : SharedWords) (g : LogGhost) (p : D.Part) (u : UserState) → StartUser c u → count_of u.user g.log ≡ 0 → (n : ℕ) → UserFits D c m (with_user g u.user n) p n u
-    new_fits D c m g p u S none n = record {
+    new_fits D c m g p u start none n = let S = new_user_is c u start in record {
       own_seat = changed_here g.seat_of u.user n u.user refl;
       blocks = S.blocks;
       lines = S.lines;

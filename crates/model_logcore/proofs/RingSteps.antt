@@ -1,10 +1,11 @@
 -- A user stores a cell, and the first offset of the block in which its group ends.
-use Rattle.std.proofs.Common.{Bool, List, ap, arith, cond, eqb, eqb-true, false, get_or-set_other, get_or-set_same, length, length-set, ltb, ltb-false, ltb-true, refl, set, subst, sym, true, ℕ, ◌%◌, ◌*◌, ◌+◌, ◌/◌, ◌<◌, ◌^◌, ◌∙◌, ◌≡◌, ◌≢◌, ◌≤◌}
+use Rattle.std.proofs.Common.{Bool, List, ap, arith, cond, eqb, eqb-true, false, get_or-set_other, get_or-set_same, length, length-set, ltb, ltb-false, ltb-true, refl, set, subst, sym, true, ℕ, ◌%◌, ◌*◌, ◌+◌, ◌/◌, ◌<◌, ◌∙◌, ◌≡◌, ◌≢◌, ◌≤◌}
 use Rattle.std.proofs.lemmas.Bool.{eqb-false}
 use Rattle.std.specs.Prelude.{slice_index, slice_set}
 use lib.ListN.{get_elem?}
 use mathlib.Core.Option.{some}
 use native.Mathlib.Decide.{dec_le, ℕ_discrete}
+use Rattle.model_base.specs.declared.limits.TheConstants.{LSN_LIMIT}
 use Rattle.model_core.proofs.Groups.{changed, changed_else, changed_here, entry_byte, is_crosses, tiles_at}
 use Rattle.model_core.proofs.Lsns.{block_below, block_window, cell_same, lsn_block, lsn_less, lsn_offset, ring_same}
 use Rattle.model_core.specs.Actors.{Actor}
@@ -19,7 +20,7 @@ use Rattle.model_core.specs.UserProgram.{line, group_end, group_bytes, user_took
 use Rattle.model_core.specs.declared.steps.UserStep.{UserStep}
 use Rattle.model_logcore.proofs.UserGroups.{first_is}
 use Rattle.model_logcore.proofs.Frame.{Later, Still, budget_same, counted_same, moved, others_later, taken_same}
-use Rattle.model_logcore.specs.LogFacts.{WrittenLinks, LogGhost, LogFacts, FirstOffsets, InHand, count_of, sum_over_actors}
+use Rattle.model_logcore.specs.LogFacts.{WrittenLinks, LogGhost, LogFacts, FirstOffsets, InHand, count_of, sum_over_actors, Commits}
 use Rattle.model_logcore.specs.LogFits.{AreBelow, Hand, UserAt, UserFits}
 use Rattle.model_logcore.specs.LogHalf.{Counted, LogHalf, HasTaker, left_to_reserve}
 use Rattle.model_core.specs.declared.steps.UserStep.TheVariants as user_step
@@ -35,6 +36,9 @@ chain_states s t old new h = record {
   links_are = λ i l n. let o = h.links_are i l n in record { at = o.at; group = o.group; is = o.is; slot = o.slot; size = o.size; since = o.since; near = o.near; whole = λ x l r. new x (o.whole x l r) };
   standing = λ i e is two. h.standing i e is (old e.start two);
 }
+
+pub commits_states : {c : Setup} {write flushed : ℕ} {log : List Entry} {answered : ℕ → ℕ} (s t : ℕ → ℕ) → ((x : ℕ) → s x ≡ 2 → t x ≡ 2) → Commits c write flushed log s answered → Commits c write flushed log t answered
+commits_states s t new h = record { flush = h.flush; wrote = h.wrote; linked = λ i e is k x lo hi. new x (h.linked i e is k x lo hi); last = h.last }
 
 module _ (D : LogSide) (c : Setup) (spare : ℕ) (m : SharedWords) (g : LogGhost) (p : D.Part) (actors : List Actor) (seat : ℕ) (u : UserState) (before : LogHalf D c spare m g p actors) (at : get_elem? actors seat ≡ some (actor.User u)) where
   pub fits : UserFits D c m g p seat u
@@ -68,7 +72,7 @@ module _ (D : LogSide) (c : Setup) (spare : ℕ) (m : SharedWords) (g : LogGhost
       (λ e. absurd (cc))
       (λ j a n e h. let t = before.turns j a e h in (device ∙ t.0, t.1 ∙ sym holder))
       (subst (λ (l : List Entry). Counted (set actors seat (actor.User w)) l) (sym log) (counted_same actors g.log seat (actor.User u) (actor.User w) at same before.counted))
-      (subst (λ (n : ℕ). n + sum_over_actors left_to_reserve (set actors seat (actor.User w)) + spare < 2 ^ 59) (sym sn) (budget_same actors seat spare m.sn (actor.User u) (actor.User w) at le before.room))
+      (subst (λ (n : ℕ). lsn (n + sum_over_actors left_to_reserve (set actors seat (actor.User w)) + spare) < LSN_LIMIT) (sym sn) (budget_same actors seat spare m.sn (actor.User u) (actor.User w) at le before.room))
       (λ d. subst (λ (k : ℕ). HasTaker (set actors seat (actor.User w)) k) (sym holder) (taken_same actors seat (actor.User u) (actor.User w) g.holder at (λ e. absurd (cc)) (before.taken (sym device ∙ d))))
 
   -- where the group in hand lies
@@ -159,7 +163,7 @@ module _ (D : LogSide) (c : Setup) (spare : ℕ) (m : SharedWords) (g : LogGhost
               };
               first_offsets = heads_states g.state g'.state old_two G.first_offsets;
               written_links = chain_states g.state g'.state old_two new_two G.written_links;
-              commits = G.commits;
+              commits = commits_states g.state g'.state new_two G.commits;
               part = G.part;
             })
             (refit m' g' u.page u.cell (u.copied + 1) u.loaded u.code u.checks (cond b (cond d user_step.StoreFirst user_step.LoadWtail) user_step.StoreCell) refl refl refl fits.loaded (copy_tested m' g' b d refl refl refl in_hand h))
@@ -171,6 +175,7 @@ module _ (D : LogSide) (c : Setup) (spare : ℕ) (m : SharedWords) (g : LogGhost
               failed = λ z. z;
               logs = λ i e z. z;
               places = λ x l o. refl;
+              linked = λ x l two. new_two x two;
               states = λ x l o. else x (λ e. o (ap (λ (y : ℕ). (g.place y).owner) e ∙ hand.own k (omega arith) (omega arith)));
               firsts = λ q z. z;
               seats = λ v. refl;
@@ -257,6 +262,7 @@ module _ (D : LogSide) (c : Setup) (spare : ℕ) (m : SharedWords) (g : LogGhost
                   logs = λ j e z. z;
                   places = λ x l o. refl;
                   states = λ x l o. refl;
+                  linked = λ x l two. two;
                   firsts = more;
                   seats = λ x. refl;
                   counts = λ x n. refl;

@@ -1,9 +1,10 @@
 -- The log half holds at the start of a run, with a user that gets a seat later, and where one seat takes in another's groups.
-use Rattle.std.proofs.Common.{Bool, List, [], ap, arith, cond, eq-eqb, eqb, false, length, ne_eqb, refl, subst, suc, sym, true, ℕ, ◌+◌, ◌/◌, ◌<◌, ◌^◌, ◌∙◌, ◌∷◌, ◌≡◌}
+use Rattle.std.proofs.Common.{Bool, List, [], ap, arith, cond, eq-eqb, eqb, false, length, ne_eqb, refl, subst, suc, sym, true, ℕ, ◌+◌, ◌/◌, ◌<◌, ◌∙◌, ◌∷◌, ◌≡◌, ◌*◌}
 use lib.ListN.{get_elem?}
 use native.Mathlib.Decide.{ℕ_discrete}
+use Rattle.model_base.specs.declared.limits.TheConstants.{LSN_LIMIT}
 use Rattle.model_core.proofs.Groups.{first_base}
-use Rattle.model_core.proofs.Lsns.{floor_lsn}
+use Rattle.model_core.proofs.Lsns.{floor_lsn, lsn_block}
 use Rattle.model_core.specs.Actors.{Actor}
 use Rattle.model_core.specs.Groups.{first_of, sum_of}
 use Rattle.model_core.specs.Holding.{holds}
@@ -13,6 +14,7 @@ use Rattle.model_core.specs.Lsn.{floor, lsn}
 use Rattle.model_core.specs.Program.{entries, entries_from}
 use Rattle.model_core.specs.Setup.{Setup}
 use Rattle.model_core.specs.States.{CheckpointerState, CleanerState, CloserState, FlusherState, LoadedMarks, WriterState}
+use Rattle.model_logcore.proofs.NewUsers.{new_user_is}
 use Rattle.model_logcore.specs.LogFacts.{LogFacts, LogGhost, sum_over_actors}
 use Rattle.model_logcore.specs.LogFits.{AreBelow, CheckpointerFits, Fits, FlusherFits, UserAt, WriterFits}
 use Rattle.model_logcore.specs.LogHalf.{LogHalf, left_to_reserve}
@@ -84,7 +86,7 @@ module _ (D : LogSide) (c : Setup) (m : SharedWords) (p : D.Part) (seat_of : ℕ
           begun = (let z = base_first in omega arith);
         };
         written_links = record { linked = λ x l h. absurd (omega arith); links_are = λ i l h. (let z = W.wlinks i in absurd (omega arith)); standing = λ i x z. absurd (maybe.some-ne-none x (sym z)) };
-        commits = record { flush = λ i x z. absurd (maybe.some-ne-none x (sym z)); wrote = λ i x z. absurd (maybe.some-ne-none x (sym z)); last = λ v. omega arith };
+        commits = record { flush = λ i x z. absurd (maybe.some-ne-none x (sym z)); wrote = λ i x z. absurd (maybe.some-ne-none x (sym z)); linked = λ i x z. absurd (maybe.some-ne-none x (sym z)); last = λ v. omega arith };
         part = record {
           holds = P.holds;
           written = c.base;
@@ -99,13 +101,15 @@ module _ (D : LogSide) (c : Setup) (m : SharedWords) (p : D.Part) (seat_of : ℕ
           flushed_stable = omega arith;
           stable_written = omega arith;
           ckpt_part = (let z = W.ckpt in let y = P.ckpt in omega arith);
-          ckpt_stable = (let z = P.ckpt in omega arith);
+          written_given = (let z = P.given in omega arith);
+          ckpt_asked = (let z = P.ckpt in let y = P.asked in omega arith);
+          asked_stable = (let z = P.asked in omega arith);
           turn_word = (let z = W.device in omega arith);
         };
       }
 
   start_fits : (seat : ℕ) (a : Actor) → StartActor c seat_of writer seat a → Fits D c m start p seat a
-  start_fits seat (actor.User u) h = let k = h.1 in record {
+  start_fits seat (actor.User u) h = let k = new_user_is c u h.1 in record {
     own_seat = h.0;
     blocks = k.blocks;
     lines = k.lines;
@@ -121,10 +125,10 @@ module _ (D : LogSide) (c : Setup) (m : SharedWords) (p : D.Part) (seat_of : ℕ
     blocks = refl;
     tail = refl;
     write = sym W.write;
-    from = omega arith;
-    long = omega arith;
+    from = ap (λ (q : ℕ). q * 496) (lsn_block c.base);
+    long = (let b = lsn_block c.base in omega arith);
     kept = λ j l. absurd (omega arith);
-    wide = omega arith;
+    wide = (let b = lsn_block c.base in omega arith);
     firsts = λ j l. absurd (omega arith);
     small = omega arith;
     ckpt = omega arith;
@@ -148,7 +152,7 @@ module _ (D : LogSide) (c : Setup) (m : SharedWords) (p : D.Part) (seat_of : ℕ
   start_holds seat (actor.Joined es) h = refl
 
   start_entries : (seat : ℕ) (a : Actor) → StartActor c seat_of writer seat a → entries a ≡ []
-  start_entries seat (actor.User u) h = ap (entries_from u.user u.lines 0) h.1.starts
+  start_entries seat (actor.User u) h = ap (entries_from u.user u.lines 0) (new_user_is c u h.1).starts
   start_entries seat (actor.Writer s) h = refl
   start_entries seat (actor.Flusher f) h = refl
   start_entries seat (actor.Closer t) h = refl
@@ -161,7 +165,7 @@ module _ (D : LogSide) (c : Setup) (m : SharedWords) (p : D.Part) (seat_of : ℕ
   no_sum f (x ∷ xs) h = let a = h 0 x refl in let r = no_sum f xs (λ i b e. h (suc i) b e) in omega arith
 
   -- a run's start: the words and the part as opened, and actors that have done nothing
-  pub half_starts : (spare : ℕ) (actors : List Actor) → ((seat : ℕ) (a : Actor) → get_elem? actors seat ≡ maybe.some a → StartActor c seat_of writer seat a) → c.base + sum_over_actors left_to_reserve actors + spare < 2 ^ 59 → LogHalf D c spare m start p actors
+  pub half_starts : (spare : ℕ) (actors : List Actor) → ((seat : ℕ) (a : Actor) → get_elem? actors seat ≡ maybe.some a → StartActor c seat_of writer seat a) → lsn (c.base + sum_over_actors left_to_reserve actors + spare) < LSN_LIMIT → LogHalf D c spare m start p actors
   half_starts spare actors h room = record {
     sized = W.sized;
     global = start_global;
@@ -169,5 +173,5 @@ module _ (D : LogSide) (c : Setup) (m : SharedWords) (p : D.Part) (seat_of : ℕ
     turns = λ j a z held. let k : false ≡ true = sym (start_holds j a (h j a z)) ∙ held in absurd (cc);
     taken = λ d. (let z = W.device in absurd (omega arith));
     counted = λ w. no_sum (λ a. sum_of w (entries a)) actors (λ i a z. ap (sum_of w) (start_entries i a (h i a z)));
-    room = (let z = W.sn in omega arith);
+    room = subst (λ (n : ℕ). lsn (n + sum_over_actors left_to_reserve actors + spare) < LSN_LIMIT) (sym W.sn) room;
   }

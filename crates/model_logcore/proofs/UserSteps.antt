@@ -1,5 +1,5 @@
 -- A user's loads keep the invariant; and so each of its steps.
-use Rattle.std.proofs.Common.{Bool, List, ap, arith, cond, eq-eqb, eqb, eqb-true, false, get_or-set_other, get_or-set_same, leb-true, length, length-set, ltb, ltb-true, ne_eqb, refl, set, subst, sym, true, ℕ, ◌%◌, ◌*◌, ◌+◌, ◌-◌, ◌∙◌, ◌≡◌, ◌≢◌, ◌≤◌}
+use Rattle.std.proofs.Common.{Bool, List, ap, arith, cond, eq-eqb, eqb, eqb-true, false, get_or-set_other, get_or-set_same, leb-true, length, length-set, ltb, ltb-true, ne_eqb, refl, set, subst, sym, true, ℕ, ◌%◌, ◌*◌, ◌+◌, ◌-◌, ◌∙◌, ◌≡◌, ◌≢◌, ◌≤◌, inl, inr}
 use Rattle.std.proofs.lemmas.Bool.{eqb-false}
 use Rattle.std.specs.Prelude.{nat_le, slice_set}
 use lib.ListN.{get_elem?}
@@ -22,7 +22,7 @@ use Rattle.model_logcore.proofs.Frame.{Later}
 use Rattle.model_logcore.proofs.LinkSteps.{answer_global, answered_fits, keeps_reserve, keeps_store_link}
 use Rattle.model_logcore.proofs.RingSteps.{keeps_store_cell, keeps_store_first, refit, shifted, steps, still_words}
 use Rattle.model_logcore.specs.LogFacts.{LogGhost, LogFacts, Place, count_of}
-use Rattle.model_logcore.specs.LogFits.{AreBelow, UserAt, UserFits}
+use Rattle.model_logcore.specs.LogFits.{AreBelow, HasStoppedAt, UserAt, UserFits}
 use Rattle.model_logcore.specs.LogHalf.{LogHalf, left_to_reserve}
 use Rattle.model_logcore.specs.LogLaws.{LogLaws}
 use Rattle.model_core.specs.declared.words.Word.TheVariants as word
@@ -45,6 +45,7 @@ module _ (D : LogSide) (L : LogLaws D) (c : Setup) (spare : ℕ) (m : SharedWord
     logs = λ j e z. ap (λ (l : List Entry). get_elem? l j) lo ∙ z;
     places = λ x l o. pl x;
     states = λ x l o. st x;
+    linked = λ x l two. st x ∙ two;
     firsts = λ q z. let y = fi q in omega arith;
     seats = se;
     counts = λ x n. ap (count_of x) lo;
@@ -101,7 +102,7 @@ module _ (D : LogSide) (L : LogLaws D) (c : Setup) (spare : ℕ) (m : SharedWord
       let le : lsn (group_end u) ≤ n = leb-true (lsn (group_end u)) n e in (
         g',
         steps D c spare m g p actors seat u before at m g' (answered (record u { loaded = with_mark u n })) before.sized
-            (answer_global D L c spare m g p actors seat u before at m g h.2.0 h.2.1 mine.answers (λ z. let y = fl z in omega arith) (λ z. let y = wr z in omega arith) before.global)
+            (answer_global D L c spare m g p actors seat u before at m g h.2.0 h.2.1 mine.answers (λ z. let y = fl z in omega arith) (λ z. let y = wr z in omega arith) h.2.2 before.global)
             (answered_fits D L c spare m g p actors seat u before at (with_mark u n) m g' refl refl (changed_here g.answered u.user (u.k + 1) u.user refl) lo h.0 h.1)
             (later_same g' refl (λ x. refl) (λ x. refl) (λ x. refl) (λ x. refl) (λ x n. changed_else g.answered u.user (u.k + 1) x (λ e. n (ap g.seat_of e ∙ mine.own_seat))))
             (still_words D c spare m g p actors seat u before at m g' refl refl refl refl refl refl refl refl refl refl (λ z. refl))
@@ -110,37 +111,43 @@ module _ (D : LogSide) (L : LogLaws D) (c : Setup) (spare : ℕ) (m : SharedWord
       )
   await_by n false e fl wr lo h = (g, shift u.page u.cell u.copied (with_mark u n) u.code true user_step.AwaitMark lo h, refl)
 
-  -- the length of its starts and its place among its lines, where it asks
-  dead_at : (f : UserStep) → UserAt D c m g p seat u f → length u.starts ≤ u.k + 1
-  dead_at user_step.LoadCheckpoint h = let z = h.0 in omega arith
-  dead_at user_step.LoadSn h = let z = h.0 in omega arith
-  dead_at user_step.Reserve h = let z = h.0 in omega arith
-  dead_at user_step.LoadWrite h = let z = h.0 in omega arith
-  dead_at user_step.StoreCell h = let z = h.0 in omega arith
-  dead_at user_step.StoreFirst h = let z = h.0 in omega arith
-  dead_at user_step.LoadWtail h = let z = h.0 in omega arith
-  dead_at user_step.StoreLink h = let z = h.0 in omega arith
-  dead_at user_step.AwaitMark h = let z = h.0 in omega arith
-  dead_at user_step.TakeLatch h = let z = h.0 in omega arith
-  dead_at user_step.LoadCtail h = let z = h.0 in omega arith
-  dead_at user_step.StoreFrame h = let z = h.0 in omega arith
-  dead_at user_step.StoreNewest h = let z = h.0 in omega arith
-  dead_at user_step.LoadOldest h = let z = h.0 in omega arith
-  dead_at user_step.AddToList h = let z = h.0 in omega arith
-  dead_at user_step.StoreOldest h = let z = h.0 in omega arith
-  dead_at user_step.GiveList h = let z = h.0 in omega arith
-  dead_at user_step.StoreClosedLink h = let z = h.0 in omega arith
-  dead_at user_step.ReleaseLatch h = let z = h.0 in omega arith
-  dead_at user_step.Done h = let z = h.0 in omega arith
-  dead_at user_step.Failed h = h.0
+  -- the length of its starts, and how far its group in hand came, where it asks
+  dead_at : (f : UserStep) → UserAt D c m g p seat u f → (length u.starts ≤ u.k + 1) × (length u.starts ≡ u.k + 1 → HasStoppedAt D c m g p seat u)
+  dead_at user_step.LoadCheckpoint h = let z = h.0 in (omega arith, λ held. absurd (omega arith))
+  dead_at user_step.LoadSn h = let z = h.0 in (omega arith, λ held. absurd (omega arith))
+  dead_at user_step.Reserve h = let z = h.0 in (omega arith, λ held. absurd (omega arith))
+  dead_at user_step.TakeLatch h = let z = h.0 in (omega arith, λ held. absurd (omega arith))
+  dead_at user_step.Done h = let z = h.0 in (omega arith, λ held. absurd (omega arith))
+  dead_at user_step.LoadWrite h = let z = h.0 in (omega arith, λ held. inl (h.2, let y = h.3 in omega arith))
+  dead_at user_step.StoreCell h = let z = h.0 in (omega arith, λ held. inl (h.2, let y = h.3 in omega arith))
+  dead_at user_step.StoreFirst h = let z = h.0 in (omega arith, λ held. inl (h.2, let y = h.3 in omega arith))
+  dead_at user_step.LoadWtail h = let z = h.0 in (omega arith, λ held. inl (h.2, let y = h.3 in omega arith))
+  dead_at user_step.StoreLink h = let z = h.0 in (omega arith, λ held. inl (h.2, let y = h.3 in omega arith))
+  dead_at user_step.LoadCtail h = let z = h.0 in (omega arith, λ held. inr h.2)
+  dead_at user_step.StoreFrame h = let z = h.0 in (omega arith, λ held. inr h.2)
+  dead_at user_step.StoreNewest h = let z = h.0 in (omega arith, λ held. inr h.2)
+  dead_at user_step.LoadOldest h = let z = h.0 in (omega arith, λ held. inr h.2)
+  dead_at user_step.AddToList h = let z = h.0 in (omega arith, λ held. inr h.2)
+  dead_at user_step.StoreOldest h = let z = h.0 in (omega arith, λ held. inr h.2)
+  dead_at user_step.GiveList h = let z = h.0 in (omega arith, λ held. inr h.2)
+  dead_at user_step.StoreClosedLink h = let z = h.0 in (omega arith, λ held. inr h.2)
+  dead_at user_step.ReleaseLatch h = let z = h.0 in (omega arith, λ held. inr h.2)
+  dead_at user_step.AwaitMark h = let z = h.0 in (omega arith, λ held. inr h.2)
+  dead_at user_step.Failed h = (h.0, h.3)
+
+  -- where it doesn't check, its place asks no more
+  unchecked : (f : UserStep) → UserAt D c m g p seat u f → UserAt D c m g p seat (record u { checks = false }) f
+  unchecked user_step.Done h = (h.0, h.1, refl)
+  unchecked user_step.Failed h = (h.0, h.1, refl, h.3)
+  unchecked _ h = h
 
   -- it loads FAILED
   pub user_checked : Now (cond (eqb m.failed 0) (record u { checks = false }) (record u { checks = false; code = m.failed; step = user_step.Failed }))
   user_checked = by (eqb m.failed 0) refl
     where
       by : (b : Bool) → eqb m.failed 0 ≡ b → Now (cond b (record u { checks = false }) (record u { checks = false; code = m.failed; step = user_step.Failed }))
-      by true e = shift u.page u.cell u.copied u.loaded u.code false u.step mine.loaded mine.step
-      by false e = shift u.page u.cell u.copied u.loaded m.failed false user_step.Failed mine.loaded (dead_at u.step mine.step, (let n = eqb-false m.failed 0 e in omega arith))
+      by true e = shift u.page u.cell u.copied u.loaded u.code false u.step mine.loaded (unchecked u.step mine.step)
+      by false e = shift u.page u.cell u.copied u.loaded m.failed false user_step.Failed mine.loaded (let k = dead_at u.step mine.step in (k.0, (let n = eqb-false m.failed 0 e in omega arith), refl, k.1))
 
   -- words of the pages change, and the closer's: the log half doesn't read them
   pub aside : (lists clinks : List ℕ) (page_words : List PageWords) (ctail : ℕ) (w : UserState) → IsSized c.pages (record m { lists = lists; clinks = clinks; page_words = page_words; ctail = ctail }) → UserFits D c m g p seat w → ◌≡◌ {A = List Entry} (entries (actor.User w)) (entries (actor.User u)) → left_to_reserve (actor.User w) ≤ left_to_reserve (actor.User u)
@@ -150,7 +157,7 @@ module _ (D : LogSide) (L : LogLaws D) (c : Setup) (spare : ℕ) (m : SharedWord
       steps D c spare m g p actors seat u before at m' g w sized
       (let G = before.global in record { tiled = G.tiled; order = G.order; ring_cells = G.ring_cells; first_offsets = G.first_offsets; written_links = G.written_links; commits = G.commits; part = G.part })
       (record { own_seat = f.own_seat; blocks = f.blocks; lines = f.lines; sound = f.sound; are_bytes = f.are_bytes; counted = f.counted; answers = f.answers; loaded = f.loaded; step = f.step })
-      (record { write = omega arith; wtail = omega arith; ckpt = omega arith; flushed = omega arith; failed = λ z. z; logs = λ j e z. z; places = λ x l o. refl; states = λ x l o. refl; firsts = λ q z. z; seats = λ x. refl; counts = λ x n. refl; answers = λ x n. refl })
+      (record { write = omega arith; wtail = omega arith; ckpt = omega arith; flushed = omega arith; failed = λ z. z; logs = λ j e z. z; places = λ x l o. refl; states = λ x l o. refl; linked = λ _ _ two. two; firsts = λ q z. z; seats = λ x. refl; counts = λ x n. refl; answers = λ x n. refl })
       (still_words D c spare m g p actors seat u before at m' g refl refl refl refl refl refl refl refl refl refl (λ z. refl))
       refl refl refl refl refl same le
 
@@ -210,9 +217,9 @@ module _ (D : LogSide) (L : LogLaws D) (c : Setup) (spare : ℕ) (m : SharedWord
       let gl : LogFacts D c m' g p = (let G = before.global in record { tiled = G.tiled; order = G.order; ring_cells = G.ring_cells; first_offsets = G.first_offsets; written_links = G.written_links; commits = G.commits; part = G.part }) in (
         g',
         steps D c spare m g p actors seat u before at m' g' (answered u) sized
-            (answer_global D L c spare m g p actors seat u before at m' g h.2.0 h.2.1 mine.answers (λ z. absurd (omega arith)) (λ z. absurd (omega arith)) gl)
+            (answer_global D L c spare m g p actors seat u before at m' g h.2.0 h.2.1 mine.answers (λ z. absurd (omega arith)) (λ z. absurd (omega arith)) h.2.2 gl)
             (answered_fits D L c spare m g p actors seat u before at u.loaded m' g' refl refl (changed_here g.answered u.user (u.k + 1) u.user refl) mine.loaded h.0 h.1)
-            (record { write = omega arith; wtail = omega arith; ckpt = omega arith; flushed = omega arith; failed = λ z. z; logs = λ j x z. z; places = λ x l o. refl; states = λ x l o. refl; firsts = λ q z. z; seats = λ x. refl; counts = λ x n. refl; answers = λ x n. changed_else g.answered u.user (u.k + 1) x (λ e. n (ap g.seat_of e ∙ mine.own_seat)) })
+            (record { write = omega arith; wtail = omega arith; ckpt = omega arith; flushed = omega arith; failed = λ z. z; logs = λ j x z. z; places = λ x l o. refl; states = λ x l o. refl; linked = λ _ _ two. two; firsts = λ q z. z; seats = λ x. refl; counts = λ x n. refl; answers = λ x n. changed_else g.answered u.user (u.k + 1) x (λ e. n (ap g.seat_of e ∙ mine.own_seat)) })
             (still_words D c spare m g p actors seat u before at m' g' refl refl refl refl refl refl refl refl refl refl (λ z. refl))
             refl refl refl refl refl refl (omega arith),
         refl,

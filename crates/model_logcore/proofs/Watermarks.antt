@@ -1,5 +1,5 @@
 -- The log half of the invariant gives the watermarks.
-use Rattle.std.proofs.Common.{List, ap, arith, subst, ℕ, ⊎_elim, ◌+◌, ◌/◌, ◌<◌, ◌∙◌, ◌≡◌, ◌≤◌}
+use Rattle.std.proofs.Common.{List, ap, arith, inl, inr, refl, subst, ℕ, ⊎_elim, ◌+◌, ◌/◌, ◌<◌, ◌∙◌, ◌≡◌, ◌≤◌}
 use lib.ListN.{get_elem?}
 use native.Mathlib.Decide.{dec_le}
 use Rattle.model_core.proofs.Groups.{tiles_at}
@@ -10,10 +10,12 @@ use Rattle.model_core.specs.Layout.{SharedWords}
 use Rattle.model_core.specs.LogSide.{LogSide}
 use Rattle.model_core.specs.Lsn.{floor, lsn}
 use Rattle.model_core.specs.Setup.{Setup}
+use Rattle.model_core.specs.States.{UserState}
+use Rattle.model_core.specs.declared.steps.UserStep.{UserStep}
 use Rattle.model_logcore.specs.LogFacts.{LogGhost}
-use Rattle.model_logcore.specs.LogFits.{CheckpointerAt, CheckpointerFits, FlusherAt, FlusherFits, UserAt, UserFits, WriterAt, WriterFits}
+use Rattle.model_logcore.specs.LogFits.{CheckpointerAt, CheckpointerFits, FlusherAt, FlusherFits, Hand, UserAt, UserFits, WriterAt, WriterFits}
 use Rattle.model_logcore.specs.LogHalf.{LogHalf}
-use Rattle.model_logcore.specs.Watermarks.{HasLoadedBelow, HasMetFailure, IsGroupLinked, LogWatermarks}
+use Rattle.model_logcore.specs.Watermarks.{HandAgrees, HasCopied, HasLoadedBelow, HasMetFailure, IsGroupLinked, LogWatermarks, UsersAgree}
 use Rattle.model_core.specs.declared.steps.UserStep.TheVariants as user_step
 use Rattle.model_core.specs.declared.steps.WriterStep.TheVariants as writer_step
 use Rattle.model_core.specs.declared.steps.FlusherStep.TheVariants as flusher_step
@@ -48,6 +50,37 @@ module _ (D : LogSide) (c : Setup) (spare : ℕ) (m : SharedWords) (g : LogGhost
       (λ e. let z : CheckpointerAt D c m g p t checkpointer_step.Failed = subst (CheckpointerAt D c m g p t) e f.step in z) met
   failures_show seat (actor.Joined es) at met = absurd met
 
+  hand_copied : (seat : ℕ) (u : UserState) → Hand D c m g p seat u → HasCopied g.state u
+  hand_copied seat u h = record { copied = h.done; left = h.bare }
+
+  hand_agrees : (seat : ℕ) (u : UserState) (f : UserStep) → UserAt D c m g p seat u f → HandAgrees g.state u f
+  hand_agrees seat u user_step.LoadCheckpoint h = h.0
+  hand_agrees seat u user_step.LoadSn h = h.0
+  hand_agrees seat u user_step.TakeLatch h = h.0
+  hand_agrees seat u user_step.Reserve h = h.0
+  hand_agrees seat u user_step.LoadWrite h = hand_copied seat u h.2
+  hand_agrees seat u user_step.StoreCell h = hand_copied seat u h.2
+  hand_agrees seat u user_step.StoreFirst h = hand_copied seat u h.2
+  hand_agrees seat u user_step.LoadWtail h = hand_copied seat u h.2
+  hand_agrees seat u user_step.StoreLink h = hand_copied seat u h.2
+  hand_agrees seat u user_step.Done h = h.0
+  hand_agrees seat u user_step.Failed h = λ held. ⊎_elim (λ z. inl (hand_copied seat u z.0)) (λ z. inr z.2) (h.3 held)
+  hand_agrees seat u _ h = h.2.2
+
+  user_fits : (seat : ℕ) (u : UserState) → get_elem? actors seat ≡ maybe.some (actor.User u) → UserFits D c m g p seat u
+  user_fits seat u at = half.each seat (actor.User u) at
+
+  users_agree : UsersAgree g.log g.state actors
+  users_agree = record {
+    answered = λ seat u at i e is own below.
+        let f = user_fits seat u at in
+        let a : g.answered e.user ≡ u.k = ap g.answered own ∙ f.answers in
+        half.global.commits.linked i e is (omega arith);
+    in_hand = λ seat u at. hand_agrees seat u u.step (user_fits seat u at).step;
+    done = λ seat u at is. let z : UserAt D c m g p seat u user_step.Done = subst (UserAt D c m g p seat u) is (user_fits seat u at).step in z.2;
+    failed = λ seat u at is. let z : UserAt D c m g p seat u user_step.Failed = subst (UserAt D c m g p seat u) is (user_fits seat u at).step in z.2;
+  }
+
   end_below : (i : ℕ) (e : Entry) → get_elem? g.log i ≡ maybe.some e → g.read ≤ e.start → IsGroupLinked g.state e → lsn (end_of e) < floor m.write + 65536
   end_below i e is from linked =
       let G = half.global in
@@ -76,6 +109,7 @@ module _ (D : LogSide) (c : Setup) (spare : ℕ) (m : SharedWords) (g : LogGhost
     read = g.read;
     entered = g.entered;
     groups_tile = record { tile = G.tiled.tiles; are_of_actors = half.counted; in_order = G.tiled.ranks; of_lines = λ i e is. let l = G.tiled.lines i e is in (l.0, l.1) };
+    users_agree = users_agree;
     copied_bytes_stand = record {
       cell = λ x lo hi copied. (G.ring_cells.each x lo hi copied).0;
       below = λ x lo hi copied. (G.ring_cells.each x lo hi copied).1;
@@ -114,8 +148,15 @@ module _ (D : LogSide) (c : Setup) (spare : ℕ) (m : SharedWords) (g : LogGhost
       given_wtail = P.given_wtail;
       flushed_stable = P.flushed_stable;
       stable_written = P.stable_written;
+      written_given = P.written_given;
       ckpt_newest = P.ckpt_part;
-      newest_stable = P.ckpt_stable;
+      newest_asked = P.ckpt_asked;
+      asked_stable = P.asked_stable;
     };
     failures_show = failures_show;
   }
+
+  -- the groups that they speak of are those of the invariant
+  pub watermarks_log : ◌≡◌ {A = List Entry} log_watermarks.log g.log
+  unfolding log_watermarks
+  watermarks_log = refl

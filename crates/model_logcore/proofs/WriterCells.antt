@@ -91,7 +91,9 @@ module _ (D : LogSide) (c : Setup) (spare : ℕ) (m : SharedWords) (g : LogGhost
                 flushed_stable = P.flushed_stable;
                 stable_written = P.stable_written;
                 ckpt_part = P.ckpt_part;
-                ckpt_stable = P.ckpt_stable;
+                written_given = P.written_given;
+                ckpt_asked = P.ckpt_asked;
+                asked_stable = P.asked_stable;
                 turn_word = P.turn_word;
               };
             })
@@ -399,7 +401,7 @@ module _ (D : LogSide) (c : Setup) (spare : ℕ) (m : SharedWords) (g : LogGhost
               ring_cells = record { each = λ x l q z. let o = G.ring_cells.each x l q z in let o1 = o.1 in (o.0, omega arith) };
               first_offsets = record { slots_are = G.first_offsets.slots_are; near = λ q z. let o = G.first_offsets.near q z in omega arith; true_first = G.first_offsets.true_first; stored = G.first_offsets.stored; begun = G.first_offsets.begun };
               written_links = G.written_links;
-              commits = record { flush = G.commits.flush; wrote = λ i e a b d. let o = G.commits.wrote i e a b d in omega arith; last = G.commits.last };
+              commits = record { flush = G.commits.flush; wrote = λ i e a b d. let o = G.commits.wrote i e a b d in omega arith; linked = G.commits.linked; last = G.commits.last };
               part = record {
                 holds = P.holds;
                 written = P.written;
@@ -414,7 +416,9 @@ module _ (D : LogSide) (c : Setup) (spare : ℕ) (m : SharedWords) (g : LogGhost
                 flushed_stable = P.flushed_stable;
                 stable_written = P.stable_written;
                 ckpt_part = P.ckpt_part;
-                ckpt_stable = P.ckpt_stable;
+                written_given = P.written_given;
+                ckpt_asked = P.ckpt_asked;
+                asked_stable = P.asked_stable;
                 turn_word = P.turn_word;
               };
             })
@@ -467,7 +471,9 @@ module _ (D : LogSide) (c : Setup) (spare : ℕ) (m : SharedWords) (g : LogGhost
           flushed_stable = P.flushed_stable;
           stable_written = P.stable_written;
           ckpt_part = P.ckpt_part;
-          ckpt_stable = P.ckpt_stable;
+          written_given = P.written_given;
+          ckpt_asked = P.ckpt_asked;
+          asked_stable = P.asked_stable;
           turn_word = P.turn_word;
         };
       })

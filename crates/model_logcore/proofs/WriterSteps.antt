@@ -1,9 +1,10 @@
 -- The writer follows links, stores WTAIL, and loads first offsets and cells.
-use Rattle.std.proofs.Common.{Bool, List, ap, arith, cond, eqb, false, get_or-set_other, get_or-set_same, length, length-set, ltb, ltb-true, refl, set, subst, sym, true, ℕ, ◌%◌, ◌+◌, ◌<◌, ◌^◌, ◌∙◌, ◌≡◌, ◌≢◌, ◌≤◌}
+use Rattle.std.proofs.Common.{Bool, List, ap, arith, cond, eqb, false, get_or-set_other, get_or-set_same, length, length-set, ltb, ltb-true, refl, set, subst, sym, true, ℕ, ◌%◌, ◌+◌, ◌<◌, ◌∙◌, ◌≡◌, ◌≢◌, ◌≤◌}
 use Rattle.std.proofs.lemmas.Bool.{eqb-false}
 use Rattle.std.specs.Prelude.{slice_index, slice_set}
 use lib.ListN.{get_elem?}
 use native.Mathlib.Decide.{dec_le, ℕ_discrete}
+use Rattle.model_base.specs.declared.limits.TheConstants.{LSN_LIMIT}
 use Rattle.model_core.proofs.Groups.{bound_end, tiles_at}
 use Rattle.model_core.proofs.Lsns.{link_same, lsn_le, lsn_near}
 use Rattle.model_core.specs.Actors.{Actor}
@@ -45,7 +46,7 @@ module _ (D : LogSide) (c : Setup) (spare : ℕ) (m : SharedWords) (g : LogGhost
       (λ e. let t = before.turns seat (actor.Writer s) at (sym keep ∙ e) in (device ∙ t.0, t.1 ∙ sym holder))
       (λ j a n e h. let t = before.turns j a e h in (device ∙ t.0, t.1 ∙ sym holder))
       (subst (λ (l : List Entry). Counted (set actors seat (actor.Writer w)) l) (sym log) (counted_same actors g.log seat (actor.Writer s) (actor.Writer w) at refl before.counted))
-      (subst (λ (n : ℕ). n + sum_over_actors left_to_reserve (set actors seat (actor.Writer w)) + spare < 2 ^ 59) (sym sn) (budget_same actors seat spare m.sn (actor.Writer s) (actor.Writer w) at (omega arith) before.room))
+      (subst (λ (n : ℕ). lsn (n + sum_over_actors left_to_reserve (set actors seat (actor.Writer w)) + spare) < LSN_LIMIT) (sym sn) (budget_same actors seat spare m.sn (actor.Writer s) (actor.Writer w) at (omega arith) before.room))
       (λ d. subst (λ (k : ℕ). HasTaker (set actors seat (actor.Writer w)) k) (sym holder) (taken_same actors seat (actor.Writer s) (actor.Writer w) g.holder at (λ e. keep ∙ e) (before.taken (sym device ∙ d))))
 
   pub wlater : (m' : SharedWords) (g' : LogGhost) → m.write ≤ m'.write → m.wtail ≤ m'.wtail → m.ckpt ≤ m'.ckpt → m.flushed ≤ m'.flushed → (0 < m.failed → 0 < m'.failed) → g'.log ≡ g.log → ((x : ℕ) → ◌≡◌ {A = Place} (g'.place x) (g.place x)) → ((x : ℕ) → g'.state x ≡ g.state x) → ((x : ℕ) → g'.first x ≡ g.first x)
@@ -59,6 +60,7 @@ module _ (D : LogSide) (c : Setup) (spare : ℕ) (m : SharedWords) (g : LogGhost
     logs = λ j x z. ap (λ (l : List Entry). get_elem? l j) lo ∙ z;
     places = λ x l o. pl x;
     states = λ x l o. st x;
+    linked = λ x l two. st x ∙ two;
     firsts = λ q z. let y = fi q in omega arith;
     seats = se;
     counts = λ x n. ap (count_of x) lo;

@@ -104,10 +104,11 @@ pub record WrittenLinks (base : ℕ) (links : List ℕ) (wtail : ℕ) (log : Lis
   pub links_are : (i : ℕ) → i < WRITTEN_LINKS → 0 < slice_index links i → WrittenLink log state wtail tail i (slice_index links i)
   pub standing : (i : ℕ) (e : Entry) → get_elem? log i ≡ some e → state e.start ≡ 2 → tail ≤ e.start → (0 < slice_index links (lsn e.start % WRITTEN_LINKS)) × (lsn e.start < wtail + WRITTEN_LINKS)
 
--- an answered commit is on the device as its mode asks
-pub record Commits (c : Setup) (write flushed : ℕ) (log : List Entry) (answered : ℕ → ℕ) : Type 0 where
+-- the group of an answered commit is linked, and on the device as its mode asks
+pub record Commits (c : Setup) (write flushed : ℕ) (log : List Entry) (state answered : ℕ → ℕ) : Type 0 where
   pub flush : (i : ℕ) (e : Entry) → get_elem? log i ≡ some e → e.k < answered e.user → (line_at (c.script e.user) e.k).mode ≡ 1 → lsn (end_of e) ≤ flushed
   pub wrote : (i : ℕ) (e : Entry) → get_elem? log i ≡ some e → e.k < answered e.user → (line_at (c.script e.user) e.k).mode ≡ 2 → lsn (end_of e) ≤ write
+  pub linked : (i : ℕ) (e : Entry) → get_elem? log i ≡ some e → e.k < answered e.user → (x : ℕ) → e.start ≤ x → x < end_of e → state x ≡ 2
   -- at most one group of a user isn't answered
   pub last : (v : ℕ) → count_of v log ≤ answered v + 1
 
@@ -126,7 +127,9 @@ pub record LogPartFacts (D : LogSide) (c : Setup) (write wtail flushed ckpt devi
   pub flushed_stable : flushed ≤ D.stable p
   pub stable_written : D.stable p ≤ D.written p
   pub ckpt_part : ckpt ≤ D.ckpt p
-  pub ckpt_stable : D.ckpt p ≤ D.stable p
+  pub written_given : D.written p ≤ D.given p
+  pub ckpt_asked : D.ckpt p ≤ D.asked p
+  pub asked_stable : D.asked p ≤ D.stable p
   pub turn_word : device ≤ 1
 
 -- what a user has done with the group in hand
@@ -146,5 +149,5 @@ module _ (D : LogSide) (c : Setup) (m : SharedWords) (g : LogGhost) (p : D.Part)
     pub ring_cells : RingCells c.base m.sn m.cells m.write g.log g.state g.read
     pub first_offsets : FirstOffsets c.base m.firsts m.write g.log g.first g.state g.entered
     pub written_links : WrittenLinks c.base m.wlinks m.wtail g.log g.state g.tail
-    pub commits : Commits c m.write m.flushed g.log g.answered
+    pub commits : Commits c m.write m.flushed g.log g.state g.answered
     pub part : LogPartFacts D c m.write m.wtail m.flushed m.ckpt m.device g.log p

@@ -1,5 +1,5 @@
 -- The log half of the invariant: what holds of each actor.
-use Rattle.std.specs.Prelude.{false, length, slice_index, true, ℕ, ◌%◌, ◌*◌, ◌+◌, ◌/◌, ◌<◌, ◌≡◌, ◌≢◌, ◌≤◌}
+use Rattle.std.specs.Prelude.{false, length, slice_index, true, ℕ, ◌%◌, ◌*◌, ◌+◌, ◌/◌, ◌<◌, ◌≡◌, ◌≢◌, ◌≤◌, ◌⊎◌}
 use lib.ListN.{get_elem?}
 use mathlib.Core.Option.{some}
 use Rattle.model_core.specs.Actors.{Actor}
@@ -42,9 +42,17 @@ module _ (D : LogSide) (c : Setup) (m : SharedWords) (g : LogGhost) (p : D.Part)
   abbrev pub IsBefore : UserState → Type 0
   IsBefore u = (length u.starts ≡ u.k) × (u.k < length u.lines)
 
+  -- its group in hand is linked, each of its places
+  abbrev pub HasLinked : UserState → Type 0
+  HasLinked u = (at : ℕ) × (get_elem? g.log at ≡ some (entry u.user u.k u.start (line u))) × ((x : ℕ) → u.start ≤ x → x < group_end u → g.state x ≡ 2)
+
   -- its group is linked and not answered
   abbrev pub IsLinked : UserState → Type 0
-  IsLinked u = (length u.starts ≡ u.k + 1) × (u.k < length u.lines) × ((at : ℕ) × (get_elem? g.log at ≡ some (entry u.user u.k u.start (line u))))
+  IsLinked u = (length u.starts ≡ u.k + 1) × (u.k < length u.lines) × HasLinked u
+
+  -- How far the group in hand came of a user that has ended by a failure: so many of its bytes are copied, or it is linked.
+  abbrev pub HasStoppedAt : ℕ → UserState → Type 0
+  HasStoppedAt seat u = (Hand seat u × (u.copied ≤ length (group_bytes u))) ⊎ HasLinked u
 
   -- FIRST of the block in which it ends is stored, if it starts in another
   abbrev pub HasFirst : UserState → Type 0
@@ -69,9 +77,9 @@ module _ (D : LogSide) (c : Setup) (m : SharedWords) (g : LogGhost) (p : D.Part)
   UserAt seat u user_step.GiveList = IsLinked u
   UserAt seat u user_step.StoreClosedLink = IsLinked u
   UserAt seat u user_step.ReleaseLatch = IsLinked u
-  UserAt seat u user_step.AwaitMark = (length u.starts ≡ u.k + 1) × (u.k < length u.lines) × ((at : ℕ) × (get_elem? g.log at ≡ some (entry u.user u.k u.start (line u)))) × (mode u ≢ 0)
-  UserAt seat u user_step.Done = (length u.starts ≡ u.k) × (u.k ≡ length u.lines)
-  UserAt seat u user_step.Failed = (length u.starts ≤ u.k + 1) × (0 < m.failed)
+  UserAt seat u user_step.AwaitMark = (length u.starts ≡ u.k + 1) × (u.k < length u.lines) × HasLinked u × (mode u ≢ 0)
+  UserAt seat u user_step.Done = (length u.starts ≡ u.k) × (u.k ≡ length u.lines) × (u.checks ≡ false)
+  UserAt seat u user_step.Failed = (length u.starts ≤ u.k + 1) × (0 < m.failed) × (u.checks ≡ false) × (length u.starts ≡ u.k + 1 → HasStoppedAt seat u)
 
   pub record UserFits (seat : ℕ) (u : UserState) : Type 0 where
     pub own_seat : g.seat_of u.user ≡ seat

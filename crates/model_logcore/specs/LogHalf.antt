@@ -1,12 +1,14 @@
 -- The log half of the invariant, whole.
-use Rattle.std.specs.Prelude.{List, [], drop, length, true, ℕ, ◌+◌, ◌<◌, ◌^◌, ◌∷◌, ◌≡◌}
+use Rattle.std.specs.Prelude.{List, [], drop, length, true, ℕ, ◌+◌, ◌<◌, ◌∷◌, ◌≡◌}
 use lib.ListN.{get_elem?}
 use mathlib.Core.Option.{some}
+use Rattle.model_base.specs.declared.limits.TheConstants.{LSN_LIMIT}
 use Rattle.model_core.specs.Actors.{Actor}
 use Rattle.model_core.specs.Groups.{Entry, sum_of}
 use Rattle.model_core.specs.Holding.{holds}
 use Rattle.model_core.specs.Layout.{IsSized, SharedWords, flat}
 use Rattle.model_core.specs.LogSide.{LogSide}
+use Rattle.model_core.specs.Lsn.{lsn}
 use Rattle.model_core.specs.Program.{entries}
 use Rattle.model_core.specs.Setup.{Setup}
 use Rattle.model_core.specs.States.{Line}
@@ -38,7 +40,8 @@ pub record LogHalf (D : LogSide) (c : Setup) (spare : ℕ) (m : SharedWords) (g 
   pub turns : (seat : ℕ) (a : Actor) → get_elem? actors seat ≡ some a → holds a ≡ true → (m.device ≡ 1) × (seat ≡ g.holder)
   pub taken : m.device ≡ 1 → HasTaker actors g.holder
   pub counted : Counted actors g.log
-  pub room : m.sn + sum_over_actors left_to_reserve actors + spare < 2 ^ 59
+  -- where all groups will end at most
+  pub room : lsn (m.sn + sum_over_actors left_to_reserve actors + spare) < LSN_LIMIT
 
 pub record RunningLog (D : LogSide) (c : Setup) (spare : ℕ) (ws : List ℕ) (p : D.Part) (actors : List Actor) : Type 0 where
   pub shared : SharedWords

@@ -1,11 +1,12 @@
 -- The laws of the log part: the conditions of its calls, and what they leave.
-use Rattle.std.specs.Prelude.{List, [], cond, false, length, ℕ, ◌%◌, ◌*◌, ◌++◌, ◌+◌, ◌<◌, ◌==◌, ◌^◌, ◌∷◌, ◌≡◌, ◌≤◌}
+use Rattle.std.specs.Prelude.{List, [], cond, false, length, true, ℕ, ◌%◌, ◌*◌, ◌++◌, ◌+◌, ◌<◌, ◌==◌, ◌∷◌, ◌≡◌, ◌≤◌}
 use lib.ListN.{get_elem?}
 use mathlib.Core.Option.{some}
+use Rattle.model_core.specs.FailureCodes.{IsLogCode}
 use Rattle.model_core.specs.Groups.{Entry, IsBound, IsLent, Tiles, end_of}
 use Rattle.model_core.specs.LogSide.{LogSide}
 use Rattle.model_core.specs.Lsn.{ceiling, floor, lsn}
-use Rattle.model_base.specs.declared.limits.TheConstants.{BLOCK_SIZE}
+use Rattle.model_base.specs.declared.limits.TheConstants.{BLOCK_SIZE, LSN_LIMIT}
 use Rattle.model_core.specs.declared.limits.TheConstants.{LOG_BUFFER}
 use Rattle.model_log.specs.declared.layout.TheConstants.{BLOCK_DATA}
 
@@ -24,7 +25,7 @@ module _ (D : LogSide) (blocks base : ℕ) (log : List Entry) where
     pub high : IsBound base log n
     pub lent : IsLent base log w n bytes firsts
     pub fits : ceiling (lsn n) ≤ D.ckpt p + BLOCK_SIZE * blocks
-    pub small : lsn n < 2 ^ 60
+    pub small : lsn n < LSN_LIMIT
     -- less than the log buffer past the block of the written mark
     pub near : lsn n < floor (lsn w) + LOG_BUFFER
 
@@ -34,6 +35,8 @@ module _ (D : LogSide) (blocks base : ℕ) (log : List Entry) where
     pub stable : D.stable q ≡ D.stable p
     pub given : D.given q ≡ t
     pub ckpt : D.ckpt q ≡ D.ckpt p
+    pub asked : D.asked q ≡ D.asked p
+    pub sound : code ≡ 0 → D.failed q ≡ false
     pub causes : (c : ℕ) → D.Cause p c → D.Cause q c
     pub cause : 0 < code → D.Cause q code
 
@@ -43,6 +46,8 @@ module _ (D : LogSide) (blocks base : ℕ) (log : List Entry) where
     pub stable : D.stable q ≡ cond (code == 0) (D.written p) (D.stable p)
     pub given : D.given q ≡ D.given p
     pub ckpt : D.ckpt q ≡ D.ckpt p
+    pub asked : D.asked q ≡ D.asked p
+    pub sound : code ≡ 0 → D.failed q ≡ false
     pub causes : (c : ℕ) → D.Cause p c → D.Cause q c
     pub cause : 0 < code → D.Cause q code
 
@@ -60,11 +65,17 @@ module _ (D : LogSide) (blocks base : ℕ) (log : List Entry) where
     pub stable : D.stable q ≡ D.stable p
     pub given : D.given q ≡ D.given p
     pub ckpt : D.ckpt q ≡ cond (code == 0) x (D.ckpt p)
+    -- good or failed
+    pub asked : D.asked q ≡ x
+    pub sound : code ≡ 0 → D.failed q ≡ false
     pub causes : (c : ℕ) → D.Cause p c → D.Cause q c
     pub cause : 0 < code → D.Cause q code
 
 -- what a drive shows of its part
 pub record LogLaws (D : LogSide) : Type 0 where
+  -- a cause is that of a call that failed, and with it the part has
+  pub codes : (p : D.Part) (code : ℕ) → D.Cause p code → IsLogCode code
+  pub broken : (p : D.Part) (code : ℕ) → D.Cause p code → D.failed p ≡ true
   pub more : (blocks base n : ℕ) (log : List Entry) (e : Entry) (p : D.Part) → base % BLOCK_DATA ≡ 0 → Tiles base log n → e.start ≡ n → 0 < length e.bytes → D.given p ≤ lsn n → D.Holds blocks base log p → D.Holds blocks base (log ++ e ∷ []) p
   pub writes : (blocks base : ℕ) (log : List Entry) (w n code : ℕ) (bytes firsts : List ℕ) (p q : D.Part)
       → D.Holds blocks base log p → CanWrite D blocks base log w n bytes firsts p → D.Wrote (lsn n) bytes firsts code p q → AfterWrite D blocks base log (lsn n) code p q

@@ -1,53 +1,43 @@
 -- What stands at the start of a run, from which the invariant holds.
-use Rattle.std.specs.Prelude.{[], cond, false, length, slice_index, true, ℕ, ◌%◌, ◌+◌, ◌-◌, ◌/◌, ◌<◌, ◌==◌, ◌≡◌, ◌≤◌}
+use Rattle.std.specs.Prelude.{[], cond, length, slice_index, ℕ, ◌%◌, ◌+◌, ◌-◌, ◌/◌, ◌<◌, ◌==◌, ◌≡◌, ◌≤◌}
 use Rattle.model_base.specs.declared.limits.TheConstants.{MAX_GROUP}
 use Rattle.model_core.specs.Actors.{Actor}
 use Rattle.model_core.specs.Layout.{IsSized, SharedWords}
 use Rattle.model_core.specs.LogSide.{LogSide}
 use Rattle.model_core.specs.Lsn.{lsn}
+use Rattle.model_core.specs.NewActors.{new_checkpointer, new_cleaner, new_closer, new_flusher, new_user, new_writer}
 use Rattle.model_core.specs.Setup.{Setup}
-use Rattle.model_core.specs.States.{CheckpointerState, CleanerState, CloserState, FlusherState, UserState, WriterState, none_loaded}
+use Rattle.model_core.specs.States.{CheckpointerState, CleanerState, CloserState, FlusherState, UserState, WriterState}
 use Rattle.model_core.specs.UserProgram.{line_at}
 use Rattle.model_core.specs.declared.limits.TheConstants.{BUFFER_BLOCKS}
 use Rattle.model_log.specs.declared.layout.TheConstants.{BLOCK_DATA, BLOCK_HEADER}
-use Rattle.model_core.specs.declared.steps.UserStep.TheVariants as user_step
-use Rattle.model_core.specs.declared.steps.WriterStep.TheVariants as writer_step
-use Rattle.model_core.specs.declared.steps.FlusherStep.TheVariants as flusher_step
-use Rattle.model_core.specs.declared.steps.CloserStep.TheVariants as closer_step
-use Rattle.model_core.specs.declared.steps.CleanerStep.TheVariants as cleaner_step
-use Rattle.model_core.specs.declared.steps.CheckpointerStep.TheVariants as checkpointer_step
 use Rattle.model_core.specs.Actors as actor
 
 abbrev pub writer_start : Setup → WriterState
-writer_start c = record { blocks = c.blocks; tail = lsn c.base; write = lsn c.base; from = c.base; kept = []; firsts = []; link = 0; first = 0; ckpt = 0; code = 0; checks = false; step = writer_step.LoadLink }
+writer_start c = new_writer c.blocks (lsn c.base)
 
 abbrev pub flusher_start : Setup → FlusherState
-flusher_start c = record { last = lsn c.base; write = 0; mark = 0; code = 0; checks = false; step = flusher_step.LoadWrite }
+flusher_start c = new_flusher (lsn c.base)
 
 abbrev pub closer_start : Setup → CloserState
-closer_start c = record { tail = lsn c.base; link = 0; code = 0; checks = false; step = closer_step.LoadClosedLink }
+closer_start c = new_closer (lsn c.base)
 
 abbrev pub cleaner_start : Setup → CleanerState
-cleaner_start c = record { pages = c.pages; flushed = 0; page = 0; left = 0; newest = 0; kept = []; batch = []; code = 0; checks = false; step = cleaner_step.LoadFlushed }
+cleaner_start c = new_cleaner c.pages
 
 -- the newest checkpoint stands a block's header below the run's start
 abbrev pub start_checkpoint : Setup → ℕ
 start_checkpoint c = lsn c.base - BLOCK_HEADER
 
 abbrev pub checkpointer_start : Setup → CheckpointerState
-checkpointer_start c = record { own = start_checkpoint c; ctail = 0; flushed = 0; to = 0; list = 0; code = 0; checks = false; step = checkpointer_step.LoadCtail }
+checkpointer_start c = new_checkpointer (lsn c.base)
 
+-- a user that has lines, each with a group of bytes and a mode, and has done nothing
 pub record StartUser (c : Setup) (u : UserState) : Type 0 where
-  pub blocks : u.blocks ≡ c.blocks
-  pub lines : u.lines ≡ c.script u.user
-  pub some_lines : 0 < length u.lines
-  pub sound : (j : ℕ) → j < length u.lines → (0 < length (line_at u.lines j).bytes) × (length (line_at u.lines j).bytes ≤ MAX_GROUP) × ((line_at u.lines j).mode < 3)
-  pub are_bytes : (j i : ℕ) → i < length (line_at u.lines j).bytes → slice_index (line_at u.lines j).bytes i < 256
-  pub starts : u.starts ≡ []
-  pub k : u.k ≡ 0
-  pub loaded : u.loaded ≡ none_loaded
-  pub checks : u.checks ≡ true
-  pub step : u.step ≡ user_step.LoadCheckpoint
+  pub is : ◌≡◌ {A = UserState} u (new_user u.user c.blocks (c.script u.user))
+  pub some_lines : 0 < length (c.script u.user)
+  pub sound : (j : ℕ) → j < length (c.script u.user) → (0 < length (line_at (c.script u.user) j).bytes) × (length (line_at (c.script u.user) j).bytes ≤ MAX_GROUP) × ((line_at (c.script u.user) j).mode < 3)
+  pub are_bytes : (j i : ℕ) → i < length (line_at (c.script u.user) j).bytes → slice_index (line_at (c.script u.user) j).bytes i < 256
 
 -- each user has one seat, and there is one of each other actor
 abbrev pub StartActor : Setup → (ℕ → ℕ) → ℕ → ℕ → Actor → Type 0
@@ -69,12 +59,15 @@ pub record StartWords (c : Setup) (m : SharedWords) : Type 0 where
   pub ckpt : m.ckpt ≡ start_checkpoint c
   pub failed : m.failed ≡ 0
   pub device : m.device ≡ 0
+  pub lists : (i : ℕ) → slice_index m.lists i ≡ 0
   pub wlinks : (i : ℕ) → slice_index m.wlinks i ≡ 0
+  pub cells : (i : ℕ) → slice_index m.cells i ≡ 0
   pub firsts : (q : ℕ) → c.base / BLOCK_DATA ≤ q → q < c.base / BLOCK_DATA + BUFFER_BLOCKS → slice_index m.firsts (q % BUFFER_BLOCKS) ≡ cond (q == c.base / BLOCK_DATA) BLOCK_HEADER 0
 
 pub record StartPart (D : LogSide) (c : Setup) (p : D.Part) : Type 0 where
   pub holds : D.Holds c.blocks c.base [] p
   pub written : D.written p ≡ lsn c.base
   pub stable : D.stable p ≡ lsn c.base
-  pub given : D.given p ≤ lsn c.base
+  pub given : D.given p ≡ lsn c.base
   pub ckpt : D.ckpt p ≡ start_checkpoint c
+  pub asked : D.asked p ≡ start_checkpoint c

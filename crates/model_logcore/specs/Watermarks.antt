@@ -1,6 +1,6 @@
 -- The watermarks of the log: what holds of its words, of the log part and of the actors between any two turns. Places of
 -- the stream are sns, counted as the groups' bytes.
-use Rattle.std.specs.Prelude.{List, length, slice_index, take, ℕ, ◌%◌, ◌*◌, ◌+◌, ◌/◌, ◌<◌, ◌≡◌, ◌≤◌, ◌⊎◌}
+use Rattle.std.specs.Prelude.{List, length, slice_index, take, ℕ, ◌%◌, ◌*◌, ◌+◌, ◌/◌, ◌<◌, ◌≡◌, ◌≤◌, ◌⊎◌, false}
 use lib.ListN.{get_elem?}
 use mathlib.Core.Option.{some}
 use Rattle.model_base.specs.declared.limits.TheConstants.{BLOCK_SIZE}
@@ -10,14 +10,15 @@ use Rattle.model_core.specs.Layout.{SharedWords}
 use Rattle.model_core.specs.LogSide.{LogSide}
 use Rattle.model_core.specs.Lsn.{floor, lsn}
 use Rattle.model_core.specs.Setup.{Setup}
-use Rattle.model_core.specs.States.{WriterState}
-use Rattle.model_core.specs.UserProgram.{line_at}
+use Rattle.model_core.specs.States.{UserState, WriterState}
+use Rattle.model_core.specs.UserProgram.{group_end, line_at}
 use Rattle.model_core.specs.WriterProgram.{read_place}
 use Rattle.model_core.specs.declared.limits.TheConstants.{BUFFER_BLOCKS, LOG_BUFFER, WRITTEN_LINKS}
 use Rattle.model_log.specs.declared.layout.TheConstants.{BLOCK_DATA}
 use Rattle.model_logcore.specs.LogFacts.{WrittenLink, count_of}
 use Rattle.model_logcore.specs.LogFits.{AreBelow}
 use Rattle.model_logcore.specs.LogHalf.{Counted}
+use Rattle.model_core.specs.declared.steps.UserStep.{UserStep}
 use Rattle.model_core.specs.declared.steps.UserStep.TheVariants as user_step
 use Rattle.model_core.specs.declared.steps.WriterStep.TheVariants as writer_step
 use Rattle.model_core.specs.declared.steps.FlusherStep.TheVariants as flusher_step
@@ -32,6 +33,38 @@ IsCopied progress x = 0 < progress x
 
 abbrev pub IsGroupLinked : (ℕ → ℕ) → Entry → Type 0
 IsGroupLinked progress e = (x : ℕ) → e.start ≤ x → x < end_of e → progress x ≡ 2
+
+-- of the group in hand of a user so many bytes are copied, and it isn't linked; or it is linked
+pub record HasCopied (progress : ℕ → ℕ) (u : UserState) : Type 0 where
+  pub copied : (x : ℕ) → u.start ≤ x → x < u.start + u.copied → progress x ≡ 1
+  pub left : (x : ℕ) → u.start + u.copied ≤ x → x < group_end u → progress x ≡ 0
+
+abbrev pub HasLinkedGroup : (ℕ → ℕ) → UserState → Type 0
+HasLinkedGroup progress u = (x : ℕ) → u.start ≤ x → x < group_end u → progress x ≡ 2
+
+-- what a user's step says of its group in hand, if it has one
+abbrev pub HandAgrees : (ℕ → ℕ) → UserState → UserStep → Type 0
+HandAgrees progress u user_step.LoadCheckpoint = length u.starts ≡ u.k
+HandAgrees progress u user_step.LoadSn = length u.starts ≡ u.k
+HandAgrees progress u user_step.TakeLatch = length u.starts ≡ u.k
+HandAgrees progress u user_step.Reserve = length u.starts ≡ u.k
+HandAgrees progress u user_step.LoadWrite = HasCopied progress u
+HandAgrees progress u user_step.StoreCell = HasCopied progress u
+HandAgrees progress u user_step.StoreFirst = HasCopied progress u
+HandAgrees progress u user_step.LoadWtail = HasCopied progress u
+HandAgrees progress u user_step.StoreLink = HasCopied progress u
+HandAgrees progress u user_step.Done = length u.starts ≡ u.k
+HandAgrees progress u user_step.Failed = length u.starts ≡ u.k + 1 → HasCopied progress u ⊎ HasLinkedGroup progress u
+HandAgrees progress u _ = HasLinkedGroup progress u
+
+-- HOW FAR A GROUP HAS COME IS WHAT ITS USER SAYS: each group whose commit is answered is linked, and of the group in hand so
+-- much is copied, or it is linked, as its user's step says. A user that has ended by a failure has left it at one of these. A
+-- user that has ended doesn't check for a failure.
+pub record UsersAgree (log : List Entry) (progress : ℕ → ℕ) (actors : List Actor) : Type 0 where
+  pub answered : (seat : ℕ) (u : UserState) → get_elem? actors seat ≡ some (actor.User u) → (i : ℕ) (e : Entry) → get_elem? log i ≡ some e → e.user ≡ u.user → e.k < u.k → IsGroupLinked progress e
+  pub in_hand : (seat : ℕ) (u : UserState) → get_elem? actors seat ≡ some (actor.User u) → HandAgrees progress u u.step
+  pub done : (seat : ℕ) (u : UserState) → get_elem? actors seat ≡ some (actor.User u) → u.step ≡ user_step.Done → u.checks ≡ false
+  pub failed : (seat : ℕ) (u : UserState) → get_elem? actors seat ≡ some (actor.User u) → u.step ≡ user_step.Failed → u.checks ≡ false
 
 -- RESERVED GROUPS TILE THE SEQUENCE NUMBERS, each number once. They are the groups that the actors have, each once; a
 -- user's are of its lines, in order.
@@ -98,8 +131,10 @@ pub record PartMarksAreOrdered (D : LogSide) (m : SharedWords) (p : D.Part) : Ty
   pub given_wtail : D.given p ≤ m.wtail
   pub flushed_stable : m.flushed ≤ D.stable p
   pub stable_written : D.stable p ≤ D.written p
+  pub written_given : D.written p ≤ D.given p
   pub ckpt_newest : m.ckpt ≤ D.ckpt p
-  pub newest_stable : D.ckpt p ≤ D.stable p
+  pub newest_asked : D.ckpt p ≤ D.asked p
+  pub asked_stable : D.asked p ≤ D.stable p
 
 -- the actor has loaded a nonzero code, or stored one
 abbrev pub HasMetFailure : Actor → Type 0
@@ -128,6 +163,7 @@ pub record LogWatermarks (D : LogSide) (c : Setup) (m : SharedWords) (p : D.Part
   pub read : ℕ
   pub entered : ℕ
   pub groups_tile : GroupsTile c m.sn actors log
+  pub users_agree : UsersAgree log progress actors
   pub copied_bytes_stand : CopiedBytesStand c.base m log progress first read entered
   pub links_are_groups : LinksAreGroups m log progress first tail
   pub marks_are_ordered : MarksAreOrdered c.base m actors log progress write wtail flushed tail read

@@ -1,9 +1,10 @@
 -- The cleaner's batch is written, or fails.
-use Rattle.std.proofs.Common.{Bool, List, [], ap, arith, cond, eqb, eqb-true, false, inl, inr, refl, set, subst, suc, sym, true, zero, ℕ, ⊎_elim, ◌<◌, ◌∙◌, ◌∷◌, ◌≡◌, ◌≢◌, ◌≤◌, ◌⊎◌}
+use Rattle.std.proofs.Common.{Bool, List, [], ap, arith, cond, eqb, eqb-true, false, inl, inr, length, refl, set, subst, suc, sym, true, zero, ℕ, ⊎_elim, ◌<◌, ◌∙◌, ◌∷◌, ◌≡◌, ◌≢◌, ◌≤◌, ◌⊎◌}
 use Rattle.std.proofs.lemmas.Bool.{eqb-false}
 use lib.ListN.{get_elem?}
 use mathlib.Core.Option.{some, some-injective, some-ne-none}
 use native.Mathlib.Decide.{dec_le, ℕ_discrete}
+use Rattle.model_base.specs.declared.limits.TheConstants.{LSN_LIMIT}
 use Rattle.model_core.proofs.Groups.{some_same}
 use Rattle.model_core.specs.Actors.{Actor}
 use Rattle.model_core.specs.DataSide.{DataSide}
@@ -17,11 +18,14 @@ use Rattle.model_pagecore.proofs.PageHistory.{last_most, upto_whole}
 use Rattle.model_pagecore.proofs.PageFrame.{log_same, longer_same, page_moved, page_others}
 use Rattle.model_pagecore.proofs.PageStep.{mate}
 use Rattle.model_pagecore.specs.DataLaws.{CanBatch, kept_in, renewed}
-use Rattle.model_pagecore.specs.PageFacts.{PageGhost, listed}
+use Rattle.model_pagecore.proofs.Unfinished.{none_unfinished}
+use Rattle.model_pagecore.specs.Growing.{Grows}
+use Rattle.model_pagecore.specs.PageFacts.{AreUnfinished, PageGhost, listed}
 use Rattle.model_pagecore.specs.PageHalf.{AreKept, At, CleanerAt, CleanerFits, InBatch, PageHalf, runs}
 use Rattle.model_pagecore.specs.Pages.{All, EndsAt, FrameStage, GroupInHand, Laid, Last, NewestStage, OnePage, ListingStage, Agree, none_in_hand, applied_upto}
 use Rattle.model_core.specs.declared.steps.CleanerStep.TheVariants as cleaner_step
 use Rattle.model_core.specs.Actors as actor
+use Rattle.model_core.specs.declared.limits.TheConstants.{FRAME_CELLS}
 
 -- a page with a batch is the batch's, or as it was
 pub kept_cases : (batch : List BatchPage) (q : ℕ) (k : KeptPage) → ((i : ℕ) × (x : BatchPage) × (get_elem? batch i ≡ some x) × (x.page ≡ q) × ◌≡◌ {A = KeptPage} (kept_in batch q k) (record { lsn = x.lsn; bytes = x.bytes })) ⊎ (((i : ℕ) (x : BatchPage) → get_elem? batch i ≡ some x → x.page ≢ q) × ◌≡◌ {A = KeptPage} (kept_in batch q k) k)
@@ -62,11 +66,16 @@ module _ (E : DataSide) (c : Setup) (seat_of : ℕ → ℕ) (m : SharedWords) (l
     now : CleanerAt E c m log h ls d seat v cleaner_step.WriteBatch
     now = subst (CleanerAt E c m log h ls d seat v) ph own.step
 
-    pub can_batch : CanBatch E h.kept_page v.batch d
-    can_batch = record {
+    pub can_batch : ((p : ℕ) → p < c.pages → length (page_words_at m.page_words p).frame ≡ FRAME_CELLS) → m.flushed < LSN_LIMIT → CanBatch E c.pages h.kept_page v.batch d
+    can_batch frames small = record {
       sound = (own.sound (ap runs ph)).0;
       some_pages = now.1;
       few = own.few;
+      each = λ i x is. let o = now.0 i x (omega arith) is in let low = o.0.low in let of = own.flushed in record {
+        there = o.0.held.there;
+        whole = ap length o.0.bytes ∙ frames x.page o.0.held.there;
+        small = omega arith;
+      };
       newer = λ i x is. let o = now.0 i x (omega arith) is in let f = held_facts x.page o.0.held o.1 in let f0 = f.0 in let nw = o.0.newest in
           (omega arith, (λ e. (before.paged.each_page x.page o.0.held.there).fold ∙ ap (λ (q : ℕ). applied_upto x.page q log (c.opened x.page).bytes) (e ∙ nw) ∙ sym f.2 ∙ sym o.0.bytes));
       apart = own.apart;
@@ -74,7 +83,7 @@ module _ (E : DataSide) (c : Setup) (seat_of : ℕ → ℕ) (m : SharedWords) (l
 
     -- it is written: each page of the batch is kept as the batch has it
     pub keeps_written : (e : E.Part) → E.failed e ≡ false → E.Holds (renewed h.kept_page v.batch) [] e
-        → (k : PageGhost) × PageHalf E c m log stable k ls e (set actors seat (actor.Cleaner (record v { code = 0; step = cleaner_step.RemoveFromList })))
+        → (k : PageGhost) × PageHalf E c m log stable k ls e (set actors seat (actor.Cleaner (record v { code = 0; step = cleaner_step.RemoveFromList }))) × Grows h k
     keeps_written e sound holds =
         let P = before.paged in
         let kept_page : ℕ → KeptPage = renewed h.kept_page v.batch in
@@ -129,6 +138,8 @@ module _ (E : DataSide) (c : Setup) (seat_of : ℕ → ℕ) (m : SharedWords) (l
                 flushed = P.flushed;
                 stable_top = P.stable_top;
                 stored = holds;
+                unfinished = none_unfinished c.pages c.opened kept_page log stable;
+                alone = P.alone;
               })
               (record {
                 alone = own.alone;
@@ -160,30 +171,57 @@ module _ (E : DataSide) (c : Setup) (seat_of : ℕ → ℕ) (m : SharedWords) (l
               (λ other. absurd (other own.alone))
               (λ _. record { given = refl; passed = λ p x _ _ y i w is tc lt. let k = y i w is tc lt in let mo = more p in omega arith })
               a (mate E c seat_of m log stable h ls d actors seat before mates j a z) (before.each j a z)),
+          record { given = omega arith; closed = λ x z. z },
         )
+
+    -- what the batch has of its pages may be kept
+    left : AreUnfinished c.pages c.opened h.kept_page log stable v.batch
+    left = record {
+      each = λ i x is.
+          let o = now.0 i x (omega arith) is in
+          let f = held_facts x.page o.0.held o.1 in
+          let f0 = f.0 in
+          let nw = o.0.newest in
+          let low = o.0.low in
+          let of = own.flushed in
+          let fl = before.paged.flushed in
+          record {
+            there = o.0.held.there;
+            fold = o.0.bytes ∙ f.2 ∙ ap (λ (q : ℕ). applied_upto x.page q log (c.opened x.page).bytes) (sym nw);
+            ends = subst (EndsAt x.page log) (sym nw) f.1;
+            no_older = omega arith;
+            behind = omega arith;
+          };
+      apart = own.apart;
+    }
 
     -- it fails: nothing is known but that each page is as it was or as the batch has it
     pub keeps_unwritten : (code : ℕ) (e : E.Part) → E.Cause e code → E.Holds h.kept_page v.batch e
-        → (k : PageGhost) × PageHalf E c m log stable k ls e (set actors seat (actor.Cleaner (record v { code = code; step = cleaner_step.StoreFailed })))
-    keeps_unwritten code e cause holds = let P = before.paged in let h' : PageGhost = record h { unfinished = v.batch } in (
-      h',
-      page_moved E c m m log log stable stable h h' ls ls d e actors seat (actor.Cleaner (record v { code = code; step = cleaner_step.StoreFailed }))
-          (record { closed_links = P.closed_links; lists = P.lists; each_page = P.each_page; within = P.within; flushed = P.flushed; stable_top = P.stable_top; stored = holds })
-          (record { alone = own.alone; pages = own.pages; page = own.page; flushed = own.flushed; sound = λ z. absurd (cc); apart = own.apart; few = own.few; cause = λ _. cause; step = tt })
-          (λ j a n z. page_others E c seat_of m m log log h h' ls ls d e seat j n
-          (record {
-            longer = longer_same log;
-            logs = λ q _ _. log_same q log;
-            page_words = λ q _ _. refl;
-            holders = λ q _ _. refl;
-            listeds = λ q _ _. refl;
-            opens = λ _ _ _ _. refl;
-            lists = λ i o _. (o, refl);
-            ctail = omega arith;
-            flushed = omega arith;
-          })
-          (λ _. record { tail = refl; closes = λ _ y. y })
-          (λ other. absurd (other own.alone))
-          (λ _. record { given = refl; passed = λ p x _ _ y. y })
-          a (mate E c seat_of m log stable h ls d actors seat before mates j a z) (before.each j a z)),
-    )
+        → (k : PageGhost) × PageHalf E c m log stable k ls e (set actors seat (actor.Cleaner (record v { code = code; step = cleaner_step.StoreFailed }))) × Grows h k
+    keeps_unwritten code e cause holds =
+        let P = before.paged in
+        let h' : PageGhost = record h { unfinished = v.batch } in
+        let held : (i : ℕ) (x : BatchPage) → 0 ≤ i → get_elem? v.batch i ≡ some x → InBatch E c m log h' ls e seat v.flushed x Agree × (0 < (page_words_at m.page_words x.page).oldest) = (λ i x l is.
+        let o = now.0 i x l is in (record { held = record { there = o.0.held.there; latched = o.0.held.latched; mine = o.0.held.mine; page = o.0.held.page }; newest = o.0.newest; bytes = o.0.bytes; low = o.0.low }, o.1)) in (
+          h',
+          page_moved E c m m log log stable stable h h' ls ls d e actors seat (actor.Cleaner (record v { code = code; step = cleaner_step.StoreFailed }))
+              (record { closed_links = P.closed_links; lists = P.lists; each_page = P.each_page; within = P.within; flushed = P.flushed; stable_top = P.stable_top; stored = holds; unfinished = left; alone = P.alone })
+              (record { alone = own.alone; pages = own.pages; page = own.page; flushed = own.flushed; sound = λ z. absurd (cc); apart = own.apart; few = own.few; cause = λ _. cause; step = held })
+              (λ j a n z. page_others E c seat_of m m log log h h' ls ls d e seat j n
+              (record {
+                longer = longer_same log;
+                logs = λ q _ _. log_same q log;
+                page_words = λ q _ _. refl;
+                holders = λ q _ _. refl;
+                listeds = λ q _ _. refl;
+                opens = λ _ _ _ _. refl;
+                lists = λ i o _. (o, refl);
+                ctail = omega arith;
+                flushed = omega arith;
+              })
+              (λ _. record { tail = refl; closes = λ _ y. y })
+              (λ other. absurd (other own.alone))
+              (λ _. record { given = refl; passed = λ p x _ _ y. y })
+              a (mate E c seat_of m log stable h ls d actors seat before mates j a z) (before.each j a z)),
+          record { given = omega arith; closed = λ x z. z },
+        )

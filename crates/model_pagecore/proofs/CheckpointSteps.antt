@@ -18,6 +18,7 @@ use Rattle.model_core.specs.States.{CleanerState, CheckpointerState, BatchPage, 
 use Rattle.model_core.specs.declared.steps.CleanerStep.{CleanerStep}
 use Rattle.model_pagecore.proofs.PageFrame.{log_same, longer_same, page_moved, page_others}
 use Rattle.model_pagecore.proofs.PageStep.{at_else, at_here, freed_sheet, latched_sheet, leaf_else, leaf_here, leaf_step, list_at, list_step, mate, page_quiet}
+use Rattle.model_pagecore.specs.Growing.{Grows}
 use Rattle.model_pagecore.specs.PageFacts.{PageGhost}
 use Rattle.model_pagecore.specs.PageHalf.{AreBatch, At, CanGive, CleanerAt, CleanerFits, InBatch, PageHalf, CheckpointerPagesAt, CheckpointerPageFits, Unlisting, rests, runs}
 use Rattle.model_pagecore.specs.Pages.{All, InWordOnly, Laid, Last, Unlisted, ListingStage, Agree, end_lsn, none_in_hand, start_lsn, touches}
@@ -201,7 +202,7 @@ module _ (E : DataSide) (c : Setup) (seat_of : ℕ → ℕ) (m : SharedWords) (l
         by false e o = mild (record t { flushed = m.flushed; checks = true; step = checkpointer_step.LoadCtail }) (record { alone = his.alone; with_pages = his.with_pages; loaded = (his.loaded.0, (omega arith)); given = λ _. his.given (ap rests ph); step = tt })
 
     -- it takes the log part, and from now on its candidate may be the newest checkpoint
-    pub keeps_promise : t.step ≡ checkpointer_step.TakeDevice → (k : PageGhost) × PageHalf E c (record m { device = 1 }) log stable k ls d (set actors seat (actor.Checkpointer (record t { checks = false; step = checkpointer_step.Checkpoint })))
+    pub keeps_promise : t.step ≡ checkpointer_step.TakeDevice → (k : PageGhost) × PageHalf E c (record m { device = 1 }) log stable k ls d (set actors seat (actor.Checkpointer (record t { checks = false; step = checkpointer_step.Checkpoint }))) × Grows h k
     keeps_promise ph =
         let o : CanGive E c m log h ls d t = subst (CheckpointerPagesAt E c m log h ls d seat t) ph his.step in
         let P = before.paged in
@@ -228,6 +229,8 @@ module _ (E : DataSide) (c : Setup) (seat_of : ℕ → ℕ) (m : SharedWords) (l
                 flushed = P.flushed;
                 stable_top = P.stable_top;
                 stored = P.stored;
+                unfinished = P.unfinished;
+                alone = λ z. let w = his.with_pages in absurd (cc);
               })
               (record { alone = his.alone; with_pages = his.with_pages; loaded = his.loaded; given = λ z. absurd (cc); step = (o, refl) })
               (λ j a n z. page_others E c seat_of m m' log log h h' ls ls d d seat j n
@@ -246,6 +249,7 @@ module _ (E : DataSide) (c : Setup) (seat_of : ℕ → ℕ) (m : SharedWords) (l
               (λ _. record { kept_page = λ _. refl; oldest = λ q y. y; store = refl; unfinished = refl })
               (λ other. absurd (other his.alone))
               a (mate E c seat_of m log stable h ls d actors seat before mates j a z) (before.each j a z)),
+          record { given = (let given = his.given (ap rests ph) in let above = o.4 in omega arith); closed = λ x z. z },
         )
 
     -- every group that starts below its candidate ends at or below the stable mark, so the call's condition holds

@@ -15,6 +15,7 @@ use Rattle.model_core.specs.Lsn.{lsn}
 use Rattle.model_core.specs.Setup.{Setup}
 use Rattle.model_core.specs.States.{CleanerState, BatchPage, UserState}
 use Rattle.model_pagecore.proofs.PageStep.{at_else, at_here, freed_sheet, latched_sheet, leaf_else, leaf_here, leaf_step, page_quiet}
+use Rattle.model_pagecore.specs.Growing.{Grows}
 use Rattle.model_pagecore.specs.PageFacts.{PageGhost, listed}
 use Rattle.model_pagecore.specs.PageHalf.{AreIn, CleanerAt, CleanerFits, InBatch, Looking, PageHalf, runs}
 use Rattle.model_pagecore.specs.Pages.{All, Laid, Last, PageIs, Agree, none_in_hand}
@@ -156,7 +157,7 @@ module _ (E : DataSide) (c : Setup) (seat_of : ℕ → ℕ) (m : SharedWords) (l
 
     -- it takes the latch
     pub keeps_latched : length m.page_words ≡ c.pages → v.step ≡ cleaner_step.TakeLatch → (page_words_at m.page_words v.page).latch ≡ 0
-        → (k : PageGhost) × PageHalf E c (with_page_words m v.page (record (page_words_at m.page_words v.page) { latch = 1 })) log stable k ls d (set actors seat (actor.Cleaner (record v { step = cleaner_step.LoadNewest })))
+        → (k : PageGhost) × PageHalf E c (with_page_words m v.page (record (page_words_at m.page_words v.page) { latch = 1 })) log stable k ls d (set actors seat (actor.Cleaner (record v { step = cleaner_step.LoadNewest }))) × Grows h k
     keeps_latched long ph free =
         let o : CleanerAt E c m log h ls d seat v cleaner_step.TakeLatch = subst (CleanerAt E c m log h ls d seat v) ph own.step in
         let p : ℕ = v.page in
@@ -192,6 +193,7 @@ module _ (E : DataSide) (c : Setup) (seat_of : ℕ → ℕ) (m : SharedWords) (l
               (latched_sheet E c seat_of m log stable h ls d actors seat before mates p w' there refl S.oldest) (λ _ z. z)
               (at_stage (record v { step = cleaner_step.LoadNewest }) (ap runs ph) refl refl refl refl (λ z. absurd (cc)) m' h' ls refl refl
               (looks, (at_here E c seat_of m log stable h ls d actors seat before mates p w' holders there long (inl free) same none_in_hand All Last Agree refl (changed_here h.holder p seat p refl) is, subst (λ (k : PageWords). 0 < k.oldest) (sym we) o.1))),
+          record { given = omega arith; closed = λ x z. z },
         )
 
     -- it loads NEWEST

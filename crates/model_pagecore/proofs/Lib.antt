@@ -2,10 +2,12 @@ pub mod BatchSteps
 pub mod CheckpointSteps
 pub mod CleanerSteps
 pub mod ClosingSteps
+pub mod Holders
 pub mod ListSteps
 pub mod PageFrame
 pub mod PageHistory
 pub mod PageStart
 pub mod PageStep
 pub mod ReserveSteps
+pub mod Unfinished
 pub mod UserPageSteps

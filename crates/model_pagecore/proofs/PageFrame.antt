@@ -23,7 +23,7 @@ use Rattle.model_core.specs.declared.steps.UserStep.{UserStep}
 use Rattle.model_core.specs.declared.steps.CheckpointerStep.{CheckpointerStep}
 use Rattle.model_pagecore.proofs.PageHistory.{last_snoc, puts_none, whole_snoc}
 use Rattle.model_pagecore.specs.PageFacts.{PageGhost, PageFacts, listed}
-use Rattle.model_pagecore.specs.PageHalf.{AreBatch, AreHeld, AreKept, At, CanGive, CleanerAt, CleanerFits, CloserAt, CloserFits, HasList, HasPage, InBatch, HasPagesInHand, IsFresh, IsNear, Looking, PageFits, PageHalf, CheckpointerPagesAt, CheckpointerPageFits, ReadBelow, Unlisting, UserPagesAt, UserPageFits, PagesInHand, group_in_hand}
+use Rattle.model_pagecore.specs.PageHalf.{AreBatch, AreHeld, AreKept, At, CanGive, CleanerAt, CleanerFits, CleanerHolds, CloserAt, CloserFits, HasList, HasPage, InBatch, HasPagesInHand, IsFresh, IsNear, Looking, PageFits, PageHalf, CheckpointerPagesAt, CheckpointerPageFits, ReadBelow, Unlisting, UserHolds, UserPagesAt, UserPageFits, PagesInHand, group_in_hand}
 use Rattle.model_pagecore.specs.Pages.{InListOnly, All, Before, AgreeBelow, Cells, InWordOnly, FrameIs, FrameStage, GroupInHand, Last, NewestIs, NewestStage, Unlisted, PageIs, Passed, OnePage, ListingStage, ListingIs, IsListed, Agree, cells_on, end_lsn, none_in_hand, last_end, write_cells, touches, applied_upto, applied_all}
 use Rattle.model_core.specs.declared.steps.UserStep.TheVariants as user_step
 use Rattle.model_core.specs.declared.steps.CloserStep.TheVariants as closer_step
@@ -189,28 +189,32 @@ module _ (E : DataSide) (c : Setup) (seat_of : ℕ → ℕ) (m m' : SharedWords)
     near_later : (u : UserState) → IsNear E c m log h ls d u → IsNear E c m' log' h' ls' d' u
     near_later u o = (let a = o.0 in let b = later.ctail in omega arith, o.1)
 
+    user_holds_later : (u : UserState) → seat_of u.user ≡ j → (f : UserStep) → UserHolds E c m log h ls d j u f → UserHolds E c m' log' h' ls' d' j u f
+    user_holds_later u own_seat user_step.LoadCheckpoint o = tt
+    user_holds_later u own_seat user_step.LoadSn o = tt
+    user_holds_later u own_seat user_step.TakeLatch o = (held_later u 0 u.page o.0, o.1)
+    user_holds_later u own_seat user_step.Reserve o = held_later u 0 (length (changes u)) o
+    user_holds_later u own_seat user_step.LoadWrite o = fresh_later u own_seat o
+    user_holds_later u own_seat user_step.StoreCell o = fresh_later u own_seat o
+    user_holds_later u own_seat user_step.StoreFirst o = fresh_later u own_seat o
+    user_holds_later u own_seat user_step.LoadWtail o = fresh_later u own_seat o
+    user_holds_later u own_seat user_step.StoreLink o = fresh_later u own_seat o
+    user_holds_later u own_seat user_step.LoadCtail o = (fresh_later u own_seat o.0, o.1)
+    user_holds_later u own_seat user_step.StoreFrame o = (in_work_later u (Cells u.cell) Before AgreeBelow own_seat o.0, near_later u o.1, o.2)
+    user_holds_later u own_seat user_step.StoreNewest o = (in_work_later u (Cells (length (cells_of u))) Before AgreeBelow own_seat o.0, near_later u o.1)
+    user_holds_later u own_seat user_step.LoadOldest o = (in_work_later u All Last AgreeBelow own_seat o.0, near_later u o.1)
+    user_holds_later u own_seat user_step.AddToList o = (in_work_later u All Last Unlisted own_seat o.0, near_later u o.1)
+    user_holds_later u own_seat user_step.StoreOldest o = (in_work_later u All Last InListOnly own_seat o.0, near_later u o.1, list_later (page_of u % 4) o.2)
+    user_holds_later u own_seat user_step.GiveList o = (in_work_later u All Last IsListed own_seat o.0, near_later u o.1, list_later (page_of u % 4) o.2)
+    user_holds_later u own_seat user_step.StoreClosedLink o = (in_work_later u All Last IsListed own_seat o.0, (let a = o.1 in let b = later.ctail in omega arith), o.2, o.3)
+    user_holds_later u own_seat user_step.ReleaseLatch o = (held_later u u.page (length (changes u)) o.0, o.1)
+    user_holds_later u own_seat user_step.AwaitMark o = tt
+    user_holds_later u own_seat user_step.Done o = tt
+    user_holds_later u own_seat user_step.Failed o = absurd o
+
     user_pages_later : (u : UserState) → seat_of u.user ≡ j → (f : UserStep) → UserPagesAt E c m log h ls d j u f → UserPagesAt E c m' log' h' ls' d' j u f
-    user_pages_later u own_seat user_step.LoadCheckpoint o = tt
-    user_pages_later u own_seat user_step.LoadSn o = tt
-    user_pages_later u own_seat user_step.TakeLatch o = (held_later u 0 u.page o.0, o.1)
-    user_pages_later u own_seat user_step.Reserve o = held_later u 0 (length (changes u)) o
-    user_pages_later u own_seat user_step.LoadWrite o = fresh_later u own_seat o
-    user_pages_later u own_seat user_step.StoreCell o = fresh_later u own_seat o
-    user_pages_later u own_seat user_step.StoreFirst o = fresh_later u own_seat o
-    user_pages_later u own_seat user_step.LoadWtail o = fresh_later u own_seat o
-    user_pages_later u own_seat user_step.StoreLink o = fresh_later u own_seat o
-    user_pages_later u own_seat user_step.LoadCtail o = (fresh_later u own_seat o.0, o.1)
-    user_pages_later u own_seat user_step.StoreFrame o = (in_work_later u (Cells u.cell) Before AgreeBelow own_seat o.0, near_later u o.1, o.2)
-    user_pages_later u own_seat user_step.StoreNewest o = (in_work_later u (Cells (length (cells_of u))) Before AgreeBelow own_seat o.0, near_later u o.1)
-    user_pages_later u own_seat user_step.LoadOldest o = (in_work_later u All Last AgreeBelow own_seat o.0, near_later u o.1)
-    user_pages_later u own_seat user_step.AddToList o = (in_work_later u All Last Unlisted own_seat o.0, near_later u o.1)
-    user_pages_later u own_seat user_step.StoreOldest o = (in_work_later u All Last InListOnly own_seat o.0, near_later u o.1, list_later (page_of u % 4) o.2)
-    user_pages_later u own_seat user_step.GiveList o = (in_work_later u All Last IsListed own_seat o.0, near_later u o.1, list_later (page_of u % 4) o.2)
-    user_pages_later u own_seat user_step.StoreClosedLink o = (in_work_later u All Last IsListed own_seat o.0, (let a = o.1 in let b = later.ctail in omega arith), o.2, o.3)
-    user_pages_later u own_seat user_step.ReleaseLatch o = (held_later u u.page (length (changes u)) o.0, o.1)
-    user_pages_later u own_seat user_step.AwaitMark o = tt
-    user_pages_later u own_seat user_step.Done o = tt
-    user_pages_later u own_seat user_step.Failed o = tt
+    user_pages_later u own_seat user_step.Failed o = (o.0, user_holds_later u own_seat o.0 o.1)
+    user_pages_later u own_seat f o = user_holds_later u own_seat f o
 
     pub user_page_fits_later : (u : UserState) → seat_of u.user ≡ j → UserPageFits E c m log h ls d j u → UserPageFits E c m' log' h' ls' d' j u
     user_page_fits_later u own_seat o = record { there = o.there; apart = o.apart; within = o.within; loaded = (let l = o.loaded in let a = later.ctail in omega arith); step = user_pages_later u own_seat u.step o.step }
@@ -247,23 +251,27 @@ module _ (E : DataSide) (c : Setup) (seat_of : ℕ → ℕ) (m m' : SharedWords)
     unlisting_later : (v : CleanerState) (t : ListingStage) → StillCleaner → Unlisting E c m log h ls d j v t → Unlisting E c m' log' h' ls' d' j v t
     unlisting_later v t still o = (kept_later v still o.0, batch_later v 1 o.1, (λ x is. batch_one v.flushed x t (o.2 x is)), o.3)
 
-    cleaner_at_later : (v : CleanerState) → StillCleaner → (f : CleanerStep) → CleanerAt E c m log h ls d j v f → CleanerAt E c m' log' h' ls' d' j v f
-    cleaner_at_later v still cleaner_step.LoadFlushed o = tt
-    cleaner_at_later v still cleaner_step.LoadOldest o = looking_later v o
-    cleaner_at_later v still cleaner_step.TakeLatch o = (looking_later v o.0, still.oldest v.page o.1)
-    cleaner_at_later v still cleaner_step.LoadNewest o = (looking_later v o.0, has_page_later v o.1)
-    cleaner_at_later v still cleaner_step.ReleaseSkipped o = (looking_later v o.0, has_page_later v o.1)
-    cleaner_at_later v still cleaner_step.LoadFrame o = let we = leaf_later v.page none_in_hand All Last Agree o.1.0 in
+    cleaner_holds_later : (v : CleanerState) → StillCleaner → (f : CleanerStep) → CleanerHolds E c m log h ls d j v f → CleanerHolds E c m' log' h' ls' d' j v f
+    cleaner_holds_later v still cleaner_step.LoadFlushed o = tt
+    cleaner_holds_later v still cleaner_step.LoadOldest o = looking_later v o
+    cleaner_holds_later v still cleaner_step.TakeLatch o = (looking_later v o.0, still.oldest v.page o.1)
+    cleaner_holds_later v still cleaner_step.LoadNewest o = (looking_later v o.0, has_page_later v o.1)
+    cleaner_holds_later v still cleaner_step.ReleaseSkipped o = (looking_later v o.0, has_page_later v o.1)
+    cleaner_holds_later v still cleaner_step.LoadFrame o = let we = leaf_later v.page none_in_hand All Last Agree o.1.0 in
         (looking_later v o.0, has_page_later v o.1, o.2 ∙ sym (ap (λ (y : PageWords). y.newest) we), o.3, o.4 ∙ sym (ap (λ (y : PageWords). take (length v.kept) y.frame) we), o.5)
-    cleaner_at_later v still cleaner_step.WriteBatch o = (batch_later v 0 o.0, o.1)
-    cleaner_at_later v still cleaner_step.RemoveFromList o = (unlisting_later v Agree still o.0, (λ x is. subst (λ (y : PageWords). 0 < y.oldest) (sym (leaf_later x.page none_in_hand All Last Agree (o.0.2 x is).held)) (o.1 x is)))
-    cleaner_at_later v still cleaner_step.ClearOldest o = (unlisting_later v InWordOnly still o.0, list_later (first_of_batch v % 4) o.1)
-    cleaner_at_later v still cleaner_step.GiveList o = (unlisting_later v Unlisted still o.0, list_later (first_of_batch v % 4) o.1)
-    cleaner_at_later v still cleaner_step.ReleaseLatch o = unlisting_later v Unlisted still o
-    cleaner_at_later v still cleaner_step.StoreFailed o = tt
-    cleaner_at_later v still cleaner_step.Failed o = tt
+    cleaner_holds_later v still cleaner_step.WriteBatch o = (batch_later v 0 o.0, o.1)
+    cleaner_holds_later v still cleaner_step.RemoveFromList o = (unlisting_later v Agree still o.0, (λ x is. subst (λ (y : PageWords). 0 < y.oldest) (sym (leaf_later x.page none_in_hand All Last Agree (o.0.2 x is).held)) (o.1 x is)))
+    cleaner_holds_later v still cleaner_step.ClearOldest o = (unlisting_later v InWordOnly still o.0, list_later (first_of_batch v % 4) o.1)
+    cleaner_holds_later v still cleaner_step.GiveList o = (unlisting_later v Unlisted still o.0, list_later (first_of_batch v % 4) o.1)
+    cleaner_holds_later v still cleaner_step.ReleaseLatch o = unlisting_later v Unlisted still o
+    cleaner_holds_later v still cleaner_step.StoreFailed o = batch_later v 0 o
+    cleaner_holds_later v still cleaner_step.Failed o = absurd o
 
-    cleaner_later : (v : CleanerState) → StillCleaner → CleanerFits E c m log h ls d j v → CleanerFits E c m' log' h' ls' d' j v
+    cleaner_at_later : (v : CleanerState) → StillCleaner → (f : CleanerStep) → CleanerAt E c m log h ls d j v f → CleanerAt E c m' log' h' ls' d' j v f
+    cleaner_at_later v still cleaner_step.Failed o = (o.0, cleaner_holds_later v still o.0 o.1)
+    cleaner_at_later v still f o = cleaner_holds_later v still f o
+
+    pub cleaner_later : (v : CleanerState) → StillCleaner → CleanerFits E c m log h ls d j v → CleanerFits E c m' log' h' ls' d' j v
     cleaner_later v still o = record {
       alone = o.alone;
       pages = o.pages;

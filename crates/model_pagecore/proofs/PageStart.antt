@@ -9,7 +9,9 @@ use Rattle.model_core.specs.Groups.{KeptPage}
 use Rattle.model_core.specs.Layout.{PageWords, SharedWords, page_words_at}
 use Rattle.model_core.specs.Lsn.{lsn}
 use Rattle.model_core.specs.Setup.{Setup}
-use Rattle.model_pagecore.specs.PageFacts.{PageGhost}
+use Rattle.model_core.specs.States.{BatchPage}
+use Rattle.model_pagecore.proofs.Unfinished.{none_unfinished}
+use Rattle.model_pagecore.specs.PageFacts.{AreUnfinished, PageGhost}
 use Rattle.model_pagecore.specs.PageHalf.{PageFits, PageHalf}
 use Rattle.model_pagecore.specs.Pages.{OnePage}
 
@@ -26,6 +28,7 @@ pub record StartPages (E : DataSide) (c : Setup) (m : SharedWords) (stable : ℕ
   pub given : h.given ≤ lsn c.base
   pub kept_page : (p : ℕ) → ◌≡◌ {A = KeptPage} (h.kept_page p) (c.opened p)
   pub stored : E.Holds h.kept_page h.unfinished d
+  pub all_written : ◌≡◌ {A = List BatchPage} h.unfinished []
 
 pub pages_start : (E : DataSide) (c : Setup) (m : SharedWords) (stable : ℕ) (h : PageGhost) (d : E.Part) (actors : List Actor) → StartPages E c m stable h d
     → ((seat : ℕ) (a : Actor) → get_elem? actors seat ≡ some a → PageFits E c m [] h (λ _. []) d seat a) → PageHalf E c m [] stable h (λ _. []) d actors
@@ -56,6 +59,8 @@ pages_start E c m stable h d actors S fits = let s1 = S.sn in let s2 = S.stable_
         flushed = omega arith;
         stable_top = omega arith;
         stored = S.stored;
+        unfinished = subst (AreUnfinished c.pages c.opened h.kept_page [] stable) (sym S.all_written) (none_unfinished c.pages c.opened h.kept_page [] stable);
+        alone = λ _. S.given;
       };
       each = fits;
     }

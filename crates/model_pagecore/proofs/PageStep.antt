@@ -15,6 +15,7 @@ use Rattle.model_core.specs.States.{UserState}
 use Rattle.model_core.specs.UserProgram.{change_at}
 use Rattle.model_pagecore.proofs.PageHistory.{each_more}
 use Rattle.model_pagecore.proofs.PageFrame.{log_same, longer_same, page_later, page_moved, page_others, one_page_later}
+use Rattle.model_pagecore.proofs.Unfinished.{unfinished_later}
 use Rattle.model_pagecore.specs.PageFacts.{ClosedLinks, PageGhost, ListFacts, listed}
 use Rattle.model_pagecore.specs.PageHalf.{At, PageFits, PageHalf, PagesInHand, group_in_hand}
 use Rattle.model_pagecore.specs.Pages.{All, Before, AgreeBelow, Cells, FrameStage, GroupInHand, Last, NewestStage, PageIs, OnePage, ListingStage, IsListed, StartsAt, Agree, cells_on, none_in_hand, touches}
@@ -61,6 +62,8 @@ module _ (E : DataSide) (c : Setup) (seat_of : ℕ → ℕ) (m : SharedWords) (l
         flushed = fl;
         stable_top = tp;
         stored = P.stored;
+        unfinished = unfinished_later c.pages c.opened h.kept_page log log stable stable' h.unfinished (longer_same log) (λ _ _ _ _. refl) ge P.unfinished;
+        alone = P.alone;
       })
       mine
       (λ j a n e. page_others E c seat_of m m' log log h h ls ls d d seat j n
@@ -126,6 +129,8 @@ module _ (E : DataSide) (c : Setup) (seat_of : ℕ → ℕ) (m : SharedWords) (l
           flushed = P.flushed;
           stable_top = P.stable_top;
           stored = P.stored;
+          unfinished = P.unfinished;
+          alone = P.alone;
         })
         fits
         (λ j a n e. page_others E c seat_of m leaf_mem log log h leaf_folio ls ls d d seat j n
@@ -246,7 +251,7 @@ module _ (E : DataSide) (c : Setup) (seat_of : ℕ → ℕ) (m : SharedWords) (l
         → ((q : ℕ) → (page_words_at m.page_words q).latch ≡ 1 → h.holder q ≢ seat → listed ls' q ≡ listed ls q) → PageFits E c list_mem log list_folio ls' d seat b → PageHalf E c list_mem log stable list_folio ls' d (set actors seat b)
     list_step b waits each_page others fits = let P = before.paged in
         page_moved E c m list_mem log log stable stable h list_folio ls ls' d d actors seat b
-        (record { closed_links = P.closed_links; lists = waits; each_page = each_page; within = P.within; flushed = P.flushed; stable_top = P.stable_top; stored = P.stored })
+        (record { closed_links = P.closed_links; lists = waits; each_page = each_page; within = P.within; flushed = P.flushed; stable_top = P.stable_top; stored = P.stored; unfinished = P.unfinished; alone = P.alone })
         fits
         (λ j a n e. page_others E c seat_of m list_mem log log h list_folio ls ls' d d seat j n
         (record {
@@ -291,6 +296,8 @@ module _ (E : DataSide) (c : Setup) (seat_of : ℕ → ℕ) (m : SharedWords) (l
           flushed = P.flushed;
           stable_top = P.stable_top;
           stored = P.stored;
+          unfinished = P.unfinished;
+          alone = P.alone;
         })
         fits
         (λ j a n e. page_others E c seat_of m ring_mem log log h ring_folio ls ls d d seat j n

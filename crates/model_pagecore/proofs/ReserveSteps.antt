@@ -20,6 +20,7 @@ use Rattle.model_core.specs.UserProgram.{change_at, changes, line, group_bytes, 
 use Rattle.model_pagecore.proofs.PageHistory.{upto_snoc}
 use Rattle.model_pagecore.proofs.PageFrame.{log_snoc, longer_snoc, page_moved, page_others, one_page_later}
 use Rattle.model_pagecore.proofs.PageStep.{mate, named}
+use Rattle.model_pagecore.proofs.Unfinished.{unfinished_later}
 use Rattle.model_pagecore.specs.PageFacts.{PageGhost, listed}
 use Rattle.model_pagecore.specs.PageHalf.{At, PageHalf, UserPagesAt, UserPageFits, group_in_hand}
 use Rattle.model_pagecore.specs.Pages.{All, Before, AgreeBelow, Cells, Laid, Last, OnePage, Agree, none_in_hand, last_end, start_lsn, touches, applied_upto, applied_all}
@@ -98,6 +99,8 @@ module _ (E : DataSide) (c : Setup) (seat_of : ℕ → ℕ) (m : SharedWords) (l
         flushed = P.flushed;
         stable_top = omega arith;
         stored = P.stored;
+        unfinished = unfinished_later c.pages c.opened h.kept_page log log' stable stable h.unfinished longer (λ q n b low. upto_snoc q n log g b (omega arith)) (omega arith) P.unfinished;
+        alone = P.alone;
       })
       (record {
         there = F.there;

@@ -19,6 +19,7 @@ use Rattle.model_core.specs.States.{UserState}
 use Rattle.model_core.specs.UserProgram.{answered, cells_of, change_at, changes, line, mode, group_end, page_of, put_of, after_link, to_next_page, user_took}
 use Rattle.model_pagecore.proofs.PageHistory.{last_after, puts_snoc, take_all, take_next, whole_after}
 use Rattle.model_pagecore.proofs.PageStep.{at_else, at_here, cells_mine, freed_sheet, latched_sheet, leaf_step, list_at, list_step, page_quiet, work_here}
+use Rattle.model_pagecore.specs.Growing.{Grows}
 use Rattle.model_pagecore.specs.PageFacts.{PageGhost, listed}
 use Rattle.model_pagecore.specs.PageHalf.{At, HasPagesInHand, IsNear, PageHalf, UserPagesAt, UserPageFits, PagesInHand, group_in_hand}
 use Rattle.model_pagecore.specs.Pages.{InListOnly, All, Before, AgreeBelow, Cells, FrameStage, Laid, Last, NewestStage, PageIs, ListingStage, IsListed, StartsAt, Agree, cells_on, none_in_hand, write_cells, touches, applied_all}
@@ -238,7 +239,7 @@ module _ (E : DataSide) (c : Setup) (seat_of : ℕ → ℕ) (m : SharedWords) (l
 
     -- it takes the latch of its next page, if that is free
     pub keeps_take_latch : length m.page_words ≡ c.pages → u.step ≡ user_step.TakeLatch → w.latch ≡ 0
-        → (k : PageGhost) × PageHalf E c (with_page_words m p (record w { latch = 1 })) log stable k ls d (set actors seat (actor.User (user_took u 0 user_step.TakeLatch)))
+        → (k : PageGhost) × PageHalf E c (with_page_words m p (record w { latch = 1 })) log stable k ls d (set actors seat (actor.User (user_took u 0 user_step.TakeLatch))) × Grows h k
     keeps_take_latch long ph free =
         let o : UserPagesAt E c m log h ls d seat u user_step.TakeLatch = subst (UserPagesAt E c m log h ls d seat u) ph own.step in
         let holders : ℕ → ℕ = changed h.holder p seat in
@@ -262,6 +263,7 @@ module _ (E : DataSide) (c : Setup) (seat_of : ℕ → ℕ) (m : SharedWords) (l
           leaf_step E c seat_of m log stable h ls d actors seat before mates p w' holders there long (inl free) same (actor.User (user_took u 0 user_step.TakeLatch))
               (latched_sheet E c seat_of m log stable h ls d actors seat before mates p w' there refl S.oldest) (λ _ z. z)
               (record { there = own.there; apart = own.apart; within = own.within; loaded = own.loaded; step = next (eqb (u.page + 1) (length (changes u))) refl }),
+          record { given = omega arith; closed = λ x z. z },
         )
 
     -- nothing is said of the pages of a user whose commit is answered or awaited

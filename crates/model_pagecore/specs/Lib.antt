@@ -1,4 +1,5 @@
 pub mod DataLaws
+pub mod Growing
 pub mod PageFacts
 pub mod PageHalf
 pub mod Pages

@@ -9,7 +9,8 @@ use Rattle.model_core.specs.Layout.{SharedWords, page_words_at}
 use Rattle.model_core.specs.Lsn.{lsn}
 use Rattle.model_core.specs.Setup.{Setup}
 use Rattle.model_core.specs.States.{BatchPage}
-use Rattle.model_pagecore.specs.Pages.{OnePage, end_lsn, start_lsn}
+use Rattle.model_pagecore.specs.DataLaws.{AreApart}
+use Rattle.model_pagecore.specs.Pages.{EndsAt, OnePage, applied_upto, end_lsn, start_lsn}
 use Rattle.model_core.specs.declared.limits.TheConstants.{CLOSED_LINKS, FLUSH_LISTS}
 
 -- What only the proof knows of the pages
@@ -23,7 +24,9 @@ pub record PageGhost : Type 0 where
   pub given : ℕ
   -- the closer's tail
   pub tail : ℕ
+  -- each page as it was last written
   pub kept_page : ℕ → KeptPage
+  -- the batch whose writing failed
   pub unfinished : List BatchPage
 
 -- a link that stands in slot i with the distance n
@@ -52,6 +55,19 @@ pub record ListFacts (ls : ℕ → List Listed) (ctail : ℕ) : Type 0 where
 abbrev pub listed : (ℕ → List Listed) → ℕ → ℕ
 listed ls p = oldest_of p (ls (p % FLUSH_LISTS))
 
+-- A page of a batch whose writing failed: it may be kept as it was last written, or so. So too it is the opened page with
+-- exactly the groups up to its lsn, which are stable, and no older than it was.
+pub record UnfinishedPage (pages : ℕ) (opened kept_page : ℕ → KeptPage) (log : List Entry) (stable : ℕ) (x : BatchPage) : Type 0 where
+  pub there : x.page < pages
+  pub fold : x.bytes ≡ applied_upto x.page x.lsn log (opened x.page).bytes
+  pub ends : EndsAt x.page log x.lsn
+  pub no_older : (kept_page x.page).lsn ≤ x.lsn
+  pub behind : x.lsn ≤ stable
+
+pub record AreUnfinished (pages : ℕ) (opened kept_page : ℕ → KeptPage) (log : List Entry) (stable : ℕ) (batch : List BatchPage) : Type 0 where
+  pub each : (i : ℕ) (x : BatchPage) → get_elem? batch i ≡ some x → UnfinishedPage pages opened kept_page log stable x
+  pub apart : AreApart batch
+
 -- `stable` is the log part's stable mark
 pub record PageFacts (E : DataSide) (c : Setup) (m : SharedWords) (log : List Entry) (stable : ℕ) (h : PageGhost) (ls : ℕ → List Listed) (d : E.Part) : Type 0 where
   pub closed_links : ClosedLinks log h.closed m.ctail h.tail (lsn m.sn) m.clinks
@@ -61,3 +77,6 @@ pub record PageFacts (E : DataSide) (c : Setup) (m : SharedWords) (log : List En
   pub flushed : m.flushed ≤ stable
   pub stable_top : stable ≤ lsn m.sn
   pub stored : E.Holds h.kept_page h.unfinished d
+  pub unfinished : AreUnfinished c.pages c.opened h.kept_page log stable h.unfinished
+  -- with the log alone there is no checkpoint but that of the start
+  pub alone : c.log_only ≡ true → h.given ≤ lsn c.base

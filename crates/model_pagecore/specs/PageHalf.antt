@@ -17,6 +17,7 @@ use Rattle.model_core.specs.declared.steps.CleanerStep.{CleanerStep}
 use Rattle.model_core.specs.declared.steps.CloserStep.{CloserStep}
 use Rattle.model_core.specs.declared.steps.UserStep.{UserStep}
 use Rattle.model_core.specs.declared.steps.CheckpointerStep.{CheckpointerStep}
+use Rattle.model_pagecore.specs.DataLaws.{AreApart}
 use Rattle.model_pagecore.specs.PageFacts.{PageGhost, PageFacts, listed}
 use Rattle.model_pagecore.specs.Pages.{InListOnly, All, Before, AgreeBelow, Cells, InWordOnly, FrameStage, GroupInHand, Last, NewestStage, Unlisted, PageIs, Passed, ListingStage, IsListed, Agree, end_lsn, none_in_hand, start_lsn, touches}
 use Rattle.model_core.specs.declared.steps.UserStep.TheVariants as user_step
@@ -88,24 +89,31 @@ module _ (E : DataSide) (c : Setup) (m : SharedWords) (log : List Entry) (h : Pa
   abbrev pub AreHeld : ℕ → UserState → ℕ → ℕ → Type 0
   AreHeld seat u lo hi = (k : ℕ) → lo ≤ k → k < hi → At seat (change_at (changes u) k).page none_in_hand All Last Agree
 
+  -- what it knows of the pages, and of those that it holds, before this step
+  abbrev pub UserHolds : ℕ → UserState → UserStep → Type 0
+  UserHolds seat u user_step.TakeLatch = AreHeld seat u 0 u.page × (u.page < length (changes u))
+  UserHolds seat u user_step.Reserve = AreHeld seat u 0 (length (changes u))
+  UserHolds seat u user_step.LoadWrite = IsFresh seat u
+  UserHolds seat u user_step.StoreCell = IsFresh seat u
+  UserHolds seat u user_step.StoreFirst = IsFresh seat u
+  UserHolds seat u user_step.LoadWtail = IsFresh seat u
+  UserHolds seat u user_step.StoreLink = IsFresh seat u
+  UserHolds seat u user_step.LoadCtail = IsFresh seat u × (0 < length (changes u))
+  UserHolds seat u user_step.StoreFrame = HasPagesInHand seat u (Cells u.cell) Before AgreeBelow × IsNear u × (u.cell < length (cells_of u))
+  UserHolds seat u user_step.StoreNewest = HasPagesInHand seat u (Cells (length (cells_of u))) Before AgreeBelow × IsNear u
+  UserHolds seat u user_step.LoadOldest = HasPagesInHand seat u All Last AgreeBelow × IsNear u
+  UserHolds seat u user_step.AddToList = HasPagesInHand seat u All Last Unlisted × IsNear u
+  UserHolds seat u user_step.StoreOldest = HasPagesInHand seat u All Last InListOnly × IsNear u × HasList seat (page_of u % FLUSH_LISTS)
+  UserHolds seat u user_step.GiveList = HasPagesInHand seat u All Last IsListed × IsNear u × HasList seat (page_of u % FLUSH_LISTS)
+  UserHolds seat u user_step.StoreClosedLink = HasPagesInHand seat u All Last IsListed × (lsn u.start < m.ctail + CLOSED_LINKS) × (u.page ≡ length (changes u)) × (0 < length (changes u))
+  UserHolds seat u user_step.ReleaseLatch = AreHeld seat u u.page (length (changes u)) × (u.page < length (changes u))
+  UserHolds seat u user_step.Failed = ⊥
+  UserHolds seat u _ = Unit {0}
+
+  -- A user that has failed still holds what it held before the step at which it met the failure.
   abbrev pub UserPagesAt : ℕ → UserState → UserStep → Type 0
-  UserPagesAt seat u user_step.TakeLatch = AreHeld seat u 0 u.page × (u.page < length (changes u))
-  UserPagesAt seat u user_step.Reserve = AreHeld seat u 0 (length (changes u))
-  UserPagesAt seat u user_step.LoadWrite = IsFresh seat u
-  UserPagesAt seat u user_step.StoreCell = IsFresh seat u
-  UserPagesAt seat u user_step.StoreFirst = IsFresh seat u
-  UserPagesAt seat u user_step.LoadWtail = IsFresh seat u
-  UserPagesAt seat u user_step.StoreLink = IsFresh seat u
-  UserPagesAt seat u user_step.LoadCtail = IsFresh seat u × (0 < length (changes u))
-  UserPagesAt seat u user_step.StoreFrame = HasPagesInHand seat u (Cells u.cell) Before AgreeBelow × IsNear u × (u.cell < length (cells_of u))
-  UserPagesAt seat u user_step.StoreNewest = HasPagesInHand seat u (Cells (length (cells_of u))) Before AgreeBelow × IsNear u
-  UserPagesAt seat u user_step.LoadOldest = HasPagesInHand seat u All Last AgreeBelow × IsNear u
-  UserPagesAt seat u user_step.AddToList = HasPagesInHand seat u All Last Unlisted × IsNear u
-  UserPagesAt seat u user_step.StoreOldest = HasPagesInHand seat u All Last InListOnly × IsNear u × HasList seat (page_of u % FLUSH_LISTS)
-  UserPagesAt seat u user_step.GiveList = HasPagesInHand seat u All Last IsListed × IsNear u × HasList seat (page_of u % FLUSH_LISTS)
-  UserPagesAt seat u user_step.StoreClosedLink = HasPagesInHand seat u All Last IsListed × (lsn u.start < m.ctail + CLOSED_LINKS) × (u.page ≡ length (changes u)) × (0 < length (changes u))
-  UserPagesAt seat u user_step.ReleaseLatch = AreHeld seat u u.page (length (changes u)) × (u.page < length (changes u))
-  UserPagesAt seat u _ = Unit {0}
+  UserPagesAt seat u user_step.Failed = (f : UserStep) × UserHolds seat u f
+  UserPagesAt seat u f = UserHolds seat u f
 
   -- the lines name pages that there are, each once, and cells of a frame
   pub record UserPageFits (seat : ℕ) (u : UserState) : Type 0 where
@@ -159,19 +167,26 @@ module _ (E : DataSide) (c : Setup) (m : SharedWords) (log : List Entry) (h : Pa
   abbrev pub Unlisting : ℕ → CleanerState → ListingStage → Type 0
   Unlisting seat v t = AreKept v × AreBatch seat v 1 × ((x : BatchPage) → get_elem? v.batch 0 ≡ some x → InBatch seat v.flushed x t) × (0 < length v.batch)
 
+  -- what it knows of the pages, and of those that it holds, before this step
+  abbrev pub CleanerHolds : ℕ → CleanerState → CleanerStep → Type 0
+  CleanerHolds seat v cleaner_step.LoadFlushed = Unit {0}
+  CleanerHolds seat v cleaner_step.LoadOldest = Looking seat v
+  CleanerHolds seat v cleaner_step.TakeLatch = Looking seat v × (0 < (page_words_at m.page_words v.page).oldest)
+  CleanerHolds seat v cleaner_step.LoadNewest = Looking seat v × HasPage seat v
+  CleanerHolds seat v cleaner_step.ReleaseSkipped = Looking seat v × HasPage seat v
+  CleanerHolds seat v cleaner_step.LoadFrame = Looking seat v × HasPage seat v × (v.newest ≡ (page_words_at m.page_words v.page).newest) × (v.newest ≤ v.flushed) × (v.kept ≡ take (length v.kept) (page_words_at m.page_words v.page).frame) × (length v.kept < FRAME_CELLS)
+  CleanerHolds seat v cleaner_step.WriteBatch = AreBatch seat v 0 × (0 < length v.batch)
+  CleanerHolds seat v cleaner_step.RemoveFromList = Unlisting seat v Agree × ((x : BatchPage) → get_elem? v.batch 0 ≡ some x → 0 < (page_words_at m.page_words x.page).oldest)
+  CleanerHolds seat v cleaner_step.ClearOldest = Unlisting seat v InWordOnly × HasList seat (first_of_batch v % FLUSH_LISTS)
+  CleanerHolds seat v cleaner_step.GiveList = Unlisting seat v Unlisted × HasList seat (first_of_batch v % FLUSH_LISTS)
+  CleanerHolds seat v cleaner_step.ReleaseLatch = Unlisting seat v Unlisted
+  CleanerHolds seat v cleaner_step.StoreFailed = AreBatch seat v 0
+  CleanerHolds seat v cleaner_step.Failed = ⊥
+
+  -- A cleaner that has failed still holds what it held before the step at which it met the failure: the pages of its batch.
   abbrev pub CleanerAt : ℕ → CleanerState → CleanerStep → Type 0
-  CleanerAt seat v cleaner_step.LoadFlushed = Unit {0}
-  CleanerAt seat v cleaner_step.LoadOldest = Looking seat v
-  CleanerAt seat v cleaner_step.TakeLatch = Looking seat v × (0 < (page_words_at m.page_words v.page).oldest)
-  CleanerAt seat v cleaner_step.LoadNewest = Looking seat v × HasPage seat v
-  CleanerAt seat v cleaner_step.ReleaseSkipped = Looking seat v × HasPage seat v
-  CleanerAt seat v cleaner_step.LoadFrame = Looking seat v × HasPage seat v × (v.newest ≡ (page_words_at m.page_words v.page).newest) × (v.newest ≤ v.flushed) × (v.kept ≡ take (length v.kept) (page_words_at m.page_words v.page).frame) × (length v.kept < FRAME_CELLS)
-  CleanerAt seat v cleaner_step.WriteBatch = AreBatch seat v 0 × (0 < length v.batch)
-  CleanerAt seat v cleaner_step.RemoveFromList = Unlisting seat v Agree × ((x : BatchPage) → get_elem? v.batch 0 ≡ some x → 0 < (page_words_at m.page_words x.page).oldest)
-  CleanerAt seat v cleaner_step.ClearOldest = Unlisting seat v InWordOnly × HasList seat (first_of_batch v % FLUSH_LISTS)
-  CleanerAt seat v cleaner_step.GiveList = Unlisting seat v Unlisted × HasList seat (first_of_batch v % FLUSH_LISTS)
-  CleanerAt seat v cleaner_step.ReleaseLatch = Unlisting seat v Unlisted
-  CleanerAt seat v _ = Unit {0}
+  CleanerAt seat v cleaner_step.Failed = (f : CleanerStep) × CleanerHolds seat v f
+  CleanerAt seat v f = CleanerHolds seat v f
 
   pub record CleanerFits (seat : ℕ) (v : CleanerState) : Type 0 where
     pub alone : seat ≡ c.cleaner
@@ -179,7 +194,7 @@ module _ (E : DataSide) (c : Setup) (m : SharedWords) (log : List Entry) (h : Pa
     pub page : v.page < c.pages
     pub flushed : v.flushed ≤ m.flushed
     pub sound : runs v.step ≡ true → (E.failed d ≡ false) × (h.unfinished ≡ [])
-    pub apart : (i j : ℕ) (x y : BatchPage) → get_elem? v.batch i ≡ some x → get_elem? v.batch j ≡ some y → i < j → x.page ≢ y.page
+    pub apart : AreApart v.batch
     pub few : length v.batch ≤ BATCH_PAGES
     pub cause : v.step ≡ cleaner_step.StoreFailed → E.Cause d v.code
     pub step : CleanerAt seat v v.step

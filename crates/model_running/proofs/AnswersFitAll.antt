@@ -4,8 +4,9 @@ use Rattle.std.specs.Prelude.{slice_index}
 use lib.ListN.{get_elem?}
 use mathlib.Core.Option.{some}
 use native.Mathlib.Decide.{dec_le}
+use Rattle.model_base.specs.declared.limits.TheConstants.{LSN_LIMIT}
 use Rattle.model_core.proofs.Groups.{tiles_at}
-use Rattle.model_core.proofs.Lsns.{lsn_le, lsn_small}
+use Rattle.model_core.proofs.Lsns.{lsn_le}
 use Rattle.model_core.specs.Actors.{Actor}
 use Rattle.model_core.specs.AnswerFits.{AnswerFits, PageFitting, cleaner_fits, closer_fits}
 use Rattle.model_core.specs.Answers.{old_of}
@@ -28,7 +29,7 @@ use Rattle.model_core.specs.WriterProgram.{writer_op}
 use Rattle.model_core.specs.declared.ops.Op.{Op}
 use Rattle.model_core.specs.declared.steps.CleanerStep.{CleanerStep}
 use Rattle.model_core.specs.declared.steps.CloserStep.{CloserStep}
-use Rattle.model_logcore.proofs.AnswersFit.{can_take}
+use Rattle.model_logcore.proofs.AnswersFit.{can_take, small_sn}
 use Rattle.model_logcore.specs.LogFacts.{LogGhost}
 use Rattle.model_pagecore.specs.PageFacts.{PageGhost}
 use Rattle.model_pagecore.specs.PageHalf.{At, CleanerAt, CleanerFits, CloserFits}
@@ -72,8 +73,8 @@ applied_bytes p [] b small each i = each i
 applied_bytes p (e ∷ es) b small each i = applied_bytes p es (write_cells (cells_on p e.changes) b) (λ n x is. small (suc n) x is) (write_bytes (cells_on p e.changes) b (cells_small p e.changes (small 0 e refl)) each) i
 
 module _ (D : LogSide) (E : DataSide) (c : Setup) (spare : ℕ) (m : SharedWords) (g : LogGhost) (h : PageGhost) (ls : ℕ → List Listed) (p : D.Part) (d : E.Part) (actors : List Actor) (seat : ℕ) (both : BothHalves D E c spare m g h ls p d actors) (bytes : HasBytes c) (codes : HaveSmallCodes D E) (broken : Bool) (code mark : ℕ) where
-  small_top : lsn m.sn < 2 ^ 60
-  small_top = lsn_small m.sn (let r = both.logged.room in omega arith)
+  small_top : lsn m.sn < LSN_LIMIT
+  small_top = small_sn D c spare m g p actors seat both.logged
 
   closer_can : (t : CloserState) → get_elem? actors seat ≡ some (actor.Closer t) → (f : CloserStep) → closer_fits t (old_of (shared_answer ls broken code mark m (closer_op t f))) f
   closer_can t at closer_step.LoadClosedLink =

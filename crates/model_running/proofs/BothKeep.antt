@@ -37,21 +37,24 @@ use Rattle.model_logcore.specs.LogFacts.{LogGhost}
 use Rattle.model_logcore.specs.LogFits.{UserAt, UserFits}
 use Rattle.model_logcore.specs.LogHalf.{LogHalf}
 use Rattle.model_logcore.specs.LogLaws.{LogLaws}
-use Rattle.model_pagecore.proofs.BatchSteps.{can_batch, keeps_unwritten, keeps_written}
+use Rattle.model_pagecore.proofs.BatchSteps.{keeps_unwritten, keeps_written}
 use Rattle.model_pagecore.proofs.ClosingSteps.{keeps_close, keeps_closer_clear, keeps_closer_look, keeps_closer_publish}
 use Rattle.model_pagecore.proofs.ListSteps.{keeps_add, keeps_oldest_end, keeps_remove}
 use Rattle.model_pagecore.proofs.CleanerSteps.{keeps_held, keeps_latched, keeps_load, keeps_load_flushed, keeps_read_newest, keeps_seen, keeps_skip}
 use Rattle.model_pagecore.proofs.PageHistory.{laid}
-use Rattle.model_pagecore.proofs.PageFrame.{log_same, longer_same, user_page_fits_later}
+use Rattle.model_pagecore.proofs.Holders.{cleaner_still_holds, user_still_holds}
+use Rattle.model_pagecore.proofs.PageFrame.{cleaner_later, log_same, longer_same, user_page_fits_later}
 use Rattle.model_pagecore.proofs.CheckpointSteps.{keeps_begin, keeps_candidate, keeps_cleared, keeps_freed, keeps_given, keeps_list_held, keeps_next_list, keeps_promise}
 use Rattle.model_pagecore.proofs.PageStep.{grown, page_quiet}
 use Rattle.model_pagecore.proofs.UserPageSteps.{keeps_store_frame, keeps_release_latch, keeps_give_list, keeps_take_latch, keeps_store_newest, keeps_load_oldest, keeps_store_oldest, keeps_load_ctail, tied_fits}
 use Rattle.model_pagecore.proofs.ReserveSteps.{keeps_page_reserve}
 use Rattle.model_pagecore.specs.DataLaws.{AfterBatch, DataLaws, renewed}
+use Rattle.model_pagecore.specs.Growing.{Grows}
 use Rattle.model_pagecore.specs.PageFacts.{PageGhost}
-use Rattle.model_pagecore.specs.PageHalf.{CleanerAt, CleanerFits, CloserFits, IsFresh, PageFits, PageHalf, CheckpointerPagesAt, CheckpointerPageFits, UserPagesAt, UserPageFits, rests, runs}
+use Rattle.model_pagecore.specs.PageHalf.{CleanerAt, CleanerFits, CloserFits, IsFresh, PageFits, PageHalf, CheckpointerPagesAt, CheckpointerPageFits, UserPagesAt, UserPageFits, rests}
 use Rattle.model_pagecore.specs.Pages.{Laid}
 use Rattle.model_running.specs.RunningStore.{BothHalves}
+use Rattle.model_running.specs.UsersClosed.{UsersClosed}
 use Rattle.model_core.specs.declared.ops.Answer.TheVariants as answer
 use Rattle.model_core.specs.declared.steps.UserStep.TheVariants as user_step
 use Rattle.model_core.specs.declared.steps.CloserStep.TheVariants as closer_step
@@ -63,8 +66,10 @@ use Rattle.model_core.specs.declared.ops.Op.TheVariants as op
 use Rattle.model_core.specs.declared.steps.WriterStep.TheVariants as writer_step
 use Rattle.model_core.specs.declared.steps.FlusherStep.TheVariants as flusher_step
 use Rattle.model_logcore.specs.LogFits as marks
-use Rattle.model_running.proofs.CallConditions.{can_checkpoint}
+use Rattle.model_running.proofs.CallConditions.{after_batch, can_checkpoint}
+use Rattle.model_running.proofs.AskedBound.{asked_bound}
 use Rattle.model_running.proofs.Causes.{caused}
+use Rattle.model_running.proofs.ClosedKeep.{users_closed}
 use Rattle.model_core.specs.declared.limits.TheConstants.{BUFFER_BLOCKS, FREE_MARGIN, LOG_BUFFER, WRITTEN_LINKS}
 use Rattle.model_log.specs.declared.layout.TheConstants.{BLOCK_DATA}
 use Rattle.model_base.specs.declared.limits.TheConstants.{BLOCK_SIZE}
@@ -85,15 +90,18 @@ module _ (D : LogSide) (L : LogLaws D) (E : DataSide) (EL : DataLaws E) (c : Set
   mates : (j : ℕ) (u : UserState) → get_elem? actors j ≡ some (actor.User u) → g.seat_of u.user ≡ j
   mates j u at = let f : UserFits D c m g p j u = M.each j (actor.User u) at in f.own_seat
 
+  unmoved : Grows h h
+  unmoved = record { given = omega arith; closed = λ x z. z }
+
   abbrev pub PageDone : SharedWords → List Entry → (ℕ → List Listed) → Actor → Type 0
-  PageDone m' l ls' b = (k : PageGhost) × PageHalf E c m' l (D.stable q) k ls' e (set actors seat b)
+  PageDone m' l ls' b = (k : PageGhost) × PageHalf E c m' l (D.stable q) k ls' e (set actors seat b) × Grows h k
 
   -- neither part has changed
-  as_is : (m' : SharedWords) {l : List Entry} {ls' : ℕ → List Listed} (b : Actor) → (x : ℕ) → ◌≡◌ {A = D.Part} q p → ◌≡◌ {A = E.Part} e d → (k : PageGhost) × PageHalf E c m' l (D.stable p) k ls' d (set actors seat b) → PageDone m' l ls' b
-  as_is m' {l} {ls'} b x s v r = subst (λ (y : D.Part). (k : PageGhost) × PageHalf E c m' l (D.stable y) k ls' e (set actors seat b)) (sym s) (subst (λ (y : E.Part). (k : PageGhost) × PageHalf E c m' l (D.stable p) k ls' y (set actors seat b)) (sym v) r)
+  as_is : (m' : SharedWords) {l : List Entry} {ls' : ℕ → List Listed} (b : Actor) → (x : ℕ) → ◌≡◌ {A = D.Part} q p → ◌≡◌ {A = E.Part} e d → (k : PageGhost) × PageHalf E c m' l (D.stable p) k ls' d (set actors seat b) × Grows h k → PageDone m' l ls' b
+  as_is m' {l} {ls'} b x s v r = subst (λ (y : D.Part). (k : PageGhost) × PageHalf E c m' l (D.stable y) k ls' e (set actors seat b) × Grows h k) (sym s) (subst (λ (y : E.Part). (k : PageGhost) × PageHalf E c m' l (D.stable p) k ls' y (set actors seat b) × Grows h k) (sym v) r)
 
   rested : (a : Actor) → get_elem? actors seat ≡ some a → ◌≡◌ {A = D.Part} q p → ◌≡◌ {A = E.Part} e d → PageDone m g.log ls a
-  rested a at s v = as_is m a 0 s v (h, subst (λ (z : List Actor). PageHalf E c m g.log (D.stable p) h ls d z) (sym (set_again actors seat a at)) B)
+  rested a at s v = as_is m a 0 s v (h, subst (λ (z : List Actor). PageHalf E c m g.log (D.stable p) h ls d z) (sym (set_again actors seat a at)) B, unmoved)
 
   -- words that the page half doesn't read change
   away : (m' : SharedWords) (b : Actor) → PageFits E c m' g.log h ls d seat b → m'.page_words ≡ m.page_words → m'.lists ≡ m.lists → m'.clinks ≡ m.clinks → m'.ctail ≡ m.ctail → m.sn ≡ m'.sn → m.flushed ≡ m'.flushed → PageHalf E c m' g.log (D.stable p) h ls d (set actors seat b)
@@ -126,27 +134,27 @@ module _ (D : LogSide) (L : LogLaws D) (E : DataSide) (EL : DataLaws E) (c : Set
     quiet_to w f = page_quiet E c g.seat_of m g.log (D.stable p) h ls d actors seat B mates (actor.User w) f
 
     total_by : (b d0 : Bool) → eqb (length (changes u)) 0 ≡ d0 → ◌≡◌ {A = D.Part} q p → ◌≡◌ {A = E.Part} e d → PageDone m g.log ls (actor.User (cond b (record u { page = 0; cell = 0; step = cond d0 user_step.Reserve user_step.TakeLatch }) (record u { checks = true; step = user_step.LoadCheckpoint })))
-    total_by true true f s v = as_is m (actor.User (record u { page = 0; cell = 0; step = user_step.Reserve })) 0 s v (h, quiet_to (record u { page = 0; cell = 0; step = user_step.Reserve }) (record { there = F.there; apart = F.apart; within = F.within; loaded = F.loaded; step = (λ k lo hi. let z = eqb-true (length (changes u)) 0 f in absurd (omega arith)) }))
-    total_by true false f s v = as_is m (actor.User (record u { page = 0; cell = 0; step = user_step.TakeLatch })) 0 s v (h, quiet_to (record u { page = 0; cell = 0; step = user_step.TakeLatch }) (record { there = F.there; apart = F.apart; within = F.within; loaded = F.loaded; step = ((λ k lo hi. absurd (omega arith)), (let z = eqb-false (length (changes u)) 0 f in omega arith)) }))
-    total_by false d0 f s v = as_is m (actor.User (record u { checks = true; step = user_step.LoadCheckpoint })) 0 s v (h, quiet_to (record u { checks = true; step = user_step.LoadCheckpoint }) (record { there = F.there; apart = F.apart; within = F.within; loaded = F.loaded; step = tt }))
+    total_by true true f s v = as_is m (actor.User (record u { page = 0; cell = 0; step = user_step.Reserve })) 0 s v (h, quiet_to (record u { page = 0; cell = 0; step = user_step.Reserve }) (record { there = F.there; apart = F.apart; within = F.within; loaded = F.loaded; step = (λ k lo hi. let z = eqb-true (length (changes u)) 0 f in absurd (omega arith)) }), unmoved)
+    total_by true false f s v = as_is m (actor.User (record u { page = 0; cell = 0; step = user_step.TakeLatch })) 0 s v (h, quiet_to (record u { page = 0; cell = 0; step = user_step.TakeLatch }) (record { there = F.there; apart = F.apart; within = F.within; loaded = F.loaded; step = ((λ k lo hi. absurd (omega arith)), (let z = eqb-false (length (changes u)) 0 f in omega arith)) }), unmoved)
+    total_by false d0 f s v = as_is m (actor.User (record u { checks = true; step = user_step.LoadCheckpoint })) 0 s v (h, quiet_to (record u { checks = true; step = user_step.LoadCheckpoint }) (record { there = F.there; apart = F.apart; within = F.within; loaded = F.loaded; step = tt }), unmoved)
 
     latch_by : (b : Bool) → eqb (page_words_at m.page_words (page_of u)).latch 0 ≡ b → u.step ≡ user_step.TakeLatch → UserPagesAt E c m g.log h ls d seat u user_step.TakeLatch → ◌≡◌ {A = D.Part} q p → ◌≡◌ {A = E.Part} e d
         → PageDone (cond b (with_page_words m (page_of u) (record (page_words_at m.page_words (page_of u)) { latch = 1 })) m) g.log ls (actor.User (cond b (record u { page = u.page + 1; step = cond (eqb (u.page + 1) (length (changes u))) user_step.Reserve user_step.TakeLatch }) (record u { checks = true; step = user_step.TakeLatch })))
     latch_by true f is o s v = as_is _ (actor.User (user_took u 0 user_step.TakeLatch)) 0 s v (keeps_take_latch E c g.seat_of m g.log (D.stable p) h ls d actors seat B mates W u at Z.page_words is (eqb-true (page_words_at m.page_words (page_of u)).latch 0 f))
-    latch_by false f is o s v = as_is m (actor.User (record u { checks = true; step = user_step.TakeLatch })) 0 s v (h, quiet_to (record u { checks = true; step = user_step.TakeLatch }) (record { there = F.there; apart = F.apart; within = F.within; loaded = F.loaded; step = o }))
+    latch_by false f is o s v = as_is m (actor.User (record u { checks = true; step = user_step.TakeLatch })) 0 s v (h, quiet_to (record u { checks = true; step = user_step.TakeLatch }) (record { there = F.there; apart = F.apart; within = F.within; loaded = F.loaded; step = o }), unmoved)
 
     room_by : (b : Bool) → IsFresh E c m g.log h ls d seat u → ◌≡◌ {A = D.Part} q p → ◌≡◌ {A = E.Part} e d → PageDone m g.log ls (actor.User (cond b (record u { loaded = record u.loaded { write = m.write }; step = user_step.StoreCell }) (record u { loaded = record u.loaded { write = m.write }; checks = true; step = user_step.LoadWrite })))
-    room_by true o s v = as_is m (actor.User (record u { loaded = record u.loaded { write = m.write }; step = user_step.StoreCell })) 0 s v (h, quiet_to (record u { loaded = record u.loaded { write = m.write }; step = user_step.StoreCell }) (record { there = F.there; apart = F.apart; within = F.within; loaded = F.loaded; step = o }))
-    room_by false o s v = as_is m (actor.User (record u { loaded = record u.loaded { write = m.write }; checks = true; step = user_step.LoadWrite })) 0 s v (h, quiet_to (record u { loaded = record u.loaded { write = m.write }; checks = true; step = user_step.LoadWrite }) (record { there = F.there; apart = F.apart; within = F.within; loaded = F.loaded; step = o }))
+    room_by true o s v = as_is m (actor.User (record u { loaded = record u.loaded { write = m.write }; step = user_step.StoreCell })) 0 s v (h, quiet_to (record u { loaded = record u.loaded { write = m.write }; step = user_step.StoreCell }) (record { there = F.there; apart = F.apart; within = F.within; loaded = F.loaded; step = o }), unmoved)
+    room_by false o s v = as_is m (actor.User (record u { loaded = record u.loaded { write = m.write }; checks = true; step = user_step.LoadWrite })) 0 s v (h, quiet_to (record u { loaded = record u.loaded { write = m.write }; checks = true; step = user_step.LoadWrite }) (record { there = F.there; apart = F.apart; within = F.within; loaded = F.loaded; step = o }), unmoved)
 
     space_by : (b : Bool) → IsFresh E c m g.log h ls d seat u → ◌≡◌ {A = D.Part} q p → ◌≡◌ {A = E.Part} e d → PageDone m g.log ls (actor.User (cond b (record u { loaded = record u.loaded { wtail = m.wtail }; step = user_step.StoreLink }) (record u { loaded = record u.loaded { wtail = m.wtail }; checks = true; step = user_step.LoadWtail })))
-    space_by true o s v = as_is m (actor.User (record u { loaded = record u.loaded { wtail = m.wtail }; step = user_step.StoreLink })) 0 s v (h, quiet_to (record u { loaded = record u.loaded { wtail = m.wtail }; step = user_step.StoreLink }) (record { there = F.there; apart = F.apart; within = F.within; loaded = F.loaded; step = o }))
-    space_by false o s v = as_is m (actor.User (record u { loaded = record u.loaded { wtail = m.wtail }; checks = true; step = user_step.LoadWtail })) 0 s v (h, quiet_to (record u { loaded = record u.loaded { wtail = m.wtail }; checks = true; step = user_step.LoadWtail }) (record { there = F.there; apart = F.apart; within = F.within; loaded = F.loaded; step = o }))
+    space_by true o s v = as_is m (actor.User (record u { loaded = record u.loaded { wtail = m.wtail }; step = user_step.StoreLink })) 0 s v (h, quiet_to (record u { loaded = record u.loaded { wtail = m.wtail }; step = user_step.StoreLink }) (record { there = F.there; apart = F.apart; within = F.within; loaded = F.loaded; step = o }), unmoved)
+    space_by false o s v = as_is m (actor.User (record u { loaded = record u.loaded { wtail = m.wtail }; checks = true; step = user_step.LoadWtail })) 0 s v (h, quiet_to (record u { loaded = record u.loaded { wtail = m.wtail }; checks = true; step = user_step.LoadWtail }) (record { there = F.there; apart = F.apart; within = F.within; loaded = F.loaded; step = o }), unmoved)
 
     copy_by : (b k : Bool) → IsFresh E c m g.log h ls d seat u → ◌≡◌ {A = D.Part} q p → ◌≡◌ {A = E.Part} e d
         → PageDone (record m { cells = slice_set m.cells (lsn (u.start + u.copied) % LOG_BUFFER) (slice_index (group_bytes u) u.copied) }) g.log ls (actor.User (record u { copied = u.copied + 1; step = cond b (cond k user_step.StoreFirst user_step.LoadWtail) user_step.StoreCell }))
     copy_by b k o s v = as_is _ (actor.User (record u { copied = u.copied + 1; step = cond b (cond k user_step.StoreFirst user_step.LoadWtail) user_step.StoreCell })) 0 s v
-        (h, away_user (record m { cells = slice_set m.cells (lsn (u.start + u.copied) % LOG_BUFFER) (slice_index (group_bytes u) u.copied) }) (record u { copied = u.copied + 1; step = cond b (cond k user_step.StoreFirst user_step.LoadWtail) user_step.StoreCell }) M1.own_seat (record { there = F.there; apart = F.apart; within = F.within; loaded = F.loaded; step = go b k }) refl refl refl refl refl refl)
+        (h, away_user (record m { cells = slice_set m.cells (lsn (u.start + u.copied) % LOG_BUFFER) (slice_index (group_bytes u) u.copied) }) (record u { copied = u.copied + 1; step = cond b (cond k user_step.StoreFirst user_step.LoadWtail) user_step.StoreCell }) M1.own_seat (record { there = F.there; apart = F.apart; within = F.within; loaded = F.loaded; step = go b k }) refl refl refl refl refl refl, unmoved)
       where
         go : (b k : Bool) → UserPagesAt E c m g.log h ls d seat (record u { copied = u.copied + 1; step = cond b (cond k user_step.StoreFirst user_step.LoadWtail) user_step.StoreCell }) (cond b (cond k user_step.StoreFirst user_step.LoadWtail) user_step.StoreCell)
         go true true = o
@@ -155,8 +163,8 @@ module _ (D : LogSide) (L : LogLaws D) (E : DataSide) (EL : DataLaws E) (c : Set
 
     tie_by : (b : Bool) → eqb (length (changes u)) 0 ≡ b → IsFresh E c m g.log h ls d seat u → ◌≡◌ {A = D.Part} q p → ◌≡◌ {A = E.Part} e d
         → PageDone (record m { wlinks = slice_set m.wlinks (lsn u.start % WRITTEN_LINKS) (lsn (group_end u) - lsn u.start) }) g.log ls (actor.User (cond b (after_link u) (record u { step = user_step.LoadCtail })))
-    tie_by true f o s v = as_is _ (actor.User (after_link u)) 0 s v (h, away (record m { wlinks = slice_set m.wlinks (lsn u.start % WRITTEN_LINKS) (lsn (group_end u) - lsn u.start) }) (actor.User (after_link u)) (tied_fits E c g.seat_of m g.log (D.stable p) h ls d actors seat B mates W u at (record m { wlinks = slice_set m.wlinks (lsn u.start % WRITTEN_LINKS) (lsn (group_end u) - lsn u.start) }) h ls F.loaded (eqb (mode u) 0) refl) refl refl refl refl refl refl)
-    tie_by false f o s v = as_is _ (actor.User (record u { step = user_step.LoadCtail })) 0 s v (h, away_user (record m { wlinks = slice_set m.wlinks (lsn u.start % WRITTEN_LINKS) (lsn (group_end u) - lsn u.start) }) (record u { step = user_step.LoadCtail }) M1.own_seat (record { there = F.there; apart = F.apart; within = F.within; loaded = F.loaded; step = (o, (let z = eqb-false (length (changes u)) 0 f in omega arith)) }) refl refl refl refl refl refl)
+    tie_by true f o s v = as_is _ (actor.User (after_link u)) 0 s v (h, away (record m { wlinks = slice_set m.wlinks (lsn u.start % WRITTEN_LINKS) (lsn (group_end u) - lsn u.start) }) (actor.User (after_link u)) (tied_fits E c g.seat_of m g.log (D.stable p) h ls d actors seat B mates W u at (record m { wlinks = slice_set m.wlinks (lsn u.start % WRITTEN_LINKS) (lsn (group_end u) - lsn u.start) }) h ls F.loaded (eqb (mode u) 0) refl) refl refl refl refl refl refl, unmoved)
+    tie_by false f o s v = as_is _ (actor.User (record u { step = user_step.LoadCtail })) 0 s v (h, away_user (record m { wlinks = slice_set m.wlinks (lsn u.start % WRITTEN_LINKS) (lsn (group_end u) - lsn u.start) }) (record u { step = user_step.LoadCtail }) M1.own_seat (record { there = F.there; apart = F.apart; within = F.within; loaded = F.loaded; step = (o, (let z = eqb-false (length (changes u)) 0 f in omega arith)) }) refl refl refl refl refl refl, unmoved)
 
     list_by : (b : Bool) → eqb (slice_index m.lists (page_of u % 4)) 0 ≡ b → u.step ≡ user_step.AddToList → u.checks ≡ false → UserPagesAt E c m g.log h ls d seat u user_step.AddToList → ◌≡◌ {A = D.Part} q p → ◌≡◌ {A = E.Part} e d
         → PageDone (cond b (record m { lists = slice_set m.lists (page_of u % 4) 1 }) m) g.log (λ i. cond (eqb i (page_of u % 4)) (cond b (joined (ls i) (page_of u) (lsn u.start)) (ls i)) (ls i)) (actor.User (user_took u (heard (cond b (answer.Taken None) answer.Held)) user_step.AddToList))
@@ -165,7 +173,7 @@ module _ (D : LogSide) (L : LogLaws D) (E : DataSide) (EL : DataLaws E) (c : Set
         (ap (λ (z : Bool). cond z (joined (ls (page_of u % 4)) (page_of u) (lsn u.start)) (ls (page_of u % 4))) (eq-eqb (page_of u % 4) (page_of u % 4) refl))
         (λ i n. ap (λ (z : Bool). cond z (joined (ls i) (page_of u) (lsn u.start)) (ls i)) (ne_eqb i (page_of u % 4) n))
         Z.lists (eqb-true (slice_index m.lists (page_of u % 4)) 0 f) checks is)
-    list_by false f is checks o s v = as_is m (actor.User (user_took u 1 user_step.AddToList)) 0 s v (subst (λ (z : ℕ → List Listed). (k : PageGhost) × PageHalf E c m g.log (D.stable p) k z d (set actors seat (actor.User (user_took u 1 user_step.AddToList)))) same (h, quiet_to (user_took u 1 user_step.AddToList) (record { there = F.there; apart = F.apart; within = F.within; loaded = F.loaded; step = o })))
+    list_by false f is checks o s v = as_is m (actor.User (user_took u 1 user_step.AddToList)) 0 s v (subst (λ (z : ℕ → List Listed). (k : PageGhost) × PageHalf E c m g.log (D.stable p) k z d (set actors seat (actor.User (user_took u 1 user_step.AddToList))) × Grows h k) same (h, quiet_to (user_took u 1 user_step.AddToList) (record { there = F.there; apart = F.apart; within = F.within; loaded = F.loaded; step = o }), unmoved))
       where
         both_same : (b : Bool) (l : List Listed) → ◌≡◌ {A = List Listed} l (cond b l l)
         both_same true l = refl
@@ -179,8 +187,8 @@ module _ (D : LogSide) (L : LogLaws D) (E : DataSide) (EL : DataLaws E) (c : Set
     mark_ctail n false = F.loaded
 
     await_by : (n : ℕ) (b : Bool) → ◌≡◌ {A = D.Part} q p → ◌≡◌ {A = E.Part} e d → PageDone m g.log ls (actor.User (cond b (answered (record u { loaded = with_mark u n })) (record u { loaded = with_mark u n; checks = true; step = user_step.AwaitMark })))
-    await_by n false s v = as_is m (actor.User (record u { loaded = with_mark u n; checks = true; step = user_step.AwaitMark })) 0 s v (h, quiet_to (record u { loaded = with_mark u n; checks = true; step = user_step.AwaitMark }) (record { there = F.there; apart = F.apart; within = F.within; loaded = mark_ctail n (eqb (mode u) 1); step = tt }))
-    await_by n true s v = as_is m (actor.User (answered (record u { loaded = with_mark u n }))) 0 s v (h, quiet_to (answered (record u { loaded = with_mark u n })) (record { there = F.there; apart = F.apart; within = F.within; loaded = mark_ctail n (eqb (mode u) 1); step = go (eqb (u.k + 1) (length u.lines)) }))
+    await_by n false s v = as_is m (actor.User (record u { loaded = with_mark u n; checks = true; step = user_step.AwaitMark })) 0 s v (h, quiet_to (record u { loaded = with_mark u n; checks = true; step = user_step.AwaitMark }) (record { there = F.there; apart = F.apart; within = F.within; loaded = mark_ctail n (eqb (mode u) 1); step = tt }), unmoved)
+    await_by n true s v = as_is m (actor.User (answered (record u { loaded = with_mark u n }))) 0 s v (h, quiet_to (answered (record u { loaded = with_mark u n })) (record { there = F.there; apart = F.apart; within = F.within; loaded = mark_ctail n (eqb (mode u) 1); step = go (eqb (u.k + 1) (length u.lines)) }), unmoved)
       where
         go : (b : Bool) → UserPagesAt E c m g.log h ls d seat (record u { loaded = with_mark u n; k = u.k + 1; checks = cond b false true; step = cond b user_step.Done user_step.LoadCheckpoint }) (cond b user_step.Done user_step.LoadCheckpoint)
         go true = tt
@@ -189,23 +197,23 @@ module _ (D : LogSide) (L : LogLaws D) (E : DataSide) (EL : DataLaws E) (c : Set
     -- each step of a user that doesn't check
     user_page : (f : UserStep) → u.step ≡ f → UserPagesAt E c m g.log h ls d seat u f → UserAt D c m g p seat u f → u.checks ≡ false → ◌≡◌ {A = D.Part} q p → ◌≡◌ {A = E.Part} e d
         → PageDone (shared_left m (user_op u f)) (phase_log g.log m.sn u f) (lists_left ls (λ i. slice_index m.lists i) (user_op u f)) (actor.User (user_took u (heard (shared_answer ls (D.failed p) code (D.stable q) m (user_op u f))) f))
-    user_page user_step.LoadCheckpoint is o a checks s v = as_is _ _ 0 s v (h, quiet_to (record u { loaded = record u.loaded { ckpt = m.ckpt }; step = user_step.LoadSn }) (record { there = F.there; apart = F.apart; within = F.within; loaded = F.loaded; step = tt }))
+    user_page user_step.LoadCheckpoint is o a checks s v = as_is _ _ 0 s v (h, quiet_to (record u { loaded = record u.loaded { ckpt = m.ckpt }; step = user_step.LoadSn }) (record { there = F.there; apart = F.apart; within = F.within; loaded = F.loaded; step = tt }), unmoved)
     user_page user_step.LoadSn is o a checks s v = total_by (nat_le (lsn m.sn + FREE_MARGIN) (u.loaded.ckpt + BLOCK_SIZE * u.blocks)) (eqb (length (changes u)) 0) refl s v
     user_page user_step.TakeLatch is o a checks s v = latch_by (eqb (page_words_at m.page_words (page_of u)).latch 0) refl is o s v
-    user_page user_step.Reserve is o a checks s v = as_is _ _ 0 s v (h, keeps_page_reserve E c g.seat_of m g.log (D.stable p) h ls d actors seat B mates W u at is (M1.sound u.k a.1).0)
+    user_page user_step.Reserve is o a checks s v = as_is _ _ 0 s v (h, keeps_page_reserve E c g.seat_of m g.log (D.stable p) h ls d actors seat B mates W u at is (M1.sound u.k a.1).0, unmoved)
     user_page user_step.LoadWrite is o a checks s v = room_by (ltb (lsn (group_end u)) (floor m.write + LOG_BUFFER)) o s v
     user_page user_step.StoreCell is o a checks s v = copy_by (eqb (u.copied + 1) (length (group_bytes u))) (ltb (u.start / BLOCK_DATA) (group_end u / BLOCK_DATA)) o s v
-    user_page user_step.StoreFirst is o a checks s v = as_is _ _ 0 s v (h, away_user (record m { firsts = slice_set m.firsts (lsn (group_end u) / BLOCK_SIZE % BUFFER_BLOCKS) (lsn (group_end u) % BLOCK_SIZE) }) (record u { step = user_step.LoadWtail }) M1.own_seat (record { there = F.there; apart = F.apart; within = F.within; loaded = F.loaded; step = o }) refl refl refl refl refl refl)
+    user_page user_step.StoreFirst is o a checks s v = as_is _ _ 0 s v (h, away_user (record m { firsts = slice_set m.firsts (lsn (group_end u) / BLOCK_SIZE % BUFFER_BLOCKS) (lsn (group_end u) % BLOCK_SIZE) }) (record u { step = user_step.LoadWtail }) M1.own_seat (record { there = F.there; apart = F.apart; within = F.within; loaded = F.loaded; step = o }) refl refl refl refl refl refl, unmoved)
     user_page user_step.LoadWtail is o a checks s v = space_by (ltb (lsn u.start) (m.wtail + WRITTEN_LINKS)) o s v
     user_page user_step.StoreLink is o a checks s v = tie_by (eqb (length (changes u)) 0) refl o s v
-    user_page user_step.LoadCtail is o a checks s v = as_is _ _ 0 s v (h, keeps_load_ctail E c g.seat_of m g.log (D.stable p) h ls d actors seat B mates W u at is)
-    user_page user_step.StoreFrame is o a checks s v = as_is _ _ 0 s v (h, keeps_store_frame E c g.seat_of m g.log (D.stable p) h ls d actors seat B mates W u at Z.page_words is)
-    user_page user_step.StoreNewest is o a checks s v = as_is _ _ 0 s v (h, keeps_store_newest E c g.seat_of m g.log (D.stable p) h ls d actors seat B mates W u at Z.page_words is)
-    user_page user_step.StoreOldest is o a checks s v = as_is _ _ 0 s v (h, keeps_store_oldest E c g.seat_of m g.log (D.stable p) h ls d actors seat B mates W u at Z.page_words is)
-    user_page user_step.ReleaseLatch is o a checks s v = as_is _ _ 0 s v (h, keeps_release_latch E c g.seat_of m g.log (D.stable p) h ls d actors seat B mates W u at Z.page_words is)
-    user_page user_step.LoadOldest is o a checks s v = as_is _ _ 0 s v (h, keeps_load_oldest E c g.seat_of m g.log (D.stable p) h ls d actors seat B mates W u at is)
+    user_page user_step.LoadCtail is o a checks s v = as_is _ _ 0 s v (h, keeps_load_ctail E c g.seat_of m g.log (D.stable p) h ls d actors seat B mates W u at is, unmoved)
+    user_page user_step.StoreFrame is o a checks s v = as_is _ _ 0 s v (h, keeps_store_frame E c g.seat_of m g.log (D.stable p) h ls d actors seat B mates W u at Z.page_words is, unmoved)
+    user_page user_step.StoreNewest is o a checks s v = as_is _ _ 0 s v (h, keeps_store_newest E c g.seat_of m g.log (D.stable p) h ls d actors seat B mates W u at Z.page_words is, unmoved)
+    user_page user_step.StoreOldest is o a checks s v = as_is _ _ 0 s v (h, keeps_store_oldest E c g.seat_of m g.log (D.stable p) h ls d actors seat B mates W u at Z.page_words is, unmoved)
+    user_page user_step.ReleaseLatch is o a checks s v = as_is _ _ 0 s v (h, keeps_release_latch E c g.seat_of m g.log (D.stable p) h ls d actors seat B mates W u at Z.page_words is, unmoved)
+    user_page user_step.LoadOldest is o a checks s v = as_is _ _ 0 s v (h, keeps_load_oldest E c g.seat_of m g.log (D.stable p) h ls d actors seat B mates W u at is, unmoved)
     user_page user_step.AddToList is o a checks s v = list_by (eqb (slice_index m.lists (page_of u % 4)) 0) refl is checks o s v
-    user_page user_step.GiveList is o a checks s v = as_is _ _ 0 s v (h, keeps_give_list E c g.seat_of m g.log (D.stable p) h ls d actors seat B mates W u at Z.lists is)
+    user_page user_step.GiveList is o a checks s v = as_is _ _ 0 s v (h, keeps_give_list E c g.seat_of m g.log (D.stable p) h ls d actors seat B mates W u at Z.lists is, unmoved)
     user_page user_step.StoreClosedLink is o a checks s v = as_is _ _ 0 s v (keeps_close E c g.seat_of m g.log (D.stable p) h ls d actors seat B mates W u at Z.clinks is)
     user_page user_step.AwaitMark is o a checks s v = await_by (found (user_op u user_step.AwaitMark) m) (nat_le (lsn (group_end u)) (found (user_op u user_step.AwaitMark) m)) s v
     user_page user_step.Done is o a checks s v = rested (actor.User u) at s v
@@ -217,8 +225,8 @@ module _ (D : LogSide) (L : LogLaws D) (E : DataSide) (EL : DataLaws E) (c : Set
   pass m' b k after ge e1 e2 e3 e4 e5 fl f v =
       let P = after.global.part in let O = after.global.order in
       let z1 = P.stable_written in let z2 = P.written_wtail in let z3 = O.wtail_is in let z4 = lsn_le k.wtail m'.sn (let a = O.wtail_tail in let b = O.tail_sn in omega arith) in
-      subst (λ (y : E.Part). (k : PageGhost) × PageHalf E c m' g.log (D.stable q) k ls y (set actors seat b)) (sym v)
-      (h, grown E c g.seat_of m g.log (D.stable p) h ls d actors seat B mates m' (D.stable q) b e1 e2 e3 e4 e5 fl ge P.flushed_stable (omega arith) f)
+      subst (λ (y : E.Part). (k : PageGhost) × PageHalf E c m' g.log (D.stable q) k ls y (set actors seat b) × Grows h k) (sym v)
+      (h, grown E c g.seat_of m g.log (D.stable p) h ls d actors seat B mates m' (D.stable q) b e1 e2 e3 e4 e5 fl ge P.flushed_stable (omega arith) f, unmoved)
 
   still_part : ◌≡◌ {A = D.Part} q p → D.stable p ≤ D.stable q
   still_part s = let z : D.stable q ≡ D.stable p = ap D.stable s in omega arith
@@ -268,14 +276,14 @@ module _ (D : LogSide) (L : LogLaws D) (E : DataSide) (EL : DataLaws E) (c : Set
     TF = B.each seat (actor.Closer t) at
 
     closer_page : (f : CloserStep) → t.step ≡ f → ◌≡◌ {A = D.Part} q p → ◌≡◌ {A = E.Part} e d → PageDone (shared_left m (closer_op t f)) g.log ls (actor.Closer (closer_took t (shared_answer ls (D.failed p) code (D.stable q) m (closer_op t f)) f))
-    closer_page closer_step.LoadClosedLink is s v = as_is _ _ 0 s v (h, keeps_closer_look E c g.seat_of m g.log (D.stable p) h ls d actors seat B mates W t at is)
+    closer_page closer_step.LoadClosedLink is s v = as_is _ _ 0 s v (h, keeps_closer_look E c g.seat_of m g.log (D.stable p) h ls d actors seat B mates W t at is, unmoved)
     closer_page closer_step.ClearClosedLink is s v = as_is _ _ 0 s v (keeps_closer_clear E c g.seat_of m g.log (D.stable p) h ls d actors seat B mates W t at Z.clinks is)
     closer_page closer_step.StoreCtail is s v = as_is _ _ 0 s v (keeps_closer_publish E c g.seat_of m g.log (D.stable p) h ls d actors seat B mates W t at is)
     closer_page closer_step.Failed is s v = rested (actor.Closer t) at s v
 
     closer_hears : (b : Bool) → ◌≡◌ {A = D.Part} q p → ◌≡◌ {A = E.Part} e d → PageDone m g.log ls (actor.Closer (cond b (record t { checks = false }) (record t { checks = false; code = m.failed; step = closer_step.Failed })))
-    closer_hears true s v = as_is m (actor.Closer (record t { checks = false })) 0 s v (h, page_quiet E c g.seat_of m g.log (D.stable p) h ls d actors seat B mates (actor.Closer (record t { checks = false })) (record { alone = TF.alone; tail = TF.tail; step = TF.step }))
-    closer_hears false s v = as_is m (actor.Closer (record t { checks = false; code = m.failed; step = closer_step.Failed })) 0 s v (h, page_quiet E c g.seat_of m g.log (D.stable p) h ls d actors seat B mates (actor.Closer (record t { checks = false; code = m.failed; step = closer_step.Failed })) (record { alone = TF.alone; tail = TF.tail; step = tt }))
+    closer_hears true s v = as_is m (actor.Closer (record t { checks = false })) 0 s v (h, page_quiet E c g.seat_of m g.log (D.stable p) h ls d actors seat B mates (actor.Closer (record t { checks = false })) (record { alone = TF.alone; tail = TF.tail; step = TF.step }), unmoved)
+    closer_hears false s v = as_is m (actor.Closer (record t { checks = false; code = m.failed; step = closer_step.Failed })) 0 s v (h, page_quiet E c g.seat_of m g.log (D.stable p) h ls d actors seat B mates (actor.Closer (record t { checks = false; code = m.failed; step = closer_step.Failed })) (record { alone = TF.alone; tail = TF.tail; step = tt }), unmoved)
 
   module _ (x : CleanerState) (at : get_elem? actors seat ≡ some (actor.Cleaner x)) where
     XF : CleanerFits E c m g.log h ls d seat x
@@ -284,23 +292,20 @@ module _ (D : LogSide) (L : LogLaws D) (E : DataSide) (EL : DataLaws E) (c : Set
     latched_by : (b : Bool) → eqb (page_words_at m.page_words x.page).latch 0 ≡ b → x.step ≡ cleaner_step.TakeLatch → ◌≡◌ {A = D.Part} q p → ◌≡◌ {A = E.Part} e d
         → PageDone (cond b (with_page_words m x.page (record (page_words_at m.page_words x.page) { latch = 1 })) m) g.log ls (actor.Cleaner (cond b (record x { step = cleaner_step.LoadNewest }) (next_in_round x)))
     latched_by true k is s v = as_is _ _ 0 s v (keeps_latched E c g.seat_of m g.log (D.stable p) h ls d actors seat B mates W x at Z.page_words is (eqb-true (page_words_at m.page_words x.page).latch 0 k))
-    latched_by false k is s v = as_is _ _ 0 s v (h, keeps_held E c g.seat_of m g.log (D.stable p) h ls d actors seat B mates W x at is)
+    latched_by false k is s v = as_is _ _ 0 s v (h, keeps_held E c g.seat_of m g.log (D.stable p) h ls d actors seat B mates W x at is, unmoved)
 
     called_by : (b : Bool) → eqb code 0 ≡ b → x.step ≡ cleaner_step.WriteBatch → ◌≡◌ {A = D.Part} q p → E.Batched x.batch code d e → PageDone m g.log ls (actor.Cleaner (cleaner_took x (cond b (answer.Called 0) (answer.Failed code)) cleaner_step.WriteBatch))
     called_by b k is s v = by b k
       where
-        stored : E.Holds h.kept_page [] d
-        stored = subst (λ (l : List BatchPage). E.Holds h.kept_page l d) (XF.sound (ap runs is)).1 B.paged.stored
-
         A : AfterBatch E h.kept_page x.batch code d e
-        A = EL.batches h.kept_page x.batch code d e stored (can_batch E c g.seat_of m g.log (D.stable p) h ls d actors seat B mates W x at is) v
+        A = after_batch D L E EL c spare m g h ls p d actors seat both x at is code e v
 
         holds_by : (b : Bool) → eqb code 0 ≡ b → E.Holds (cond b (renewed h.kept_page x.batch) h.kept_page) (cond b [] x.batch) e
         holds_by b k = subst (λ (z : Bool). E.Holds (cond z (renewed h.kept_page x.batch) h.kept_page) (cond z [] x.batch) e) k A.holds
 
         by : (b : Bool) → eqb code 0 ≡ b → PageDone m g.log ls (actor.Cleaner (cleaner_took x (cond b (answer.Called 0) (answer.Failed code)) cleaner_step.WriteBatch))
-        by true k = subst (λ (y : D.Part). (n : PageGhost) × PageHalf E c m g.log (D.stable y) n ls e (set actors seat (actor.Cleaner (record x { code = 0; step = cleaner_step.RemoveFromList })))) (sym s) (keeps_written E c g.seat_of m g.log (D.stable p) h ls d actors seat B mates W x at is e (A.sound (eqb-true code 0 k)) (holds_by true k))
-        by false k = subst (λ (y : D.Part). (n : PageGhost) × PageHalf E c m g.log (D.stable y) n ls e (set actors seat (actor.Cleaner (record x { code = code; step = cleaner_step.StoreFailed })))) (sym s) (keeps_unwritten E c g.seat_of m g.log (D.stable p) h ls d actors seat B mates W x at is code e (A.cause (let n = eqb-false code 0 k in omega arith)) (holds_by false k))
+        by true k = subst (λ (y : D.Part). (n : PageGhost) × PageHalf E c m g.log (D.stable y) n ls e (set actors seat (actor.Cleaner (record x { code = 0; step = cleaner_step.RemoveFromList }))) × Grows h n) (sym s) (keeps_written E c g.seat_of m g.log (D.stable p) h ls d actors seat B mates W x at is e (A.sound (eqb-true code 0 k)) (holds_by true k))
+        by false k = subst (λ (y : D.Part). (n : PageGhost) × PageHalf E c m g.log (D.stable y) n ls e (set actors seat (actor.Cleaner (record x { code = code; step = cleaner_step.StoreFailed }))) × Grows h n) (sym s) (keeps_unwritten E c g.seat_of m g.log (D.stable p) h ls d actors seat B mates W x at is code e (A.cause (let n = eqb-false code 0 k in omega arith)) (holds_by false k))
 
     removed_by : (b : Bool) → eqb (slice_index m.lists (first_of_batch x % 4)) 0 ≡ b → x.step ≡ cleaner_step.RemoveFromList → ◌≡◌ {A = D.Part} q p → ◌≡◌ {A = E.Part} e d
         → PageDone (cond b (record m { lists = slice_set m.lists (first_of_batch x % 4) 1 }) m) g.log (λ i. cond (eqb i (first_of_batch x % 4)) (cond b (without (first_of_batch x) (ls i)) (ls i)) (ls i)) (actor.Cleaner (cleaner_took x (cond b (answer.Taken None) answer.Held) cleaner_step.RemoveFromList))
@@ -311,7 +316,7 @@ module _ (D : LogSide) (L : LogLaws D) (E : DataSide) (EL : DataLaws E) (c : Set
         (ap (λ (z : Bool). cond z (without (first_of_batch x) (ls (first_of_batch x % 4))) (ls (first_of_batch x % 4))) (eq-eqb (first_of_batch x % 4) (first_of_batch x % 4) refl))
         (λ i n. ap (λ (z : Bool). cond z (without (first_of_batch x) (ls i)) (ls i)) (ne_eqb i (first_of_batch x % 4) n))
         Z.lists (eqb-true (slice_index m.lists (first_of_batch x % 4)) 0 k) is r.0 r.1 r.2)
-    removed_by false k is s v = as_is m (actor.Cleaner (record x { checks = true; step = cleaner_step.RemoveFromList })) 0 s v (subst (λ (z : ℕ → List Listed). (n : PageGhost) × PageHalf E c m g.log (D.stable p) n z d (set actors seat (actor.Cleaner (record x { checks = true; step = cleaner_step.RemoveFromList })))) same (h, keeps_list_held E c g.seat_of m g.log (D.stable p) h ls d actors seat B mates W x at is))
+    removed_by false k is s v = as_is m (actor.Cleaner (record x { checks = true; step = cleaner_step.RemoveFromList })) 0 s v (subst (λ (z : ℕ → List Listed). (n : PageGhost) × PageHalf E c m g.log (D.stable p) n z d (set actors seat (actor.Cleaner (record x { checks = true; step = cleaner_step.RemoveFromList }))) × Grows h n) same (h, keeps_list_held E c g.seat_of m g.log (D.stable p) h ls d actors seat B mates W x at is, unmoved))
       where
         both_same : (b : Bool) (l : List Listed) → ◌≡◌ {A = List Listed} l (cond b l l)
         both_same true l = refl
@@ -320,28 +325,44 @@ module _ (D : LogSide) (L : LogLaws D) (E : DataSide) (EL : DataLaws E) (c : Set
         same : ◌≡◌ {A = ℕ → List Listed} ls (λ i. cond (eqb i (first_of_batch x % 4)) (ls i) (ls i))
         same j i = both_same (eqb i (first_of_batch x % 4)) (ls i) j
 
-    dead_fits : (m' : SharedWords) (n : ℕ) (checks : Bool) → m'.flushed ≡ m.flushed → CleanerFits E c m' g.log h ls d seat (record x { checks = checks; code = n; step = cleaner_step.Failed })
-    dead_fits m' n checks e1 = record { alone = XF.alone; pages = XF.pages; page = XF.page; flushed = (let z = XF.flushed in omega arith); sound = λ z. absurd (cc); apart = XF.apart; few = XF.few; cause = λ z. absurd (cc); step = tt }
+    -- it has failed, and holds what it held
+    dead_fits : (n : ℕ) (checks : Bool) → CleanerFits E c m g.log h ls d seat (record x { checks = checks; code = n; step = cleaner_step.Failed })
+    dead_fits n checks = record { alone = XF.alone; pages = XF.pages; page = XF.page; flushed = XF.flushed; sound = λ z. absurd (cc); apart = XF.apart; few = XF.few; cause = λ z. absurd (cc); step = cleaner_still_holds E c m g.log h ls d seat x x.step XF.step }
+
+    -- so too once it has stored its code
+    stored_fits : (n : ℕ) (checks : Bool) → CleanerFits E c (record m { failed = n }) g.log h ls d seat (record x { checks = checks; code = n; step = cleaner_step.Failed })
+    stored_fits n checks = cleaner_later E c g.seat_of m (record m { failed = n }) g.log g.log h h ls ls d d (suc seat) seat (λ z. omega arith)
+        (record {
+          longer = longer_same g.log;
+          logs = λ k _ _. log_same k g.log;
+          page_words = λ k _ _. refl;
+          holders = λ k _ _. refl;
+          listeds = λ k _ _. refl;
+          opens = λ _ _ _ _. refl;
+          lists = λ i o _. (o, refl);
+          ctail = omega arith;
+          flushed = omega arith;
+        }) (record x { checks = checks; code = n; step = cleaner_step.Failed }) (record { kept_page = λ _. refl; oldest = λ q z. z; store = refl; unfinished = refl }) (dead_fits n checks)
 
     cleaner_page : (f : CleanerStep) → x.step ≡ f → ◌≡◌ {A = D.Part} q p → DataServed E d (Batch x.batch) (cleaner_op x f) code e
         → PageDone (shared_left m (cleaner_op x f)) g.log (lists_left ls (λ i. slice_index m.lists i) (cleaner_op x f)) (actor.Cleaner (cleaner_took x (shared_answer ls (D.failed p) code (D.stable q) m (cleaner_op x f)) f))
-    cleaner_page cleaner_step.LoadFlushed is s v = as_is _ _ 0 s v (h, keeps_load_flushed E c g.seat_of m g.log (D.stable p) h ls d actors seat B mates W x at is)
-    cleaner_page cleaner_step.LoadOldest is s v = as_is _ _ 0 s v (h, keeps_seen E c g.seat_of m g.log (D.stable p) h ls d actors seat B mates W x at is)
+    cleaner_page cleaner_step.LoadFlushed is s v = as_is _ _ 0 s v (h, keeps_load_flushed E c g.seat_of m g.log (D.stable p) h ls d actors seat B mates W x at is, unmoved)
+    cleaner_page cleaner_step.LoadOldest is s v = as_is _ _ 0 s v (h, keeps_seen E c g.seat_of m g.log (D.stable p) h ls d actors seat B mates W x at is, unmoved)
     cleaner_page cleaner_step.TakeLatch is s v = latched_by (eqb (page_words_at m.page_words x.page).latch 0) refl is s v
-    cleaner_page cleaner_step.LoadNewest is s v = as_is _ _ 0 s v (h, keeps_read_newest E c g.seat_of m g.log (D.stable p) h ls d actors seat B mates W x at is)
-    cleaner_page cleaner_step.ReleaseSkipped is s v = as_is _ _ 0 s v (h, keeps_skip E c g.seat_of m g.log (D.stable p) h ls d actors seat B mates W x at Z.page_words is)
-    cleaner_page cleaner_step.LoadFrame is s v = as_is _ _ 0 s v (h, keeps_load E c g.seat_of m g.log (D.stable p) h ls d actors seat B mates W x at Z.frames is)
+    cleaner_page cleaner_step.LoadNewest is s v = as_is _ _ 0 s v (h, keeps_read_newest E c g.seat_of m g.log (D.stable p) h ls d actors seat B mates W x at is, unmoved)
+    cleaner_page cleaner_step.ReleaseSkipped is s v = as_is _ _ 0 s v (h, keeps_skip E c g.seat_of m g.log (D.stable p) h ls d actors seat B mates W x at Z.page_words is, unmoved)
+    cleaner_page cleaner_step.LoadFrame is s v = as_is _ _ 0 s v (h, keeps_load E c g.seat_of m g.log (D.stable p) h ls d actors seat B mates W x at Z.frames is, unmoved)
     cleaner_page cleaner_step.WriteBatch is s v = called_by (eqb code 0) refl is s v
     cleaner_page cleaner_step.RemoveFromList is s v = removed_by (eqb (slice_index m.lists (first_of_batch x % 4)) 0) refl is s v
-    cleaner_page cleaner_step.ClearOldest is s v = as_is _ _ 0 s v (h, keeps_cleared E c g.seat_of m g.log (D.stable p) h ls d actors seat B mates W x at Z.page_words is)
-    cleaner_page cleaner_step.GiveList is s v = as_is _ _ 0 s v (h, keeps_given E c g.seat_of m g.log (D.stable p) h ls d actors seat B mates W x at Z.lists is)
-    cleaner_page cleaner_step.ReleaseLatch is s v = as_is _ _ 0 s v (h, keeps_freed E c g.seat_of m g.log (D.stable p) h ls d actors seat B mates W x at Z.page_words is)
-    cleaner_page cleaner_step.StoreFailed is s v = as_is _ _ 0 s v (h, away (record m { failed = x.code }) (actor.Cleaner (record x { step = cleaner_step.Failed })) (dead_fits (record m { failed = x.code }) x.code x.checks refl) refl refl refl refl refl refl)
+    cleaner_page cleaner_step.ClearOldest is s v = as_is _ _ 0 s v (h, keeps_cleared E c g.seat_of m g.log (D.stable p) h ls d actors seat B mates W x at Z.page_words is, unmoved)
+    cleaner_page cleaner_step.GiveList is s v = as_is _ _ 0 s v (h, keeps_given E c g.seat_of m g.log (D.stable p) h ls d actors seat B mates W x at Z.lists is, unmoved)
+    cleaner_page cleaner_step.ReleaseLatch is s v = as_is _ _ 0 s v (h, keeps_freed E c g.seat_of m g.log (D.stable p) h ls d actors seat B mates W x at Z.page_words is, unmoved)
+    cleaner_page cleaner_step.StoreFailed is s v = as_is _ _ 0 s v (h, away (record m { failed = x.code }) (actor.Cleaner (record x { step = cleaner_step.Failed })) (stored_fits x.code x.checks) refl refl refl refl refl refl, unmoved)
     cleaner_page cleaner_step.Failed is s v = rested (actor.Cleaner x) at s v
 
     cleaner_hears : (b : Bool) → ◌≡◌ {A = D.Part} q p → ◌≡◌ {A = E.Part} e d → PageDone m g.log ls (actor.Cleaner (cond b (record x { checks = false }) (record x { checks = false; code = m.failed; step = cleaner_step.Failed })))
-    cleaner_hears true s v = as_is m (actor.Cleaner (record x { checks = false })) 0 s v (h, page_quiet E c g.seat_of m g.log (D.stable p) h ls d actors seat B mates (actor.Cleaner (record x { checks = false })) (record { alone = XF.alone; pages = XF.pages; page = XF.page; flushed = XF.flushed; sound = XF.sound; apart = XF.apart; few = XF.few; cause = XF.cause; step = XF.step }))
-    cleaner_hears false s v = as_is m (actor.Cleaner (record x { checks = false; code = m.failed; step = cleaner_step.Failed })) 0 s v (h, page_quiet E c g.seat_of m g.log (D.stable p) h ls d actors seat B mates (actor.Cleaner (record x { checks = false; code = m.failed; step = cleaner_step.Failed })) (dead_fits m m.failed false refl))
+    cleaner_hears true s v = as_is m (actor.Cleaner (record x { checks = false })) 0 s v (h, page_quiet E c g.seat_of m g.log (D.stable p) h ls d actors seat B mates (actor.Cleaner (record x { checks = false })) (record { alone = XF.alone; pages = XF.pages; page = XF.page; flushed = XF.flushed; sound = XF.sound; apart = XF.apart; few = XF.few; cause = XF.cause; step = XF.step }), unmoved)
+    cleaner_hears false s v = as_is m (actor.Cleaner (record x { checks = false; code = m.failed; step = cleaner_step.Failed })) 0 s v (h, page_quiet E c g.seat_of m g.log (D.stable p) h ls d actors seat B mates (actor.Cleaner (record x { checks = false; code = m.failed; step = cleaner_step.Failed })) (dead_fits m.failed false), unmoved)
 
   module _ (t : CheckpointerState) (at : get_elem? actors seat ≡ some (actor.Checkpointer t)) where
     PF : CheckpointerPageFits E c m g.log h ls d seat t
@@ -351,7 +372,7 @@ module _ (D : LogSide) (L : LogLaws D) (E : DataSide) (EL : DataLaws E) (c : Set
     at_pages f = CheckpointerPagesAt E c m g.log h ls d seat t f
 
     moves : (m' : SharedWords) (y : CheckpointerState) → CheckpointerPageFits E c m' g.log h ls d seat y → m'.page_words ≡ m.page_words → m'.lists ≡ m.lists → m'.clinks ≡ m.clinks → m'.ctail ≡ m.ctail → m.sn ≡ m'.sn → m.flushed ≡ m'.flushed → ◌≡◌ {A = D.Part} q p → ◌≡◌ {A = E.Part} e d → PageDone m' g.log ls (actor.Checkpointer y)
-    moves m' y f e1 e2 e3 e4 e5 e6 s v = as_is m' (actor.Checkpointer y) 0 s v (h, away m' (actor.Checkpointer y) f e1 e2 e3 e4 e5 e6)
+    moves m' y f e1 e2 e3 e4 e5 e6 s v = as_is m' (actor.Checkpointer y) 0 s v (h, away m' (actor.Checkpointer y) f e1 e2 e3 e4 e5 e6, unmoved)
 
     list_read : (b : Bool) → eqb (slice_index m.lists t.list) 0 ≡ b → t.step ≡ checkpointer_step.ReadList → at_pages checkpointer_step.ReadList → ◌≡◌ {A = D.Part} q p → ◌≡◌ {A = E.Part} e d
         → PageDone (cond b (record m { lists = slice_set m.lists t.list 1 }) m) g.log ls (actor.Checkpointer (checkpointer_took t (cond b (answer.Taken (oldest_end (ls t.list))) answer.Held) checkpointer_step.ReadList))
@@ -372,10 +393,10 @@ module _ (D : LogSide) (L : LogLaws D) (E : DataSide) (EL : DataLaws E) (c : Set
     -- every step but the call
     checkpointer_page : (f : CheckpointerStep) → (f ≡ checkpointer_step.Checkpoint → ⊥) → t.step ≡ f → at_pages f → ◌≡◌ {A = D.Part} q p → ◌≡◌ {A = E.Part} e d
         → PageDone (shared_left m (checkpointer_op t f)) g.log (lists_left ls (λ i. slice_index m.lists i) (checkpointer_op t f)) (actor.Checkpointer (checkpointer_took t (shared_answer ls (D.failed p) code (D.stable q) m (checkpointer_op t f)) f))
-    checkpointer_page checkpointer_step.LoadCtail n is o s v = as_is _ _ 0 s v (h, keeps_begin E c g.seat_of m g.log (D.stable p) h ls d actors seat B mates W t at is)
+    checkpointer_page checkpointer_step.LoadCtail n is o s v = as_is _ _ 0 s v (h, keeps_begin E c g.seat_of m g.log (D.stable p) h ls d actors seat B mates W t at is, unmoved)
     checkpointer_page checkpointer_step.ReadList n is o s v = list_read (eqb (slice_index m.lists t.list) 0) refl is o s v
-    checkpointer_page checkpointer_step.GiveList n is o s v = as_is _ _ 0 s v (h, keeps_next_list E c g.seat_of m g.log (D.stable p) h ls d actors seat B mates W t at Z.lists is)
-    checkpointer_page checkpointer_step.LoadFlushed n is o s v = as_is _ _ 0 s v (h, keeps_candidate E c g.seat_of m g.log (D.stable p) h ls d actors seat B mates W t at is)
+    checkpointer_page checkpointer_step.GiveList n is o s v = as_is _ _ 0 s v (h, keeps_next_list E c g.seat_of m g.log (D.stable p) h ls d actors seat B mates W t at Z.lists is, unmoved)
+    checkpointer_page checkpointer_step.LoadFlushed n is o s v = as_is _ _ 0 s v (h, keeps_candidate E c g.seat_of m g.log (D.stable p) h ls d actors seat B mates W t at is, unmoved)
     checkpointer_page checkpointer_step.TakeDevice n is o s v = seize_by (eqb m.device 0) (D.failed p) is o s v
     checkpointer_page checkpointer_step.GiveBroken n is o s v = moves (record m { device = 0 }) (record t { checks = true; step = checkpointer_step.TakeDevice }) (record { alone = PF.alone; with_pages = PF.with_pages; loaded = PF.loaded; given = λ _. PF.given (ap rests is); step = o }) refl refl refl refl refl refl s v
     checkpointer_page checkpointer_step.Checkpoint n is o s v = absurd (n refl)
@@ -398,8 +419,8 @@ module _ (D : LogSide) (L : LogLaws D) (E : DataSide) (EL : DataLaws E) (c : Set
   user_stored u _ s = s
 
   user_hears : (u : UserState) (at : get_elem? actors seat ≡ some (actor.User u)) (b : Bool) → ◌≡◌ {A = D.Part} q p → ◌≡◌ {A = E.Part} e d → PageDone m g.log ls (actor.User (cond b (record u { checks = false }) (record u { checks = false; code = m.failed; step = user_step.Failed })))
-  user_hears u at true s v = let f = F u at in as_is m (actor.User (record u { checks = false })) 0 s v (h, quiet_to u at (record u { checks = false }) (record { there = f.there; apart = f.apart; within = f.within; loaded = f.loaded; step = f.step }))
-  user_hears u at false s v = let f = F u at in as_is m (actor.User (record u { checks = false; code = m.failed; step = user_step.Failed })) 0 s v (h, quiet_to u at (record u { checks = false; code = m.failed; step = user_step.Failed }) (record { there = f.there; apart = f.apart; within = f.within; loaded = f.loaded; step = tt }))
+  user_hears u at true s v = let f = F u at in as_is m (actor.User (record u { checks = false })) 0 s v (h, quiet_to u at (record u { checks = false }) (record { there = f.there; apart = f.apart; within = f.within; loaded = f.loaded; step = f.step }), unmoved)
+  user_hears u at false s v = let f = F u at in as_is m (actor.User (record u { checks = false; code = m.failed; step = user_step.Failed })) 0 s v (h, quiet_to u at (record u { checks = false; code = m.failed; step = user_step.Failed }) (record { there = f.there; apart = f.apart; within = f.within; loaded = f.loaded; step = user_still_holds E c m g.log h ls d seat u u.step f.step }), unmoved)
 
   user_turn : (u : UserState) → get_elem? actors seat ≡ some (actor.User u) → (b : Bool) → u.checks ≡ b → LogServed D p Nothing (cond b (op.Load word.Failed) (user_op u u.step)) code q → DataServed E d Nothing (cond b (op.Load word.Failed) (user_op u u.step)) code e
       → PageDone (shared_left m (cond b (op.Load word.Failed) (user_op u u.step))) (cond b g.log (phase_log g.log m.sn u u.step)) (lists_left ls (λ i. slice_index m.lists i) (cond b (op.Load word.Failed) (user_op u u.step)))
@@ -534,4 +555,4 @@ module _ (D : LogSide) (L : LogLaws D) (E : DataSide) (EL : DataLaws E) (c : Set
   keeps_both a at w v =
       let r = keeps D L c spare m g p actors seat M code q ls (can_checkpoint D L E EL c spare m g h ls p d actors seat both) a at w in
       let b = page_turn a at w v r.0 r.1 in
-      (r.0, b.0, record { script = both.script; cause = caused D L E EL c spare m g h ls p d actors seat both code q e a at w v; logged = r.1; paged = subst (λ (l : List Entry). PageHalf E c (shared_left m (next a)) l (D.stable q) b.0 (lists_left ls (λ i. slice_index m.lists i) (next a)) e (set actors seat (took a (shared_answer ls (D.failed p) code (D.stable q) m (next a))))) (sym r.2) b.1 })
+      (r.0, b.0, record { script = both.script; closed = subst (λ (l : List Entry). UsersClosed l b.0.closed (set actors seat (took a (shared_answer ls (D.failed p) code (D.stable q) m (next a))))) (sym r.2) (users_closed D E c spare m g h ls p d actors seat both b.0 b.2 a at (shared_answer ls (D.failed p) code (D.stable q) m (next a)) b.1.paged.closed_links); asked = (let up = b.2.given in let z = asked_bound D L E EL c spare m g h ls p d actors seat both code q a at w in omega arith); cause = caused D L E EL c spare m g h ls p d actors seat both code q e a at w v; logged = r.1; paged = subst (λ (l : List Entry). PageHalf E c (shared_left m (next a)) l (D.stable q) b.0 (lists_left ls (λ i. slice_index m.lists i) (next a)) e (set actors seat (took a (shared_answer ls (D.failed p) code (D.stable q) m (next a))))) (sym r.2) b.1 })

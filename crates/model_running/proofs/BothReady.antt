@@ -1,5 +1,5 @@
 -- The conditions of each call of both parts, where an actor asks for it.
-use Rattle.std.proofs.Common.{Bool, List, ap, cond, false, refl, subst, true, ℕ, ◌∙◌, ◌≡◌}
+use Rattle.std.proofs.Common.{Bool, List, ap, cond, false, refl, true, ℕ, ◌∙◌, ◌≡◌}
 use lib.ListN.{get_elem?}
 use mathlib.Core.Option.{some}
 use Rattle.model_core.specs.Actors.{Actor, Batch, Blocks, Lent, Nothing}
@@ -11,10 +11,9 @@ use Rattle.model_core.specs.FlushLists.{Listed}
 use Rattle.model_core.specs.FlusherProgram.{flusher_op}
 use Rattle.model_core.specs.Layout.{SharedWords}
 use Rattle.model_core.specs.LogSide.{LogSide}
-use Rattle.model_core.specs.Lsn.{lsn}
 use Rattle.model_core.specs.Program.{lent, next}
 use Rattle.model_core.specs.Setup.{Setup}
-use Rattle.model_core.specs.States.{BatchPage, CheckpointerState, CleanerState, CloserState, FlusherState, UserState, WriterState}
+use Rattle.model_core.specs.States.{CheckpointerState, CleanerState, CloserState, FlusherState, UserState, WriterState}
 use Rattle.model_core.specs.UserProgram.{user_op}
 use Rattle.model_core.specs.WriterProgram.{writer_op}
 use Rattle.model_core.specs.declared.ops.Op.{Op}
@@ -26,16 +25,11 @@ use Rattle.model_core.specs.declared.steps.UserStep.{UserStep}
 use Rattle.model_core.specs.declared.steps.WriterStep.{WriterStep}
 use Rattle.model_logcore.proofs.Ready.{ready}
 use Rattle.model_logcore.specs.LogFacts.{LogGhost}
-use Rattle.model_logcore.specs.LogFits.{UserFits}
 use Rattle.model_logcore.specs.LogLaws.{LogLaws}
 use Rattle.model_logcore.specs.Ready.{Ready}
-use Rattle.model_pagecore.proofs.BatchSteps.{can_batch}
-use Rattle.model_pagecore.proofs.PageHistory.{laid}
 use Rattle.model_pagecore.specs.DataLaws.{DataLaws}
 use Rattle.model_pagecore.specs.PageFacts.{PageGhost}
-use Rattle.model_pagecore.specs.PageHalf.{CleanerFits, runs}
-use Rattle.model_pagecore.specs.Pages.{Laid}
-use Rattle.model_running.proofs.CallConditions.{can_checkpoint}
+use Rattle.model_running.proofs.CallConditions.{all_written, can_checkpoint, can_write_batch}
 use Rattle.model_running.specs.DataReady.{DataReady}
 use Rattle.model_running.specs.RunningStore.{BothHalves}
 use Rattle.model_core.specs.declared.words.Word.TheVariants as word
@@ -52,43 +46,38 @@ module _ (D : LogSide) (L : LogLaws D) (E : DataSide) (EL : DataLaws E) (c : Set
   pub log_ready : (a : Actor) → get_elem? actors seat ≡ some a → Ready D c g p a (next a)
   log_ready a at = ready D L c spare m g p actors seat both.logged a at (λ t is step. can_checkpoint D L E EL c spare m g h ls p d actors seat both t (at ∙ ap some is) step)
 
-  mates : (j : ℕ) (u : UserState) → get_elem? actors j ≡ some (actor.User u) → g.seat_of u.user ≡ j
-  mates j u at = let f : UserFits D c m g p j u = both.logged.each j (actor.User u) at in f.own_seat
-
-  cleaner_ready : (v : CleanerState) → get_elem? actors seat ≡ some (actor.Cleaner v) → (f : CleanerStep) → v.step ≡ f → DataReady E h.kept_page (Batch v.batch) d (cleaner_op v f)
-  cleaner_ready v at cleaner_step.WriteBatch is =
-      let W : Laid (lsn c.base) (lsn m.sn) g.log = laid c.base m.sn g.log both.logged.global.tiled.tiles in
-      let fits : CleanerFits E c m g.log h ls d seat v = both.paged.each seat (actor.Cleaner v) at in (
-        subst (λ (l : List BatchPage). E.Holds h.kept_page l d) (fits.sound (ap runs is)).1 both.paged.paged.stored,
-        can_batch E c g.seat_of m g.log (D.stable p) h ls d actors seat both.paged mates W v at is,
-      )
+  cleaner_ready : (v : CleanerState) → get_elem? actors seat ≡ some (actor.Cleaner v) → (f : CleanerStep) → v.step ≡ f → DataReady E c.pages h.kept_page (Batch v.batch) d (cleaner_op v f)
+  cleaner_ready v at cleaner_step.WriteBatch is = (
+    all_written D L E EL c spare m g h ls p d actors seat both v at is,
+    can_write_batch D L E EL c spare m g h ls p d actors seat both v at is,
+  )
   cleaner_ready v at _ is = tt
 
-  checking : (l : Lent) (b : Bool) (o : Op) → DataReady E h.kept_page l d o → DataReady E h.kept_page l d (cond b (op.Load word.Failed) o)
+  checking : (l : Lent) (b : Bool) (o : Op) → DataReady E c.pages h.kept_page l d o → DataReady E c.pages h.kept_page l d (cond b (op.Load word.Failed) o)
   checking l true o ready = tt
   checking l false o ready = ready
 
-  user_data : (l : Lent) (u : UserState) (f : UserStep) → DataReady E h.kept_page l d (user_op u f)
+  user_data : (l : Lent) (u : UserState) (f : UserStep) → DataReady E c.pages h.kept_page l d (user_op u f)
   user_data l u user_step.LoadCheckpoint = tt
   user_data l u _ = tt
 
-  writer_data : (l : Lent) (s : WriterState) (f : WriterStep) → DataReady E h.kept_page l d (writer_op s f)
+  writer_data : (l : Lent) (s : WriterState) (f : WriterStep) → DataReady E c.pages h.kept_page l d (writer_op s f)
   writer_data l s writer_step.LoadLink = tt
   writer_data l s _ = tt
 
-  flusher_data : (l : Lent) (t : FlusherState) (f : FlusherStep) → DataReady E h.kept_page l d (flusher_op t f)
+  flusher_data : (l : Lent) (t : FlusherState) (f : FlusherStep) → DataReady E c.pages h.kept_page l d (flusher_op t f)
   flusher_data l t flusher_step.LoadWrite = tt
   flusher_data l t _ = tt
 
-  closer_data : (l : Lent) (t : CloserState) (f : CloserStep) → DataReady E h.kept_page l d (closer_op t f)
+  closer_data : (l : Lent) (t : CloserState) (f : CloserStep) → DataReady E c.pages h.kept_page l d (closer_op t f)
   closer_data l t closer_step.LoadClosedLink = tt
   closer_data l t _ = tt
 
-  checkpointer_data : (l : Lent) (t : CheckpointerState) (f : CheckpointerStep) → DataReady E h.kept_page l d (checkpointer_op t f)
+  checkpointer_data : (l : Lent) (t : CheckpointerState) (f : CheckpointerStep) → DataReady E c.pages h.kept_page l d (checkpointer_op t f)
   checkpointer_data l t checkpointer_step.LoadCtail = tt
   checkpointer_data l t _ = tt
 
-  pub data_ready : (a : Actor) → get_elem? actors seat ≡ some a → DataReady E h.kept_page (lent a) d (next a)
+  pub data_ready : (a : Actor) → get_elem? actors seat ≡ some a → DataReady E c.pages h.kept_page (lent a) d (next a)
   data_ready (actor.User u) at = checking Nothing u.checks (user_op u u.step) (user_data Nothing u u.step)
   data_ready (actor.Writer s) at = checking (Blocks s.kept s.firsts) s.checks (writer_op s s.step) (writer_data (Blocks s.kept s.firsts) s s.step)
   data_ready (actor.Flusher t) at = checking Nothing t.checks (flusher_op t t.step) (flusher_data Nothing t t.step)

@@ -2,6 +2,7 @@
 use Rattle.std.proofs.Common.{List, [], arith, false, length, subst, sym, ℕ, ◌<◌, ◌≡◌, ap, true}
 use lib.ListN.{get_elem?}
 use mathlib.Core.Option.{some}
+use Rattle.model_base.specs.declared.limits.TheConstants.{LSN_LIMIT}
 use Rattle.model_core.specs.Actors.{Actor, Batch, Blocks, Nothing}
 use Rattle.model_core.specs.DataSide.{DataSide}
 use Rattle.model_core.specs.FlushLists.{Listed}
@@ -12,6 +13,7 @@ use Rattle.model_core.specs.Lsn.{lsn}
 use Rattle.model_core.specs.Setup.{Setup}
 use Rattle.model_core.specs.States.{CleanerState, CheckpointerState, BatchPage, UserState}
 use Rattle.model_core.specs.UserProgram.{change_at}
+use Rattle.model_logcore.proofs.AnswersFit.{small_sn}
 use Rattle.model_logcore.specs.LogFacts.{LogGhost}
 use Rattle.model_logcore.specs.LogFits.{UserAt, UserFits}
 use Rattle.model_logcore.specs.LogHalf.{LogHalf}
@@ -20,7 +22,7 @@ use Rattle.model_pagecore.proofs.BatchSteps.{can_batch}
 use Rattle.model_pagecore.proofs.PageHistory.{laid}
 use Rattle.model_pagecore.proofs.CheckpointSteps.{all_passed}
 use Rattle.model_pagecore.proofs.PageStep.{cells_mine}
-use Rattle.model_pagecore.specs.DataLaws.{AfterBatch, DataLaws}
+use Rattle.model_pagecore.specs.DataLaws.{AfterBatch, CanBatch, DataLaws}
 use Rattle.model_pagecore.specs.PageFacts.{PageGhost}
 use Rattle.model_pagecore.specs.PageHalf.{CleanerFits, PageHalf, CheckpointerPagesAt, CheckpointerPageFits, runs}
 use Rattle.model_pagecore.specs.Pages.{Laid, touches}
@@ -67,9 +69,19 @@ module _ (D : LogSide) (L : LogLaws D) (E : DataSide) (EL : DataLaws E) (c : Set
       let n0 = n.0 in let o4 = o.0.4 in
       record { sound = n.1; even = o.0.3; more = omega arith; below = r.0; ends = r.1 }
 
+  small_flushed : m.flushed < LSN_LIMIT
+  small_flushed = let top = small_sn D c spare m g p actors seat M in let low = B.paged.flushed in let high = B.paged.stable_top in omega arith
+
+  -- nothing is unfinished where the cleaner writes its batch, and that may be written
+  pub all_written : (x : CleanerState) → get_elem? actors seat ≡ some (actor.Cleaner x) → x.step ≡ cleaner_step.WriteBatch → E.Holds h.kept_page [] d
+  all_written x at is =
+      let XF : CleanerFits E c m g.log h ls d seat x = B.each seat (actor.Cleaner x) at in
+      subst (λ (l : List BatchPage). E.Holds h.kept_page l d) (XF.sound (ap runs is)).1 B.paged.stored
+
+  pub can_write_batch : (x : CleanerState) → get_elem? actors seat ≡ some (actor.Cleaner x) → x.step ≡ cleaner_step.WriteBatch → CanBatch E c.pages h.kept_page x.batch d
+  can_write_batch x at is = can_batch E c g.seat_of m g.log (D.stable p) h ls d actors seat B mates W x at is Z.frames small_flushed
+
   -- what writing the cleaner's batch leaves
   pub after_batch : (x : CleanerState) → get_elem? actors seat ≡ some (actor.Cleaner x) → x.step ≡ cleaner_step.WriteBatch → (code : ℕ) (e : E.Part) → E.Batched x.batch code d e → AfterBatch E h.kept_page x.batch code d e
   after_batch x at is code e v =
-      let XF : CleanerFits E c m g.log h ls d seat x = B.each seat (actor.Cleaner x) at in
-      let stored : E.Holds h.kept_page [] d = subst (λ (l : List BatchPage). E.Holds h.kept_page l d) (XF.sound (ap runs is)).1 B.paged.stored in
-      EL.batches h.kept_page x.batch code d e stored (can_batch E c g.seat_of m g.log (D.stable p) h ls d actors seat B mates W x at is) v
+      EL.batches c.pages h.kept_page x.batch code d e (all_written x at is) (can_write_batch x at is) v

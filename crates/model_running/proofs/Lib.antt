@@ -1,13 +1,16 @@
 pub mod AnswersFitAll
+pub mod AskedBound
 pub mod BothKeep
 pub mod BothReady
 pub mod CallConditions
 pub mod Causes
+pub mod ClosedKeep
 pub mod EachTurn
 pub mod FailedStays
 pub mod FlatWords
-pub mod RunStarts
 pub mod ListsReady
 pub mod SeatsKeep
 pub mod StartRunning
 pub mod Turns
+pub mod UserCloses
+pub mod Watermarks

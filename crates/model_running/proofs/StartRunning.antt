@@ -1,7 +1,8 @@
 -- A run's start: both halves of the invariant hold.
-use Rattle.std.proofs.Common.{List, [], ap, arith, false, get_or, length, refl, subst, sym, ℕ, ◌+◌, ◌<◌, ◌^◌, ◌≡◌, ◌≢◌}
+use Rattle.std.proofs.Common.{List, [], ap, arith, false, get_or, length, refl, subst, sym, ℕ, ◌+◌, ◌<◌, ◌≡◌, ◌≢◌}
 use lib.ListN.{get_elem?}
 use mathlib.Core.Option.{some, some-ne-none}
+use Rattle.model_base.specs.declared.limits.TheConstants.{LSN_LIMIT}
 use Rattle.model_core.specs.Actors.{Actor}
 use Rattle.model_core.specs.DataSide.{DataSide}
 use Rattle.model_core.specs.Layout.{SharedWords, flat}
@@ -11,6 +12,7 @@ use Rattle.model_core.specs.Setup.{Setup}
 use Rattle.model_core.specs.States.{CheckpointerState, CleanerState, CloserState, Line, LoadedMarks}
 use Rattle.model_core.specs.UserProgram.{change_at, line_at}
 use Rattle.model_logcore.proofs.DeviceSteps.{alone}
+use Rattle.model_logcore.proofs.NewUsers.{new_user_is}
 use Rattle.model_logcore.proofs.StartHolds.{half_starts, start}
 use Rattle.model_logcore.specs.LogFacts.{sum_over_actors}
 use Rattle.model_logcore.specs.LogHalf.{left_to_reserve}
@@ -20,6 +22,7 @@ use Rattle.model_pagecore.specs.PageFacts.{PageGhost}
 use Rattle.model_pagecore.specs.PageHalf.{CheckpointerPageFits, CleanerFits, CloserFits, PageFits, UserPagesAt}
 use Rattle.model_running.specs.RunningStore.{BothHalves, RunningStore}
 use Rattle.model_running.specs.StartStore.{StartStore}
+use Rattle.model_running.specs.UsersClosed.{HandIsClosed}
 use Rattle.model_core.specs.Actors as actor
 
 abbrev pub start_pages : Setup → PageGhost
@@ -60,10 +63,10 @@ module _ (D : LogSide) (E : DataSide) (c : Setup) (m : SharedWords) (p : D.Part)
   })
 
   page_fits : (seat : ℕ) (a : Actor) → get_elem? actors seat ≡ some a → StartActor c seat_of writer seat a → PageFits E c m [] (start_pages c) (λ _. []) d seat a
-  page_fits seat (actor.User u) at h = let k = h.1 in record {
+  page_fits seat (actor.User u) at h = let k = new_user_is c u h.1 in record {
     there = λ j i l. subst (λ (ls : List Line). i < length (line_at ls j).changes → (change_at (line_at ls j).changes i).page < c.pages) (sym k.lines) (S.script.there u.user j i) l;
-    apart = λ j i n l r. subst (λ (ls : List Line). i < n → n < length (line_at ls j).changes → (change_at (line_at ls j).changes i).page ≢ (change_at (line_at ls j).changes n).page) (sym k.lines) (S.changes.apart u.user j i n) l r;
-    within = λ j n i l. subst (λ (ls : List Line). n < length (line_at ls j).changes → (get_or (change_at (line_at ls j).changes n).cells i (record { at = 0; value = 0 })).at < 4096) (sym k.lines) (S.changes.within u.user j n i) l;
+    apart = λ j i n l r. subst (λ (ls : List Line). i < n → n < length (line_at ls j).changes → (change_at (line_at ls j).changes i).page ≢ (change_at (line_at ls j).changes n).page) (sym k.lines) (S.script.apart u.user j i n) l r;
+    within = λ j n i l. subst (λ (ls : List Line). n < length (line_at ls j).changes → (get_or (change_at (line_at ls j).changes n).cells i (record { at = 0; value = 0 })).at < 4096) (sym k.lines) (S.script.within u.user j n i) l;
     loaded = (let z : u.loaded.ctail ≡ 0 = ap (λ (z : LoadedMarks). z.ctail) k.loaded in omega arith);
     step = subst (λ f. UserPagesAt E c m [] (start_pages c) (λ _. []) d seat u f) (sym k.step) tt;
   }
@@ -74,11 +77,16 @@ module _ (D : LogSide) (E : DataSide) (c : Setup) (m : SharedWords) (p : D.Part)
   page_fits seat (actor.Checkpointer t) at h = checkpointer_fits seat t h.0 (S.with_pages seat t at) h.1
   page_fits seat (actor.Joined es) at h = tt
 
-  pub both_start : (spare : ℕ) → c.base + sum_over_actors left_to_reserve actors + spare < 2 ^ 59 → BothHalves D E c spare m (start D c m p seat_of writer S.words S.log_part) (start_pages c) (λ _. []) p d actors
+  pub both_start : (spare : ℕ) → lsn (c.base + sum_over_actors left_to_reserve actors + spare) < LSN_LIMIT → BothHalves D E c spare m (start D c m p seat_of writer S.words S.log_part) (start_pages c) (λ _. []) p d actors
   both_start spare room = let w = S.words in let f = w.failed in record {
     script = S.script;
     cause = λ some_code. absurd (omega arith);
     logged = half_starts D c m p seat_of writer S.words S.log_part spare actors S.each room;
+    asked = (let z = S.log_part.asked in omega arith);
+    closed = λ seat u at. let k = new_user_is c u (S.each seat (actor.User u) at).1 in record {
+      answered = λ i e is. absurd (some-ne-none e (sym is));
+      in_hand = subst (λ f. HandIsClosed (λ _. false) u f) (sym k.step) tt;
+    };
     paged = pages_start E c m (D.stable p) (start_pages c) d actors (record {
       page_words = S.page_words.page_words;
       early = S.page_words.early;
@@ -92,8 +100,9 @@ module _ (D : LogSide) (E : DataSide) (c : Setup) (m : SharedWords) (p : D.Part)
       given = omega arith;
       kept_page = λ _. refl;
       stored = S.stored;
+      all_written = refl;
     }) (λ seat a at. page_fits seat a at (S.each seat a at));
   }
 
-  pub store_starts : (spare : ℕ) (ws : List ℕ) → ws ≡ flat m → c.base + sum_over_actors left_to_reserve actors + spare < 2 ^ 59 → RunningStore D E c spare ws (λ _. []) p d actors
+  pub store_starts : (spare : ℕ) (ws : List ℕ) → ws ≡ flat m → lsn (c.base + sum_over_actors left_to_reserve actors + spare) < LSN_LIMIT → RunningStore D E c spare ws (λ _. []) p d actors
   store_starts spare ws is room = record { shared = m; log_ghost = start D c m p seat_of writer S.words S.log_part; page_ghost = start_pages c; flat_is = is; both = both_start spare room }

@@ -8,10 +8,10 @@ use Rattle.model_pagecore.specs.DataLaws.{CanBatch}
 use Rattle.model_core.specs.declared.ops.Op.TheVariants as op
 
 -- nothing is unfinished in the data part, and the batch that is lent may be written
-abbrev pub CanLendBatch : (E : DataSide) → (ℕ → KeptPage) → Lent → E.Part → Type 0
-CanLendBatch E kept_page (Batch b) d = E.Holds kept_page [] d × CanBatch E kept_page b d
-CanLendBatch E kept_page _ d = ⊥
+abbrev pub CanLendBatch : (E : DataSide) → ℕ → (ℕ → KeptPage) → Lent → E.Part → Type 0
+CanLendBatch E pages kept_page (Batch b) d = E.Holds kept_page [] d × CanBatch E pages kept_page b d
+CanLendBatch E pages kept_page _ d = ⊥
 
-abbrev pub DataReady : (E : DataSide) → (ℕ → KeptPage) → Lent → E.Part → Op → Type 0
-DataReady E kept_page l d op.WriteBatch = CanLendBatch E kept_page l d
-DataReady E kept_page l d _ = Unit {0}
+abbrev pub DataReady : (E : DataSide) → ℕ → (ℕ → KeptPage) → Lent → E.Part → Op → Type 0
+DataReady E pages kept_page l d op.WriteBatch = CanLendBatch E pages kept_page l d
+DataReady E pages kept_page l d _ = Unit {0}

@@ -5,3 +5,5 @@ pub mod RunningStore
 pub mod Schedule
 pub mod Seating
 pub mod StartStore
+pub mod UsersClosed
+pub mod Watermarks

@@ -1,5 +1,5 @@
 -- Both halves of the invariant, over one list of actors.
-use Rattle.std.specs.Prelude.{List, ℕ, ◌<◌, ◌≡◌, ◌⊎◌}
+use Rattle.std.specs.Prelude.{List, ℕ, ◌<◌, ◌≡◌, ◌≤◌, ◌⊎◌}
 use Rattle.model_core.specs.Actors.{Actor}
 use Rattle.model_core.specs.DataSide.{DataSide}
 use Rattle.model_core.specs.FlushLists.{Listed}
@@ -11,12 +11,17 @@ use Rattle.model_logcore.specs.LogFacts.{LogGhost}
 use Rattle.model_logcore.specs.LogHalf.{LogHalf}
 use Rattle.model_pagecore.specs.PageFacts.{PageGhost}
 use Rattle.model_pagecore.specs.PageHalf.{PageHalf}
+use Rattle.model_running.specs.UsersClosed.{UsersClosed}
 
 pub record BothHalves (D : LogSide) (E : DataSide) (c : Setup) (spare : ℕ) (m : SharedWords) (g : LogGhost) (h : PageGhost) (ls : ℕ → List Listed) (p : D.Part) (d : E.Part) (actors : List Actor) : Type 0 where
   pub script : IsScripted c
   -- a failure has a cause
   pub cause : 0 < m.failed → D.Cause p m.failed ⊎ E.Cause d m.failed
   pub logged : LogHalf D c spare m g p actors
+  -- no page lacks a change that starts below a checkpoint that was asked for, good or failed
+  pub asked : D.asked p ≤ h.given
+  -- the users' states say which groups are closed
+  pub closed : UsersClosed g.log h.closed actors
   pub paged : PageHalf E c m g.log (D.stable p) h ls d actors
 
 -- the same over the list of words

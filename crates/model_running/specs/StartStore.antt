@@ -1,5 +1,5 @@
 -- What stands at the start of a run, from which both halves of the invariant hold.
-use Rattle.std.specs.Prelude.{[], false, get_or, length, slice_index, ℕ, ◌<◌, ◌≡◌, ◌≢◌, ◌≤◌}
+use Rattle.std.specs.Prelude.{[], false, slice_index, ℕ, ◌<◌, ◌≡◌, ◌≤◌}
 use lib.ListN.{get_elem?}
 use mathlib.Core.Option.{some}
 use Rattle.std.specs.Prelude.{List}
@@ -10,15 +10,8 @@ use Rattle.model_core.specs.LogSide.{LogSide}
 use Rattle.model_core.specs.Lsn.{lsn}
 use Rattle.model_core.specs.Setup.{IsScripted, Setup}
 use Rattle.model_core.specs.States.{CheckpointerState}
-use Rattle.model_core.specs.UserProgram.{change_at, line_at}
-use Rattle.model_core.specs.declared.limits.TheConstants.{FRAME_CELLS}
 use Rattle.model_logcore.specs.Start.{StartActor, StartPart, StartWords}
 use Rattle.model_core.specs.Actors as actor
-
--- a line names each page once, and changes cells of a frame
-pub record ChangesFit (c : Setup) : Type 0 where
-  pub apart : (user j i k : ℕ) → i < k → k < length (line_at (c.script user) j).changes → (change_at (line_at (c.script user) j).changes i).page ≢ (change_at (line_at (c.script user) j).changes k).page
-  pub within : (user j k i : ℕ) → k < length (line_at (c.script user) j).changes → (get_or (change_at (line_at (c.script user) j).changes k).cells i (record { at = 0; value = 0 })).at < FRAME_CELLS
 
 -- the words of the pages: each page is free, unlisted, and as it was opened
 pub record StartPageWords (c : Setup) (m : SharedWords) : Type 0 where
@@ -29,7 +22,6 @@ pub record StartPageWords (c : Setup) (m : SharedWords) : Type 0 where
 
 pub record StartStore (D : LogSide) (E : DataSide) (c : Setup) (m : SharedWords) (p : D.Part) (d : E.Part) (seat_of : ℕ → ℕ) (writer : ℕ) (actors : List Actor) : Type 0 where
   pub script : IsScripted c
-  pub changes : ChangesFit c
   pub some_page : 0 < c.pages
   pub words : StartWords c m
   pub page_words : StartPageWords c m

@@ -1,8 +1,9 @@
 // What the writer makes of the answers to its own Ops.
-ghost use Rattle.std.specs.Prelude.{◌≡◌, ◌<◌, ◌≤◌, ◌+◌, ◌^◌, ◌==◌, if◌then◌else◌, false, length};
+ghost use Rattle.std.specs.Prelude.{◌≡◌, ◌<◌, ◌≤◌, ◌+◌, ◌==◌, if◌then◌else◌, false, length};
 ghost use Rattle.model_core.specs.Actors as actor;
 ghost use Rattle.model_core.specs.AnswerFits.{AnswerFits};
 ghost use Rattle.model_core.specs.Answers.{old_of};
+ghost use Rattle.model_core.specs.Fitting.{answer_limit};
 ghost use Rattle.model_core.specs.Waiting.{step_of, writer_ending, writer_waits};
 ghost use Rattle.model_core.specs.WriterProgram.{full_blocks, has_log_space, stands_outside, writer_after, writer_took};
 
@@ -17,7 +18,7 @@ use redo_words::{Answer, Step, code_of, old_of};
 impl Writer {
     /// Whether the log has space up to its tail, where CKPT is this.
     fn has_log_space(&self, ckpt: u64) -> bool
-        requires { ckpt < 2 ^ 60 }
+        requires { ckpt < answer_limit }
         ensures { result ≡ has_log_space self.now ckpt }
     {
         let end = self.tail + (BLOCK_SIZE - 1);
@@ -34,7 +35,7 @@ impl Writer {
     /// The link at its tail was loaded.
     fn found_link(&mut self, answer: Answer) -> Step
         requires step { self.old.step ≡ WriterStep.LoadLink }
-        requires small { self.old.tail + old_of answer < 2 ^ 60 }
+        requires small { self.old.tail + old_of answer < answer_limit }
         ensures state { self.new ≡ writer_took self.old answer WriterStep.LoadLink }
         ensures step { result ≡ (if writer_waits self.old answer WriterStep.LoadLink then Step.Idle else Step.Moved) }
     {
@@ -66,7 +67,7 @@ impl Writer {
     /// The newest checkpoint was loaded.
     fn checks_space(&mut self, answer: Answer) -> Step
         requires step { self.old.step ≡ WriterStep.LoadCheckpoint }
-        requires small { old_of answer < 2 ^ 60 }
+        requires small { old_of answer < answer_limit }
         ensures state { self.new ≡ writer_took self.old answer WriterStep.LoadCheckpoint }
         ensures step { result ≡ (if has_log_space self.old (old_of answer) then Step.Moved else Step.Idle) }
     {
@@ -115,7 +116,7 @@ impl Writer {
     /// What it has read is written: the blocks that are full go.
     fn written(&mut self, answer: Answer) -> Step
         requires blocks { full_blocks self.old ≤ length self.old.firsts }
-        requires small { self.old.from + length self.old.kept < 2 ^ 59 }
+        requires small { self.old.from + length self.old.kept < answer_limit }
         ensures state { self.new ≡ writer_took self.old answer WriterStep.StoreWrite }
         ensures step { result ≡ Step.Moved }
     {

@@ -3,3 +3,4 @@ pub mod LogPartLaws
 pub mod MayCall
 pub mod PartStarts
 pub mod PartEnds
+pub mod ShapeStays

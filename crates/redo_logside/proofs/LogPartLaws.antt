@@ -1,7 +1,8 @@
 -- The log part meets the laws by which the running store speaks of it.
-use Rattle.std.proofs.Common.{Bool, List, [], None, Option, Some, ap, arith, cond, false, length, refl, subst, sym, true, ℕ, ◌%◌, ◌++◌, ◌+◌, ◌/◌, ◌<◌, ◌==◌, ◌^◌, ◌∙◌, ◌∷◌, ◌≡◌, ◌≤◌}
+use Rattle.std.proofs.Common.{Bool, List, [], None, Option, Some, ap, arith, cond, false, inl, inr, length, refl, subst, sym, true, ℕ, ◌%◌, ◌++◌, ◌+◌, ◌/◌, ◌<◌, ◌==◌, ◌^◌, ◌∙◌, ◌∷◌, ◌≡◌, ◌≤◌}
 use Rattle.std.specs.Prelude.{IfSome}
 use Rattle.model_base.specs.declared.shape.Shape.{Shape}
+use Rattle.model_core.specs.FailureCodes.{IsLogCode}
 use Rattle.model_core.specs.Groups.{Entry, Tiles}
 use Rattle.model_core.specs.LogSide.{LogSide}
 use Rattle.model_core.specs.Lsn.{lsn}
@@ -21,7 +22,9 @@ use Rattle.model_record.specs.declared.group.Whole.{Whole}
 use Rattle.redo_disk.specs.Seen.{Seen}
 use Rattle.redo_logdev.specs.Part.{Part, PartHolds}
 use Rattle.redo_logside.proofs.Outcome.{not_failed, outcome, pick}
-use Rattle.redo_logside.specs.LogPartSide.{HasFailedBy, HoldsLog, LogCheckpointed, LogSynced, LogWrote, log_side}
+use Rattle.redo_disk.specs.declared.error.DevError.{DevError}
+use Rattle.redo_disk.specs.declared.error.DevError.TheVariants.{Failed, NoMemory}
+use Rattle.redo_logside.specs.LogPartSide.{HasFailedBy, HoldsLog, LogCheckpointed, LogSynced, LogWrote, fault_code, has_failed, log_side}
 use Rattle.model_log.specs.Run as run
 
 told_so : {P Q : Disk → Type 0} (tells : Option Disk) → ((disk : Disk) → P disk → Q disk) → IfSome tells P → IfSome tells Q
@@ -116,6 +119,8 @@ module _ {L : Type 0} (seen : L → Seen) (faults : ℕ) (Begun : Type 0) where
         stable = stable;
         given = given;
         ckpt = ckpt;
+        asked = asked;
+        sound = o.sound;
         causes = λ code cause. absurd (no_cause p code live cause);
         cause = o.cause;
       }
@@ -149,6 +154,8 @@ module _ {L : Type 0} (seen : L → Seen) (faults : ℕ) (Begun : Type 0) where
         stable = stable;
         given = given;
         ckpt = ckpt;
+        asked = asked;
+        sound = o.sound;
         causes = λ code cause. absurd (no_cause p code live cause);
         cause = o.cause;
       }
@@ -183,6 +190,8 @@ module _ {L : Type 0} (seen : L → Seen) (faults : ℕ) (Begun : Type 0) where
         stable = stable;
         given = given;
         ckpt = ckpt;
+        asked = asked;
+        sound = o.sound;
         causes = λ code cause. absurd (no_cause p code live cause);
         cause = o.cause;
       }
@@ -198,5 +207,15 @@ module _ {L : Type 0} (seen : L → Seen) (faults : ℕ) (Begun : Type 0) where
           by false is = let a : q.marks.number ≡ p.marks.number = ap (λ (z : LogMarks). z.number) is in let b : q.marks.ckpt ≡ p.marks.ckpt = ap (λ (z : LogMarks). z.ckpt) is in
               let d : q.marks.ckpt / 512 ≡ p.marks.ckpt / 512 = ap (λ (k : ℕ). k / 512) b in omega arith
 
+  codes : (part : Part L) (code : ℕ) → HasFailedBy seen faults part code → IsLogCode code
+  codes part code cause = subst IsLogCode (sym cause.code_is) (by cause.fault)
+    where
+      by : (fault : DevError) → IsLogCode (fault_code fault)
+      by Failed = inl refl
+      by NoMemory = inr refl
+
+  broken : (part : Part L) (code : ℕ) → HasFailedBy seen faults part code → side.failed part ≡ true
+  broken part code cause = ap has_failed cause.failed
+
   pub log_laws : LogLaws side
-  log_laws = record { more = more; writes = writes; syncs = syncs; checkpoints = checkpoints }
+  log_laws = record { codes = codes; broken = broken; more = more; writes = writes; syncs = syncs; checkpoints = checkpoints }

@@ -34,6 +34,7 @@ module _ {L : Type 0} (seen : L → Seen) (faults : ℕ) where
   pub record IsOutcome (code : ℕ) (ok err : LogMarks) (old new : Part L) : Type 0 where
     pub marks : ◌≡◌ {A = LogMarks} new.marks (cond (code == 0) ok err)
     pub live : new.failed ≡ None → code ≡ 0
+    pub sound : code ≡ 0 → has_failed new.failed ≡ false
     pub cause : 0 < code → HasFailedBy seen faults new code
     pub later : faults ≤ (seen new.dev).faults
 
@@ -44,18 +45,21 @@ module _ {L : Type 0} (seen : L → Seen) (faults : ℕ) where
       by (Ok done) code_is on_ok on_err stays = record {
         marks = on_ok ∙ sym (ap (λ (k : ℕ). let z : LogMarks = cond (k == 0) ok err in z) code_is);
         live = λ none. code_is;
+        sound = λ _. is_live new.failed stays.failed;
         cause = λ some. absurd (omega arith);
         later = (let z = stays.cause.later in omega arith);
       }
       by (Err Failed) code_is on_ok on_err stays = record {
         marks = on_err ∙ sym (ap (λ (k : ℕ). let z : LogMarks = cond (k == 0) ok err in z) code_is);
         live = λ none. let z : None ≡ Some Failed = sym none ∙ stays.failed in absurd (cc);
+        sound = λ none. absurd (omega arith);
         cause = λ some. record { fault = Failed; failed = stays.failed; code_is = code_is; risen = λ is. risen_since faults (seen old.dev).faults (seen new.dev).faults early stays.cause.later (stays.cause.failed refl) };
         later = (let z = stays.cause.later in omega arith);
       }
       by (Err NoMemory) code_is on_ok on_err stays = record {
         marks = on_err ∙ sym (ap (λ (k : ℕ). let z : LogMarks = cond (k == 0) ok err in z) code_is);
         live = λ none. let z : None ≡ Some NoMemory = sym none ∙ stays.failed in absurd (cc);
+        sound = λ none. absurd (omega arith);
         cause = λ some. record { fault = NoMemory; failed = stays.failed; code_is = code_is; risen = λ is. absurd (cc) };
         later = (let z = stays.cause.later in omega arith);
       }

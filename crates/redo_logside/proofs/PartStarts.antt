@@ -41,6 +41,7 @@ part_starts seen c number p even small blocks live marks =
       };
       written = written;
       stable = stable;
-      given = omega arith;
+      given = given;
       ckpt = ckpt;
+      asked = asked;
     }

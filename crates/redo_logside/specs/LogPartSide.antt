@@ -2,6 +2,7 @@
 use Rattle.std.specs.Prelude.{Bool, Err, List, [], None, OnErr, OnOk, Ok, Option, Result, Some, false, true, ℕ, ◌%◌, ◌+◌, ◌/◌, ◌^◌, ◌<◌, ◌≡◌, ◌≤◌}
 use Rattle.model_base.specs.Count.{HasRisen}
 use Rattle.model_base.specs.declared.limits.TheConstants.{BLOCK_SIZE}
+use Rattle.model_core.specs.FailureCodes.{log_device_code, no_memory_code}
 use Rattle.model_core.specs.Groups.{Entry}
 use Rattle.model_core.specs.LogSide.{LogSide}
 use Rattle.model_core.specs.Lsn.{lsn}
@@ -16,8 +17,8 @@ use Rattle.redo_logdev.specs.Part.{KeepsHolding, KeepsNumbered, KeepsWriting, Pa
 
 -- the code that FAILED gets for what a call answered
 abbrev pub fault_code : DevError → ℕ
-fault_code Failed = 1
-fault_code NoMemory = 3
+fault_code Failed = log_device_code
+fault_code NoMemory = no_memory_code
 
 abbrev pub result_code : Result (Unit {0}) DevError → ℕ
 result_code (Ok done) = 0
@@ -87,6 +88,7 @@ module _ {L : Type 0} (seen : L → Seen) where
     stable = λ part. part.marks.stable;
     given = λ part. part.marks.given;
     ckpt = λ part. part.marks.ckpt;
+    asked = λ part. part.marks.asked;
     failed = λ part. has_failed part.failed;
     Holds = HoldsLog faults Begun;
     Cause = HasFailedBy faults;

@@ -8,4 +8,6 @@ mod laws;
 mod tests;
 
 pub use calls::{checkpoint, sync, write_to};
-pub use laws::log_part_meets_laws;
+pub use laws::{
+    log_half_has_watermarks, log_part_keeps_its_shape, log_part_meets_laws, log_part_tells,
+};

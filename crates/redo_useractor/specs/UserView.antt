@@ -1,5 +1,6 @@
 -- What the fields of a user stand for.
-use Rattle.std.specs.Prelude.{length, vec_capacity, vec_len, ℕ, ◌+◌, ◌<◌, ◌^◌, ◌≡◌, ◌≤◌}
+use Rattle.std.specs.Prelude.{length, vec_capacity, vec_len, ℕ, ◌+◌, ◌<◌, ◌≡◌, ◌≤◌}
+use Rattle.model_core.specs.Fitting.{answer_limit}
 use Rattle.model_core.specs.States.{UserState}
 use Rattle.model_core.specs.UserProgram.{cells_of, changes, group_bytes, group_end, line_at}
 use Rattle.model_core.specs.declared.steps.UserStep.{UserStep}
@@ -23,6 +24,10 @@ user_view u = record {
   step = u.step;
 }
 
+-- A group in hand ends below this: what a user hears of an answer is at most one more than the number in it.
+abbrev pub end_limit : ℕ
+end_limit = answer_limit + 1
+
 -- a line is left, and no group is in hand
 pub record BeforeGroup (u : Inside) : Type 0 where
   pub line : u.k < length u.lines.items
@@ -31,7 +36,7 @@ pub record BeforeGroup (u : Inside) : Type 0 where
 -- the group of a line is in hand, and ends at an sn
 pub record HasGroup (u : Inside) : Type 0 where
   pub line : u.k < length u.lines.items
-  pub small : group_end (user_view u) < 2 ^ 60
+  pub small : group_end (user_view u) < end_limit
   pub one : vec_len u.starts ≡ u.k + 1
 
 -- it is at one of the group's pages
@@ -61,7 +66,7 @@ IsAt u user_step.Failed = Unit {0}
 IsAt u _ = HasGroup u × IsAtPage u
 
 pub record IsUser (u : Inside) : Type 0 where
-  pub ckpt : u.loaded.ckpt < 2 ^ 60
+  pub ckpt : u.loaded.ckpt < answer_limit
   pub room : length u.lines.items ≤ vec_capacity u.starts
   pub some_bytes : (j : ℕ) → j < length u.lines.items → 0 < length (line_at u.lines.items j).bytes
   pub step : IsAt u u.step

@@ -6,6 +6,7 @@ ghost use Rattle.model_core.specs.Program.{lent};
 ghost use Rattle.model_core.specs.UserProgram.{cells_of, change_at, changes, group_bytes, group_end, line, page_of, put_of, user_next, user_op};
 ghost use Rattle.redo_useractor.specs.ToLink.{first_stores, to_link};
 ghost use Rattle.redo_words.specs.Lending.{Lends};
+ghost use Rattle.redo_useractor.specs.UserView.{end_limit};
 
 use crate::actor::UserActor;
 use crate::line::{Cell, ChangedPage, UserLine};
@@ -54,7 +55,7 @@ impl UserActor {
     /// The lsn at which the group in hand starts.
     #[tactic(auto, unfolding(model_core::specs::Lsn::lsn))]
     pub(crate) fn start_lsn(&self) -> u64
-        requires { self.now.start < 2 ^ 60 }
+        requires { self.now.start < end_limit }
         ensures value { result ≡ lsn self.now.start }
         ensures small { result < 2 ^ 61 }
     {
@@ -65,7 +66,7 @@ impl UserActor {
     #[tactic(auto, unfolding(model_core::specs::Lsn::lsn))]
     pub(crate) fn end_lsn(&self) -> u64
         requires line { self.now.k < length self.now.lines }
-        requires small { group_end self.now < 2 ^ 60 }
+        requires small { group_end self.now < end_limit }
         ensures value { result ≡ lsn (group_end self.now) }
         ensures small { result < 2 ^ 61 }
     {
@@ -76,7 +77,7 @@ impl UserActor {
     #[tactic(auto, unfolding(model_core::specs::Lsn::lsn))]
     fn link(&self) -> u64
         requires line { self.now.k < length self.now.lines }
-        requires small { group_end self.now < 2 ^ 60 }
+        requires small { group_end self.now < end_limit }
         ensures { result ≡ lsn (group_end self.now) - lsn self.now.start }
     {
         self.end_lsn() - self.start_lsn()
@@ -85,7 +86,7 @@ impl UserActor {
     /// Whether it ends in another block than it starts in.
     pub(crate) fn crosses(&self) -> bool
         requires line { self.now.k < length self.now.lines }
-        requires small { group_end self.now < 2 ^ 60 }
+        requires small { group_end self.now < end_limit }
         ensures { result ≡ nat_lt (self.now.start / BLOCK_DATA) (group_end self.now / BLOCK_DATA) }
     {
         let end = self.start + self.line().text.len() as u64;
@@ -96,7 +97,7 @@ impl UserActor {
     #[tactic(auto, unfolding(model_core::specs::Lsn::lsn))]
     fn store_cell(&self) -> Op
         requires line { self.now.k < length self.now.lines }
-        requires small { group_end self.now < 2 ^ 60 }
+        requires small { group_end self.now < end_limit }
         requires byte { self.now.copied < length (group_bytes self.now) }
         ensures { result ≡ user_op self.now UserStep.StoreCell }
     {
@@ -108,7 +109,7 @@ impl UserActor {
     /// The store of the first offset of the block in which it ends.
     fn store_first(&self) -> Op
         requires line { self.now.k < length self.now.lines }
-        requires small { group_end self.now < 2 ^ 60 }
+        requires small { group_end self.now < end_limit }
         ensures { result ≡ user_op self.now UserStep.StoreFirst }
     {
         let end = self.end_lsn();
@@ -130,7 +131,7 @@ impl UserActor {
 
     /// The place of its link in the recent-written buffer.
     fn written_link(&self) -> Word
-        requires { self.now.start < 2 ^ 60 }
+        requires { self.now.start < end_limit }
         ensures { result ≡ Word.Wlink (lsn self.now.start % WRITTEN_LINKS) }
     {
         Word::Wlink((self.start_lsn() % WRITTEN_LINKS) as u32)
@@ -138,7 +139,7 @@ impl UserActor {
 
     /// The place of its link in the recent-closed buffer.
     fn closed_link(&self) -> Word
-        requires { self.now.start < 2 ^ 60 }
+        requires { self.now.start < end_limit }
         ensures { result ≡ Word.Clink (lsn self.now.start % CLOSED_LINKS) }
     {
         Word::Clink((self.start_lsn() % CLOSED_LINKS) as u32)
@@ -179,7 +180,7 @@ impl UserActor {
     /// How many first offsets its group stores.
     fn first_stores(&self) -> u64
         requires line { self.now.k < length self.now.lines }
-        requires small { group_end self.now < 2 ^ 60 }
+        requires small { group_end self.now < end_limit }
         ensures value { result ≡ first_stores self.now }
         ensures few { result ≤ 1 }
     {

@@ -1,7 +1,8 @@
 // What a user makes of the answers while it changes the pages of its group.
-ghost use Rattle.std.specs.Prelude.{◌≡◌, ◌<◌, ◌+◌, ◌==◌, ◌^◌, false, length};
+ghost use Rattle.std.specs.Prelude.{◌≡◌, ◌<◌, ◌+◌, ◌==◌, false, length};
 ghost use Rattle.model_core.specs.UserProgram.{change_at, changes, group_end, to_next_page, user_took};
 ghost use Rattle.redo_useractor.specs.Ending.{step_end};
+ghost use Rattle.redo_useractor.specs.UserView.{end_limit};
 
 use crate::actor::UserActor;
 use model_core::{CLOSED_LINKS, UserStep};
@@ -72,7 +73,7 @@ impl UserActor {
     pub(crate) fn to_next_page(&mut self) -> Step
         requires line { self.old.k < length self.old.lines }
         requires one { length self.old.starts ≡ self.old.k + 1 }
-        requires small { group_end self.old < 2 ^ 60 }
+        requires small { group_end self.old < end_limit }
         requires page { self.old.page < length (changes self.old) }
         ensures state { self.new ≡ to_next_page self.old }
         ensures step { result ≡ Step.Moved }

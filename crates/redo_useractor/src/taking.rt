@@ -2,10 +2,12 @@
 ghost use Rattle.std.specs.Prelude.{◌≡◌, ◌<◌, ◌+◌, ◌^◌, ◌==◌, if◌then◌else◌, length, true};
 ghost use Rattle.model_core.specs.Actors as actor;
 ghost use Rattle.model_core.specs.AnswerFits.{AnswerFits};
+ghost use Rattle.model_core.specs.Fitting.{answer_limit};
 ghost use Rattle.model_core.specs.Program.{took};
 ghost use Rattle.model_core.specs.UserProgram.{after_link, answered, group_bytes, group_end, has_space, user_checked, user_took};
 ghost use Rattle.model_core.specs.Waiting.{step_of, user_ending};
 ghost use Rattle.redo_useractor.specs.Ending.{step_end};
+ghost use Rattle.redo_useractor.specs.UserView.{end_limit};
 
 use crate::actor::UserActor;
 use model_base::BLOCK_SIZE;
@@ -60,7 +62,7 @@ impl UserActor {
     pub(crate) fn linked(&mut self) -> Step
         requires line { self.old.k < length self.old.lines }
         requires one { length self.old.starts ≡ self.old.k + 1 }
-        requires small { group_end self.old < 2 ^ 60 }
+        requires small { group_end self.old < end_limit }
         ensures state { self.new ≡ after_link self.old }
         ensures step { result ≡ user_ending (after_link self.old).code (after_link self.old).step }
     {
@@ -74,7 +76,7 @@ impl UserActor {
     /// Whether the log has space beyond this SN for groups that have begun.
     #[tactic(auto, unfolding(model_core::specs::Lsn::lsn))]
     fn has_space(&self, sn: u64) -> bool
-        requires { sn < 2 ^ 59 }
+        requires { sn < answer_limit }
         ensures { result ≡ has_space self.now sn }
     {
         let end = self.loaded.ckpt + BLOCK_SIZE * u64::from(self.blocks);
@@ -84,7 +86,7 @@ impl UserActor {
     /// SN was loaded: whether the log has space for a group.
     fn checks_space(&mut self, n: u64) -> Step
         requires step { self.old.step ≡ UserStep.LoadSn }
-        requires small { n < 2 ^ 59 }
+        requires small { n < answer_limit }
         ensures state { self.new ≡ user_took self.old n UserStep.LoadSn }
         ensures step { result ≡ step_end self.old n UserStep.LoadSn self.new }
     {
@@ -126,7 +128,7 @@ impl UserActor {
     /// Its group has its place.
     fn reserved(&mut self, n: u64) -> Step
         requires step { self.old.step ≡ UserStep.Reserve }
-        requires small { n + length (group_bytes self.old) < 2 ^ 60 }
+        requires small { n + length (group_bytes self.old) < end_limit }
         ensures state { self.new ≡ user_took self.old n UserStep.Reserve }
         ensures step { result ≡ step_end self.old n UserStep.Reserve self.new }
     {
@@ -142,7 +144,7 @@ impl UserActor {
     /// WRITE was loaded: whether the log buffer has room for its group.
     fn checks_room(&mut self, n: u64) -> Step
         requires step { self.old.step ≡ UserStep.LoadWrite }
-        requires small { n < 2 ^ 60 }
+        requires small { n < answer_limit }
         ensures state { self.new ≡ user_took self.old n UserStep.LoadWrite }
         ensures step { result ≡ step_end self.old n UserStep.LoadWrite self.new }
     {
@@ -177,7 +179,7 @@ impl UserActor {
     /// WTAIL was loaded: whether the recent-written buffer has the place of its link.
     fn checks_link(&mut self, n: u64) -> Step
         requires step { self.old.step ≡ UserStep.LoadWtail }
-        requires small { n < 2 ^ 60 }
+        requires small { n < answer_limit }
         ensures state { self.new ≡ user_took self.old n UserStep.LoadWtail }
         ensures step { result ≡ step_end self.old n UserStep.LoadWtail self.new }
     {

@@ -1,0 +1,75 @@
+-- A store all users of which have ended is a closed run, with what its devices hold.
+use Rattle.std.proofs.Common.{List, arith, subst, sym, ℕ, ◌∙◌, ◌≡◌}
+use Rattle.model_base.specs.declared.shape.Shape.{Shape}
+use Rattle.model_core.specs.DataSide.{DataSide}
+use Rattle.model_core.specs.LogSide.{LogSide}
+use Rattle.model_core.specs.Lsn.{lsn}
+use Rattle.model_core.specs.Setup.{Setup}
+use Rattle.model_core.specs.Turn.{Core}
+use Rattle.model_device.specs.Disk.{Disk}
+use Rattle.model_finish.proofs.FinishedPages.{finished_pages}
+use Rattle.model_finish.proofs.FinishedStore.{finished_store, stands_for_run}
+use Rattle.model_finish.specs.ClosedStore.{ClosedStore, DataTells, LogTells}
+use Rattle.model_finish.specs.Finished.{CausesAreFailures, FinishedStore}
+use Rattle.model_finish.specs.FinishedPages.{FinishedPages, HasItsPages}
+use Rattle.model_finish.specs.Script.{IsOfScript}
+use Rattle.model_history.specs.Legal.{IsLeft, wholes_of}
+use Rattle.model_log.specs.Lsn.{start_after}
+use Rattle.model_logdev.specs.Held.{LogHolds}
+use Rattle.model_record.specs.declared.group.Whole.{Whole}
+use Rattle.model_run.specs.Closed.{IsClosed}
+use Rattle.model_run.specs.Given.{AreGiven}
+use Rattle.model_run.specs.Kept.{DataHolds}
+use Rattle.model_running.specs.RunningStore.{IsRunning}
+use Rattle.model_running.specs.Schedule.{HaveEnded}
+use Rattle.model_running.specs.Seating.{AreSeated}
+use Rattle.model_script.specs.declared.script.ScriptLine.{ScriptLine}
+use Rattle.model_theorem.specs.Values.{Opened}
+
+module _ (D : LogSide) (E : DataSide) (c : Setup) (script : List ScriptLine) (opened : Opened) (failures : ℕ) (left : List (ℕ × ℕ)) (log_disk data_disk : Disk) (s : Core D E) (start : lsn c.base ≡ start_after opened.end) (given : AreGiven script opened)
+    (log_tells : LogTells D c opened.shape s.log_part log_disk) (data_tells : DataTells E opened s.data_part data_disk) where
+  -- the log half of a finished store and its page half
+  pub closed_run : (finished : FinishedStore D E c script opened failures left s) → FinishedPages D E script opened finished.run s → IsLeft script finished.run.entries left
+      → IsClosed failures (record {
+        script = script;
+        opened = opened;
+        run = finished.run;
+        left = left;
+        log_disk = log_disk;
+        data_disk = data_disk;
+      })
+  closed_run finished pages left_is =
+      let stands = finished.stands in
+      let shape : Shape = opened.shape in
+      let wholes : List Whole = wholes_of script shape.space stands.run.entries in
+      let same : lsn c.base ≡ stands.run.start = start ∙ sym stands.is_run.start in
+      let stable : D.stable s.log_part ≡ log_tells.marks.stable = sym log_tells.stable in
+      let asked : D.asked s.log_part ≡ log_tells.marks.asked = sym log_tells.asked in
+      let kept : DataHolds shape opened.pages wholes (D.stable s.log_part) (D.asked s.log_part) data_disk =
+      data_tells.holds pages.kept_page pages.unfinished wholes (D.stable s.log_part) (D.asked s.log_part) pages.holds pages.apart pages.prefixes in
+      record {
+        given = given;
+        is_run = stands.is_run;
+        left_is = left_is;
+        loses = finished.loses left_is;
+        log_marks = log_tells.marks;
+        marks = record {
+          flushed = (let a = stands.flushed in omega arith);
+          ckpt = (let a = stands.ckpt in let b = log_tells.ckpt in omega arith);
+          small = (let a = stands.small in let b = log_tells.given in omega arith);
+        };
+        log_holds = subst (λ (x : ℕ). LogHolds shape x wholes log_tells.marks log_disk) same (log_tells.holds stands.log wholes stands.holds stands.groups);
+        data_holds = subst (λ (x : ℕ). DataHolds shape opened.pages wholes x log_tells.marks.asked data_disk) stable
+            (subst (λ (x : ℕ). DataHolds shape opened.pages wholes (D.stable s.log_part) x data_disk) asked kept);
+      }
+
+  pub closed_store : (spare : ℕ) → IsRunning D E c spare s → AreSeated c s.actors → HaveEnded s.actors → IsOfScript c script opened.shape.space → HasItsPages c opened → CausesAreFailures D E failures s.log_part s.data_part
+      → ClosedStore D E script opened failures left log_disk data_disk s
+  unfolding finished_store stands_for_run
+  closed_store spare running seated ended of_script pages causes =
+      let finished = finished_store D E c spare script opened failures left s running seated ended of_script start causes in
+      record {
+        run = finished.run;
+        marks = finished.marks;
+        closed = closed_run finished (finished_pages D E c spare script opened s running given pages of_script);
+      }

@@ -1,0 +1,52 @@
+-- What a finished store comes to, with what its devices hold: a closed run.
+use Rattle.std.specs.Prelude.{List, ℕ, ◌≡◌}
+use Rattle.model_base.specs.declared.shape.Shape.{Shape}
+use Rattle.model_core.specs.DataSide.{DataSide}
+use Rattle.model_core.specs.Groups.{Entry, KeptPage}
+use Rattle.model_core.specs.LogSide.{LogSide}
+use Rattle.model_core.specs.Lsn.{lsn}
+use Rattle.model_core.specs.Setup.{Setup}
+use Rattle.model_core.specs.States.{BatchPage}
+use Rattle.model_core.specs.Turn.{Core}
+use Rattle.model_device.specs.Disk.{Disk}
+use Rattle.model_finish.specs.FinishedPages.{ArePrefixes}
+use Rattle.model_finish.specs.History.{AreWholesOf, marks_in}
+use Rattle.model_finish.specs.PageContents.{content_in, contents_of}
+use Rattle.model_history.specs.Legal.{IsLeft}
+use Rattle.model_history.specs.declared.entry.Marks.{Marks}
+use Rattle.model_logdev.specs.Held.{LogHolds}
+use Rattle.model_logdev.specs.declared.marks.LogMarks.{LogMarks}
+use Rattle.model_pagecore.specs.DataLaws.{AreApart}
+use Rattle.model_record.specs.declared.group.Whole.{Whole}
+use Rattle.model_run.specs.Closed.{IsClosed}
+use Rattle.model_run.specs.Kept.{DataHolds}
+use Rattle.model_script.specs.declared.script.ScriptLine.{ScriptLine}
+use Rattle.model_theorem.specs.Values.{Opened, Ran}
+
+-- What the log part holds of a run's groups its device does, by these marks of the part.
+pub record LogTells (D : LogSide) (c : Setup) (shape : Shape) (part : D.Part) (disk : Disk) : Type 0 where
+  pub marks : LogMarks
+  pub stable : marks.stable ≡ D.stable part
+  pub given : marks.given ≡ D.given part
+  pub ckpt : marks.ckpt ≡ D.ckpt part
+  pub asked : marks.asked ≡ D.asked part
+  pub holds : (log : List Entry) (wholes : List Whole) → D.Holds c.blocks c.base log part → AreWholesOf log wholes → LogHolds shape (lsn c.base) wholes marks disk
+
+-- What the data part holds of a run's pages its device does.
+pub record DataTells (E : DataSide) (opened : Opened) (part : E.Part) (disk : Disk) : Type 0 where
+  pub holds : (kept_page : ℕ → KeptPage) (unfinished : List BatchPage) (wholes : List Whole) (stable ckpt : ℕ) → E.Holds kept_page unfinished part → AreApart unfinished
+      → ArePrefixes opened.pages wholes stable ckpt (contents_of kept_page) (content_in unfinished) → DataHolds opened.shape opened.pages wholes stable ckpt disk
+
+-- The run that the store stands for is a closed one, with the lines that are left and both devices as they are.
+pub record ClosedStore (D : LogSide) (E : DataSide) (script : List ScriptLine) (opened : Opened) (failures : ℕ) (left : List (ℕ × ℕ)) (log_disk data_disk : Disk) (s : Core D E) : Type 0 where
+  pub run : Ran
+  pub marks : ◌≡◌ {A = Marks} run.marks (marks_in s.words)
+  pub closed : IsLeft script run.entries left
+      → IsClosed failures (record {
+        script = script;
+        opened = opened;
+        run = run;
+        left = left;
+        log_disk = log_disk;
+        data_disk = data_disk;
+      })

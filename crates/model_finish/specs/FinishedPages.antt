@@ -1,0 +1,44 @@
+-- What a running store keeps of its pages, in the words of a closed run.
+use Rattle.std.specs.Prelude.{List, Option, Some, length, slice_get, ℕ, ◌<◌, ◌≡◌}
+use Rattle.model_core.specs.DataSide.{DataSide}
+use Rattle.model_core.specs.Groups.{KeptPage}
+use Rattle.model_core.specs.LogSide.{LogSide}
+use Rattle.model_core.specs.Setup.{Setup}
+use Rattle.model_core.specs.States.{BatchPage}
+use Rattle.model_core.specs.Turn.{Core}
+use Rattle.model_core.specs.declared.limits.TheConstants.{FRAME_CELLS}
+use Rattle.model_finish.specs.PageContents.{content_in, content_of, contents_of}
+use Rattle.model_history.specs.Legal.{wholes_of}
+use Rattle.model_page.specs.declared.content.Content.{Content}
+use Rattle.model_pagecore.specs.DataLaws.{AreApart}
+use Rattle.model_record.specs.declared.group.Whole.{Whole}
+use Rattle.model_run.specs.Kept.{IsKeptPrefix}
+use Rattle.model_run.specs.Stored.{IsBatchOf}
+use Rattle.model_script.specs.declared.script.ScriptLine.{ScriptLine}
+use Rattle.model_theorem.specs.Values.{Opened, Ran}
+
+-- a page of the store that was opened, as the run began with it
+pub record IsOpenedPage (c : Setup) (p : ℕ) (page : Content) : Type 0 where
+  pub there : p < c.pages
+  pub content : content_of (c.opened p) ≡ page
+  pub cells : length (c.opened p).bytes ≡ FRAME_CELLS
+
+-- the pages of a run are those of the store that was opened
+pub record HasItsPages (c : Setup) (opened : Opened) : Type 0 where
+  pub count : c.pages ≡ opened.shape.pages
+  pub each : (p : ℕ) (page : Content) → slice_get opened.pages p ≡ Some page → IsOpenedPage c p page
+
+-- Each page as it was last written is a prefix of the run that lacks no group that starts below the checkpoint; and what the
+-- batch at hand has for it, if it has it, is a prefix too, and no older.
+pub record ArePrefixes (opened : List Content) (wholes : List Whole) (stable ckpt : ℕ) (was : ℕ → Content) (batch : ℕ → Option Content) : Type 0 where
+  pub last : (p : ℕ) (page : Content) → slice_get opened p ≡ Some page → IsKeptPrefix page wholes stable ckpt p (was p)
+  pub next : (p : ℕ) (page : Content) → slice_get opened p ≡ Some page → IsBatchOf page wholes stable p (was p) (batch p)
+
+-- The data part holds the pages as prefixes of the run, up to the stable mark of the log part, which lack nothing below the
+-- checkpoint that was last asked for: as they were last written, or as the batch has them whose writing failed.
+pub record FinishedPages (D : LogSide) (E : DataSide) (script : List ScriptLine) (opened : Opened) (run : Ran) (s : Core D E) : Type 0 where
+  pub kept_page : ℕ → KeptPage
+  pub unfinished : List BatchPage
+  pub holds : E.Holds kept_page unfinished s.data_part
+  pub apart : AreApart unfinished
+  pub prefixes : ArePrefixes opened.pages (wholes_of script opened.shape.space run.entries) (D.stable s.log_part) (D.asked s.log_part) (contents_of kept_page) (content_in unfinished)

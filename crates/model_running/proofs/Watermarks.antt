@@ -1,0 +1,98 @@
+-- The invariant gives each of the watermarks.
+use Rattle.std.proofs.Common.{List, arith, subst, sym, ℕ, ◌<◌, ◌≡◌}
+use lib.ListN.{get_elem?}
+use mathlib.Core.Option.{some}
+use Rattle.model_core.specs.Actors.{Actor}
+use Rattle.model_core.specs.DataSide.{DataSide}
+use Rattle.model_core.specs.FlushLists.{Listed}
+use Rattle.model_core.specs.Groups.{Entry}
+use Rattle.model_core.specs.Layout.{SharedWords}
+use Rattle.model_core.specs.LogSide.{LogSide}
+use Rattle.model_core.specs.Setup.{Setup}
+use Rattle.model_core.specs.States.{CheckpointerState, CleanerState, CloserState, UserState}
+use Rattle.model_core.specs.Turn.{Core}
+use Rattle.model_logcore.proofs.Watermarks.{log_watermarks, watermarks_log}
+use Rattle.model_logcore.specs.LogFacts.{LogGhost}
+use Rattle.model_logcore.specs.LogLaws.{LogLaws}
+use Rattle.model_pagecore.specs.DataLaws.{DataLaws}
+use Rattle.model_pagecore.specs.PageFacts.{PageGhost}
+use Rattle.model_pagecore.specs.PageHalf.{CheckpointerPageFits, CleanerFits, CloserFits, UserPageFits}
+use Rattle.model_pagecore.specs.Pages.{Passed}
+use Rattle.model_running.specs.RunningStore.{BothHalves, IsRunning}
+use Rattle.model_running.specs.Watermarks.{ClosedChangesAreListedOrKept, FailureHasCause, FramesAreApplied, HasWatermarks, KeptPagesArePrefixes, ListsAreRelaxed, Watermarks}
+use Rattle.model_core.specs.Actors as actor
+
+module _ (D : LogSide) (L : LogLaws D) (E : DataSide) (EL : DataLaws E) (c : Setup) (spare : ℕ) (m : SharedWords) (g : LogGhost) (h : PageGhost) (ls : ℕ → List Listed) (p : D.Part) (d : E.Part) (actors : List Actor) (both : BothHalves D E c spare m g h ls p d actors) where
+  user_pages : (seat : ℕ) (u : UserState) → get_elem? actors seat ≡ some (actor.User u) → UserPageFits E c m g.log h ls d seat u
+  user_pages seat u at = both.paged.each seat (actor.User u) at
+
+  cleaner_pages : (seat : ℕ) (v : CleanerState) → get_elem? actors seat ≡ some (actor.Cleaner v) → CleanerFits E c m g.log h ls d seat v
+  cleaner_pages seat v at = both.paged.each seat (actor.Cleaner v) at
+
+  checkpointer_pages : (seat : ℕ) (t : CheckpointerState) → get_elem? actors seat ≡ some (actor.Checkpointer t) → CheckpointerPageFits E c m g.log h ls d seat t
+  checkpointer_pages seat t at = both.paged.each seat (actor.Checkpointer t) at
+
+  closer_pages : (seat : ℕ) (t : CloserState) → get_elem? actors seat ≡ some (actor.Closer t) → CloserFits E c m g.log h ls d seat t
+  closer_pages seat t at = both.paged.each seat (actor.Closer t) at
+
+  frames_are_applied : FramesAreApplied E c m g.log h ls d actors
+  frames_are_applied = record {
+    free = λ q there. (both.paged.paged.each_page q there).free;
+    user_held = λ seat u at. (user_pages seat u at).step;
+    cleaner_held = λ seat v at. (cleaner_pages seat v at).step;
+  }
+
+  closed_changes : ClosedChangesAreListedOrKept c m g.log h ls actors
+  closed_changes = let C = both.paged.paged.closed_links in record {
+    change = λ q there. (both.paged.paged.each_page q there).change;
+    oldest = λ q there. (both.paged.paged.each_page q there).oldest;
+    link = C.links_are;
+    below_tail = C.below;
+    ctail_tail = C.order;
+    users = both.closed;
+    closer = λ seat t at. (closer_pages seat t at).tail;
+    loaded = λ seat u at. (user_pages seat u at).loaded;
+  }
+
+  lists_are_relaxed : ListsAreRelaxed ls m.ctail
+  lists_are_relaxed = record { relaxed = both.paged.paged.lists.relaxed; near = both.paged.paged.lists.near }
+
+  passed : (q : ℕ) → q < c.pages → Passed q g.log (h.kept_page q).lsn (D.asked p)
+  passed q there i e is touched below = let asked = both.asked in (both.paged.paged.each_page q there).passed i e is touched (omega arith)
+
+  kept_pages : KeptPagesArePrefixes E c m g.log (D.asked p) (D.stable p) h ls d actors
+  kept_pages = record {
+    stored = both.paged.paged.stored;
+    unfinished = both.paged.paged.unfinished;
+    prefix = λ q there. (both.paged.paged.each_page q there).fold;
+    ends = λ q there. (both.paged.paged.each_page q there).ends;
+    stable_kept = λ q there. (both.paged.paged.each_page q there).behind;
+    passed = passed;
+    candidate = λ seat t at. (checkpointer_pages seat t at).step;
+    loaded = λ seat t at. (checkpointer_pages seat t at).loaded;
+    cleaner_loaded = λ seat v at. (cleaner_pages seat v at).flushed;
+  }
+
+  failure_has_cause : FailureHasCause D E m.failed p d
+  failure_has_cause = record {
+    cause = both.cause;
+    of_log = λ cause. (L.codes p m.failed cause, L.broken p m.failed cause);
+    of_data = λ cause. (EL.codes d m.failed cause, EL.broken d m.failed cause);
+  }
+
+  pub watermarks : Watermarks D E c m ls p d actors
+  watermarks =
+      let log = watermarks_log D c spare m g p actors both.logged in
+      record {
+        of_log = log_watermarks D c spare m g p actors both.logged;
+        pages = h;
+        frames_are_applied = subst (λ (l : List Entry). FramesAreApplied E c m l h ls d actors) (sym log) frames_are_applied;
+        closed_changes_are_listed_or_kept = subst (λ (l : List Entry). ClosedChangesAreListedOrKept c m l h ls actors) (sym log) closed_changes;
+        lists_are_relaxed = lists_are_relaxed;
+        kept_pages_are_prefixes = subst (λ (l : List Entry). KeptPagesArePrefixes E c m l (D.asked p) (D.stable p) h ls d actors) (sym log) kept_pages;
+        failure_has_cause = failure_has_cause;
+      }
+
+-- so a running store has them
+pub has_watermarks : (D : LogSide) → LogLaws D → (E : DataSide) → DataLaws E → (c : Setup) (spare : ℕ) (s : Core D E) → IsRunning D E c spare s → HasWatermarks D E c s
+has_watermarks D L E EL c spare s running = (running.shared, running.flat_is, watermarks D L E EL c spare running.shared running.log_ghost running.page_ghost s.lists s.log_part s.data_part s.actors running.both)

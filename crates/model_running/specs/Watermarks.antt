@@ -1,0 +1,86 @@
+-- The watermarks of a running store: what holds of its words, of both parts, of the flush lists and of the actors between
+-- any two turns, by name. Those of the log stand in `LogWatermarks`. Places of pages and lists are lsns.
+use Rattle.std.specs.Prelude.{List, slice_index, true, ℕ, ◌+◌, ◌<◌, ◌≡◌, ◌≤◌, ◌⊎◌}
+use lib.ListN.{get_elem?}
+use mathlib.Core.Option.{some}
+use Rattle.model_core.specs.Actors.{Actor}
+use Rattle.model_core.specs.DataSide.{DataSide}
+use Rattle.model_core.specs.FailureCodes.{IsDataCode, IsLogCode}
+use Rattle.model_core.specs.FlushLists.{Each, Listed, Relaxed}
+use Rattle.model_core.specs.Groups.{Entry}
+use Rattle.model_core.specs.Layout.{SharedWords, flat, page_words_at}
+use Rattle.model_core.specs.LogSide.{LogSide}
+use Rattle.model_core.specs.Setup.{Setup}
+use Rattle.model_core.specs.States.{CheckpointerState, CleanerState, CloserState, UserState}
+use Rattle.model_core.specs.Turn.{Core}
+use Rattle.model_core.specs.declared.limits.TheConstants.{CLOSED_LINKS}
+use Rattle.model_logcore.specs.Watermarks.{LogWatermarks}
+use Rattle.model_pagecore.specs.PageFacts.{AreUnfinished, ClosedLink, PageGhost, listed}
+use Rattle.model_pagecore.specs.PageHalf.{CheckpointerPagesAt, CleanerAt, UserPagesAt}
+use Rattle.model_pagecore.specs.Pages.{Agree, All, EndsAt, Last, PageIs, Passed, StartsAt, applied_upto, end_lsn, none_in_hand, start_lsn, touches}
+use Rattle.model_running.specs.UsersClosed.{UsersClosed}
+use Rattle.model_core.specs.Actors as actor
+
+-- FRAMES ARE THE APPLIED PAGES. A free page's frame is the page as it was opened with all its groups applied; NEWEST is the
+-- end of the last of them, and OLDEST what stands in its list. What a held page's are is told by its holder's step: for a
+-- user, all groups before the one in hand, and so many of its cells; for the cleaner, all.
+pub record FramesAreApplied (E : DataSide) (c : Setup) (m : SharedWords) (log : List Entry) (h : PageGhost) (ls : ℕ → List Listed) (d : E.Part) (actors : List Actor) : Type 0 where
+  pub free : (p : ℕ) → p < c.pages → (page_words_at m.page_words p).latch ≡ 0 → PageIs p (c.opened p).bytes log none_in_hand (page_words_at m.page_words p) (listed ls p) All Last Agree
+  pub user_held : (seat : ℕ) (u : UserState) → get_elem? actors seat ≡ some (actor.User u) → UserPagesAt E c m log h ls d seat u u.step
+  pub cleaner_held : (seat : ℕ) (v : CleanerState) → get_elem? actors seat ≡ some (actor.Cleaner v) → CleanerAt E c m log h ls d seat v v.step
+
+-- A CLOSED CHANGE IS LISTED OR KEPT: a group that is closed finds each page that it touches in the page's list since its
+-- start or before, or kept up to its end. A closed link is a closed group behind the closer's tail, and below the tail all
+-- is closed; and so is what the users' states say.
+pub record ClosedChangesAreListedOrKept (c : Setup) (m : SharedWords) (log : List Entry) (h : PageGhost) (ls : ℕ → List Listed) (actors : List Actor) : Type 0 where
+  pub change : (p : ℕ) → p < c.pages → (i : ℕ) (e : Entry) → get_elem? log i ≡ some e → touches p e.changes ≡ true → h.closed e.start ≡ true → ((0 < listed ls p) × (listed ls p ≤ start_lsn e)) ⊎ (end_lsn e ≤ (h.kept_page p).lsn)
+  pub oldest : (p : ℕ) → p < c.pages → 0 < (page_words_at m.page_words p).oldest → StartsAt p log (page_words_at m.page_words p).oldest
+  pub link : (i : ℕ) → i < CLOSED_LINKS → 0 < slice_index m.clinks i → ClosedLink log h.closed h.tail i (slice_index m.clinks i)
+  pub below_tail : (i : ℕ) (e : Entry) → get_elem? log i ≡ some e → start_lsn e < h.tail → h.closed e.start ≡ true
+  pub ctail_tail : m.ctail ≤ h.tail
+  pub users : UsersClosed log h.closed actors
+  pub closer : (seat : ℕ) (t : CloserState) → get_elem? actors seat ≡ some (actor.Closer t) → t.tail ≡ h.tail
+  pub loaded : (seat : ℕ) (u : UserState) → get_elem? actors seat ≡ some (actor.User u) → u.loaded.ctail ≤ m.ctail
+
+-- THE RELAXED ORDER OF THE FLUSH LISTS: an earlier number is below each later one plus 16,384, and each is below CTAIL plus
+-- 16,384.
+pub record ListsAreRelaxed (ls : ℕ → List Listed) (ctail : ℕ) : Type 0 where
+  pub relaxed : (i : ℕ) → Relaxed (ls i)
+  pub near : (i : ℕ) → Each (λ x. x.oldest < ctail + CLOSED_LINKS) (ls i)
+
+-- KEPT PAGES ARE PREFIXES, AND NO CHECKPOINT PASSES A CHANGE. Each page as it was last written is the page as it was opened
+-- with exactly the groups up to its lsn, which is stable; and it lacks no group that starts below a checkpoint that was asked
+-- for, good or failed. What a batch has of its pages whose writing failed are prefixes too, no older than what was written
+-- last. What the checkpointer's candidate so far may not pass is told by its step.
+pub record KeptPagesArePrefixes (E : DataSide) (c : Setup) (m : SharedWords) (log : List Entry) (asked stable : ℕ) (h : PageGhost) (ls : ℕ → List Listed) (d : E.Part) (actors : List Actor) : Type 0 where
+  pub stored : E.Holds h.kept_page h.unfinished d
+  pub unfinished : AreUnfinished c.pages c.opened h.kept_page log stable h.unfinished
+  pub prefix : (p : ℕ) → p < c.pages → (h.kept_page p).bytes ≡ applied_upto p (h.kept_page p).lsn log (c.opened p).bytes
+  pub ends : (p : ℕ) → p < c.pages → ((h.kept_page p).lsn ≡ (c.opened p).lsn) ⊎ EndsAt p log (h.kept_page p).lsn
+  pub stable_kept : (p : ℕ) → p < c.pages → (h.kept_page p).lsn ≤ stable
+  pub passed : (p : ℕ) → p < c.pages → Passed p log (h.kept_page p).lsn asked
+  pub candidate : (seat : ℕ) (t : CheckpointerState) → get_elem? actors seat ≡ some (actor.Checkpointer t) → CheckpointerPagesAt E c m log h ls d seat t t.step
+  pub loaded : (seat : ℕ) (t : CheckpointerState) → get_elem? actors seat ≡ some (actor.Checkpointer t) → (t.ctail ≤ m.ctail) × (t.flushed ≤ m.flushed)
+  pub cleaner_loaded : (seat : ℕ) (v : CleanerState) → get_elem? actors seat ≡ some (actor.Cleaner v) → v.flushed ≤ m.flushed
+
+-- A FAILURE HAS A CAUSE: a code in FAILED is that of a call that failed, of the log part or of the data part, which has failed
+-- then.
+pub record FailureHasCause (D : LogSide) (E : DataSide) (failed : ℕ) (p : D.Part) (d : E.Part) : Type 0 where
+  pub cause : 0 < failed → D.Cause p failed ⊎ E.Cause d failed
+  pub of_log : D.Cause p failed → IsLogCode failed × (D.failed p ≡ true)
+  pub of_data : E.Cause d failed → IsDataCode failed × (E.failed d ≡ true)
+
+-- all of them, over the words by name
+pub record Watermarks (D : LogSide) (E : DataSide) (c : Setup) (m : SharedWords) (ls : ℕ → List Listed) (p : D.Part) (d : E.Part) (actors : List Actor) : Type 0 where
+  pub of_log : LogWatermarks D c m p actors
+  -- of a group whether it is closed, who holds a page or a list, the closer's tail, and each page as it was last written
+  pub pages : PageGhost
+  pub frames_are_applied : FramesAreApplied E c m of_log.log pages ls d actors
+  pub closed_changes_are_listed_or_kept : ClosedChangesAreListedOrKept c m of_log.log pages ls actors
+  pub lists_are_relaxed : ListsAreRelaxed ls m.ctail
+  pub kept_pages_are_prefixes : KeptPagesArePrefixes E c m of_log.log (D.asked p) (D.stable p) pages ls d actors
+  pub failure_has_cause : FailureHasCause D E m.failed p d
+
+-- and of a store's whole state
+abbrev pub HasWatermarks : (D : LogSide) (E : DataSide) → Setup → Core D E → Type 0
+HasWatermarks D E c s = (m : SharedWords) × (s.words ≡ flat m) × Watermarks D E c m s.lists s.log_part s.data_part s.actors

@@ -1,0 +1,76 @@
+-- The data part as the running store sees it.
+use Rattle.std.specs.Prelude.{Err, List, [], OnOk, Ok, Result, Some, is_some, length, map, ℕ, ◌*◌, ◌≡◌, ◌≤◌}
+use Rattle.model_base.specs.Count.{HasRisen}
+use Rattle.model_base.specs.declared.limits.TheConstants.{USER_BYTES}
+use Rattle.model_base.specs.declared.shape.Shape.{Shape}
+use Rattle.model_core.specs.DataSide.{DataSide}
+use Rattle.model_core.specs.FailureCodes.{data_device_code, no_memory_code}
+use Rattle.model_core.specs.Groups.{KeptPage}
+use Rattle.model_core.specs.States.{BatchPage}
+use Rattle.model_datadev.specs.Batch.{Fresh, after_batch, batch_of}
+use Rattle.model_datadev.specs.Stored.{IsLater}
+use Rattle.model_finish.specs.PageContents.{contents_of, new_content}
+use Rattle.model_page.specs.declared.content.Content.{Content}
+use Rattle.redo_disk.specs.Seen.{Seen}
+use Rattle.redo_disk.specs.declared.error.DevError.{DevError}
+use Rattle.redo_disk.specs.declared.error.DevError.TheVariants.{Failed, NoMemory}
+use Rattle.redo_store.specs.Part.{Part, PartKeeps, PartStep, PartStores}
+
+-- the code that FAILED gets for what a call answered
+abbrev pub fault_code : DevError → ℕ
+fault_code Failed = data_device_code
+fault_code NoMemory = no_memory_code
+
+abbrev pub result_code : Result (Unit {0}) DevError → ℕ
+result_code (Ok done) = 0
+result_code (Err fault) = fault_code fault
+
+-- the pages of a batch as the device gets them
+abbrev pub fresh_page : BatchPage → Fresh
+fresh_page x = record { page = x.page; content = new_content x }
+
+abbrev pub fresh_batch : List BatchPage → List Fresh
+fresh_batch batch = map fresh_page batch
+
+-- The batch is of these pairs of page and lsn, the user bytes of its pages being joined.
+pub record IsBatchOf (pairs : List (ℕ × ℕ)) (users : List ℕ) (batch : List BatchPage) : Type 0 where
+  pub pages : fresh_batch batch ≡ batch_of pairs users
+  pub count : length users ≡ USER_BYTES * length pairs
+
+module _ {D : Type 0} (seen : D → Seen) where
+  -- `faults` is the device's count at the run's start
+  pub record HasFailedBy (faults : ℕ) (part : Part D) (code : ℕ) : Type 0 where
+    pub fault : DevError
+    pub failed : part.failed ≡ Some fault
+    pub code_is : code ≡ fault_code fault
+    pub risen : fault ≡ Failed → HasRisen faults (seen part.dev).faults
+
+  -- The device held the opened pages when the run began, and no copy was ahead of one.
+  abbrev pub HasBegun : (ℕ → KeptPage) → Part D → Type 0
+  HasBegun opened first = PartStores seen (contents_of opened) (contents_of opened) [] first
+
+  -- What holds of the part of a run, of a store of this shape: in each fair image each page is kept as it was last written,
+  -- or as the batch has it whose writing failed; and no copy is ahead of that. The device holds it if it did so when the run
+  -- began.
+  pub record HoldsPages (faults : ℕ) (shape : Shape) (Begun : Type 0) (kept_page : ℕ → KeptPage) (unfinished : List BatchPage) (part : Part D) : Type 0 where
+    pub shape_is : part.shape ≡ shape
+    pub later : faults ≤ (seen part.dev).faults
+    pub pages : Begun → PartStores seen (contents_of kept_page) (contents_of kept_page) (fresh_batch unfinished) part
+
+  -- what writing a batch leaves, whatever it answers
+  pub record DataWrote (batch : List BatchPage) (code : ℕ) (old new : Part D) : Type 0 where
+    pub result : Result (Unit {0}) DevError
+    pub code_is : code ≡ result_code result
+    pub step : PartStep seen old result new
+    pub keeps : (top was : ℕ → Content) → PartStores seen top was [] old → IsLater top (fresh_batch batch) → PartKeeps seen top was (fresh_batch batch) new
+    pub ok : (top was : ℕ → Content) → PartStores seen top was [] old → IsLater top (fresh_batch batch)
+        → OnOk result (PartStores seen (after_batch (fresh_batch batch) top) (after_batch (fresh_batch batch) was) [] new)
+
+  abbrev pub data_side : ℕ → Shape → Type 0 → DataSide
+  data_side faults shape Begun = record {
+    Part = Part D;
+    failed = λ part. is_some part.failed;
+    Cause = HasFailedBy faults;
+    Holds = HoldsPages faults shape Begun;
+    Batched = DataWrote;
+  }

@@ -1,0 +1,54 @@
+-- What a call of a part leaves, as the definition of a turn tells it.
+use Rattle.std.proofs.Common.{Bor, List, subst, ℕ, ◌≡◌}
+use Rattle.std.specs.List.{flat_map}
+use Rattle.std.specs.Prelude.{map}
+use Rattle.model_base.specs.declared.shape.Shape.{Shape}
+use Rattle.model_core.specs.Actors as model
+use Rattle.model_core.specs.Groups.{KeptPage}
+use Rattle.model_core.specs.States.{BatchPage}
+use Rattle.model_core.specs.Turn.{DataServed, LogServed}
+use Rattle.model_core.specs.declared.ops.Op.TheVariants as op
+use Rattle.model_page.specs.Page.{user_part}
+use Rattle.redo_dataside.proofs.Lent.{lent_batch}
+use Rattle.redo_dataside.specs.DataPartSide as data_part
+use Rattle.redo_disk.specs.Seen.{Seen}
+use Rattle.redo_logdev.specs.Part as log
+use Rattle.redo_logside.specs.LogPartSide as log_part
+use Rattle.redo_machine.specs.Playing.{HasWholePages}
+use Rattle.redo_store.specs.Part as store
+use Rattle.redo_words.specs.Lending.{Lends}
+use Rattle.redo_words.specs.declared.lent.Lent.{Lent}
+use Rattle.redo_words.specs.declared.lent.Lent.TheVariants as lent
+
+-- what is lent is these bytes and first offsets
+abbrev pub LendsBlocks : List ℕ → List ℕ → model.Lent → Type 0
+LendsBlocks bytes firsts (model.Blocks kept offsets) = (bytes ≡ kept) × (firsts ≡ offsets)
+LendsBlocks bytes firsts _ = ⊥
+
+pub blocks_served : {L : Type 0} (seen : L → Seen) (faults : ℕ) (Begun : Type 0) (bytes firsts : List ℕ) (mark code : ℕ) (p q : log.Part L) (l : model.Lent) → LendsBlocks bytes firsts l → log_part.LogWrote seen mark bytes firsts code p q
+    → LogServed (log_part.log_side seen faults Begun) p l (op.WriteTo mark) code q
+blocks_served seen faults Begun bytes firsts mark code p q model.Nothing lends wrote = absurd lends
+blocks_served seen faults Begun bytes firsts mark code p q (model.Batch batch) lends wrote = absurd lends
+blocks_served seen faults Begun bytes firsts mark code p q (model.Blocks kept offsets) lends wrote =
+    subst (λ (b : List ℕ). log_part.LogWrote seen mark b offsets code p q) lends.0
+    (subst (λ (f : List ℕ). log_part.LogWrote seen mark bytes f code p q) lends.1 wrote)
+
+-- what is lent is a batch of these pairs and user bytes
+abbrev pub LendsBatch : List (ℕ × ℕ) → List ℕ → model.Lent → Type 0
+LendsBatch pages frames (model.Batch batch) =
+    (pages ≡ map (λ (b : BatchPage). (b.page, b.lsn)) batch) × (frames ≡ flat_map (λ (b : BatchPage). user_part b.bytes) batch)
+LendsBatch pages frames _ = ⊥
+
+pub batch_served : {D : Type 0} (seen : D → Seen) (faults : ℕ) (shape : Shape) (Begun : Type 0) (pages : List (ℕ × ℕ)) (frames : List ℕ) (code : ℕ) (d e : store.Part D) (l : model.Lent) → LendsBatch pages frames l → HasWholePages op.WriteBatch l
+    → ((batch : List BatchPage) → data_part.IsBatchOf pages frames batch → data_part.DataWrote seen batch code d e)
+    → DataServed (data_part.data_side seen faults shape Begun) d l op.WriteBatch code e
+batch_served seen faults shape Begun pages frames code d e model.Nothing lends whole wrote = absurd lends
+batch_served seen faults shape Begun pages frames code d e (model.Blocks kept offsets) lends whole wrote = absurd lends
+batch_served seen faults shape Begun pages frames code d e (model.Batch batch) lends whole wrote =
+    wrote batch (lent_batch batch pages frames whole lends.0 lends.1)
+
+-- what is lent, by what it is
+pub batch_lent : (given : Lent) (pages : Bor (List (ℕ × ℕ))) (frames : Bor (List ℕ)) → given ≡ lent.Batch pages frames → (l : model.Lent) → Lends given l → LendsBatch pages.now frames.now l
+batch_lent given pages frames is model.Nothing lends = subst (λ (z : Lent). Lends z model.Nothing) is lends
+batch_lent given pages frames is (model.Blocks kept offsets) lends = subst (λ (z : Lent). Lends z (model.Blocks kept offsets)) is lends
+batch_lent given pages frames is (model.Batch batch) lends = subst (λ (z : Lent). Lends z (model.Batch batch)) is lends

@@ -1,0 +1,31 @@
+use Rattle.std.proofs.Common.{subst, sym}
+use Rattle.model_core.specs.Lsn.{lsn}
+use Rattle.redo_disk.specs.Seen.{Seen}
+use Rattle.redo_machine.proofs.MayTurn.{may_serve}
+use Rattle.redo_machine.proofs.TurnsOf.{runs_on, takes_turn, view_at}
+use Rattle.redo_machine.specs.Running.{IsServed, MayServe}
+use Rattle.redo_machine.specs.Views.{view_of}
+use Rattle.redo_machine.specs.declared.actor.Actor.{Actor}
+use Rattle.redo_machine.proofs.parts.Parts.turn.Goals as goal
+
+pub serve-requires : goal.serve-requires
+serve-requires g c =
+    let R = c.requires.on_run in
+    subst (λ (z : Actor). MayServe c.args.self.now (view_of z)) (sym c.index_mut.ensures.value)
+    (may_serve g.L.Sectors.seen g.D.Sectors.seen R.run c.args.self.now c.args.actors.now.items R.runs
+    (c.log_part_meets_laws.ensures (g.L.Sectors.seen R.run.first_log.dev).faults (lsn R.run.setup.base) R.run.first_log)
+    (c.data_part_meets_laws.ensures (g.D.Sectors.seen R.run.first_data.dev).faults R.run.shape R.run.setup.opened R.run.first_data)
+    c.args.seat _ (view_at c.args.actors.now.items c.args.seat _ c.requires.seat))
+
+pub returns-clause-turn : goal.returns-clause-turn
+returns-clause-turn g c = λ run R.
+    takes_turn g.L.Sectors.seen g.D.Sectors.seen run c.args.self.now c.serve.new.self c.args.actors.now.items c.args.seat c.index_mut.result.now c.serve.new.actor c.serve.result c.requires.seat
+    (subst (λ (z : Actor). IsServed g.L.Sectors.seen g.D.Sectors.seen run c.args.self.now (view_of z) c.serve.result c.serve.new.self (view_of c.serve.new.actor)) c.index_mut.ensures.value (c.serve.ensures.served run))
+
+pub returns-clause-runs : goal.returns-clause-runs
+returns-clause-runs g c = λ run R.
+    runs_on g.L.Sectors.seen g.D.Sectors.seen run c.args.self.now c.serve.new.self c.args.actors.now.items c.args.seat c.index_mut.result.now c.serve.new.actor c.serve.result c.requires.seat
+    (subst (λ (z : Actor). IsServed g.L.Sectors.seen g.D.Sectors.seen run c.args.self.now (view_of z) c.serve.result c.serve.new.self (view_of c.serve.new.actor)) c.index_mut.ensures.value (c.serve.ensures.served run))
+    (c.log_part_meets_laws.ensures (g.L.Sectors.seen run.first_log.dev).faults (lsn run.setup.base) run.first_log)
+    (c.data_part_meets_laws.ensures (g.D.Sectors.seen run.first_data.dev).faults run.shape run.setup.opened run.first_data)
+    c.serve.ensures.pages R

@@ -1,0 +1,4 @@
+pub mod Lists
+pub mod Playing
+pub mod Running
+pub mod Views

@@ -1,0 +1,68 @@
+-- A machine on its run.
+use Rattle.std.specs.Prelude.{List, ℕ, ◌≡◌}
+use Rattle.model_base.specs.Limits.{IsWithinLimits}
+use Rattle.model_core.specs.Actors as model
+use Rattle.model_core.specs.AnswerFits.{AnswerFits}
+use Rattle.model_core.specs.DataSide.{DataSide}
+use Rattle.model_core.specs.LogSide.{LogSide}
+use Rattle.model_core.specs.Program.{lent, next, took}
+use Rattle.model_core.specs.Turn.{Core, Turn}
+use Rattle.model_core.specs.Waiting.{step_of}
+use Rattle.model_core.specs.WordTurn.{answer_of}
+use Rattle.model_core.specs.declared.ops.Answer.{Answer}
+use Rattle.model_core.specs.declared.ops.Step.{Step}
+use Rattle.model_running.specs.Bounds.{HasBytes}
+use Rattle.model_running.specs.RunningStore.{IsRunning}
+use Rattle.model_running.specs.Seating.{AreSeated}
+use Rattle.redo_disk.specs.Seen.{Seen}
+use Rattle.redo_logside.specs.LogPartSide.{has_failed}
+use Rattle.redo_machine.specs.Lists.{lists_of}
+use Rattle.redo_machine.specs.Playing.{HasSamePages, HasWholePages, IsPlayable, IsPlayed, RunOf, data_of, log_of}
+use Rattle.redo_machine.specs.Views.{view_of, views_of}
+use Rattle.redo_machine.specs.declared.actor.Actor.{Actor}
+use Rattle.redo_machine.specs.declared.parts.Parts.{Parts}
+use Rattle.redo_words.specs.Lending.{Lends}
+use Rattle.redo_words.specs.declared.lent.Lent.{Lent}
+
+-- An actor may have its turn: what it asks for may be played, and any answer to it is one that it may take.
+pub record MayServe {L D : Type 0} (parts : Parts L D) (who : model.Actor) : Type 0 where
+  pub playable : (l : Lent) → Lends l (lent who) → IsPlayable parts (next who) l
+  pub whole : HasWholePages (next who) (lent who)
+  pub fits : (code mark : ℕ) → AnswerFits who (answer_of (lists_of parts.lists) (has_failed parts.log.failed) code mark parts.words.words (next who))
+
+-- An actor has had its turn, with this answer.
+pub record IsServed {L D : Type 0} (log_seen : L → Seen) (data_seen : D → Seen) (run : RunOf L D) (old : Parts L D) (who : model.Actor) (step : Step) (new : Parts L D) (who_new : model.Actor) : Type 0 where
+  pub answer : Answer
+  pub played : IsPlayed log_seen data_seen run (next who) (lent who) old answer new
+  pub took : who_new ≡ took who answer
+  pub ends : step ≡ step_of who answer
+
+module _ {L D : Type 0} (log_seen : L → Seen) (data_seen : D → Seen) (run : RunOf L D) where
+  abbrev pub core_of : Parts L D → List Actor → Core (log_of log_seen data_seen run) (data_of log_seen data_seen run)
+  core_of parts actors = record {
+    words = parts.words.words;
+    log_part = parts.log;
+    data_part = parts.store;
+    lists = lists_of parts.lists;
+    actors = views_of actors;
+  }
+
+  -- The invariant of a running store holds, in a run that is this one.
+  pub record RunsOn (parts : Parts L D) (actors : List Actor) : Type 0 where
+    pub limits : IsWithinLimits run.shape
+    pub its_pages : run.shape.pages ≡ run.setup.pages
+    pub bytes : HasBytes run.setup
+    pub word_pages : parts.words.pages ≡ run.setup.pages
+    pub list_pages : parts.lists.pages ≡ run.setup.pages
+    pub running : IsRunning (log_of log_seen data_seen run) (data_of log_seen data_seen run) run.setup 0 (core_of parts actors)
+    pub seated : AreSeated run.setup (views_of actors)
+
+  -- one turn of the definition, with some answer
+  pub record TakesTurn (old : Parts L D) (actors : List Actor) (seat : ℕ) (step : Step) (new : Parts L D) (after : List Actor) : Type 0 where
+    pub answer : Answer
+    pub turn : Turn (log_of log_seen data_seen run) (data_of log_seen data_seen run) (core_of old actors) seat answer step (core_of new after)
+
+-- some run is this machine's
+pub record IsOnRun {L D : Type 0} (log_seen : L → Seen) (data_seen : D → Seen) (parts : Parts L D) (actors : List Actor) : Type 0 where
+  pub run : RunOf L D
+  pub runs : RunsOn log_seen data_seen run parts actors

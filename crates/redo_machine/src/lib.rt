@@ -1,0 +1,16 @@
+//! A running store whose actors take turns, one Op a turn: the words in one list, both device parts, the flush lists, and
+//! the actors in their seats. The layer above may rely on this: each turn is one of the definition's, whatever the devices
+//! answer, and no call but `new` takes memory.
+#![tactic(auto)]
+
+mod actor;
+mod asking;
+mod calling;
+mod lists;
+mod machine;
+mod parts;
+mod playing;
+mod turning;
+
+pub use machine::Machine;
+pub use redo_words::Step as Turned;

@@ -1,0 +1,16 @@
+// A running store.
+use crate::actor::Actor;
+use crate::parts::Parts;
+use model_history::Entry;
+use redo_disk::Sectors;
+
+/// A running store whose actors take turns: users that have lines, by their numbers, then the writer and the flusher, and
+/// then, unless the log runs alone, the closer, the cleaner and the checkpointer.
+#[derive(Drop)]
+pub struct Machine<L: Sectors, D: Sectors> {
+    pub(crate) start: u64,
+    pub(crate) parts: Parts<L, D>,
+    pub(crate) actors: Vec<Actor>,
+    // room for an entry of each line
+    pub(crate) entries: Vec<Entry>,
+}
