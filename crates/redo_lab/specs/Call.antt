@@ -1,9 +1,20 @@
 -- A call of `lab`, as it is seen from outside.
-use Rattle.std.specs.Prelude.{ℕ, List}
+use Rattle.std.specs.Prelude.{ℕ, ◌≡◌, List, Option}
+use Rattle.model_device.specs.Disk.{Disk}
 use Rattle.redo_disk.specs.Seen.{Seen}
 use Rattle.redo_io.specs.Sink.{SinkSeen}
 use Rattle.redo_io.specs.Source.{SourceSeen}
-use Rattle.redo_lab.specs.Steps.{Guarded}
+use Rattle.redo_memdisk.specs.Fuse.{fresh}
+use Rattle.redo_memdisk.specs.Fused.{armed_from, fuse_of, inner_of}
+use Rattle.redo_memdisk.specs.declared.fuse.Fuse.{Fuse}
+use Rattle.redo_memdisk.specs.declared.fused.Fused.{Fused}
+
+-- a device and the fuse in front of it
+pub record Guarded : Type 0 where
+  pub seen : Seen
+  pub fuse : Fuse
+  -- what the device meant when its fuse was armed, where it told
+  pub armed_from : Option Disk
 
 -- What a call was handed, and what has become of it: the words; the source at entry and now; each device as it was
 -- handed in, and now behind its fuse.
@@ -22,3 +33,31 @@ pub record LabCall : Type 0 where
   pub sink : SinkSeen
   pub sink_now : SinkSeen
   pub status : ℕ
+
+-- the device means what it meant, also just before its last crash
+pub record IsKept (old : Seen) (new : Guarded) : Type 0 where
+  pub tells : new.seen.tells ≡ old.tells
+  pub crashed_from : new.seen.crashed_from ≡ old.crashed_from
+
+-- so do both
+pub record AreKept (call : Call) : Type 0 where
+  pub log_device : IsKept call.log_device call.log_device_now
+  pub data_device : IsKept call.data_device call.data_device_now
+
+-- no call of the device was made
+pub record IsLeftAlone (old : Seen) (new : Guarded) : Type 0 where
+  pub seen : new.seen ≡ old
+  pub fuse : new.fuse ≡ fresh
+
+-- nor of the other
+pub record AreLeftAlone (call : Call) : Type 0 where
+  pub log_device : IsLeftAlone call.log_device call.log_device_now
+  pub data_device : IsLeftAlone call.data_device call.data_device_now
+
+-- the source was left alone
+abbrev pub IsUnread : Call → Type 0
+IsUnread call = call.source_now ≡ call.source
+
+-- a device behind its fuse, as it is seen from outside; what is seen of the device doesn't have in it what the fuse did
+abbrev pub guarded : {D : Type 0} → (D → Seen) → Fused D → Guarded
+guarded seen fused = record { seen = seen (inner_of fused); fuse = fuse_of fused; armed_from = armed_from seen fused }

@@ -1,83 +1,121 @@
--- What comes of a call of today on the two devices.
-use Rattle.std.specs.Prelude.{ℕ, ◌≡◌, ◌≤◌, ◌⊎◌, List, length, Option, Some, None, ⊤}
-use Rattle.model_base.specs.Limits.{default_shape}
-use Rattle.model_log.specs.Device.{log_device_length}
-use Rattle.model_page.specs.Copies.{data_device_length}
-use Rattle.model_device.specs.Disk.{Disk, settled}
-use Rattle.model_store.specs.Reading.{Reading, IsReading, Refuses}
-use Rattle.model_store.specs.declared.refusal.Refusal.{Refusal}
-use Rattle.model_store.specs.declared.refusal.Refusal.TheVariants.{NotFormatted}
-use Rattle.model_script.specs.declared.script.ScriptLine.{ScriptLine}
+-- What a command comes to on two devices, before anything is printed.
+use Rattle.std.specs.Prelude.{ℕ, ◌≡◌, ◌≢◌, true, false, List, [], ◌++◌, Option, Some, None, Result, Ok, Err, IfSome}
+use Rattle.model_base.specs.Count.{HasRisen}
+use Rattle.model_command.specs.declared.asked.Command.{Command}
+use Rattle.model_command.specs.declared.asked.Command.TheVariants.{Run, Crash}
 use Rattle.model_report.specs.declared.fault.Fault.{Fault}
-use Rattle.model_report.specs.declared.fault.Fault.TheVariants.{Memory, LogDevice, DataDevice, Store, Fit}
-use Rattle.redo_memdisk.specs.declared.fuse.Fuse.{Fuse}
-use Rattle.redo_lab.specs.Check.{DoFit, IsTooShort, IsUnused, IsUsedFit}
-use Rattle.redo_lab.specs.Contents.{blank_data, formatted_store}
-use Rattle.redo_lab.specs.FirstReading.{empty_reading}
-use Rattle.redo_lab.specs.Reads.{OnLog}
-use Rattle.redo_lab.specs.Today.{final_log, final_reading, printed_text}
+use Rattle.model_report.specs.declared.fault.Fault.TheVariants.{Memory}
+use Rattle.model_theorem.specs.Crash.{CrashSafe}
+use Rattle.model_theorem.specs.Premises.{Premises}
+use Rattle.model_theorem.specs.Values as values
+use Rattle.model_theorem.specs.Values.{Account, CrashOptions, Device, Opened}
+use Rattle.redo_disk.specs.Seen.{Seen}
+use Rattle.redo_io.specs.Sink.{SinkSeen}
+use Rattle.redo_io.specs.Source.{SourceSeen}
+use Rattle.redo_memdisk.specs.Fuse.{fresh}
+use Rattle.redo_memdisk.specs.Fused.{fuse_of, inner_of}
+use Rattle.redo_lab.specs.Answer.{AreUnfailedAside, IsAnswer, IsRunText}
+use Rattle.redo_lab.specs.Asked.{leaves_devices, reads_script}
+use Rattle.redo_lab.specs.Call.{AreKept, Call, IsUnread, guarded}
+use Rattle.redo_lab.specs.Cause.{IsCauseOf, LeavesBehind}
+use Rattle.redo_lab.specs.Complete.{AreUnfailedFor, IsPossible}
+use Rattle.redo_lab.specs.Ending.{EndsRun, IsFaultPrinted, IsTextPrinted, IsToldAsAsked}
+use Rattle.redo_lab.specs.Promise.{IsCrashAsAsked, IsDevice}
+use Rattle.redo_lab.specs.declared.outcome.Done.{Done}
+use Rattle.redo_lab.specs.declared.outcome.Outcome.{Outcome}
+use Rattle.redo_lab.specs.declared.outcome.Outcome.TheVariants as outcome
 
--- the fuse was armed without a stop, the device was crashed with the pick 0, and no write or sync came after the crash
-pub record IsSpent (fuse : Fuse) : Type 0 where
-  pub limit : fuse.limit ≡ None
-  pub pick : fuse.pick ≡ Some 0
-  pub changes : fuse.late_changes ≡ 0
+-- the call of a command on two devices that are done
+abbrev pub call_of : {L D : Type 0} → (L → Seen) → (D → Seen) → List (List ℕ) → (source source_now : SourceSeen) → L → D → Done L D → Call
+call_of log_seen data_seen words source source_now log store done = record {
+  words = words;
+  source = source;
+  source_now = source_now;
+  log_device = log_seen log;
+  log_device_now = guarded log_seen done.log;
+  data_device = data_seen store;
+  data_device_now = guarded data_seen done.store;
+}
 
--- The call on devices that meant this did all that it is to do: both devices were long enough and the log device was
--- unused, they hold what formatting, opening and the run leave, and the text is the report of that.
-pub record IsDone (script : List ScriptLine) (log store : Disk) (text : List ℕ) (log_now store_now : Option Disk) : Type 0 where
-  pub log_long : log_device_length default_shape ≤ length log.reads
-  pub store_long : data_device_length default_shape ≤ length store.reads
-  pub unused : IsUnused (Some log.reads)
-  pub printed : text ≡ printed_text script (final_reading script)
-  pub log_is : log_now ≡ Some (settled (final_log script log.reads))
-  pub store_is : store_now ≡ Some (settled (formatted_store default_shape store.reads))
+-- a command whose text is this, unless memory ran out over it
+abbrev pub outcome_of : {E : Type 0} → Result (List ℕ) E → Outcome
+outcome_of (Ok text) = outcome.Text text
+outcome_of (Err error) = outcome.Fault Memory
 
--- beside a data device that was just formatted, these bytes of a log device aren't read as a store that was just
--- formatted, and are refused so, or as unformatted
-pub record IsNoFreshStore (refusal : Refusal) (log : List ℕ) : Type 0 where
-  pub other : IsReading log blank_data (empty_reading 0) → ⊥
-  pub refused : Refuses log blank_data refusal ⊎ (refusal ≡ NotFormatted)
+-- a device ended the run, which is reported before the fault's line
+abbrev pub IsReported : Call → Command → List ℕ → Fault → Type 0
+IsReported call (Run drive) text fault = IsRunText call text × EndsRun call fault × AreUnfailedAside call
+IsReported call command text fault = ⊥
 
--- why opening ended: the log device failed, or there was no memory, or what was read off it isn't a fresh store
-abbrev pub IsOpenFault : Option (List ℕ) → Fault → Type 0
-IsOpenFault log Memory = ⊤
-IsOpenFault log LogDevice = ⊤
-IsOpenFault log (Store refusal) = OnLog log (IsNoFreshStore refusal)
-IsOpenFault log _ = ⊥
+-- what is to be printed is the text of the command, or a report and then a fault's line, or that line alone
+abbrev pub IsOutcome : Call → Command → Outcome → Type 0
+IsOutcome call command (outcome.Text text) = IsAnswer call command text
+IsOutcome call command (outcome.Report text fault) = IsReported call command text fault
+IsOutcome call command (outcome.Fault fault) = IsCauseOf call command fault × LeavesBehind call command fault
 
--- the text is the report of the run of the script, and of what is read off these bytes of a log device, beside a data
--- device that was just formatted
-abbrev pub IsReportOf : List ScriptLine → List ℕ → List ℕ → Type 0
-IsReportOf script text log =
-    (reading : Reading) × IsReading log blank_data reading × (text ≡ printed_text script reading)
+-- the command was done, or memory ran out
+abbrev pub IsDoneOrMemory : Outcome → Type 0
+IsDoneOrMemory (outcome.Text text) = Unit {0}
+IsDoneOrMemory (outcome.Report text fault) = ⊥
+IsDoneOrMemory (outcome.Fault fault) = fault ≡ Memory
 
--- the device doesn't tell what it holds
-abbrev pub DoesntTell : Option (List ℕ) → Type 0
-DoesntTell None = ⊤
-DoesntTell (Some bytes) = ⊥
+-- the call of the crash theorem, for a sink that took this before and takes that now
+abbrev pub crash_of : Call → CrashOptions → (taken taken_now : Option (List ℕ)) → (log_device data_device : Device) → values.Crash
+crash_of call options taken taken_now log_device data_device = record {
+  options = options;
+  source = call.source.left;
+  source_left = call.source_now.left;
+  taken = taken;
+  taken_now = taken_now;
+  log_device = log_device;
+  data_device = data_device;
+}
 
--- A refusal of what was read: it comes only from a log device that doesn't tell, so that any bytes may have been read.
--- Off one that tells, a call of today reads what it wrote.
-abbrev pub IsUntold : Option (List ℕ) → Refusal → Type 0
-IsUntold log refusal = DoesntTell log × OnLog None (IsNoFreshStore refusal)
+-- the devices of the theorem are those of the call, they were crashed as asked, and for each store that they open there is
+-- an account, under the premises
+pub record IsCrashWith (call : Call) (options : CrashOptions) (taken taken_now : Option (List ℕ)) : Type 0 where
+  pub log_device : Device
+  pub data_device : Device
+  pub is_log : IsDevice call.log_device call.log_device_now log_device
+  pub is_data : IsDevice call.data_device call.data_device_now data_device
+  pub as_asked : IsCrashAsAsked (crash_of call options taken taken_now log_device data_device)
+  pub safe : (opened : Opened) → Premises (crash_of call options taken taken_now log_device data_device) opened
+      → (account : Account) × CrashSafe (crash_of call options taken taken_now log_device data_device) opened account
 
--- Why a call ended on devices of these sizes, of which the log device held this, where it tells; same says that both mean
--- what they did before.
-abbrev pub IsCrashFault : Option (List ℕ) → ℕ → ℕ → Type 0 → Fault → Type 0
-IsCrashFault log log_size store_size same Memory = ⊤
-IsCrashFault log log_size store_size same LogDevice = ⊤
-IsCrashFault log log_size store_size same DataDevice = ⊤
-IsCrashFault log log_size store_size same (Store refusal) =
-    (IsTooShort log log_size store_size refusal × same) ⊎ (DoFit log log_size store_size × IsUntold log refusal)
-IsCrashFault log log_size store_size same (Fit misfit) = IsUsedFit log log_size misfit × same
-IsCrashFault log log_size store_size same _ = ⊥
+-- the crash theorem, where the sink takes this text
+abbrev pub IsSafeCrash : Call → (stop_log stop_data : Option ℕ) → (pick : ℕ) → List ℕ → Type 0
+IsSafeCrash call stop_log stop_data pick text =
+    (options : CrashOptions) (taken taken_now : Option (List ℕ)) → options.stop_log ≡ stop_log → options.stop_data ≡ stop_data
+    → options.pick ≡ pick → IfSome taken (λ before. taken_now ≡ Some (before ++ text))
+    → call.log_device.tells ≢ None → call.data_device.tells ≢ None → IsCrashWith call options taken taken_now
 
--- why the devices weren't formatted
-abbrev pub IsPrepareFault : Option (List ℕ) → ℕ → ℕ → Type 0 → Fault → Type 0
-IsPrepareFault held log store same Memory = ⊤
-IsPrepareFault held log store same LogDevice = ⊤
-IsPrepareFault held log store same DataDevice = ⊤
-IsPrepareFault held log store same (Store refusal) = IsTooShort held log store refusal × same
-IsPrepareFault held log store same (Fit misfit) = IsUsedFit held log misfit × same
-IsPrepareFault held log store same _ = ⊥
+-- a text of `crash` is that of a safe call
+abbrev pub IsSafeOutcome : Call → Command → Outcome → Type 0
+IsSafeOutcome call (Crash drive stop_log stop_data pick) (outcome.Text text) = IsSafeCrash call stop_log stop_data pick text
+IsSafeOutcome call command outcome = Unit {0}
+
+-- What the outcome of a command says of its call.
+pub record EndsCommand (call : Call) (command : Command) (outcome : Outcome) : Type 0 where
+  pub means : IsOutcome call command outcome
+  pub unread : reads_script command ≡ false → IsUnread call
+  pub kept : leaves_devices command ≡ true → AreKept call
+  pub told : IsToldAsAsked call command
+  pub log_tells : call.log_device.tells ≢ None → call.log_device_now.seen.tells ≢ None
+  pub data_tells : call.data_device.tells ≢ None → call.data_device_now.seen.tells ≢ None
+  pub complete : IsPossible call command → (HasRisen call.source.faults call.source_now.faults → ⊥) → AreUnfailedFor command call
+      → IsDoneOrMemory outcome
+  pub safe : IsSafeOutcome call command outcome
+
+-- what was printed of an outcome, and the status
+abbrev pub IsOutcomePrinted : Outcome → ℕ → SinkSeen → SinkSeen → Type 0
+IsOutcomePrinted (outcome.Text text) status sink sink_now = IsTextPrinted text status sink sink_now
+IsOutcomePrinted (outcome.Report text fault) status sink sink_now = IsFaultPrinted text fault status sink sink_now
+IsOutcomePrinted (outcome.Fault fault) status sink sink_now = IsFaultPrinted [] fault status sink sink_now
+
+-- A command was ended by this fault before a device was called.
+pub record IsUnasked {L D : Type 0} (fault : Fault) (log : L) (store : D) (done : Done L D) : Type 0 where
+  pub outcome_is : done.outcome ≡ outcome.Fault fault
+  pub log_inner : inner_of done.log ≡ log
+  pub log_fuse : fuse_of done.log ≡ fresh
+  pub data_inner : inner_of done.store ≡ store
+  pub data_fuse : fuse_of done.store ≡ fresh

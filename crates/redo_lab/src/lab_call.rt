@@ -1,107 +1,143 @@
 // The top call.
-ghost use Rattle.std.specs.Prelude.{◌≡◌, ◌≢◌, ◌≤◌, ◌+◌, IsErrOf, IfOk, IfErr, map};
+ghost use Rattle.std.specs.Prelude.{ℕ, List, ◌≡◌, ◌+◌, map};
 ghost use Rattle.std.specs.String.{string_bytes};
 ghost use Rattle.model_base.specs.declared.limits.TheConstants.{MAX_SCRIPT};
+ghost use Rattle.redo_io.specs.Source.{SourceSeen, TakesAtMost};
 ghost use Rattle.redo_io.specs.declared.read.TheConstants.{PIECE};
-ghost use Rattle.redo_io.specs.Source.{TakesAtMost};
-ghost use Rattle.redo_memdisk.specs.Fuse.{fresh};
-ghost use Rattle.redo_memdisk.specs.Fused.{fuse_of, inner_of};
-ghost use Rattle.redo_lab.specs.Answer.{IsAnswer, IsCause, IsEnding, IsFaultPrinted, IsTextPrinted, the_command};
-ghost use Rattle.redo_lab.specs.Call.{LabCall};
-ghost use Rattle.redo_lab.specs.Promise.{IsCrashSafe};
-ghost use Rattle.redo_lab.specs.Steps.{guarded};
+ghost use Rattle.model_command.specs.declared.asked.Command.TheVariants.{Crash, Run};
+ghost use Rattle.model_command.specs.declared.asked.Drive.{Drive};
+ghost use Rattle.redo_lab.specs.Asked.{IsWithin};
+ghost use Rattle.redo_lab.specs.Call.{guarded};
+ghost use Rattle.redo_lab.specs.Outcome.{EndsCommand, IsOutcomePrinted, IsUnasked, call_of};
+ghost use Rattle.redo_lab.specs.Promised.{IsCallOf};
 
-use crate::Ended;
-use crate::crash::crash;
-use crate::script::{is_crash, read_script};
+use crate::asked::read_command;
+use crate::crash_command::crash_command;
+use crate::ended::Ended;
+use crate::outcome::{Done, Outcome};
+use crate::playing::Stops;
+use crate::printing::{print_fault, print_report, print_text};
+use crate::run_command::run_command;
+use crate::script::read_script;
+use crate::simple::{format_devices, print_pages, print_script, print_store};
+use model_command::Command;
+use model_opening::openable_reads;
 use model_report::Fault;
+use model_script::read_lines_are_ranged;
 use redo_disk::Sectors;
-use redo_io::{Sink, Source, Text, put_all};
+use redo_io::{Sink, Source};
 use redo_memdisk::Fused;
-use redo_report::{FAULT_ROOM, fault_text, status_of};
 use std::alloc::Global;
 
-/// All but the printing: the text of a call that went well, or why it ended.
-fn answer<S: Source, L: Sectors, D: Sectors>(
+/// What is left of a command that is ended by this fault before a device is called.
+fn unasked<L, D>(fault: Fault, log: L, store: D) -> Done<L, D>
+    ensures { IsUnasked fault log store result }
+{
+    Done {
+        outcome: Outcome::Fault(fault),
+        log: Fused::plain(log),
+        store: Fused::plain(store),
+    }
+}
+
+/// The command `run`, on the script of the source.
+fn run_source<S: Source, L: Sectors, D: Sectors>(
     alloc: Global,
-    words: &[String],
     src: &mut S,
-    log: &mut Fused<L>,
-    store: &mut Fused<D>,
-) -> Result<Text, Fault>
-    requires log_fresh { fuse_of log.old ≡ fresh }
-    requires store_fresh { fuse_of store.old ≡ fresh }
-    ensures text { IfOk result (IsAnswer (record {
-      words = map (λ word. string_bytes word) words.now;
-      source = S.seen src.old;
-      source_now = S.seen src.new;
-      log_device = L.seen (inner_of log.old);
-      log_device_now = guarded L.seen log.new;
-      data_device = D.seen (inner_of store.old);
-      data_device_now = guarded D.seen store.new;
-    })) }
-    ensures fault { IfErr result (IsCause (record {
-      words = map (λ word. string_bytes word) words.now;
-      source = S.seen src.old;
-      source_now = S.seen src.new;
-      log_device = L.seen (inner_of log.old);
-      log_device_now = guarded L.seen log.new;
-      data_device = D.seen (inner_of store.old);
-      data_device_now = guarded D.seen store.new;
-    })) }
-    ensures words { map (λ word. string_bytes word) words.now ≢ the_command → IsErrOf result Fault.Words }
-    ensures read { TakesAtMost (MAX_SCRIPT + PIECE) (S.seen src.old).left (S.seen src.new).left }
+    log: L,
+    store: D,
+) -> Done<L, D>
+    ensures ends { (words : List (List ℕ)) (drive : Drive)
+        → EndsCommand (call_of L.seen D.seen words (S.seen src.old) (S.seen src.new) log store result) (Run drive) result.outcome }
+    ensures taken { TakesAtMost (MAX_SCRIPT + PIECE) (S.seen src.old).left (S.seen src.new).left }
 {
-    if !is_crash(words) {
-        return Err(Fault::Words);
-    }
-    let script = match read_script(alloc, src) {
-        Ok(script) => script,
-        Err(fault) => return Err(fault),
-    };
-    match crash(alloc, &script, log, store) {
-        Ok(text) => Ok(text),
-        Err(fault) => Err(fault),
+    openable_reads();
+    read_lines_are_ranged();
+    match read_script(alloc, src) {
+        Ok(script) => run_command(alloc, &script, log, store),
+        Err(fault) => unasked(fault, log, store),
     }
 }
 
-/// Prints a fault's line, as far as the sink takes it, and says its status.
-pub fn print_fault<O: Sink>(out: &mut O, fault: Fault) -> u8
-    ensures { IsFaultPrinted fault result (O.seen out.old) (O.seen out.new) }
+/// The command `crash`, on the script of the source.
+fn crash_source<S: Source, L: Sectors, D: Sectors>(
+    alloc: Global,
+    src: &mut S,
+    stops: Stops,
+    pick: u64,
+    log: L,
+    store: D,
+) -> Done<L, D>
+    ensures ends { (words : List (List ℕ)) (drive : Drive)
+        → EndsCommand (call_of L.seen D.seen words (S.seen src.old) (S.seen src.new) log store result)
+        (Crash drive stops.log stops.store pick) result.outcome }
+    ensures taken { TakesAtMost (MAX_SCRIPT + PIECE) (S.seen src.old).left (S.seen src.new).left }
 {
-    let mut line = [0; FAULT_ROOM];
-    let length = fault_text(fault, &mut line);
-    match put_all(out, &line[..length]) {
-        Ok(()) => status_of(fault),
-        Err(_) => status_of(fault),
+    openable_reads();
+    read_lines_are_ranged();
+    match read_script(alloc, src) {
+        Ok(script) => crash_command(alloc, &script, stops, pick, log, store),
+        Err(fault) => unasked(fault, log, store),
     }
 }
 
-/// Prints the text, and says the status.
-fn print_text<O: Sink>(out: &mut O, text: &[u8]) -> u8
-    ensures { IsTextPrinted text.now result (O.seen out.old) (O.seen out.new) }
+/// A command, done on two devices.
+fn done<S: Source, L: Sectors, D: Sectors>(
+    alloc: Global,
+    command: Command,
+    src: &mut S,
+    log: L,
+    store: D,
+) -> Done<L, D>
+    requires { IsWithin command }
+    ensures ends { (words : List (List ℕ))
+        → EndsCommand (call_of L.seen D.seen words (S.seen src.old) (S.seen src.new) log store result) command result.outcome }
+    ensures taken { TakesAtMost (MAX_SCRIPT + PIECE) (S.seen src.old).left (S.seen src.new).left }
 {
-    match put_all(out, text) {
-        Ok(()) => 0,
-        Err(_) => status_of(Fault::Sink),
+    match command {
+        Command::Format {
+            pages,
+            space,
+            log_blocks,
+        } => format_devices(alloc, pages, space, log_blocks, log, store),
+        Command::Run { .. } => run_source(alloc, src, log, store),
+        Command::Crash {
+            stop_log,
+            stop_data,
+            pick,
+            ..
+        } => {
+            let stops = Stops {
+                log: stop_log,
+                store: stop_data,
+            };
+            crash_source(alloc, src, stops, pick, log, store)
+        }
+        Command::Recover => print_pages(alloc, log, store),
+        Command::Dump => print_store(alloc, log, store),
+        Command::Gen {
+            seed,
+            users,
+            groups,
+            run,
+            max,
+        } => print_script(alloc, seed, users, groups, run, max, log, store),
     }
 }
 
-/// Prints the answer, and says the status.
-fn print<O: Sink>(out: &mut O, answer: Result<Text, Fault>) -> u8
-    ensures text { IfOk answer (λ text. IsTextPrinted text result (O.seen out.old) (O.seen out.new)) }
-    ensures fault { IfErr answer (λ fault. IsFaultPrinted fault result (O.seen out.old) (O.seen out.new)) }
+/// Prints what there is to print, and says the status.
+fn print_outcome<O: Sink>(out: &mut O, outcome: &Outcome) -> u8
+    ensures { IsOutcomePrinted outcome.now result (O.seen out.old) (O.seen out.new) }
 {
-    match answer {
-        Ok(text) => print_text(out, text.as_slice()),
-        Err(fault) => print_fault(out, fault),
+    match outcome {
+        Outcome::Text(text) => print_text(out, text.as_slice()),
+        Outcome::Report(text, fault) => print_report(out, text.as_slice(), *fault),
+        Outcome::Fault(fault) => print_fault(out, *fault),
     }
 }
 
-/// Runs a command on a source, a sink and two devices: `crash` alone today. It formats both devices, of which the log
-/// device has to be unused, runs the script of the source, crashes the devices, reads the log device, and prints what was
-/// run and what is left. Where the call ends with a fault it prints the fault's line alone. Both devices come back behind
-/// their fuses.
+/// Does what the words ask for on the two devices, with the script of the source where the command takes one, and prints
+/// what came of it.
 pub fn lab<S: Source, O: Sink, L: Sectors, D: Sectors>(
     alloc: Global,
     words: &[String],
@@ -110,7 +146,7 @@ pub fn lab<S: Source, O: Sink, L: Sectors, D: Sectors>(
     log: L,
     store: D,
 ) -> Ended<L, D>
-    ensures { let lab : LabCall = record {
+    ensures { IsCallOf (record {
       call = record {
         words = map (λ word. string_bytes word) words.now;
         source = S.seen src.old;
@@ -123,12 +159,16 @@ pub fn lab<S: Source, O: Sink, L: Sectors, D: Sectors>(
       sink = O.seen out.old;
       sink_now = O.seen out.new;
       status = result.status;
-    } in
-        IsEnding lab × IsCrashSafe lab }
+    }) }
 {
-    let mut log = Fused::plain(log);
-    let mut store = Fused::plain(store);
-    let answer = answer(alloc, words, src, &mut log, &mut store);
-    let status = print(out, answer);
+    let Done {
+        outcome,
+        log,
+        store,
+    } = match read_command(alloc, words) {
+        Ok(command) => done(alloc, command, src, log, store),
+        Err(fault) => unasked(fault, log, store),
+    };
+    let status = print_outcome(out, &outcome);
     Ended { status, log, store }
 }

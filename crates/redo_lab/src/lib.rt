@@ -1,20 +1,26 @@
-//! The top call: it runs a script on two devices, crashes them, and prints what is left.
+//! The top call: it does one of the six commands on a source, a sink and two devices. `lab`'s contract says what each ending
+//! means, and carries the crash theorem.
 #![tactic(auto)]
 
-mod check;
-mod crash;
-mod device;
+mod asked;
+mod crash_command;
 mod ended;
-mod format;
+mod faults;
 mod lab_call;
-mod open;
-mod report;
-mod run;
+mod outcome;
+mod playing;
+mod prepare;
+mod printing;
+mod reading;
+mod reporting;
+mod run_command;
 mod script;
-mod store;
+mod shapes;
+mod simple;
 #[cfg(test)]
 mod tests;
 
 pub use ended::Ended;
-pub use format::{LOG_LENGTH, STORE_LENGTH};
-pub use lab_call::{lab, print_fault};
+pub use lab_call::lab;
+pub use printing::print_fault;
+pub use shapes::{LOG_LENGTH, STORE_LENGTH};

@@ -1,14 +1,21 @@
-// The program: it runs the script of standard input on two devices in memory, and prints what is left.
+// The program: the top call on standard input and output, and on two devices in memory or in files.
 #![tactic(auto)]
 
 use model_report::Fault;
+use redo_command::{WordsFault, read_words};
+use redo_disk::Sectors;
 use redo_io::{ReaderSource, WriterSink};
 use redo_lab::{LOG_LENGTH, STORE_LENGTH, lab, print_fault};
-use redo_memdisk::MemDisk;
+use redo_memdisk::{FileDisk, MemDisk};
 use std::alloc::{AllocError, Global};
 use std::io::ErrorKind;
 use std::process::ExitCode;
 use std::{env, io};
+
+/// The file of the log device, where the devices are files.
+const LOG_FILE: &str = "redo.log";
+/// The file of the data device.
+const DATA_FILE: &str = "redo.data";
 
 /// The words after the program's name. A word that isn't UTF-8 is in no command.
 fn words(rt: &HostRuntime) -> Result<Vec<String>, Fault> {
@@ -19,24 +26,58 @@ fn words(rt: &HostRuntime) -> Result<Vec<String>, Fault> {
     }
 }
 
-/// The log device and the data device.
-fn devices(alloc: Global) -> Result<(MemDisk, MemDisk), AllocError> {
+/// Whether the words ask for devices in files. Words that are no command ask for nothing.
+fn asks_for_files(alloc: Global, words: &[String]) -> Result<bool, Fault> {
+    match read_words(alloc, words) {
+        Ok(asked) => Ok(asked.files),
+        Err(WordsFault::NotCommand) => Ok(false),
+        Err(WordsFault::NoMemory) => Err(Fault::Memory),
+    }
+}
+
+/// A log device and a data device in memory.
+fn in_memory(alloc: Global) -> Result<(MemDisk, MemDisk), AllocError> {
     Ok((
         MemDisk::new(alloc, LOG_LENGTH)?,
         MemDisk::new(alloc, STORE_LENGTH)?,
     ))
 }
 
-/// Runs the command, and says its status.
-fn run(rt: &HostRuntime) -> Result<u8, Fault> {
-    let words = words(rt)?;
-    let Ok((log, store)) = devices(rt.alloc()) else {
+/// The device in the file of this name in the current folder. Its first call opens or makes the file.
+fn in_file<'a>(rt: &'a HostRuntime, name: &str) -> Result<FileDisk<&'a HostRuntime>, AllocError> {
+    Ok(FileDisk::new(rt, name.to_string(rt.alloc())?))
+}
+
+/// A log device and a data device in files.
+fn in_files(
+    rt: &HostRuntime,
+) -> Result<(FileDisk<&HostRuntime>, FileDisk<&HostRuntime>), AllocError> {
+    Ok((in_file(rt, LOG_FILE)?, in_file(rt, DATA_FILE)?))
+}
+
+/// Runs the command on these devices, and says its status.
+fn run_on<L: Sectors + Drop, D: Sectors + Drop>(
+    rt: &HostRuntime,
+    words: &[String],
+    devices: Result<(L, D), AllocError>,
+) -> Result<u8, Fault> {
+    let Ok((log, store)) = devices else {
         return Err(Fault::Memory);
     };
     let mut source = ReaderSource::new(rt.stdin());
     let mut sink = WriterSink::new(io::writer(rt));
-    let ended = lab(rt.alloc(), &words, &mut source, &mut sink, log, store);
+    let ended = lab(rt.alloc(), words, &mut source, &mut sink, log, store);
     Ok(ended.status)
+}
+
+/// Runs the command, and says its status.
+fn run(rt: &HostRuntime) -> Result<u8, Fault> {
+    let words = words(rt)?;
+    if asks_for_files(rt.alloc(), &words)? {
+        run_on(rt, &words, in_files(rt))
+    } else {
+        run_on(rt, &words, in_memory(rt.alloc()))
+    }
 }
 
 fn main(rt: HostRuntime) -> ExitCode {
@@ -46,3 +87,6 @@ fn main(rt: HostRuntime) -> ExitCode {
     };
     ExitCode::from(status)
 }
+
+#[cfg(test)]
+mod tests;

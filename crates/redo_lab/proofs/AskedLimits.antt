@@ -1,0 +1,160 @@
+-- The numbers of a command that is asked for are within its limits.
+use Rattle.std.proofs.Common.{ℕ, ◌≡◌, ◌≤◌, ◌<◌, ◌-◌, ◌^◌, ◌&&◌, Bool, true, false, nat_le, if◌then◌else◌, List, [], ◌∷◌, codes, Option, Some, None, refl, subst, arith, lit≤}
+use Rattle.std.specs.Option.{option_map, option_and_then}
+use Rattle.std.specs.Str.{bytes_eq}
+use Rattle.model_base.specs.Limits.{IsWithinLimits, space_limit}
+use Rattle.model_base.specs.declared.limits.TheConstants.{DEFAULT_LOG_BLOCKS, DEFAULT_PAGES, DEFAULT_SPACE, MAX_LOG_BLOCKS, MAX_PAGES, MIN_LOG_BLOCKS}
+use Rattle.model_command.specs.Commands as commands
+use Rattle.model_command.specs.Commands.{asked_of, are_among, are_different, crash_of, drive_names, drive_of, format_of, gen_of, given_number, is_given, number_or, number_within, plain_command, where_allowed}
+use Rattle.model_command.specs.Words.{said_from}
+use Rattle.model_command.specs.declared.asked.Asked.{Asked}
+use Rattle.model_command.specs.declared.asked.Command.{Command}
+use Rattle.model_command.specs.declared.asked.Command.TheVariants.{Format, Run, Recover, Dump}
+use Rattle.model_command.specs.declared.words.Given.{Given}
+use Rattle.model_command.specs.declared.words.Name.{Name}
+use Rattle.model_command.specs.declared.words.Name.TheVariants as name
+use Rattle.model_command.specs.declared.words.Expected.TheVariants.{Any}
+use Rattle.model_script.specs.declared.misfit.TheConstants.{MAX_USERS}
+use Rattle.redo_lab.specs.Answer.{shape_of}
+use Rattle.redo_lab.specs.Asked.{IsWithin, command_of, where_served}
+use borrow.Author.Tests.{leb-true}
+
+-- the number is between these
+abbrev IsBetween : ℕ → ℕ → ℕ → Type 0
+IsBetween least greatest n = (least ≤ n) × (n ≤ greatest)
+
+abbrev HasValue : {A B : Type 0} → (A → Option B) → Option A → B → Type 0
+HasValue {A = A} f o b = (a : A) × (o ≡ Some a) × (f a ≡ Some b)
+
+and_then-some : {A B : Type 0} (f : A → Option B) (o : Option A) (b : B) → option_and_then f o ≡ Some b → HasValue f o b
+and_then-some f None b is = cc
+and_then-some f (Some a) b is = (a, refl, is)
+
+abbrev IsMapped : {A B : Type 0} → (A → B) → Option A → B → Type 0
+IsMapped {A = A} f o b = (a : A) × (o ≡ Some a) × (f a ≡ b)
+
+map-some : {A B : Type 0} (f : A → B) (o : Option A) (b : B) → option_map f o ≡ Some b → IsMapped f o b
+map-some f None b is = cc
+map-some f (Some a) b is = (a, refl, cc)
+
+if-between : (least greatest n m : ℕ) (low high : Bool) → nat_le least n ≡ low → nat_le n greatest ≡ high
+    → (if low && high then Some n else None) ≡ Some m → IsBetween least greatest m
+if-between least greatest n m true true low high is =
+    let same : n ≡ m = cc in (omega (arith, leb-true least n low), omega (arith, leb-true n greatest high))
+if-between least greatest n m true false low high is = cc
+if-between least greatest n m false high low high' is = cc
+
+within-between : (least greatest n m : ℕ) → number_within least greatest n ≡ Some m → IsBetween least greatest m
+within-between least greatest n m is = if-between least greatest n m _ _ refl refl is
+
+or-between : (least greatest default m : ℕ) (o : Option ℕ) → IsBetween least greatest default → number_or least greatest default o ≡ Some m
+    → IsBetween least greatest m
+or-between least greatest default m None between is = let same : default ≡ m = cc in (omega arith, omega arith)
+or-between least greatest default m (Some n) between is = within-between least greatest n m is
+
+allowed-some : (among different : Bool) (o : Option Command) (command : Command) → (if among && different then o else None) ≡ Some command → o ≡ Some command
+allowed-some true true o command is = is
+allowed-some true false o command is = cc
+allowed-some false different o command is = cc
+
+allowed-command : (names : List Name) (options : List Given) (o : Option Command) (command : Command) → where_allowed names options o ≡ Some command → o ≡ Some command
+allowed-command names options o command is = allowed-some (are_among names options) (are_different options) o command is
+
+format-within : (options : List Given) (command : Command) → format_of options ≡ Some command → IsWithin command
+format-within options command is =
+    let pages = and_then-some _ (number_or 1 MAX_PAGES DEFAULT_PAGES (given_number name.Pages options)) command is in
+    let space = and_then-some _ (number_or 0 (2 ^ 32 - 1) DEFAULT_SPACE (given_number name.Space options)) command pages.2 in
+    let blocks = map-some _ (number_or MIN_LOG_BLOCKS MAX_LOG_BLOCKS DEFAULT_LOG_BLOCKS (given_number name.LogBlocks options)) command space.2 in
+    let some : IsBetween 1 MAX_PAGES pages.0 = or-between 1 MAX_PAGES DEFAULT_PAGES pages.0 (given_number name.Pages options) (lit≤ tt, lit≤ tt) pages.1 in
+    let many : IsBetween MIN_LOG_BLOCKS MAX_LOG_BLOCKS blocks.0 =
+    or-between MIN_LOG_BLOCKS MAX_LOG_BLOCKS DEFAULT_LOG_BLOCKS blocks.0 (given_number name.LogBlocks options) (lit≤ tt, lit≤ tt) blocks.1 in
+    subst IsWithin blocks.2 (some.0, some.1, many.0, many.1)
+
+run-within : (options : List Given) (command : Command) → option_map Run (drive_of options) ≡ Some command → IsWithin command
+run-within options command is = let run = map-some Run (drive_of options) command is in subst IsWithin run.2 tt
+
+crash-within : (options : List Given) (command : Command) → crash_of options ≡ Some command → IsWithin command
+crash-within options command is = let crash = map-some _ (drive_of options) command is in subst IsWithin crash.2 tt
+
+recover-within : (command : Command) → Some Recover ≡ Some command → IsWithin command
+recover-within command is = let same : Recover ≡ command = cc in subst IsWithin same tt
+
+dump-within : (command : Command) → Some Dump ≡ Some command → IsWithin command
+dump-within command is = let same : Dump ≡ command = cc in subst IsWithin same tt
+
+gen-within : (options : List Given) (values : List ℕ) (command : Command) → gen_of options values ≡ Some command → IsWithin command
+gen-within options [] command is = cc
+gen-within options (seed ∷ []) command is = cc
+gen-within options (seed ∷ users ∷ []) command is = cc
+gen-within options (seed ∷ users ∷ groups ∷ []) command is =
+    let some = and_then-some _ (number_within 1 MAX_USERS users) command is in
+    let many = and_then-some _ (number_within 0 _ groups) command some.2 in
+    let max = map-some _ (number_or 0 _ _ (given_number name.Max options)) command many.2 in
+    let between = within-between 1 MAX_USERS users some.0 some.1 in
+    subst IsWithin max.2 (between.0, between.1)
+gen-within options (seed ∷ users ∷ groups ∷ more ∷ values) command is = cc
+
+plain-within : (is_format is_run is_crash is_recover is_dump : Bool) (format run crash recover dump : Option Command) (command : Command)
+    → (format ≡ Some command → IsWithin command) → (run ≡ Some command → IsWithin command) → (crash ≡ Some command → IsWithin command)
+    → (recover ≡ Some command → IsWithin command) → (dump ≡ Some command → IsWithin command)
+    → (if is_format then format else (if is_run then run else (if is_crash then crash else (if is_recover then recover else (if is_dump then dump else None))))) ≡ Some command
+    → IsWithin command
+plain-within true is_run is_crash is_recover is_dump format run crash recover dump command a b c d e is = a is
+plain-within false true is_crash is_recover is_dump format run crash recover dump command a b c d e is = b is
+plain-within false false true is_recover is_dump format run crash recover dump command a b c d e is = c is
+plain-within false false false true is_dump format run crash recover dump command a b c d e is = d is
+plain-within false false false false true format run crash recover dump command a b c d e is = e is
+plain-within false false false false false format run crash recover dump command a b c d e is = cc
+
+abbrev format_names : List Name
+format_names = name.Pages ∷ name.Space ∷ name.LogBlocks ∷ []
+
+abbrev crash_names : List Name
+crash_names = name.StopLog ∷ name.StopData ∷ name.Pick ∷ drive_names
+
+command-within : (text : List ℕ) (options : List Given) (values : List ℕ) (is_gen : Bool) (command : Command)
+    → (if is_gen then where_allowed (name.Run ∷ name.Max ∷ []) options (gen_of options values)
+    else elim values [ [] ↦ plain_command text options | value ∷ others ↦ None ]) ≡ Some command → IsWithin command
+command-within text options values true command is = gen-within options values command (allowed-command (name.Run ∷ name.Max ∷ []) options (gen_of options values) command is)
+command-within text options [] false command is = plain-within
+    (bytes_eq text (codes "format")) (bytes_eq text (codes "run")) (bytes_eq text (codes "crash")) (bytes_eq text (codes "recover")) (bytes_eq text (codes "dump"))
+    (where_allowed format_names options (format_of options)) (where_allowed drive_names options (option_map Run (drive_of options)))
+    (where_allowed crash_names options (crash_of options)) (where_allowed [] options (Some Recover)) (where_allowed [] options (Some Dump)) command
+    (λ is. format-within options command (allowed-command format_names options (format_of options) command is))
+    (λ is. run-within options command (allowed-command drive_names options (option_map Run (drive_of options)) command is))
+    (λ is. crash-within options command (allowed-command crash_names options (crash_of options) command is))
+    (λ is. recover-within command (allowed-command [] options (Some Recover) command is))
+    (λ is. dump-within command (allowed-command [] options (Some Dump) command is))
+    is
+command-within text options (value ∷ others) false command is = cc
+
+-- what is asked for is within its limits
+pub asked-within : (words : List (List ℕ)) (asked : Asked) → asked_of words ≡ Some asked → IsWithin asked.command
+unfolding asked_of
+asked-within [] asked is = cc
+asked-within (text ∷ texts) asked is =
+    let said = and_then-some _ (said_from Any texts) asked is in
+    let command = map-some _ (commands.command_of text said.0.options said.0.values) asked said.2 in
+    subst (λ (asked : Asked). IsWithin asked.command) command.2 (command-within text said.0.options said.0.values _ command.0 command.1)
+
+where-served : (served : Bool) (command found : Command) → (if served then Some command else None) ≡ Some found → command ≡ found
+where-served true command found is = cc
+where-served false command found is = cc
+
+pub command-of-within : (words : List (List ℕ)) (command : Command) → command_of words ≡ Some command → IsWithin command
+command-of-within words command is =
+    let asked = and_then-some where_served (asked_of words) command is in
+    subst IsWithin (where-served _ asked.0.command command asked.2) (asked-within words asked.0 asked.1)
+
+-- the sizes that are asked for are within the limits of a store
+pub format-limits : (pages space log_blocks : ℕ) → IsWithin (Format pages space log_blocks) → space < space_limit
+    → IsWithinLimits (shape_of pages space log_blocks)
+format-limits pages space log_blocks within small = record {
+  page_size = refl;
+  some_pages = within.0;
+  few_pages = within.1;
+  space = small;
+  many_blocks = within.2;
+  few_blocks = within.3;
+  slots = refl;
+}

@@ -1,0 +1,158 @@
+-- What the calls of the layers below leave of a device behind its fuse.
+use Rattle.std.proofs.Common.{ℕ, ◌≡◌, List, [], ◌∷◌, Option, Result, Ok, Err, ap, subst, ◌∙◌, ⊎_elim}
+use Rattle.std.specs.List.{AllByRecursion}
+use Rattle.redo_disk.specs.Calls.{AreReads, Call, Reads, Writes, Syncs, EndWith, MayEndWith, ReadsMayEndWith, failures}
+use Rattle.redo_disk.specs.Made.{MakesCalls}
+use Rattle.redo_disk.specs.Seen.{Seen}
+use Rattle.redo_disk.specs.declared.error.DevError.{DevError}
+use Rattle.redo_disk.proofs.Calls.{MayEndWith-ends}
+use Rattle.redo_disk.proofs.Made.{weaker_calls}
+use Rattle.redo_memdisk.specs.Fuse.{fresh}
+use Rattle.redo_memdisk.specs.Fused.{CallsThrough, fuse_of, inner_of}
+use Rattle.redo_memdisk.specs.declared.fused.Fused.{Fused}
+use Rattle.redo_open.specs.Formatting.{FormatCalls}
+use Rattle.redo_recover.specs.Calls.{IsPieceRead, ReadsLog, ReadsPieces}
+use Rattle.redo_recover.specs.declared.fault.RecFault.{RecFault}
+use Rattle.redo_recover.specs.declared.fault.RecFault.TheVariants.{SmallLog, NotFormatted, BadFormat, SmallData, NoCheckpoint, BadRecord, PageLost, PageAhead, LogDev, DataDev, NoMemory}
+use Rattle.redo_lab.specs.Call.{Guarded, IsKept, IsLeftAlone, guarded}
+use Rattle.redo_lab.specs.Stages.{IsUnarmed}
+use Rattle.redo_lab.proofs.Stages.{unarmed-calls, unarmed-fresh}
+use Rattle.redo_lab.proofs.Telling.{reads-keep}
+
+pieces-are-reads : (calls : List Call) → AllByRecursion IsPieceRead calls → AreReads calls
+pieces-are-reads [] pieces = tt
+pieces-are-reads (Reads at before answer after ∷ calls) pieces = (tt, pieces-are-reads calls pieces.1)
+pieces-are-reads (Writes write answer ∷ calls) pieces = absurd pieces.0
+pieces-are-reads (Syncs answer ∷ calls) pieces = absurd pieces.0
+
+pub reads-of-pieces : (error : Option DevError) (calls : List Call) → ReadsPieces error calls → ReadsMayEndWith error calls
+reads-of-pieces error calls pieces = record { reads = pieces-are-reads calls pieces.pieces; ends = pieces.ends }
+
+-- the device behind a fuse that isn't armed, before any call
+pub plain-unarmed : {D : Type 0} (seen : D → Seen) (device : D) (old : Fused D) → inner_of old ≡ device → fuse_of old ≡ fresh
+    → IsUnarmed (seen device) 0 (guarded seen old)
+plain-unarmed seen device old inner fuse = unarmed-fresh seen device old inner fuse
+
+-- after reads it means what it meant
+pub kept-behind : {D : Type 0} {seen : D → Seen} {gives : D → Call → D → Type 0} {device : D} {old new : Fused D} {error : Option DevError}
+    → inner_of old ≡ device → MakesCalls (CallsThrough seen gives) old new (ReadsMayEndWith error) → IsKept (seen device) (guarded seen new)
+kept-behind {seen = seen} {gives = gives} {old = old} {new = new} inner made =
+    let kept = reads-keep seen gives old new made.calls made.are.reads made.made in
+    record {
+      tells = kept.tells ∙ ap (λ d. (seen d).tells) inner;
+      crashed_from = kept.crashed_from ∙ ap (λ d. (seen d).crashed_from) inner;
+    }
+
+pub unarmed-behind : {D : Type 0} {seen : D → Seen} {gives : D → Call → D → Type 0} {device : D} {old new : Fused D} {error : Option DevError}
+    → inner_of old ≡ device → fuse_of old ≡ fresh → MakesCalls (CallsThrough seen gives) old new (MayEndWith error)
+    → IsUnarmed (seen device) (failures error) (guarded seen new)
+unarmed-behind {seen = seen} {device = device} {old = old} inner fuse made = unarmed-calls (unarmed-fresh seen device old inner fuse) made
+
+pub ends-behind : {D : Type 0} {seen : D → Seen} {gives : D → Call → D → Type 0} {device : D} {old new : Fused D} {error : Option DevError}
+    → inner_of old ≡ device → fuse_of old ≡ fresh → MakesCalls (CallsThrough seen gives) old new (EndWith error)
+    → IsUnarmed (seen device) (failures error) (guarded seen new)
+ends-behind {error = error} inner fuse made = unarmed-behind inner fuse (weaker_calls (MayEndWith-ends error) made)
+
+pub pieces-behind : {D : Type 0} {seen : D → Seen} {gives : D → Call → D → Type 0} {device : D} {old new : Fused D} {error : Option DevError}
+    → inner_of old ≡ device → fuse_of old ≡ fresh → MakesCalls (CallsThrough seen gives) old new (ReadsPieces error)
+    → IsUnarmed (seen device) (failures error) (guarded seen new) × IsKept (seen device) (guarded seen new)
+pieces-behind {error = error} inner fuse made = (
+  unarmed-behind inner fuse (weaker_calls (λ calls pieces. pieces.ends) made),
+  kept-behind inner (weaker_calls (reads-of-pieces error) made),
+)
+
+pub log-behind : {D : Type 0} {seen : D → Seen} {gives : D → Call → D → Type 0} {device : D} {old new : Fused D} {size : ℕ} {error : Option DevError}
+    → inner_of old ≡ device → fuse_of old ≡ fresh → MakesCalls (CallsThrough seen gives) old new (ReadsLog size error)
+    → IsUnarmed (seen device) (failures error) (guarded seen new) × IsKept (seen device) (guarded seen new)
+log-behind inner fuse made = pieces-behind inner fuse (weaker_calls (λ calls log. log.reads) made)
+
+-- a device of which no call was made
+pub alone-behind : {D : Type 0} (seen : D → Seen) (device : D) (old new : Fused D) → inner_of old ≡ device → fuse_of old ≡ fresh → new ≡ old
+    → IsLeftAlone (seen device) (guarded seen new)
+alone-behind seen device old new inner fuse same = record {
+  seen = ap (λ (fused : Fused _). seen fused.inner) same ∙ ap seen inner;
+  fuse = ap (λ (fused : Fused _). fused.fuse) same ∙ fuse;
+}
+
+-- both devices behind their fuses, of which so many calls failed
+pub record AreUnarmed (log_entry data_entry : Seen) (log_failed data_failed : ℕ) (log_now data_now : Guarded) : Type 0 where
+  pub log_device : IsUnarmed log_entry log_failed log_now
+  pub data_device : IsUnarmed data_entry data_failed data_now
+
+-- none was made of either
+pub record BothAlone (log_entry data_entry : Seen) (log_now data_now : Guarded) : Type 0 where
+  pub log_device : IsLeftAlone log_entry log_now
+  pub data_device : IsLeftAlone data_entry data_now
+
+-- what formatting leaves where it ends with a fault
+abbrev pub FormatLeaves : Seen → Seen → RecFault → Guarded → Guarded → Type 0
+FormatLeaves log_entry data_entry LogDev log_now data_now = AreUnarmed log_entry data_entry 1 0 log_now data_now
+FormatLeaves log_entry data_entry DataDev log_now data_now = AreUnarmed log_entry data_entry 0 1 log_now data_now
+FormatLeaves log_entry data_entry NoMemory log_now data_now = AreUnarmed log_entry data_entry 0 0 log_now data_now
+FormatLeaves log_entry data_entry fault log_now data_now = BothAlone log_entry data_entry log_now data_now
+
+-- two devices and their fuses, before and after
+pub record Formats {L D : Type 0} (log_seen : L → Seen) (log_gives : L → Call → L → Type 0) (data_seen : D → Seen) (data_gives : D → Call → D → Type 0)
+    (log : L) (store : D) (log_old log_new : Fused L) (data_old data_new : Fused D) (result : Result (Unit {0}) RecFault) : Type 0 where
+  pub log_inner : inner_of log_old ≡ log
+  pub log_fuse : fuse_of log_old ≡ fresh
+  pub data_inner : inner_of data_old ≡ store
+  pub data_fuse : fuse_of data_old ≡ fresh
+  pub calls : FormatCalls (CallsThrough log_seen log_gives) (CallsThrough data_seen data_gives) log_old log_new data_old data_new result
+
+pub formats-both : {L D : Type 0} {log_seen : L → Seen} {log_gives : L → Call → L → Type 0} {data_seen : D → Seen} {data_gives : D → Call → D → Type 0}
+    {log : L} {store : D} {log_old log_new : Fused L} {data_old data_new : Fused D} (done : Unit {0})
+    → Formats log_seen log_gives data_seen data_gives log store log_old log_new data_old data_new (Ok done)
+    → AreUnarmed (log_seen log) (data_seen store) 0 0 (guarded log_seen log_new) (guarded data_seen data_new)
+formats-both done f = record {
+  log_device = ends-behind f.log_inner f.log_fuse f.calls.log;
+  data_device = ends-behind f.data_inner f.data_fuse f.calls.data_device;
+}
+
+pub format-alone : {L D : Type 0} (log_seen : L → Seen) (data_seen : D → Seen) (log : L) (store : D) (log_old log_new : Fused L) (data_old data_new : Fused D)
+    → inner_of log_old ≡ log → fuse_of log_old ≡ fresh → inner_of data_old ≡ store → fuse_of data_old ≡ fresh
+    → (log_new ≡ log_old) × (data_new ≡ data_old)
+    → BothAlone (log_seen log) (data_seen store) (guarded log_seen log_new) (guarded data_seen data_new)
+format-alone log_seen data_seen log store log_old log_new data_old data_new log_inner log_fuse data_inner data_fuse same = record {
+  log_device = alone-behind log_seen log log_old log_new log_inner log_fuse same.0;
+  data_device = alone-behind data_seen store data_old data_new data_inner data_fuse same.1;
+}
+
+pub format-leaves : {L D : Type 0} {log_seen : L → Seen} {log_gives : L → Call → L → Type 0} {data_seen : D → Seen} {data_gives : D → Call → D → Type 0}
+    {log : L} {store : D} {log_old log_new : Fused L} {data_old data_new : Fused D} (fault : RecFault)
+    → Formats log_seen log_gives data_seen data_gives log store log_old log_new data_old data_new (Err fault)
+    → FormatLeaves (log_seen log) (data_seen store) fault (guarded log_seen log_new) (guarded data_seen data_new)
+format-leaves LogDev f = record {
+  log_device = ends-behind f.log_inner f.log_fuse f.calls.log;
+  data_device = ends-behind f.data_inner f.data_fuse f.calls.data_device;
+}
+format-leaves DataDev f = record {
+  log_device = ends-behind f.log_inner f.log_fuse f.calls.log;
+  data_device = ends-behind f.data_inner f.data_fuse f.calls.data_device;
+}
+format-leaves NoMemory f = ⊎_elim
+    (λ both. record { log_device = ends-behind f.log_inner f.log_fuse both.log; data_device = ends-behind f.data_inner f.data_fuse both.data_device })
+    (λ both. record { log_device = ends-behind f.log_inner f.log_fuse both.log; data_device = ends-behind f.data_inner f.data_fuse both.data_device })
+    f.calls
+format-leaves {log_seen = log_seen} {data_seen = data_seen} {log = log} {store = store} {log_old = log_old} {log_new = log_new} {data_old = data_old} {data_new = data_new} (SmallLog n) f =
+    format-alone log_seen data_seen log store log_old log_new data_old data_new f.log_inner f.log_fuse f.data_inner f.data_fuse f.calls
+format-leaves {log_seen = log_seen} {data_seen = data_seen} {log = log} {store = store} {log_old = log_old} {log_new = log_new} {data_old = data_old} {data_new = data_new} NotFormatted f =
+    format-alone log_seen data_seen log store log_old log_new data_old data_new f.log_inner f.log_fuse f.data_inner f.data_fuse f.calls
+format-leaves {log_seen = log_seen} {data_seen = data_seen} {log = log} {store = store} {log_old = log_old} {log_new = log_new} {data_old = data_old} {data_new = data_new} (BadFormat n) f =
+    format-alone log_seen data_seen log store log_old log_new data_old data_new f.log_inner f.log_fuse f.data_inner f.data_fuse f.calls
+format-leaves {log_seen = log_seen} {data_seen = data_seen} {log = log} {store = store} {log_old = log_old} {log_new = log_new} {data_old = data_old} {data_new = data_new} (SmallData n) f =
+    format-alone log_seen data_seen log store log_old log_new data_old data_new f.log_inner f.log_fuse f.data_inner f.data_fuse f.calls
+format-leaves {log_seen = log_seen} {data_seen = data_seen} {log = log} {store = store} {log_old = log_old} {log_new = log_new} {data_old = data_old} {data_new = data_new} NoCheckpoint f =
+    format-alone log_seen data_seen log store log_old log_new data_old data_new f.log_inner f.log_fuse f.data_inner f.data_fuse f.calls
+format-leaves {log_seen = log_seen} {data_seen = data_seen} {log = log} {store = store} {log_old = log_old} {log_new = log_new} {data_old = data_old} {data_new = data_new} (BadRecord lsn) f =
+    format-alone log_seen data_seen log store log_old log_new data_old data_new f.log_inner f.log_fuse f.data_inner f.data_fuse f.calls
+format-leaves {log_seen = log_seen} {data_seen = data_seen} {log = log} {store = store} {log_old = log_old} {log_new = log_new} {data_old = data_old} {data_new = data_new} (PageLost p) f =
+    format-alone log_seen data_seen log store log_old log_new data_old data_new f.log_inner f.log_fuse f.data_inner f.data_fuse f.calls
+format-leaves {log_seen = log_seen} {data_seen = data_seen} {log = log} {store = store} {log_old = log_old} {log_new = log_new} {data_old = data_old} {data_new = data_new} (PageAhead p lsn) f =
+    format-alone log_seen data_seen log store log_old log_new data_old data_new f.log_inner f.log_fuse f.data_inner f.data_fuse f.calls
+
+-- what is so of two devices behind fresh fuses is so of the devices
+pub entered : {L D : Type 0} (log_seen : L → Seen) (data_seen : D → Seen) (log log_inner : L) (store data_inner : D) → log_inner ≡ log → data_inner ≡ store
+    → (P : Seen → Seen → Type 0) → P (log_seen log_inner) (data_seen data_inner) → P (log_seen log) (data_seen store)
+entered {L = L} {D = D} log_seen data_seen log log_inner store data_inner log_is data_is P holds =
+    subst (λ (one : D). P (log_seen log) (data_seen one)) data_is (subst (λ (one : L). P (log_seen one) (data_seen data_inner)) log_is holds)

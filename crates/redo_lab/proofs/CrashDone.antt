@@ -1,0 +1,228 @@
+-- What a crash comes to: a report, or why there is none.
+use Rattle.std.proofs.Common.{ℕ, ◌≡◌, ◌≤◌, ◌+◌, List, Option, Some, None, IfSome, refl, sym, subst, ◌∙◌, inr, arith}
+use Rattle.std.proofs.lemmas.Bool.{false≢true}
+use Rattle.model_command.specs.declared.asked.Command.TheVariants.{Crash}
+use Rattle.model_command.specs.declared.asked.Drive.{Drive}
+use Rattle.model_device.specs.Disk.{Disk}
+use Rattle.model_report.specs.declared.fault.Fault.{Fault}
+use Rattle.model_report.specs.declared.fault.Fault.TheVariants as fault
+use Rattle.model_script.specs.declared.script.ScriptLine.{ScriptLine}
+use Rattle.model_store.specs.Fair.{IsFair}
+use Rattle.model_store.specs.declared.refusal.Refusal.{Refusal}
+use Rattle.model_theorem.specs.Run.{LosesOnlyByFailure}
+use Rattle.model_theorem.specs.Values.{Ran, entries_of}
+use Rattle.redo_disk.specs.Seen.{Seen}
+use Rattle.redo_lab.specs.Answer.{AreUnfailedAside, IsCrashText}
+use Rattle.redo_lab.specs.Call.{Call, Guarded}
+use Rattle.redo_lab.specs.Cause.{IsLeftRefused}
+use Rattle.redo_lab.specs.Complete.{CanCrash}
+use Rattle.redo_lab.specs.Course.{IsPlayedBy, IsStoppedBy, ran_of}
+use Rattle.redo_lab.specs.Crashed.{AreCrashedSince, AreReadBack, AreRefusedBack, ReadsBack}
+use Rattle.redo_lab.specs.Devices.{IsCrashedAs, IsToldAtMost}
+use Rattle.redo_lab.specs.Outcome.{EndsCommand, IsDoneOrMemory, IsOutcome, IsSafeOutcome}
+use Rattle.redo_lab.specs.Script.{IsScriptRead}
+use Rattle.redo_lab.specs.Stages.{IsCrashedWith}
+use Rattle.redo_lab.specs.Store.{IsShorter}
+use Rattle.redo_lab.specs.declared.outcome.Outcome.{Outcome}
+use Rattle.redo_lab.specs.declared.outcome.Outcome.TheVariants as outcome
+use Rattle.redo_lab.specs.declared.playing.Played.{Played}
+use Rattle.redo_lab.specs.declared.playing.Stops.{Stops}
+use Rattle.redo_lab.proofs.BeforeCrash.{IsBeforeCrash, before-played, before-stopped}
+use Rattle.redo_lab.proofs.CrashEnded.{past-crash}
+use Rattle.redo_lab.proofs.CrashSafe.{crashes-told, left-image}
+use Rattle.redo_lab.proofs.CrashTheorem.{CrashLaws, crash-theorem}
+use Rattle.redo_lab.proofs.RunPlayed.{SafeLaw, told-still, was-found}
+use Rattle.redo_lab.proofs.SomeLeft.{some-left}
+use Rattle.redo_lab.proofs.Told.{both-told}
+
+-- BOTH DEVICES ARE CRASHED, and so many calls failed since.
+pub record AreBothCrashed (call : Call) (stops : Stops) (pick log_failed data_failed log_since data_since : ℕ) (log_found data_found : Guarded) : Type 0 where
+  pub log_device : IsCrashedWith stops.log pick call.log_device log_found log_failed log_since call.log_device_now
+  pub data_device : IsCrashedWith stops.store pick call.data_device data_found data_failed data_since call.data_device_now
+
+both-crashed : (call : Call) (stops : Stops) (pick : ℕ) (script : List ScriptLine) (run : Option Ran) (log_failed data_failed log_since data_since : ℕ) (log_old data_old : Guarded)
+    → (before : IsBeforeCrash call stops script run log_failed data_failed log_old data_old)
+    → AreCrashedSince pick log_since data_since log_old data_old call.log_device_now call.data_device_now
+    → AreBothCrashed call stops pick log_failed data_failed log_since data_since before.way.log_found before.way.data_found
+both-crashed call stops pick script run log_failed data_failed log_since data_since log_old data_old before crashed = record {
+  log_device = crashed.log_device.stage stops.log call.log_device before.way.log_found log_failed before.way.log_device;
+  data_device = crashed.data_device.stage stops.store call.data_device before.way.data_found data_failed before.way.data_device;
+}
+
+crashed-as : (limit : Option ℕ) (pick : ℕ) (entry : Seen) (found : Guarded) (failed since : ℕ) (now : Guarded) → IsCrashedWith limit pick entry found failed since now
+    → IsCrashedAs limit pick now.fuse
+crashed-as limit pick entry found failed since now was = record { limit_is = was.limit_is; pick_is = was.pick; unchanged_since = was.late_changes }
+
+told-crashed : (limit : Option ℕ) (pick : ℕ) (entry : Seen) (found : Guarded) (failed since : ℕ) (now : Guarded) → IsCrashedWith limit pick entry found failed since now
+    → IsToldAtMost limit (Some pick) now.fuse
+told-crashed limit pick entry found failed since now was = record {
+  limit_is = inr was.limit_is;
+  passed_at_most = subst (λ (o : Option ℕ). IfSome o (λ limit. now.fuse.passed ≤ limit)) (sym was.limit_is) was.within;
+  pick_is = inr was.pick;
+}
+
+-- what is owed of each outcome of a crash
+ends-crash : (call : Call) (stops : Stops) (drive : Drive) (pick log_failed data_failed log_since data_since : ℕ) (log_found data_found : Guarded) (o : Outcome)
+    → AreBothCrashed call stops pick log_failed data_failed log_since data_since log_found data_found
+    → IsOutcome call (Crash drive stops.log stops.store pick) o → (CanCrash call → AreUnfailedAside call → IsDoneOrMemory o)
+    → IsSafeOutcome call (Crash drive stops.log stops.store pick) o → EndsCommand call (Crash drive stops.log stops.store pick) o
+ends-crash call stops drive pick log_failed data_failed log_since data_since log_found data_found o both means complete safe = record {
+  means = means;
+  unread = λ plain. absurd (false≢true (sym plain));
+  kept = λ leaves. absurd (false≢true leaves);
+  told = record {
+    log_device = told-crashed stops.log pick call.log_device log_found log_failed log_since call.log_device_now both.log_device;
+    data_device = told-crashed stops.store pick call.data_device data_found data_failed data_since call.data_device_now both.data_device;
+  };
+  log_tells = both.log_device.same.tells;
+  data_tells = both.data_device.same.tells;
+  complete = λ possible source unfailed. complete possible unfailed;
+  safe = safe;
+}
+
+-- THE REPORT.
+crash-text : (call : Call) (stops : Stops) (pick : ℕ) (script : List ScriptLine) (run : Option Ran) (text : List ℕ) (log_failed data_failed : ℕ) (log_old data_old : Guarded)
+    → IsScriptRead call.source call.source_now script → (before : IsBeforeCrash call stops script run log_failed data_failed log_old data_old)
+    → AreBothCrashed call stops pick log_failed data_failed 0 0 before.way.log_found before.way.data_found
+    → AreReadBack pick script run text log_old data_old call.log_device_now call.data_device_now → IsCrashText call stops.log stops.store pick text
+crash-text call stops pick script run text log_failed data_failed log_old data_old read before both back =
+    let counted : log_failed + data_failed ≡ call.log_device_now.fuse.mid + call.data_device_now.fuse.mid = omega (arith, both.log_device.mid, both.data_device.mid) in
+    record {
+      log_crashed = crashed-as _ _ _ _ _ _ _ both.log_device;
+      data_crashed = crashed-as _ _ _ _ _ _ _ both.data_device;
+      opened = before.opened;
+      run = run;
+      reading = back.reading;
+      report = record {
+        source_text = read.text;
+        script = script;
+        left = back.report.left;
+        source = read.of_text;
+        ran = before.took_place;
+        left_is = back.report.left_is;
+        loses = subst (λ (n : ℕ). LosesOnlyByFailure n run back.report.left) counted (before.loses back.report.left back.report.left_is);
+        once = record { log_device = omega (arith, both.log_device.mid, before.once); data_device = omega (arith, both.data_device.mid, before.once) };
+        text_is = back.report.text_is;
+      };
+      is_read = back.is_read;
+    }
+
+unfailed-aside : (call : Call) (stops : Stops) (pick log_failed data_failed : ℕ) (log_found data_found : Guarded)
+    → AreBothCrashed call stops pick log_failed data_failed 0 0 log_found data_found → AreUnfailedAside call
+unfailed-aside call stops pick log_failed data_failed log_found data_found both = record {
+  log_early = both.log_device.early;
+  log_late = both.log_device.late;
+  data_early = both.data_device.early;
+  data_late = both.data_device.late;
+}
+
+-- A STORE THAT CAN BE RUN ON is not refused behind the crash.
+possible-read-back : (call : Call) (stops : Stops) (pick : ℕ) (script : List ScriptLine) (run : Option Ran) (refusal : Refusal) (log_failed data_failed : ℕ) (log_old data_old : Guarded)
+    → CrashLaws → (before : IsBeforeCrash call stops script run log_failed data_failed log_old data_old)
+    → AreBothCrashed call stops pick log_failed data_failed 0 0 before.way.log_found before.way.data_found
+    → AreRefusedBack pick refusal log_old data_old call.log_device_now call.data_device_now → CanCrash call → ⊥
+possible-read-back call stops pick script run refusal log_failed data_failed log_old data_old laws before both back crash =
+    let can = crash.can in
+    let found = was-found call.log_device call.data_device before.way.log_found before.way.data_found can.log can.data_disk
+    call.log_device.faults call.data_device.faults can.opened laws.one_answer laws.formatted before.way.prepared can.log_fresh.tells can.data_fresh.tells
+    can.log_fresh.fresh can.data_fresh.fresh can.opens in
+    let log_met = told-still call.log_device.tells log_old.seen.tells can.log before.way.log_device.same.tells can.log_fresh.tells in
+    let data_met = told-still call.data_device.tells data_old.seen.tells can.data_disk before.way.data_device.same.tells can.data_fresh.tells in
+    let log_left = told-still call.log_device.tells call.log_device_now.seen.tells can.log both.log_device.same.tells can.log_fresh.tells in
+    let data_left = told-still call.data_device.tells call.data_device_now.seen.tells can.data_disk both.data_device.same.tells can.data_fresh.tells in
+    let left = some-left script (entries_of run) in
+    let on = before.safe can.opened found left.0 left.1 log_met.0 data_met.0 log_met.1 data_met.1 in
+    let log_crash = crashes-told log_old.seen.tells call.log_device_now.seen.tells log_met.0 log_left.0 back.crashed.log_device.left log_met.1 log_left.1 in
+    let fair = both-told call.data_device_now.seen.crashed_from call.data_device_now.seen.tells
+    (λ (from : Disk) (left : Disk). IsFair can.opened.shape from left.reads) crash.fair data_met.0 data_left.0
+    (back.crashed.data_device.from ∙ data_met.1) data_left.1 in
+    let kept = on.safe.every_image log_left.0.reads data_left.0.reads (left-image log_met.0 log_left.0 log_crash) fair in
+    laws.one_answer log_left.0.reads data_left.0.reads kept.reading refusal kept.is_read (back.refused log_left.0 data_left.0 log_left.1 data_left.1)
+
+same-shorter : (refusal : Refusal) (log_now data_now log_entry data_entry : ℕ) → log_now ≡ log_entry → data_now ≡ data_entry → IsShorter log_now data_now refusal
+    → IsShorter log_entry data_entry refusal
+same-shorter refusal log_now data_now log_entry data_entry log_same data_same short =
+    subst (λ size. IsShorter log_entry size refusal) data_same (subst (λ size. IsShorter size data_now refusal) log_same short)
+
+left-refused : (call : Call) (stops : Stops) (pick : ℕ) (refusal : Refusal) (log_failed data_failed : ℕ) (log_found data_found log_old data_old : Guarded)
+    → AreBothCrashed call stops pick log_failed data_failed 0 0 log_found data_found
+    → AreRefusedBack pick refusal log_old data_old call.log_device_now call.data_device_now → IsLeftRefused call stops.log stops.store pick refusal
+left-refused call stops pick refusal log_failed data_failed log_found data_found log_old data_old both back = record {
+  log_crashed = crashed-as _ _ _ _ _ _ _ both.log_device;
+  data_crashed = crashed-as _ _ _ _ _ _ _ both.data_device;
+  unfailed = unfailed-aside call stops pick log_failed data_failed _ _ both;
+  shorter = same-shorter refusal _ _ _ _ both.log_device.same.size both.data_device.same.size back.shorter;
+  refused = back.refused;
+}
+
+-- WHAT A CRASH COMES TO that met this.
+pub crash-done : (call : Call) (stops : Stops) (drive : Drive) (pick : ℕ) (script : List ScriptLine) (run : Option Ran) (log_failed data_failed : ℕ) (log_old data_old : Guarded) (o : Outcome)
+    → IsScriptRead call.source call.source_now script → CrashLaws → IsBeforeCrash call stops script run log_failed data_failed log_old data_old
+    → ReadsBack pick script run o log_old data_old call.log_device_now call.data_device_now → EndsCommand call (Crash drive stops.log stops.store pick) o
+crash-done call stops drive pick script run log_failed data_failed log_old data_old (outcome.Text text) read laws before back =
+    let both = both-crashed call stops pick script run log_failed data_failed 0 0 log_old data_old before back.crashed in
+    ends-crash call stops drive pick log_failed data_failed 0 0 _ _ (outcome.Text text) both
+    (unfailed-aside call stops pick log_failed data_failed _ _ both, crash-text call stops pick script run text log_failed data_failed log_old data_old read before both back)
+    (λ can unfailed. tt)
+    (crash-theorem call stops pick script run text log_failed data_failed log_old data_old laws (record { read = read; before = before; back = back }))
+crash-done call stops drive pick script run log_failed data_failed log_old data_old (outcome.Report text f) read laws before back = absurd back
+crash-done call stops drive pick script run log_failed data_failed log_old data_old (outcome.Fault fault.Memory) read laws before back =
+    ends-crash call stops drive pick log_failed data_failed 0 0 _ _ (outcome.Fault fault.Memory)
+    (both-crashed call stops pick script run log_failed data_failed 0 0 log_old data_old before back) (tt, tt) (λ can unfailed. refl) tt
+crash-done call stops drive pick script run log_failed data_failed log_old data_old (outcome.Fault fault.LogDevice) read laws before back =
+    let both = both-crashed call stops pick script run log_failed data_failed 1 0 log_old data_old before back in
+    ends-crash call stops drive pick log_failed data_failed 1 0 _ _ (outcome.Fault fault.LogDevice) both (
+      (
+        refl,
+        past-crash call script drive stops.log stops.store pick read,
+        (both.log_device.risen (omega arith), inr (omega (arith, both.log_device.late), crashed-as _ _ _ _ _ _ _ both.log_device)),
+      ),
+      tt,
+    )
+    (λ can unfailed. absurd (omega (arith, both.log_device.late, unfailed.log_late))) tt
+crash-done call stops drive pick script run log_failed data_failed log_old data_old (outcome.Fault fault.DataDevice) read laws before back =
+    let both = both-crashed call stops pick script run log_failed data_failed 0 1 log_old data_old before back in
+    ends-crash call stops drive pick log_failed data_failed 0 1 _ _ (outcome.Fault fault.DataDevice) both (
+      (
+        refl,
+        past-crash call script drive stops.log stops.store pick read,
+        (both.log_device.early, both.log_device.late),
+        (both.data_device.risen (omega arith), inr (omega (arith, both.data_device.late), crashed-as _ _ _ _ _ _ _ both.data_device)),
+      ),
+      tt,
+    )
+    (λ can unfailed. absurd (omega (arith, both.data_device.late, unfailed.data_late))) tt
+crash-done call stops drive pick script run log_failed data_failed log_old data_old (outcome.Fault (fault.Store refusal)) read laws before back =
+    let both = both-crashed call stops pick script run log_failed data_failed 0 0 log_old data_old before back.crashed in
+    ends-crash call stops drive pick log_failed data_failed 0 0 _ _ (outcome.Fault (fault.Store refusal)) both (
+      (
+        past-crash call script drive stops.log stops.store pick read,
+        inr (left-refused call stops pick refusal log_failed data_failed _ _ log_old data_old both back),
+      ),
+      tt,
+    )
+    (λ can unfailed. absurd (possible-read-back call stops pick script run refusal log_failed data_failed log_old data_old laws before both back can)) tt
+crash-done call stops drive pick script run log_failed data_failed log_old data_old (outcome.Fault f) read laws before back = absurd back
+
+-- A CRASH BEHIND AN OPENING that a device stopped.
+pub crash-stopped : (call : Call) (stops : Stops) (drive : Drive) (pick : ℕ) (script : List ScriptLine) (f : Fault) (log_old data_old : Guarded) (o : Outcome)
+    → IsScriptRead call.source call.source_now script → CrashLaws → IsStoppedBy call.log_device call.data_device stops f log_old data_old
+    → ReadsBack pick script None o log_old data_old call.log_device_now call.data_device_now → EndsCommand call (Crash drive stops.log stops.store pick) o
+crash-stopped call stops drive pick script fault.LogDevice log_old data_old o read laws stopped back =
+    crash-done call stops drive pick script None 1 0 log_old data_old o read laws (before-stopped call stops script 1 0 log_old data_old refl stopped) back
+crash-stopped call stops drive pick script fault.DataDevice log_old data_old o read laws stopped back =
+    crash-done call stops drive pick script None 0 1 log_old data_old o read laws (before-stopped call stops script 0 1 log_old data_old refl stopped) back
+crash-stopped call stops drive pick script f log_old data_old o read laws stopped back = absurd stopped
+
+-- A CRASH BEHIND A RUN.
+pub crash-played : (call : Call) (stops : Stops) (drive : Drive) (pick : ℕ) (script : List ScriptLine) (played : Played) (failed : Option Fault) (log_old data_old : Guarded) (o : Outcome)
+    → IsScriptRead call.source call.source_now script → CrashLaws → SafeLaw → IsPlayedBy call.log_device call.data_device stops script played failed log_old data_old
+    → ReadsBack pick script (Some (ran_of played)) o log_old data_old call.log_device_now call.data_device_now
+    → EndsCommand call (Crash drive stops.log stops.store pick) o
+crash-played call stops drive pick script played None log_old data_old o read laws safe run back =
+    crash-done call stops drive pick script (Some (ran_of played)) 0 0 log_old data_old o read laws
+    (before-played call stops script played 0 log_old data_old safe (omega arith) run) back
+crash-played call stops drive pick script played (Some fault.LogDevice) log_old data_old o read laws safe run back =
+    crash-done call stops drive pick script (Some (ran_of played)) 1 0 log_old data_old o read laws
+    (before-played call stops script played 1 log_old data_old safe (omega arith) run) back
+crash-played call stops drive pick script played (Some f) log_old data_old o read laws safe run back = absurd run

@@ -1,0 +1,69 @@
+-- A crash that was asked for and didn't come, since the run ended before its first line.
+use Rattle.std.proofs.Common.{ℕ, List, Option, Some, refl, sym, inl, inr, arith}
+use Rattle.std.proofs.lemmas.Bool.{false≢true}
+use Rattle.model_command.specs.declared.asked.Command.TheVariants.{Crash}
+use Rattle.model_command.specs.declared.asked.Drive.{Drive}
+use Rattle.model_report.specs.declared.fault.Fault.{Fault}
+use Rattle.model_report.specs.declared.fault.Fault.TheVariants as fault
+use Rattle.model_script.specs.declared.script.ScriptLine.{ScriptLine}
+use Rattle.redo_lab.specs.Call.{Call}
+use Rattle.redo_lab.specs.Cause.{IsCauseOf, IsPastSource, LeavesBehind}
+use Rattle.redo_lab.specs.Course.{IsEndedBy}
+use Rattle.redo_lab.specs.Outcome.{EndsCommand}
+use Rattle.redo_lab.specs.Script.{IsScriptRead}
+use Rattle.redo_lab.specs.declared.outcome.Outcome.TheVariants as outcome
+use Rattle.redo_lab.specs.declared.playing.Stops.{Stops}
+use Rattle.redo_lab.proofs.Found.{begun-or-kept, leaves-stopped}
+use Rattle.redo_lab.proofs.RunEnds.{misfit-cause, steady-ended, store-cause}
+use Rattle.redo_lab.proofs.RunPlayed.{FormattedLaw}
+use Rattle.redo_lab.proofs.RunPossible.{OneReading, UnfitLaw, ended-by-memory}
+use Rattle.redo_lab.proofs.Told.{OneAnswer}
+
+pub past-crash : (call : Call) (script : List ScriptLine) (drive : Drive) (stop_log stop_data : Option ℕ) (pick : ℕ) → IsScriptRead call.source call.source_now script
+    → IsPastSource call (Crash drive stop_log stop_data pick)
+past-crash call script drive stop_log stop_data pick read = inl (refl, read.text, script, read.of_text)
+
+-- WHY IT DIDN'T COME
+crash-ended : (call : Call) (stops : Stops) (drive : Drive) (pick : ℕ) (script : List ScriptLine) (f : Fault) → IsScriptRead call.source call.source_now script
+    → OneAnswer → FormattedLaw → IsEndedBy call.log_device call.data_device stops script f call.log_device_now call.data_device_now
+    → IsCauseOf call (Crash drive stops.log stops.store pick) f × LeavesBehind call (Crash drive stops.log stops.store pick) f
+crash-ended call stops drive pick script fault.Memory read one formatted ended = (tt, tt)
+crash-ended call stops drive pick script fault.LogDevice read one formatted ended = (
+  (
+    refl,
+    past-crash call script drive stops.log stops.store pick read,
+    (ended.log_device.risen (omega arith), inl (omega (arith, ended.log_device.early), ended.log_device.stage, begun-or-kept call 1 0 ended)),
+  ),
+  tt,
+)
+crash-ended call stops drive pick script fault.DataDevice read one formatted ended = (
+  (
+    refl,
+    past-crash call script drive stops.log stops.store pick read,
+    (ended.log_device.early, ended.log_device.late),
+    (ended.data_device.risen (omega arith), inl (omega (arith, ended.data_device.early), ended.data_device.stage, begun-or-kept call 0 1 ended)),
+  ),
+  tt,
+)
+crash-ended call stops drive pick script (fault.Store cause) read one formatted ended =
+    ((past-crash call script drive stops.log stops.store pick read, inl (store-cause call stops cause ended)), tt)
+crash-ended call stops drive pick script (fault.Fit misfit) read one formatted ended =
+    ((refl, inr (misfit-cause call stops script misfit read ended)), leaves-stopped call stops 0 0 one formatted ended.stopped)
+crash-ended call stops drive pick script f read one formatted ended = absurd ended
+
+pub crash-ends-early : (call : Call) (stops : Stops) (drive : Drive) (pick : ℕ) (script : List ScriptLine) (f : Fault) → IsScriptRead call.source call.source_now script
+    → OneAnswer → OneReading → FormattedLaw → UnfitLaw → IsEndedBy call.log_device call.data_device stops script f call.log_device_now call.data_device_now
+    → EndsCommand call (Crash drive stops.log stops.store pick) (outcome.Fault f)
+crash-ends-early call stops drive pick script f read one same formatted unfit ended =
+    let steady = steady-ended call stops (Some pick) script f ended in
+    record {
+      means = crash-ended call stops drive pick script f read one formatted ended;
+      unread = λ plain. absurd (false≢true (sym plain));
+      kept = λ leaves. absurd (false≢true leaves);
+      told = record { log_device = steady.log_device; data_device = steady.data_device };
+      log_tells = steady.log_tells;
+      data_tells = steady.data_tells;
+      complete = λ possible source unfailed.
+          ended-by-memory call stops script f read one same unfit possible.can unfailed.log_early unfailed.data_early ended;
+      safe = tt;
+    }

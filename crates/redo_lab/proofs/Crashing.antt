@@ -1,0 +1,146 @@
+-- A device behind its fuse that is crashed and then read.
+use Rattle.std.proofs.Common.{ℕ, ◌≡◌, List, Option, Some, Result, Ok, Err, IfOk, refl, sym, ap, subst, ◌∙◌}
+use Rattle.model_device.specs.Calls.{Crashes}
+use Rattle.model_device.specs.Disk.{Disk}
+use Rattle.model_script.specs.declared.script.ScriptLine.{ScriptLine}
+use Rattle.model_store.specs.Reading.{IsReading, Reading, Refuses}
+use Rattle.model_store.specs.declared.refusal.Refusal.TheVariants as refusal
+use Rattle.model_theorem.specs.Values.{Ran}
+use Rattle.redo_disk.specs.Calls.{Call, ReadsMayEndWith, failures}
+use Rattle.redo_disk.specs.Made.{MakesCalls}
+use Rattle.redo_disk.specs.Seen.{OnTold, Seen}
+use Rattle.redo_disk.specs.declared.error.DevError.{DevError}
+use Rattle.redo_disk.proofs.Made.{weaker_calls}
+use Rattle.redo_memdisk.specs.Fuse.{with_change}
+use Rattle.redo_memdisk.specs.Fused.{CallsThrough, CrashesThrough}
+use Rattle.redo_memdisk.specs.declared.fuse.Fuse.{Fuse}
+use Rattle.redo_memdisk.specs.declared.fuse.Stage.{Stage}
+use Rattle.redo_memdisk.specs.declared.fuse.Stage.TheVariants.{Before, Stopping, Crashed}
+use Rattle.redo_memdisk.specs.declared.fused.Fused.{Fused}
+use Rattle.redo_recover.specs.Calls.{ReadsLog, ReadsPieces, data_error, log_error}
+use Rattle.redo_recover.specs.Devices.{HasCauseIn, HasLengthCause, OnContents}
+use Rattle.redo_recover.specs.declared.fault.RecFault.{RecFault}
+use Rattle.redo_recover.specs.declared.fault.RecFault.TheVariants.{SmallLog, NotFormatted, BadFormat, SmallData, NoCheckpoint, BadRecord, PageLost, PageAhead, LogDev, DataDev, NoMemory}
+use Rattle.redo_lab.specs.Call.{Guarded, guarded}
+use Rattle.redo_lab.specs.Crashed.{AreCrashedSince, IsCrashedSince, ReadsBack}
+use Rattle.redo_lab.specs.Faults.{fault_of}
+use Rattle.redo_lab.specs.Outcome.{outcome_of}
+use Rattle.redo_lab.specs.Prepared.{WhereTold}
+use Rattle.redo_lab.specs.Reported.{IsReportOf}
+use Rattle.redo_lab.specs.declared.outcome.Outcome.TheVariants as outcome
+use Rattle.redo_lab.proofs.Behind.{reads-of-pieces}
+use Rattle.redo_lab.proofs.Stages.{after-crashed, crashed-now, crashed-reads}
+use Rattle.redo_lab.proofs.Telling.{reads-keep}
+use Rattle.redo_lab.proofs.Told.{on-contents}
+
+-- a crash counts no call as passed
+changed-passed : (stage : Stage) (fuse : Fuse) → (with_change stage fuse).passed ≡ fuse.passed
+changed-passed Before fuse = refl
+changed-passed Stopping fuse = refl
+changed-passed Crashed fuse = refl
+
+-- THE CRASH, and reads behind it.
+pub crashed-since : {D : Type 0} {seen : D → Seen} {gives : D → Call → D → Type 0} {crash_gives : D → ℕ → D → Type 0} {pick : ℕ} {old met new : Fused D} {error : Option DevError}
+    → CrashesThrough seen crash_gives old pick met → MakesCalls (CallsThrough seen gives) met new (ReadsMayEndWith error)
+    → IsCrashedSince pick (failures error) (guarded seen old) (guarded seen new)
+crashed-since {seen = seen} {gives = gives} {crash_gives = crash_gives} {pick = pick} {old = old} {met = met} {new = new} crash made =
+    let kept = reads-keep seen gives met new made.calls made.are.reads made.made in
+    let stage = ap (λ (fuse : Fuse). fuse.stage) crash.notes in
+    record {
+      left = subst (λ (told : Option Disk). OnTold (seen old.inner).tells told Crashes) (sym kept.tells) crash.passed_step.left;
+      from = kept.crashed_from ∙ crash.passed_step.from;
+      passed = after-crashed seen gives met new made.calls stage made.made
+          ∙ ap (λ (fuse : Fuse). fuse.passed) crash.notes ∙ changed-passed old.fuse.stage old.fuse;
+      stage = λ limit entry found failed armed.
+          crashed-reads stage (crashed-now seen crash_gives limit pick entry found failed old met armed crash) made;
+    }
+
+-- the same of recovery's reads
+pub log-crashed : {D : Type 0} {seen : D → Seen} {gives : D → Call → D → Type 0} {crash_gives : D → ℕ → D → Type 0} {pick : ℕ} {old met new : Fused D} {size : ℕ} {error : Option DevError}
+    → CrashesThrough seen crash_gives old pick met → MakesCalls (CallsThrough seen gives) met new (ReadsLog size error)
+    → IsCrashedSince pick (failures error) (guarded seen old) (guarded seen new)
+log-crashed {error = error} crash made = crashed-since crash (weaker_calls (λ calls log. reads-of-pieces error calls log.reads) made)
+
+pub data-crashed : {D : Type 0} {seen : D → Seen} {gives : D → Call → D → Type 0} {crash_gives : D → ℕ → D → Type 0} {pick : ℕ} {old met new : Fused D} {error : Option DevError}
+    → CrashesThrough seen crash_gives old pick met → MakesCalls (CallsThrough seen gives) met new (ReadsPieces error)
+    → IsCrashedSince pick (failures error) (guarded seen old) (guarded seen new)
+data-crashed {error = error} crash made = crashed-since crash (weaker_calls (reads-of-pieces error) made)
+
+-- the device tells what the reads behind the crash met, and has its size
+pub record IsAsMet (met now : Seen) : Type 0 where
+  pub tells : now.tells ≡ met.tells
+  pub size : now.size ≡ met.size
+
+-- what is read of what the devices told is what they tell
+told-now : (log_met data_met log_now data_now : Seen) (P : List ℕ → List ℕ → Type 0) → IsAsMet log_met log_now → IsAsMet data_met data_now
+    → OnContents log_met.tells data_met.tells P → WhereTold log_now data_now (λ log data_disk. P log.reads data_disk.reads)
+told-now log_met data_met log_now data_now P log_same data_same holds log data_disk log_is data_is =
+    on-contents log_met.tells data_met.tells P holds log data_disk (sym log_same.tells ∙ log_is) (sym data_same.tells ∙ data_is)
+
+-- THE STORE WAS READ.
+pub back-read : {E : Type 0} (pick : ℕ) (script : List ScriptLine) (run : Option Ran) (reading : Reading) (log_old data_old log_now data_now : Guarded)
+    (log_met data_met : Seen) (r : Result (List ℕ) E) → AreCrashedSince pick 0 0 log_old data_old log_now data_now
+    → IsAsMet log_met log_now.seen → IsAsMet data_met data_now.seen
+    → OnContents log_met.tells data_met.tells (λ log_bytes data_bytes. IsReading log_bytes data_bytes reading)
+    → IfOk r (λ text. IsReportOf script run (Some (reading.end, reading.pages)) text) → ReadsBack pick script run (outcome_of r) log_old data_old log_now data_now
+back-read pick script run reading log_old data_old log_now data_now log_met data_met (Ok text) crashed log_same data_same read report = record {
+  crashed = crashed;
+  reading = reading;
+  is_read = told-now log_met data_met log_now.seen data_now.seen (λ log_bytes data_bytes. IsReading log_bytes data_bytes reading) log_same data_same read;
+  report = report;
+}
+back-read pick script run reading log_old data_old log_now data_now log_met data_met (Err error) crashed log_same data_same read report = crashed
+
+same-lengths : (log_met data_met log_now data_now : Seen) (f : RecFault) → IsAsMet log_met log_now → IsAsMet data_met data_now
+    → HasLengthCause log_met.size data_met.size f → HasLengthCause log_now.size data_now.size f
+same-lengths log_met data_met log_now data_now f log_same data_same lengths =
+    subst (λ size. HasLengthCause log_now.size size f) (sym data_same.size) (subst (λ size. HasLengthCause size data_met.size f) (sym log_same.size) lengths)
+
+-- THE STORE WASN'T READ.
+pub back-fails : (pick : ℕ) (script : List ScriptLine) (run : Option Ran) (log_old data_old log_now data_now : Guarded) (log_met data_met : Seen) (f : RecFault)
+    → AreCrashedSince pick (failures (log_error f)) (failures (data_error f)) log_old data_old log_now data_now
+    → IsAsMet log_met log_now.seen → IsAsMet data_met data_now.seen → HasCauseIn log_met.tells data_met.tells f
+    → HasLengthCause log_met.size data_met.size f → ReadsBack pick script run (outcome.Fault (fault_of f)) log_old data_old log_now data_now
+back-fails pick script run log_old data_old log_now data_now log_met data_met (SmallLog n) crashed log_same data_same cause lengths = record {
+  crashed = crashed;
+  shorter = same-lengths log_met data_met log_now.seen data_now.seen (SmallLog n) log_same data_same lengths;
+  refused = told-now log_met data_met log_now.seen data_now.seen (λ log_bytes data_bytes. Refuses log_bytes data_bytes (refusal.SmallLog n)) log_same data_same cause;
+}
+back-fails pick script run log_old data_old log_now data_now log_met data_met NotFormatted crashed log_same data_same cause lengths = record {
+  crashed = crashed;
+  shorter = tt;
+  refused = told-now log_met data_met log_now.seen data_now.seen (λ log_bytes data_bytes. Refuses log_bytes data_bytes refusal.NotFormatted) log_same data_same cause;
+}
+back-fails pick script run log_old data_old log_now data_now log_met data_met (BadFormat n) crashed log_same data_same cause lengths = record {
+  crashed = crashed;
+  shorter = tt;
+  refused = told-now log_met data_met log_now.seen data_now.seen (λ log_bytes data_bytes. Refuses log_bytes data_bytes (refusal.BadFormat n)) log_same data_same cause;
+}
+back-fails pick script run log_old data_old log_now data_now log_met data_met (SmallData n) crashed log_same data_same cause lengths = record {
+  crashed = crashed;
+  shorter = same-lengths log_met data_met log_now.seen data_now.seen (SmallData n) log_same data_same lengths;
+  refused = told-now log_met data_met log_now.seen data_now.seen (λ log_bytes data_bytes. Refuses log_bytes data_bytes (refusal.SmallData n)) log_same data_same cause;
+}
+back-fails pick script run log_old data_old log_now data_now log_met data_met NoCheckpoint crashed log_same data_same cause lengths = record {
+  crashed = crashed;
+  shorter = tt;
+  refused = told-now log_met data_met log_now.seen data_now.seen (λ log_bytes data_bytes. Refuses log_bytes data_bytes refusal.NoCheckpoint) log_same data_same cause;
+}
+back-fails pick script run log_old data_old log_now data_now log_met data_met (BadRecord lsn) crashed log_same data_same cause lengths = record {
+  crashed = crashed;
+  shorter = tt;
+  refused = told-now log_met data_met log_now.seen data_now.seen (λ log_bytes data_bytes. Refuses log_bytes data_bytes (refusal.BadRecord lsn)) log_same data_same cause;
+}
+back-fails pick script run log_old data_old log_now data_now log_met data_met (PageLost p) crashed log_same data_same cause lengths = record {
+  crashed = crashed;
+  shorter = tt;
+  refused = told-now log_met data_met log_now.seen data_now.seen (λ log_bytes data_bytes. Refuses log_bytes data_bytes (refusal.PageLost p)) log_same data_same cause;
+}
+back-fails pick script run log_old data_old log_now data_now log_met data_met (PageAhead p lsn) crashed log_same data_same cause lengths = record {
+  crashed = crashed;
+  shorter = tt;
+  refused = told-now log_met data_met log_now.seen data_now.seen (λ log_bytes data_bytes. Refuses log_bytes data_bytes (refusal.PageAhead p lsn)) log_same data_same cause;
+}
+back-fails pick script run log_old data_old log_now data_now log_met data_met LogDev crashed log_same data_same cause lengths = crashed
+back-fails pick script run log_old data_old log_now data_now log_met data_met DataDev crashed log_same data_same cause lengths = crashed
+back-fails pick script run log_old data_old log_now data_now log_met data_met NoMemory crashed log_same data_same cause lengths = crashed

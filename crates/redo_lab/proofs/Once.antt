@@ -1,0 +1,35 @@
+-- One read of a device, and what it says of the first block.
+use Rattle.std.proofs.Common.{ℕ, ◌≡◌, ◌↔◌, Bool, true, false, IsTrue, List, [], ◌∷◌, replicate, Option, Some, None, IfSome, Ok, Err, refl, sym, ◌∙◌}
+use Rattle.std.specs.Prelude.{nat_eq}
+use Rattle.std.specs.Cmp.Lexicographic.{other_text, pointwise, same_text}
+use Rattle.std.proofs.lemmas.Bool.{false≢true}
+use Rattle.model_base.specs.declared.limits.TheConstants.{BLOCK_SIZE}
+use Rattle.model_device.specs.Disk.{Disk}
+use Rattle.model_store.specs.Opening.{IsUnused}
+use Rattle.redo_disk.specs.Calls.{Answer, Call, Reads, ReadsEndWith, error_of}
+use Rattle.redo_disk.specs.Made.{MakesCall, MakesCalls}
+use Rattle.redo_disk.specs.Seen.{part}
+use Rattle.redo_lab.specs.Prepared.{ReadsOnce}
+
+one-read : (at : ℕ) (before after : List ℕ) (answer : Answer) → ReadsEndWith (error_of answer) (Reads at before answer after ∷ [])
+one-read at before after (Ok done) = record { reads = (tt, tt); ends = record { stop = (tt, tt); first = refl } }
+one-read at before after (Err error) = record { reads = (tt, tt); ends = record { stop = (refl, tt); first = refl } }
+
+pub read-once : {D : Type 0} {gives : D → Call → D → Type 0} {old new : D} {at : ℕ} {before after : List ℕ} {answer : Answer}
+    → MakesCall gives old (Reads at before answer after) new → MakesCalls gives old new (ReadsOnce (error_of answer))
+read-once {new = new} {at = at} {before = before} {after = after} {answer = answer} call = record {
+  calls = Reads at before answer after ∷ [];
+  made = (new, call, refl);
+  are = record { reads = one-read at before after answer; one = refl };
+}
+
+-- what a test of two texts tells
+pub is-text : (is : Bool) (text asked : List ℕ) → is ≡ pointwise nat_eq text asked → IsTrue is ↔ text ≡ asked
+is-text true text asked told = (λ yes. same_text text asked told, λ same. refl)
+is-text false text asked told = (λ yes. absurd (false≢true yes), λ same. absurd (other_text text asked told same))
+
+-- what the first block says of the device, where that tells
+pub is-unused : (told : Option Disk) (is : Bool) (block : List ℕ) → IfSome told (λ disk. block ≡ part disk.reads 0 BLOCK_SIZE)
+    → IsTrue is ↔ block ≡ replicate BLOCK_SIZE 0 → IfSome told (λ disk. IsTrue is ↔ IsUnused disk.reads)
+is-unused None is block read zero = tt
+is-unused (Some disk) is block read zero = (λ yes. sym read ∙ zero.0 yes, λ unused. zero.1 (read ∙ unused))

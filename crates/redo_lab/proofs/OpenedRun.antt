@@ -1,0 +1,277 @@
+-- A store that was opened on two devices whose fuses are armed, and the run of a script on it.
+use Rattle.std.proofs.Common.{ℕ, ◌≡◌, ◌+◌, cond, List, Option, Some, None, IfSome, sym, ap, subst, ◌∙◌, inl, inr, ⊎_elim}
+use Rattle.std.specs.List.{AllByRecursion}
+use Rattle.std.proofs.lemmas.Bool.{eq-eqb}
+use Rattle.model_base.specs.Limits.{default_shape}
+use Rattle.model_base.specs.declared.limits.TheConstants.{BLOCK_SIZE}
+use Rattle.model_base.specs.declared.shape.Shape.{Shape}
+use Rattle.model_device.specs.Disk.{Disk}
+use Rattle.model_history.specs.Legal.{IsLeft}
+use Rattle.model_log.specs.Lsn.{IsAtDataStart, block_of, start_after}
+use Rattle.model_log.specs.declared.layout.TheConstants.{BLOCK_HEADER}
+use Rattle.model_opening.specs.Formatted.{IsFormatted, formatted_store}
+use Rattle.model_opening.specs.Opened.{IsOpenable, KeepsOpened}
+use Rattle.model_opening.specs.Ready.{IsReady}
+use Rattle.model_report.specs.declared.fault.Fault.TheVariants as fault
+use Rattle.model_run.specs.Closed.{IsClosed}
+use Rattle.model_run.specs.Start.{IsStart, opened_as}
+use Rattle.model_script.specs.Fit.{LineFits, ScriptFits, first_misfit}
+use Rattle.model_script.specs.declared.misfit.Misfit.{Misfit}
+use Rattle.model_script.specs.declared.script.ScriptLine.{ScriptLine}
+use Rattle.model_store.specs.Reading.{Reading, IsReading}
+use Rattle.model_theorem.specs.Values as values
+use Rattle.redo_disk.specs.Calls.{Call, MayEndWith, failures}
+use Rattle.redo_disk.specs.Made.{MakesCalls}
+use Rattle.redo_disk.specs.Seen.{Seen}
+use Rattle.redo_disk.specs.declared.error.DevError.{DevError}
+use Rattle.redo_disk.specs.declared.error.DevError.TheVariants as device
+use Rattle.redo_memdisk.specs.Fused.{CallsThrough, seen_through}
+use Rattle.redo_memdisk.specs.declared.fused.Fused.{Fused}
+use Rattle.redo_open.specs.Devices.{WhereBothTell}
+use Rattle.redo_open.specs.Opening.{IsOpenedReady, IsOpeningOf, OpensLog}
+use Rattle.redo_pageactors.specs.Opened.{IsRunnable}
+use Rattle.redo_pageactors.specs.declared.opened.Opened.{Opened}
+use Rattle.redo_recover.specs.Devices.{OnContents}
+use Rattle.redo_lab.specs.Call.{Guarded, guarded}
+use Rattle.redo_lab.specs.Course.{AreMisfitted, ArePlayed, ComesTo, ran_of}
+use Rattle.redo_lab.specs.Playing.{AreArmed, AreRun, Plays, room_end}
+use Rattle.redo_lab.specs.Prepared.{ArePrepared, WhereTold}
+use Rattle.redo_lab.specs.Store.{IsOpenedAs}
+use Rattle.redo_lab.specs.declared.playing.Course.{Course}
+use Rattle.redo_lab.specs.declared.playing.Course.TheVariants as course
+use Rattle.redo_lab.specs.declared.playing.Played.{Played}
+use Rattle.redo_lab.specs.declared.playing.Stops.{Stops}
+use Rattle.redo_lab.proofs.Told.{both-told, on-contents}
+use Rattle.redo_lab.proofs.Telling.{calls-go_on}
+use Rattle.redo_lab.proofs.UnderWay.{AreCounted, ReadingLaws, counted-more, counted-opening, formatted-read, goes-on, keeps-found, same-both, told-some, way-of}
+
+-- THE OPENED STORE, as the theorem has it: its log ends there.
+abbrev pub opened_at : {L D : Type 0} → Opened L D → ℕ → values.Opened
+opened_at store end = record { shape = store.shape; pages = store.pages; end = end }
+
+-- what was read of these bytes is that
+pub record IsReadOff {L D : Type 0} (store : Opened L D) (end : ℕ) (log_bytes data_bytes : List ℕ) : Type 0 where
+  pub reading : Reading
+  pub is_read : IsReading log_bytes data_bytes reading
+  pub same : opened_at store end ≡ opened_as reading
+
+-- an end behind which the run starts, which is the one that was read, where both devices tell
+pub record HasEnd {L D : Type 0} (log data_told : Option Disk) (store : Opened L D) : Type 0 where
+  pub end : ℕ
+  pub start : store.start ≡ start_after end
+  pub read : OnContents log data_told (IsReadOff store end)
+
+at-start : (start : ℕ) → IsAtDataStart start → start ≡ start_after start
+at-start start place = sym (ap (λ b. cond b start (block_of start + BLOCK_SIZE + BLOCK_HEADER)) (eq-eqb _ _ place))
+
+pub has-end : {L D : Type 0} (log data_told : Option Disk) (store : Opened L D) → IsRunnable store
+    → OnContents log data_told (λ log_bytes data_bytes. IsOpeningOf log_bytes data_bytes store) → HasEnd log data_told store
+has-end None data_told store runnable read = record { end = store.start; start = at-start store.start runnable.place; read = tt }
+has-end (Some log) None store runnable read = record { end = store.start; start = at-start store.start runnable.place; read = tt }
+has-end (Some log) (Some data_told) store runnable read = record {
+  end = read.reading.end;
+  start = read.opened.start;
+  read = record {
+    reading = read.reading;
+    is_read = read.is_read;
+    same = λ i. record { shape = read.opened.shape i; pages = read.opened.pages i; end = read.reading.end };
+  };
+}
+
+-- it is the new store, where the log device was unused, or what was read off the devices at entry
+opens-formatted : {L D : Type 0} → ReadingLaws → (log_entry data_entry : Seen) (log_found data_found : Guarded) (store : Opened L D) (end : ℕ)
+    → ArePrepared log_entry data_entry log_found data_found
+    → IfSome log_found.seen.tells (λ log. IfSome data_found.seen.tells (λ data_disk. IsFormatted default_shape log data_disk))
+    → OnContents log_found.seen.tells data_found.seen.tells (IsReadOff store end)
+    → (log data_disk : Disk) → log_entry.tells ≡ Some log → data_entry.tells ≡ Some data_disk → opened_at store end ≡ opened_as (formatted_store default_shape)
+opens-formatted laws log_entry data_entry log_found data_found store end prepared formatted read log data_disk log_is data_is =
+    let log_told = goes-on log_entry log_found log prepared.log_device.same.tells log_is in
+    let data_told = goes-on data_entry data_found data_disk prepared.data_device.same.tells data_is in
+    let there : IsReadOff store end log_told.0.reads data_told.0.reads =
+    on-contents log_found.seen.tells data_found.seen.tells (IsReadOff store end) read log_told.0 data_told.0 log_told.1 data_told.1 in
+    let blank = formatted-read laws.formatted log_found.seen.tells data_found.seen.tells log_told.0 data_told.0 formatted log_told.1 data_told.1 in
+    there.same ∙ ap opened_as (laws.one_reading log_told.0.reads data_told.0.reads there.reading (formatted_store default_shape) there.is_read blank)
+
+pub opens-as : {L D : Type 0} → ReadingLaws → (log_entry data_entry : Seen) (log_found data_found : Guarded) (store : Opened L D) (end : ℕ)
+    → ArePrepared log_entry data_entry log_found data_found → OnContents log_found.seen.tells data_found.seen.tells (IsReadOff store end)
+    → WhereTold log_entry data_entry (IsOpenedAs (opened_at store end))
+opens-as laws log_entry data_entry log_found data_found store end prepared read log data_disk log_is data_is = ⊎_elim
+    (λ both.
+    let same = opens-formatted laws log_entry data_entry log_found data_found store end prepared both.formatted read log data_disk log_is data_is in
+    inl (record {
+      unused = both.unused log data_disk log_is data_is;
+      shape_is = ap (λ (opened : values.Opened). opened.shape) same;
+      pages_are = ap (λ (opened : values.Opened). opened.pages) same;
+      end_is = ap (λ (opened : values.Opened). opened.end) same;
+    }))
+    (λ both.
+    let there : IsReadOff store end log.reads data_disk.reads =
+    on-contents log_found.seen.tells data_found.seen.tells (IsReadOff store end) read log data_disk
+    (both.kept.log_device.tells ∙ log_is) (both.kept.data_device.tells ∙ data_is) in
+    inr (
+      both.used log data_disk log_is data_is,
+      record {
+        reading = there.reading;
+        is_read = there.is_read;
+        shape = ap (λ (opened : values.Opened). opened.shape) there.same;
+        pages = ap (λ (opened : values.Opened). opened.pages) there.same;
+        end = ap (λ (opened : values.Opened). opened.end) there.same;
+      },
+    ))
+    prepared.which
+
+-- WHAT IS KNOWN of a store that was opened so
+pub record IsOpened {L D : Type 0} (log_seen : L → Seen) (log_gives : L → Call → L → Type 0) (data_seen : D → Seen) (data_gives : D → Call → D → Type 0)
+    (log : Fused L) (data_device : Fused D) (store : Opened (Fused L) (Fused D)) : Type 0 where
+  pub keeps : (reading : Reading) → WhereBothTell (log_seen log.inner).tells (data_seen data_device.inner).tells (λ log_disk data_disk.
+      IsOpenable reading log_disk data_disk
+      → WhereBothTell (log_seen store.log.dev.inner).tells (data_seen store.store.dev.inner).tells (KeepsOpened reading))
+  pub ready : (reading : Reading) → WhereBothTell (log_seen log.inner).tells (data_seen data_device.inner).tells (λ log_disk data_disk.
+      IsOpenable reading log_disk data_disk → IsOpenedReady (seen_through log_seen) (seen_through data_seen) reading store)
+  pub read : OnContents (log_seen log.inner).tells (data_seen data_device.inner).tells (λ log_bytes data_bytes. IsOpeningOf log_bytes data_bytes store)
+  pub runnable : IsRunnable store
+  pub log_calls : MakesCalls (CallsThrough log_seen log_gives) log store.log.dev (OpensLog (log_seen log.inner).size None)
+  pub data_calls : MakesCalls (CallsThrough data_seen data_gives) data_device store.store.dev (MayEndWith None)
+
+-- on a store that could be opened when the fuses were armed the run is a closed one
+closed-told : {L D : Type 0} {log_seen : L → Seen} {log_gives : L → Call → L → Type 0} {data_seen : D → Seen} {data_gives : D → Call → D → Type 0}
+    (laws : ReadingLaws) (log : Fused L) (data_device : Fused D) (store : Opened (Fused L) (Fused D)) (end : ℕ) (script : List ScriptLine) (played : Played)
+    (error : Option DevError) (log_now : Fused L) (data_now : Fused D) (reading : Reading) (left : List (ℕ × ℕ)) (log_told data_told : Option Disk)
+    → IsOpened log_seen log_gives data_seen data_gives log data_device store
+    → AreRun (seen_through log_seen) (CallsThrough log_seen log_gives) (seen_through data_seen) store script played error log_now data_now
+    → IsLeft script played.history left → (log_seen log.inner).tells ≡ log_told → (data_seen data_device.inner).tells ≡ data_told
+    → OnContents log_told data_told (IsReadOff store end)
+    → WhereBothTell log_told data_told (λ log_disk data_disk. IsOpenable reading log_disk data_disk → IsOpenedReady (seen_through log_seen) (seen_through data_seen) reading store)
+    → WhereBothTell log_told data_told (λ log_disk data_disk. IsOpenable reading log_disk data_disk
+    → (opened_at store end ≡ opened_as reading) × WhereBothTell (log_seen log_now.inner).tells (data_seen data_now.inner).tells (λ log_after data_after.
+    IsClosed (failures error) (record { script = script; opened = opened_at store end; run = ran_of played; left = left; log_disk = log_after; data_disk = data_after })))
+closed-told laws log data_device store end script played error log_now data_now reading left None data_told opened run left_is log_is data_is read ready = tt
+closed-told laws log data_device store end script played error log_now data_now reading left (Some log_disk) None opened run left_is log_is data_is read ready = tt
+closed-told {log_seen = log_seen} {log_gives = log_gives} {data_seen = data_seen} {data_gives = data_gives} laws log data_device store end script played error log_now data_now reading left (Some log_disk) (Some data_disk) opened run left_is log_is data_is read ready = λ openable.
+    let is : IsOpenedReady (seen_through log_seen) (seen_through data_seen) reading store = ready openable in
+    let same : opened_at store end ≡ opened_as reading =
+    read.same ∙ ap opened_as (laws.one_reading log_disk.reads data_disk.reads read.reading reading read.is_read openable.orderly.reads) in
+    let log_after = told-some (log_seen store.log.dev.inner).tells
+    (calls-go_on log_seen log_gives log store.log.dev opened.log_calls.calls opened.log_calls.made (λ none. let e = sym log_is ∙ none in cc)) in
+    let data_after = told-some (data_seen store.store.dev.inner).tells
+    (calls-go_on data_seen data_gives data_device store.store.dev opened.data_calls.calls opened.data_calls.made (λ none. let e = sym data_is ∙ none in cc)) in
+    let start : IsStart reading script log_after.0 data_after.0 = record {
+      log_bytes = log_disk.reads;
+      data_bytes = data_disk.reads;
+      orderly = openable.orderly;
+      ready = both-told _ _ (IsReady reading) is.ready log_after.0 data_after.0 log_after.1 data_after.1;
+      fits = subst (λ (shape : Shape). AllByRecursion (LineFits shape) script) is.opened.shape run.fits.lines;
+    } in
+    let After : values.Opened → Type 0 = λ opened. WhereBothTell (log_seen log_now.inner).tells (data_seen data_now.inner).tells (λ log_after data_after.
+    IsClosed (failures error) (record { script = script; opened = opened; run = ran_of played; left = left; log_disk = log_after; data_disk = data_after })) in
+    let closed : After (opened_as reading) = both-told (log_seen store.log.dev.inner).tells (data_seen store.store.dev.inner).tells
+    (λ log_disk data_disk. IsStart reading script log_disk data_disk → After (opened_as reading))
+    (run.owed reading left (record { shape = is.opened.shape; pages = is.opened.pages; start = is.opened.start; number = is.number }) left_is)
+    log_after.0 data_after.0 log_after.1 data_after.1 start in
+    (same, subst After (sym same) closed)
+
+-- THE RUN ON IT
+-- what stands between the arming and the opened store
+pub record IsOpenedUnderWay {L D : Type 0} (log_seen : L → Seen) (log_gives : L → Call → L → Type 0) (data_seen : D → Seen) (data_gives : D → Call → D → Type 0)
+    (log_entry data_entry : Seen) (stops : Stops) (log_found data_found : Guarded) (log : Fused L) (data_device : Fused D) (store : Opened (Fused L) (Fused D)) : Type 0 where
+  pub laws : ReadingLaws
+  pub armed : AreArmed log_entry data_entry stops log_found data_found (guarded log_seen log) (guarded data_seen data_device)
+  pub opened : IsOpened log_seen log_gives data_seen data_gives log data_device store
+
+counted-opened : {L D : Type 0} {log_seen : L → Seen} {log_gives : L → Call → L → Type 0} {data_seen : D → Seen} {data_gives : D → Call → D → Type 0}
+    {log_entry data_entry : Seen} {stops : Stops} {log_found data_found : Guarded} {log : Fused L} {data_device : Fused D} {store : Opened (Fused L) (Fused D)}
+    → IsOpenedUnderWay log_seen log_gives data_seen data_gives log_entry data_entry stops log_found data_found log data_device store
+    → AreCounted log_entry data_entry stops log_found data_found 0 0 (guarded log_seen store.log.dev) (guarded data_seen store.store.dev)
+counted-opened is = counted-opening is.armed is.opened.log_calls is.opened.data_calls
+
+-- what was opened, as the two devices were found
+end-found : {L D : Type 0} {log_seen : L → Seen} {log_gives : L → Call → L → Type 0} {data_seen : D → Seen} {data_gives : D → Call → D → Type 0}
+    {log_entry data_entry : Seen} {stops : Stops} {log_found data_found : Guarded} {log : Fused L} {data_device : Fused D} {store : Opened (Fused L) (Fused D)}
+    → IsOpenedUnderWay log_seen log_gives data_seen data_gives log_entry data_entry stops log_found data_found log data_device store
+    → HasEnd log_found.seen.tells data_found.seen.tells store
+end-found {log_seen = log_seen} {data_seen = data_seen} {log_found = log_found} {data_found = data_found} {log = log} {data_device = data_device} {store = store} is =
+    has-end log_found.seen.tells data_found.seen.tells store is.opened.runnable
+    (same-both (λ log_disk data_disk. IsOpeningOf log_disk.reads data_disk.reads store) log_found.seen.tells data_found.seen.tells
+    (log_seen log.inner).tells (data_seen data_device.inner).tells
+    (ap (λ (seen : Seen). seen.tells) is.armed.log_same) (ap (λ (seen : Seen). seen.tells) is.armed.data_same) is.opened.read)
+
+played-on : {L D : Type 0} {log_seen : L → Seen} {log_gives : L → Call → L → Type 0} {data_seen : D → Seen} {data_gives : D → Call → D → Type 0}
+    {log_entry data_entry : Seen} {stops : Stops} {log_found data_found : Guarded} {log : Fused L} {data_device : Fused D} {store : Opened (Fused L) (Fused D)}
+    {script : List ScriptLine} {played : Played} (error : Option DevError) {log_now : Fused L} {data_now : Fused D}
+    → IsOpenedUnderWay log_seen log_gives data_seen data_gives log_entry data_entry stops log_found data_found log data_device store
+    → AreRun (seen_through log_seen) (CallsThrough log_seen log_gives) (seen_through data_seen) store script played error log_now data_now
+    → ArePlayed log_entry data_entry stops script played (failures error) (guarded log_seen log_now) (guarded data_seen data_now)
+played-on {log_seen = log_seen} {log_gives = log_gives} {data_seen = data_seen} {data_gives = data_gives} {log_entry = log_entry} {data_entry = data_entry} {log_found = log_found} {data_found = data_found} {log = log} {data_device = data_device} {store = store} {script = script} {played = played} error {log_now = log_now} {data_now = data_now} is run =
+    let ends : HasEnd log_found.seen.tells data_found.seen.tells store = end-found is in
+    let log_tells : (log_seen log.inner).tells ≡ log_found.seen.tells = ap (λ (seen : Seen). seen.tells) is.armed.log_same in
+    let data_tells : (data_seen data_device.inner).tells ≡ data_found.seen.tells = ap (λ (seen : Seen). seen.tells) is.armed.data_same in
+    record {
+      way = way-of log_found data_found is.armed.prepared (counted-more data_seen (counted-opened is) run.log_calls run.data_same);
+      opened = opened_at store ends.end;
+      opens = opens-as is.laws log_entry data_entry log_found data_found store ends.end is.armed.prepared ends.read;
+      limits = is.opened.runnable.limits;
+      fits = subst (λ start. ScriptFits store.shape start (Some (room_end store.shape start)) script) ends.start run.fits;
+      is_run = run.is_run ends.end ends.start;
+      in_turn = run.in_turn;
+      loses = run.loses;
+      closed = λ reading left left_is.
+          closed-told is.laws log data_device store ends.end script played error log_now data_now reading left log_found.seen.tells data_found.seen.tells
+          is.opened run left_is log_tells data_tells ends.read
+          (same-both (λ log_disk data_disk. IsOpenable reading log_disk data_disk → IsOpenedReady (seen_through log_seen) (seen_through data_seen) reading store)
+          log_found.seen.tells data_found.seen.tells (log_seen log.inner).tells (data_seen data_device.inner).tells log_tells data_tells (is.opened.ready reading));
+    }
+
+-- a script that doesn't fit
+misfitted : {L D : Type 0} {log_seen : L → Seen} {log_gives : L → Call → L → Type 0} {data_seen : D → Seen} {data_gives : D → Call → D → Type 0}
+    {log_entry data_entry : Seen} {stops : Stops} {log_found data_found : Guarded} {log : Fused L} {data_device : Fused D} {store : Opened (Fused L) (Fused D)}
+    {script : List ScriptLine} {misfit : Misfit}
+    → IsOpenedUnderWay log_seen log_gives data_seen data_gives log_entry data_entry stops log_found data_found log data_device store
+    → first_misfit store.shape store.start (Some (room_end store.shape store.start)) script ≡ Some misfit
+    → AreMisfitted log_entry data_entry stops script misfit (guarded log_seen store.log.dev) (guarded data_seen store.store.dev)
+misfitted {log_seen = log_seen} {data_seen = data_seen} {log_entry = log_entry} {data_entry = data_entry} {log_found = log_found} {data_found = data_found} {log = log} {data_device = data_device} {store = store} {script = script} {misfit = misfit} is first =
+    let ends : HasEnd log_found.seen.tells data_found.seen.tells store = end-found is in
+    record {
+      stopped = record {
+        way = way-of log_found data_found is.armed.prepared (counted-opened is);
+        keeps = keeps-found log_found data_found (guarded log_seen log) (guarded data_seen data_device) (guarded log_seen store.log.dev) (guarded data_seen store.store.dev)
+            is.armed.log_same is.armed.data_same is.opened.keeps;
+      };
+      opened = opened_at store ends.end;
+      opens = opens-as is.laws log_entry data_entry log_found data_found store ends.end is.armed.prepared ends.read;
+      limits = is.opened.runnable.limits;
+      first = subst (λ start. first_misfit store.shape start (Some (room_end store.shape start)) script ≡ Some misfit) ends.start first;
+    }
+
+-- WHAT A RUN COMES TO whose store was opened.
+pub opened-comes : {L D : Type 0} {log_seen : L → Seen} {log_gives : L → Call → L → Type 0} {data_seen : D → Seen} {data_gives : D → Call → D → Type 0}
+    {log_entry data_entry : Seen} {stops : Stops} {log_found data_found : Guarded} {log : Fused L} {data_device : Fused D} {store : Opened (Fused L) (Fused D)}
+    (script : List ScriptLine) (c : Course) (log_now : Fused L) (data_now : Fused D)
+    → IsOpenedUnderWay log_seen log_gives data_seen data_gives log_entry data_entry stops log_found data_found log data_device store
+    → Plays (seen_through log_seen) (CallsThrough log_seen log_gives) (seen_through data_seen) store script c log_now data_now
+    → ComesTo log_entry data_entry stops script c (guarded log_seen log_now) (guarded data_seen data_now)
+opened-comes {data_seen = data_seen} {log_found = log_found} {data_found = data_found} script (course.Ended fault.Memory) log_now data_now is plays =
+    inr (way-of log_found data_found is.armed.prepared (counted-more data_seen (counted-opened is) plays.log_calls plays.data_same))
+opened-comes {L} {D} {log_seen = log_seen} {data_seen = data_seen} {log_entry = log_entry} {data_entry = data_entry} {stops = stops} {store = store} script (course.Ended (fault.Fit misfit)) log_now data_now is plays =
+    subst (λ (one : Fused L). AreMisfitted log_entry data_entry stops script misfit (guarded log_seen one) (guarded data_seen data_now)) (sym plays.log_same)
+    (subst (λ (one : Fused D). AreMisfitted log_entry data_entry stops script misfit (guarded log_seen store.log.dev) (guarded data_seen one)) (sym plays.data_same)
+    (misfitted is plays.first))
+opened-comes script (course.Ended fault.Words) log_now data_now is plays = absurd plays
+opened-comes script (course.Ended (fault.Script n)) log_now data_now is plays = absurd plays
+opened-comes script (course.Ended fault.Source) log_now data_now is plays = absurd plays
+opened-comes script (course.Ended fault.Sink) log_now data_now is plays = absurd plays
+opened-comes script (course.Ended fault.LogDevice) log_now data_now is plays = absurd plays
+opened-comes script (course.Ended fault.DataDevice) log_now data_now is plays = absurd plays
+opened-comes script (course.Ended (fault.Store cause)) log_now data_now is plays = absurd plays
+opened-comes script (course.Ended (fault.Turns turns user)) log_now data_now is plays = absurd plays
+opened-comes script (course.Stopped f) log_now data_now is plays = absurd plays
+opened-comes script (course.Played played None) log_now data_now is plays = played-on None is plays
+opened-comes script (course.Played played (Some fault.LogDevice)) log_now data_now is plays = played-on (Some device.Failed) is plays
+opened-comes script (course.Played played (Some fault.Memory)) log_now data_now is plays = absurd plays
+opened-comes script (course.Played played (Some fault.Words)) log_now data_now is plays = absurd plays
+opened-comes script (course.Played played (Some (fault.Script n))) log_now data_now is plays = absurd plays
+opened-comes script (course.Played played (Some fault.Source)) log_now data_now is plays = absurd plays
+opened-comes script (course.Played played (Some fault.Sink)) log_now data_now is plays = absurd plays
+opened-comes script (course.Played played (Some fault.DataDevice)) log_now data_now is plays = absurd plays
+opened-comes script (course.Played played (Some (fault.Store cause))) log_now data_now is plays = absurd plays
+opened-comes script (course.Played played (Some (fault.Fit misfit))) log_now data_now is plays = absurd plays
+opened-comes script (course.Played played (Some (fault.Turns turns user))) log_now data_now is plays = absurd plays

@@ -1,0 +1,123 @@
+-- What the command `run` comes to.
+use Rattle.std.proofs.Common.{ℕ, List, Option, Some, None, refl, sym, subst, ⊎_elim, arith}
+use Rattle.std.proofs.lemmas.Bool.{false≢true}
+use Rattle.model_base.specs.Count.{HasRisen}
+use Rattle.model_command.specs.declared.asked.Command.TheVariants.{Run}
+use Rattle.model_command.specs.declared.asked.Drive.{Drive}
+use Rattle.model_report.specs.declared.fault.Fault.{Fault}
+use Rattle.model_report.specs.declared.fault.Fault.TheVariants as fault
+use Rattle.model_script.specs.declared.script.ScriptLine.{ScriptLine}
+use Rattle.redo_disk.specs.Seen.{Seen}
+use Rattle.redo_lab.specs.Answer.{AreUnfailed}
+use Rattle.redo_lab.specs.Call.{Call, Guarded}
+use Rattle.redo_lab.specs.Complete.{CanRun}
+use Rattle.redo_lab.specs.Course.{ArePlayed, IsEndedBy, IsPlayedBy, IsStoppedBy, ran_of}
+use Rattle.redo_lab.specs.Devices.{HasFailed}
+use Rattle.redo_lab.specs.Outcome.{EndsCommand, IsDoneOrMemory, IsOutcome}
+use Rattle.redo_lab.specs.Reported.{IsReportOf, IsRunPrinted, report_outcome}
+use Rattle.redo_lab.specs.Script.{IsScriptRead}
+use Rattle.redo_lab.specs.Stages.{IsArmed}
+use Rattle.redo_lab.specs.declared.outcome.Outcome.{Outcome}
+use Rattle.redo_lab.specs.declared.outcome.Outcome.TheVariants as outcome
+use Rattle.redo_lab.specs.declared.playing.Played.{Played}
+use Rattle.redo_lab.specs.declared.playing.Stops.{Stops}
+use Rattle.redo_lab.proofs.Found.{leaves-stopped}
+use Rattle.redo_lab.proofs.Keeping.{OpenableLaw}
+use Rattle.redo_lab.proofs.RunEnds.{AreSteady, aside-way, past-read, run-ended, steady-ended, steady-way, unfailed-armed, unfailed-way}
+use Rattle.redo_lab.proofs.RunPlayed.{FormattedLaw, SafeLaw, played-text}
+use Rattle.redo_lab.proofs.RunPossible.{OneReading, UnfitLaw, ended-by-memory}
+use Rattle.redo_lab.proofs.Told.{OneAnswer}
+
+-- the devices of `run` aren't stopped
+abbrev pub no_stops : Stops
+no_stops = record { log = None; store = None }
+
+-- what is known of every store and of every run
+pub record RunLaws : Type 0 where
+  pub one : OneAnswer
+  pub same : OneReading
+  pub openable : OpenableLaw
+  pub formatted : FormattedLaw
+  pub safe : SafeLaw
+  pub unfit : UnfitLaw
+
+-- the outcome of a run on devices that go on telling
+run-ends-with : (call : Call) (drive : Drive) (o : Outcome) → AreSteady call no_stops None → IsOutcome call (Run drive) o
+    → (CanRun call → AreUnfailed call → IsDoneOrMemory o) → EndsCommand call (Run drive) o
+run-ends-with call drive o steady means complete = record {
+  means = means;
+  unread = λ plain. absurd (false≢true (sym plain));
+  kept = λ leaves. absurd (false≢true leaves);
+  told = record { log_device = steady.log_device; data_device = steady.data_device };
+  log_tells = steady.log_tells;
+  data_tells = steady.data_tells;
+  complete = λ possible source unfailed. complete possible unfailed;
+  safe = tt;
+}
+
+-- a device that isn't stopped fails by itself
+failed-unstopped : (entry : Seen) (found now : Guarded) → IsArmed None entry found 1 now → HasRisen entry.faults now.seen.faults × HasFailed now.fuse
+failed-unstopped entry found now was =
+    (⊎_elim (λ risen. risen) (λ passed. absurd passed) (was.cause (omega arith)), omega (arith, was.mid))
+
+-- OPENING WAS STOPPED by a device that failed.
+pub run-stopped : (call : Call) (drive : Drive) (script : List ScriptLine) (f : Fault) → IsScriptRead call.source call.source_now script → OneAnswer → FormattedLaw
+    → IsStoppedBy call.log_device call.data_device no_stops f call.log_device_now call.data_device_now → EndsCommand call (Run drive) (outcome.Fault f)
+run-stopped call drive script fault.LogDevice read one formatted stopped = run-ends-with call drive _ (steady-way call no_stops None 1 0 stopped.way)
+    ((refl, past-read call script drive read, failed-unstopped _ _ _ stopped.way.log_device), leaves-stopped call no_stops 1 0 one formatted stopped)
+    (λ possible unfailed. absurd (omega (arith, unfailed.log_device.mid, stopped.way.log_device.mid)))
+run-stopped call drive script fault.DataDevice read one formatted stopped = run-ends-with call drive _ (steady-way call no_stops None 0 1 stopped.way)
+    ((refl, past-read call script drive read, unfailed-armed _ _ _ _ stopped.way.log_device, failed-unstopped _ _ _ stopped.way.data_device), leaves-stopped call no_stops 0 1 one formatted stopped)
+    (λ possible unfailed. absurd (omega (arith, unfailed.data_device.mid, stopped.way.data_device.mid)))
+run-stopped call drive script f read one formatted stopped = absurd stopped
+
+-- IT ENDED before its first line.
+pub run-early : (call : Call) (drive : Drive) (script : List ScriptLine) (f : Fault) → IsScriptRead call.source call.source_now script → RunLaws
+    → IsEndedBy call.log_device call.data_device no_stops script f call.log_device_now call.data_device_now → EndsCommand call (Run drive) (outcome.Fault f)
+run-early call drive script f read laws ended = run-ends-with call drive _ (steady-ended call no_stops None script f ended)
+    (run-ended call no_stops drive script f read laws.one laws.openable laws.formatted ended)
+    (λ possible unfailed. ended-by-memory call no_stops script f read laws.one laws.same laws.unfit possible unfailed.log_device.early unfailed.data_device.early ended)
+
+-- MEMORY RAN OUT over the report.
+run-unreported : (call : Call) (drive : Drive) → AreSteady call no_stops None → EndsCommand call (Run drive) (outcome.Fault fault.Memory)
+run-unreported call drive steady = run-ends-with call drive _ steady (tt, tt) (λ possible unfailed. refl)
+
+-- THE LINES WERE RUN, all of them.
+run-whole : (call : Call) (drive : Drive) (script : List ScriptLine) (played : Played) (text : List ℕ) → IsScriptRead call.source call.source_now script → RunLaws
+    → ArePlayed call.log_device call.data_device no_stops script played 0 call.log_device_now call.data_device_now
+    → IsReportOf script (Some (ran_of played)) None text → EndsCommand call (Run drive) (outcome.Text text)
+run-whole call drive script played text read laws was report = run-ends-with call drive _ (steady-way call no_stops None 0 0 was.way)
+    (unfailed-way call no_stops was.way, played-text call no_stops script played 0 text (omega arith) laws.one laws.formatted laws.safe read was report)
+    (λ possible unfailed. tt)
+
+-- THE LOG DEVICE ENDED THE RUN.
+run-cut : (call : Call) (drive : Drive) (script : List ScriptLine) (played : Played) (text : List ℕ) → IsScriptRead call.source call.source_now script → RunLaws
+    → ArePlayed call.log_device call.data_device no_stops script played 1 call.log_device_now call.data_device_now
+    → IsReportOf script (Some (ran_of played)) None text → EndsCommand call (Run drive) (outcome.Report text fault.LogDevice)
+run-cut call drive script played text read laws was report = run-ends-with call drive _ (steady-way call no_stops None 1 0 was.way) (
+  played-text call no_stops script played 1 text (omega arith) laws.one laws.formatted laws.safe read was report,
+  ((failed-unstopped _ _ _ was.way.log_device).0, omega (arith, was.way.log_device.mid)),
+  aside-way call no_stops 1 0 was.way,
+)
+    (λ possible unfailed. absurd (omega (arith, unfailed.log_device.mid, was.way.log_device.mid)))
+
+run-printed : (call : Call) (drive : Drive) (script : List ScriptLine) (played : Played) (f : Option Fault) (text : List ℕ) → IsScriptRead call.source call.source_now script
+    → RunLaws → IsPlayedBy call.log_device call.data_device no_stops script played f call.log_device_now call.data_device_now
+    → IsReportOf script (Some (ran_of played)) None text → EndsCommand call (Run drive) (report_outcome text f)
+run-printed call drive script played None text read laws was report = run-whole call drive script played text read laws was report
+run-printed call drive script played (Some fault.LogDevice) text read laws was report = run-cut call drive script played text read laws was report
+run-printed call drive script played (Some f) text read laws was report = absurd was
+
+steady-played : (call : Call) (script : List ScriptLine) (played : Played) (f : Option Fault)
+    → IsPlayedBy call.log_device call.data_device no_stops script played f call.log_device_now call.data_device_now → AreSteady call no_stops None
+steady-played call script played None was = steady-way call no_stops None 0 0 was.way
+steady-played call script played (Some fault.LogDevice) was = steady-way call no_stops None 1 0 was.way
+steady-played call script played (Some f) was = absurd was
+
+pub run-played : (call : Call) (drive : Drive) (script : List ScriptLine) (played : Played) (f : Option Fault) (o : Outcome) → IsScriptRead call.source call.source_now script
+    → RunLaws → IsPlayedBy call.log_device call.data_device no_stops script played f call.log_device_now call.data_device_now
+    → IsRunPrinted script (ran_of played) f o → EndsCommand call (Run drive) o
+run-played call drive script played f o read laws was printed = ⊎_elim
+    (λ memory. subst (EndsCommand call (Run drive)) (sym memory) (run-unreported call drive (steady-played call script played f was)))
+    (λ told. subst (EndsCommand call (Run drive)) (sym told.2) (run-printed call drive script played f told.0 read laws was told.1))
+    printed

@@ -1,0 +1,135 @@
+-- A run that can be done isn't ended before its first line, but by want of memory.
+use Rattle.std.proofs.Common.{ℕ, ◌≡◌, ◌≤◌, ◌<◌, true, List, Option, Some, None, IfSome, refl, sym, ap, subst, ◌∙◌, ⊎_elim, arith}
+use Rattle.model_base.specs.Limits.{default_shape}
+use Rattle.model_base.specs.declared.shape.Shape.{Shape}
+use Rattle.model_device.specs.Disk.{Disk}
+use Rattle.model_log.specs.Lsn.{start_after}
+use Rattle.model_log.specs.declared.layout.TheConstants.{HEADER_BYTES}
+use Rattle.model_report.specs.declared.fault.Fault.{Fault}
+use Rattle.model_report.specs.declared.fault.Fault.TheVariants as fault
+use Rattle.model_script.specs.Fit.{ScriptFits, first_misfit}
+use Rattle.model_script.specs.Grammar.{script_of}
+use Rattle.model_script.specs.declared.misfit.Misfit.{Misfit}
+use Rattle.model_script.specs.declared.script.ScriptLine.{ScriptLine}
+use Rattle.model_store.specs.Opening.{Opens}
+use Rattle.model_store.specs.Reading.{IsReading, Reading}
+use Rattle.model_store.specs.declared.refusal.Refusal.{Refusal}
+use Rattle.model_store.specs.declared.refusal.Refusal.TheVariants as refusal
+use Rattle.model_theorem.specs.Script.{FitsOpened, room_of}
+use Rattle.model_theorem.specs.Values.{Opened}
+use Rattle.redo_disk.specs.Seen.{HasSize}
+use Rattle.redo_lab.specs.Call.{Call}
+use Rattle.redo_lab.specs.Complete.{AreLongEnough, CanRun}
+use Rattle.redo_lab.specs.Course.{AreMisfitted, AreRefusedOpened, IsEndedBy}
+use Rattle.redo_lab.specs.Prepared.{AreTooShort}
+use Rattle.redo_lab.specs.Script.{IsScriptRead}
+use Rattle.redo_lab.specs.Store.{HasNoHeader, IsOpenedAs, IsTooShort}
+use Rattle.redo_lab.specs.declared.playing.Stops.{Stops}
+use Rattle.redo_lab.proofs.Keeping.{unused-unread}
+use Rattle.redo_lab.proofs.RunPlayed.{same-opened}
+use Rattle.redo_lab.proofs.Told.{OneAnswer}
+
+-- a store is read in one way
+abbrev pub OneReading : Type 0
+OneReading = (log data_bytes : List ℕ) (first second : Reading) → IsReading log data_bytes first → IsReading log data_bytes second → first ≡ second
+
+-- a script that fits has no misfit
+abbrev pub UnfitLaw : Type 0
+UnfitLaw = (shape : Shape) (start : ℕ) (room_end : Option ℕ) (script : List ScriptLine) → ScriptFits shape start room_end script
+    → first_misfit shape start room_end script ≡ None
+
+-- what holds of a value that is there
+at-some : {A : Type 0} (o : Option A) (P : A → Type 0) (x : A) → IfSome o P → o ≡ Some x → P x
+at-some None P x holds is = cc
+at-some (Some found) P x holds is = let same : found ≡ x = cc in subst P same holds
+
+-- the devices are long enough for what is opened
+no-header-short : (size : ℕ) (cause : Refusal) → HasNoHeader size cause → size < HEADER_BYTES
+no-header-short size (refusal.SmallLog n) none = none.0
+no-header-short size cause none = absurd none
+
+long-not-short : (log_size data_size : ℕ) (cause : Refusal) → AreLongEnough default_shape log_size data_size
+    → IsTooShort default_shape log_size data_size cause → ⊥
+long-not-short log_size data_size (refusal.SmallLog n) long short = absurd (omega (arith, long.log_long, short.0))
+long-not-short log_size data_size (refusal.SmallData n) long short = absurd (omega (arith, long.data_long, short.1))
+long-not-short log_size data_size cause long short = absurd short
+
+has-header : (call : Call) → CanRun call → IfSome call.log_device.tells (HasSize call.log_device.size) → HEADER_BYTES ≤ call.log_device.size
+has-header call can sized = ⊎_elim
+    (λ unused. let long = (can.long unused.unused).log_long in omega (arith, long))
+    (λ orderly.
+    let size = at-some call.log_device.tells (HasSize call.log_device.size) can.log sized can.log_fresh.tells in
+    let header = orderly.orderly.reads.scan.devices.head.long in
+    omega (arith, size.reads, header))
+    can.opens
+
+possible-not-short : (call : Call) (cause : Refusal) → OneAnswer → CanRun call
+    → AreTooShort call.log_device call.data_device cause call.log_device_now call.data_device_now → ⊥
+possible-not-short call cause one can short = ⊎_elim
+    (λ none.
+    let no_room = no-header-short call.log_device.size cause none in
+    let room = has-header call can short.sized in
+    absurd (omega (arith, no_room, room)))
+    (λ unused.
+    let is_unused = unused.2 can.log can.data_disk can.log_fresh.tells can.data_fresh.tells in
+    long-not-short call.log_device.size call.data_device.size cause (can.long is_unused) unused.1)
+    short.short
+
+possible-not-refused : (call : Call) (stops : Stops) (cause : Refusal) → OneAnswer → CanRun call
+    → AreRefusedOpened call.log_device call.data_device stops cause call.log_device_now call.data_device_now → ⊥
+possible-not-refused call stops cause one can ended =
+    let refused = ended.refused can.log can.data_disk can.log_fresh.tells can.data_fresh.tells in ⊎_elim
+    (λ unused. refused.0 unused.unused)
+    (λ orderly. one can.log.reads can.data_disk.reads orderly.reading cause orderly.orderly.reads refused.1)
+    can.opens
+
+-- WHAT IS OPENED is determined.
+pub one-opened : (log data_disk : Disk) (a b : Opened) → OneAnswer → OneReading → IsOpenedAs a log data_disk
+    → Opens log.reads data_disk.reads b.shape b.pages b.end → a ≡ b
+one-opened log data_disk a b one same opens_a opens_b = ⊎_elim
+    (λ unused_a. ⊎_elim
+    (λ unused_b. same-opened a b (unused_a.shape_is ∙ sym unused_b.shape_is) (unused_a.pages_are ∙ sym unused_b.pages_are) (unused_a.end_is ∙ sym unused_b.end_is))
+    (λ orderly. absurd (unused-unread one log.reads data_disk.reads orderly.reading unused_a.unused orderly.orderly.reads))
+    opens_b)
+    (λ read_a. ⊎_elim
+    (λ unused_b. absurd (read_a.0 unused_b.unused))
+    (λ orderly.
+    let is = same log.reads data_disk.reads read_a.1.reading orderly.reading read_a.1.is_read orderly.orderly.reads in
+    same-opened a b
+    (read_a.1.shape ∙ ap (λ (r : Reading). r.shape) is ∙ sym orderly.shape_is)
+    (read_a.1.pages ∙ ap (λ (r : Reading). r.pages) is ∙ sym orderly.pages_are)
+    (read_a.1.end ∙ ap (λ (r : Reading). r.end) is ∙ sym orderly.end_is))
+    opens_b)
+    opens_a
+
+-- the script that was read is the one that can be run
+one-script : (call : Call) (script : List ScriptLine) → IsScriptRead call.source call.source_now script → (can : CanRun call) → script ≡ can.script
+one-script call script read can =
+    let left = at-some call.source.left (λ left. (read.text ≡ left) × (call.source_now.left ≡ Some _)) can.text read.of_text.read.all_read can.source in
+    let is = sym read.of_text.is_script ∙ (ap script_of left.0 ∙ can.is_script) in
+    cc
+
+possible-no-misfit : (call : Call) (stops : Stops) (script : List ScriptLine) (misfit : Misfit) → IsScriptRead call.source call.source_now script
+    → OneAnswer → OneReading → UnfitLaw → CanRun call
+    → AreMisfitted call.log_device call.data_device stops script misfit call.log_device_now call.data_device_now → ⊥
+possible-no-misfit call stops script misfit read one same unfit can ended =
+    let opened : ended.opened ≡ can.opened =
+    one-opened can.log can.data_disk ended.opened can.opened one same (ended.opens can.log can.data_disk can.log_fresh.tells can.data_fresh.tells) can.opens in
+    let fits : FitsOpened true ended.opened script =
+    subst (λ (o : Opened). FitsOpened true o script) (sym opened)
+    (subst (λ (lines : List ScriptLine). FitsOpened true can.opened lines) (sym (one-script call script read can)) can.fits) in
+    let none = sym ended.first ∙ unfit ended.opened.shape (start_after ended.opened.end) (room_of true ended.opened) script fits in
+    cc
+
+-- SO A RUN THAT CAN BE DONE is ended by want of memory alone, where no call of a device failed.
+pub ended-by-memory : (call : Call) (stops : Stops) (script : List ScriptLine) (f : Fault) → IsScriptRead call.source call.source_now script
+    → OneAnswer → OneReading → UnfitLaw → CanRun call → call.log_device_now.fuse.early ≡ 0 → call.data_device_now.fuse.early ≡ 0
+    → IsEndedBy call.log_device call.data_device stops script f call.log_device_now call.data_device_now → f ≡ fault.Memory
+ended-by-memory call stops script fault.Memory read one same unfit can log_good data_good ended = refl
+ended-by-memory call stops script fault.LogDevice read one same unfit can log_good data_good ended = absurd (omega (arith, ended.log_device.early))
+ended-by-memory call stops script fault.DataDevice read one same unfit can log_good data_good ended = absurd (omega (arith, ended.data_device.early))
+ended-by-memory call stops script (fault.Store cause) read one same unfit can log_good data_good ended =
+    absurd (⊎_elim (possible-not-short call cause one can) (possible-not-refused call stops cause one can) ended)
+ended-by-memory call stops script (fault.Fit misfit) read one same unfit can log_good data_good ended =
+    absurd (possible-no-misfit call stops script misfit read one same unfit can ended)
+ended-by-memory call stops script f read one same unfit can log_good data_good ended = absurd ended

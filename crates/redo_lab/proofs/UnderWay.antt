@@ -1,0 +1,290 @@
+-- Two devices from the arming of their fuses on, and a store that wasn't opened on them.
+use Rattle.std.proofs.Common.{ℕ, ◌≡◌, ◌≢◌, ◌≤◌, ◌<◌, ◌+◌, List, [], ◌∷◌, length, Option, Some, None, IfSome, refl, sym, ap, subst, ◌∙◌, inr, ⊎_elim, arith, lit<, lit≤}
+use Rattle.model_base.specs.Limits.{IsWithinLimits, default_shape}
+use Rattle.model_device.specs.Disk.{Disk}
+use Rattle.model_log.specs.declared.layout.TheConstants.{HEADER_BYTES}
+use Rattle.model_opening.specs.Formatted.{IsFormatted, formatted_store}
+use Rattle.model_opening.specs.Opened.{IsOpenable, KeepsOpened}
+use Rattle.model_script.specs.declared.script.ScriptLine.{ScriptLine}
+use Rattle.model_store.specs.Opening.{IsUnused}
+use Rattle.model_store.specs.Reading.{Reading, IsReading, Refuses}
+use Rattle.model_store.specs.declared.refusal.Refusal.{Refusal}
+use Rattle.model_store.specs.declared.refusal.Refusal.TheVariants as refusal
+use Rattle.redo_disk.specs.Calls.{Call, Reads, Writes, Syncs, MayEndWith, failures}
+use Rattle.redo_disk.specs.Made.{MakesCalls}
+use Rattle.redo_disk.specs.Seen.{Seen}
+use Rattle.redo_disk.specs.declared.error.DevError.{DevError}
+use Rattle.redo_disk.proofs.Made.{weaker_calls}
+use Rattle.redo_memdisk.specs.Counted.{while_stopping}
+use Rattle.redo_memdisk.specs.Fused.{CallsThrough, seen_through}
+use Rattle.redo_memdisk.specs.declared.fused.Fused.{Fused}
+use Rattle.redo_memdisk.proofs.Behind.{counts-calls}
+use Rattle.redo_open.specs.Devices.{WhereBothTell}
+use Rattle.redo_open.specs.Opening.{HasFaultCause, OpensLog}
+use Rattle.redo_recover.specs.Calls.{BeginWithHeader, data_error, log_error}
+use Rattle.redo_recover.specs.Devices.{OnContents, refusal_of}
+use Rattle.redo_recover.specs.declared.fault.RecFault.{RecFault}
+use Rattle.redo_recover.specs.declared.fault.RecFault.TheVariants.{SmallLog, NotFormatted, BadFormat, SmallData, NoCheckpoint, BadRecord, PageLost, PageAhead, LogDev, DataDev, NoMemory}
+use Rattle.redo_lab.specs.Call.{Guarded, guarded}
+use Rattle.redo_lab.specs.Course.{AreRefusedOpened, AreStopped, AreUnderWay, ComesTo, KeepsFound}
+use Rattle.redo_lab.specs.Playing.{AreArmed, unopened}
+use Rattle.redo_lab.specs.Prepared.{ArePrepared, BothKept, WhereTold}
+use Rattle.redo_lab.specs.Stages.{IsArmed}
+use Rattle.redo_lab.specs.Store.{AreRefused, IsShorter}
+use Rattle.redo_lab.specs.declared.playing.Stops.{Stops}
+use Rattle.redo_lab.proofs.Formatting.{FormattedLaw}
+use Rattle.redo_lab.proofs.Stages.{armed-calls}
+use Rattle.redo_lab.proofs.Told.{OneAnswer, both-told, on-contents}
+
+-- what is known of the calls since the fuses were armed
+pub record AreCounted (log_entry data_entry : Seen) (stops : Stops) (log_found data_found : Guarded) (log_failed data_failed : ℕ) (log_now data_now : Guarded) : Type 0 where
+  pub log_device : IsArmed stops.log log_entry log_found log_failed log_now
+  pub data_device : IsArmed stops.store data_entry data_found data_failed data_now
+  pub counted : 0 < log_now.fuse.passed + log_now.fuse.mid
+
+abbrev pub way-of : {log_entry data_entry : Seen} {stops : Stops} (log_found data_found : Guarded) {log_failed data_failed : ℕ} {log_now data_now : Guarded}
+    → ArePrepared log_entry data_entry log_found data_found → AreCounted log_entry data_entry stops log_found data_found log_failed data_failed log_now data_now
+    → AreUnderWay log_entry data_entry stops log_failed data_failed log_now data_now
+way-of log_found data_found prepared are = record {
+  log_found = log_found;
+  data_found = data_found;
+  prepared = prepared;
+  log_device = are.log_device;
+  data_device = are.data_device;
+  counted = are.counted;
+}
+
+begun : (calls : List Call) → BeginWithHeader calls → 0 < length calls
+begun [] header = absurd header
+begun (Reads at before answer after ∷ calls) header = omega arith
+begun (Writes write answer ∷ calls) header = absurd header
+begun (Syncs answer ∷ calls) header = absurd header
+
+-- the calls of opening
+pub counted-opening : {L D : Type 0} {log_seen : L → Seen} {log_gives : L → Call → L → Type 0} {data_seen : D → Seen} {data_gives : D → Call → D → Type 0}
+    {log_entry data_entry : Seen} {stops : Stops} {log_found data_found : Guarded} {log_old log_new : Fused L} {data_old data_new : Fused D} {log_err data_err : Option DevError}
+    → AreArmed log_entry data_entry stops log_found data_found (guarded log_seen log_old) (guarded data_seen data_old)
+    → MakesCalls (CallsThrough log_seen log_gives) log_old log_new (OpensLog (log_seen log_old.inner).size log_err)
+    → MakesCalls (CallsThrough data_seen data_gives) data_old data_new (MayEndWith data_err)
+    → AreCounted log_entry data_entry stops log_found data_found (failures log_err) (failures data_err) (guarded log_seen log_new) (guarded data_seen data_new)
+counted-opening {log_seen = log_seen} {log_gives = log_gives} {log_old = log_old} {log_new = log_new} armed log_made data_made =
+    let counts = counts-calls log_seen log_gives log_old log_new log_made.calls log_made.made in
+    let header : HEADER_BYTES ≤ (log_seen log_old.inner).size = omega (arith, armed.prepared.header, armed.log_device.same.size) in
+    let some : 0 < length log_made.calls = begun log_made.calls (log_made.are.header header) in
+    record {
+      log_device = armed-calls armed.log_device (weaker_calls (λ calls opens. opens.ends) log_made);
+      data_device = armed-calls armed.data_device data_made;
+      counted = counts.some (subst (λ stage. 0 < while_stopping stage (length log_made.calls)) (sym armed.log_device.stage) some);
+    }
+
+-- and those of the log device behind it
+pub counted-more : {L D : Type 0} {log_seen : L → Seen} {log_gives : L → Call → L → Type 0}
+    {log_entry data_entry : Seen} {stops : Stops} {log_found data_found : Guarded} {log_old log_new : Fused L} {data_old data_new : Fused D} {error : Option DevError} (data_seen : D → Seen)
+    → AreCounted log_entry data_entry stops log_found data_found 0 0 (guarded log_seen log_old) (guarded data_seen data_old)
+    → MakesCalls (CallsThrough log_seen log_gives) log_old log_new (MayEndWith error) → data_new ≡ data_old
+    → AreCounted log_entry data_entry stops log_found data_found (failures error) 0 (guarded log_seen log_new) (guarded data_seen data_new)
+counted-more {D = D} {log_seen = log_seen} {log_gives = log_gives} {data_entry = data_entry} {stops = stops} {data_found = data_found} {log_old = log_old} {log_new = log_new} data_seen was made same =
+    let counts = counts-calls log_seen log_gives log_old log_new made.calls made.made in
+    let old : 0 < log_old.fuse.passed = omega (arith, was.counted, was.log_device.mid) in
+    let new : 0 < log_new.fuse.passed = counts.passed old in
+    record {
+      log_device = armed-calls was.log_device made;
+      data_device = subst (λ (one : Fused D). IsArmed stops.store data_entry data_found 0 (guarded data_seen one)) (sym same) was.data_device;
+      counted = omega arith;
+    }
+
+-- WHAT IS SO WHERE BOTH TELL, of the same two
+pub same-both : (R : Disk → Disk → Type 0) (log data_told log_same data_same : Option Disk) → log_same ≡ log → data_same ≡ data_told
+    → WhereBothTell log_same data_same R → WhereBothTell log data_told R
+same-both R log data_told log_same data_same log_is data_is holds =
+    subst (λ (o : Option Disk). WhereBothTell log o R) data_is (subst (λ (o : Option Disk). WhereBothTell o data_same R) log_is holds)
+
+-- what is so of no disk in particular, told in a weaker way
+weaker-both : {P Q : Type 0} (log data_told : Option Disk) → (P → Q) → WhereBothTell log data_told (λ _ _. P) → WhereBothTell log data_told (λ _ _. Q)
+weaker-both None data_told weaker holds = tt
+weaker-both (Some log) None weaker holds = tt
+weaker-both (Some log) (Some data_told) weaker holds = weaker holds
+
+same-shorter : (cause : Refusal) (log_size data_size log_entry data_entry : ℕ) → log_size ≡ log_entry → data_size ≡ data_entry
+    → IsShorter log_size data_size cause → IsShorter log_entry data_entry cause
+same-shorter cause log_size data_size log_entry data_entry log_same data_same short =
+    subst (λ size. IsShorter log_entry size cause) data_same (subst (λ size. IsShorter size data_size cause) log_same short)
+
+-- a store that could be opened when the fuses were armed
+pub keeps-found : (log_found data_found log_old data_old log_now data_now : Guarded) → log_old.seen ≡ log_found.seen → data_old.seen ≡ data_found.seen
+    → ((reading : Reading) → WhereBothTell log_old.seen.tells data_old.seen.tells (λ log data_disk. IsOpenable reading log data_disk
+    → WhereBothTell log_now.seen.tells data_now.seen.tells (KeepsOpened reading)))
+    → KeepsFound log_found data_found log_now data_now
+keeps-found log_found data_found log_old data_old log_now data_now log_same data_same keeps = λ reading.
+    same-both (λ log data_disk. IsOpenable reading log data_disk → WhereBothTell log_now.seen.tells data_now.seen.tells (KeepsOpened reading))
+    log_found.seen.tells data_found.seen.tells log_old.seen.tells data_old.seen.tells
+    (ap (λ (seen : Seen). seen.tells) log_same) (ap (λ (seen : Seen). seen.tells) data_same) (keeps reading)
+
+-- WHAT WAS FORMATTED is read as the new store
+pub default-limits : IsWithinLimits default_shape
+default-limits = record {
+  page_size = refl;
+  some_pages = lit≤ tt;
+  few_pages = lit≤ tt;
+  space = lit< tt;
+  many_blocks = lit≤ tt;
+  few_blocks = lit≤ tt;
+  slots = refl;
+}
+
+pub told-some : (o : Option Disk) → o ≢ None → (disk : Disk) × (o ≡ Some disk)
+told-some None some = absurd (some refl)
+told-some (Some disk) some = (disk, refl)
+
+pub goes-on : (entry : Seen) (found : Guarded) (disk : Disk) → (entry.tells ≢ None → found.seen.tells ≢ None) → entry.tells ≡ Some disk
+    → (now : Disk) × (found.seen.tells ≡ Some now)
+goes-on entry found disk tells is = told-some found.seen.tells (tells (λ none. cc))
+
+pub formatted-read : (law : FormattedLaw) (log data_told : Option Disk) (log_disk data_disk : Disk)
+    → IfSome log (λ log. IfSome data_told (λ data_disk. IsFormatted default_shape log data_disk)) → log ≡ Some log_disk → data_told ≡ Some data_disk
+    → IsReading log_disk.reads data_disk.reads (formatted_store default_shape)
+formatted-read law log data_told log_disk data_disk formatted log_is data_is =
+    (law default_shape log_disk data_disk default-limits (both-told log data_told (IsFormatted default_shape) formatted log_disk data_disk log_is data_is)).orderly.reads
+
+-- THE STORE WAS REFUSED
+-- the laws of reading
+pub record ReadingLaws : Type 0 where
+  pub one_reading : (log data_bytes : List ℕ) (first second : Reading) → IsReading log data_bytes first → IsReading log data_bytes second → first ≡ second
+  pub one_answer : OneAnswer
+  pub formatted : FormattedLaw
+
+-- nothing that was formatted is refused
+unrefused : ReadingLaws → (log_entry data_entry : Seen) (log_found data_found : Guarded) (cause : Refusal) → ArePrepared log_entry data_entry log_found data_found
+    → IfSome log_found.seen.tells (λ log. IfSome data_found.seen.tells (λ data_disk. IsFormatted default_shape log data_disk))
+    → OnContents log_found.seen.tells data_found.seen.tells (λ log_bytes data_bytes. Refuses log_bytes data_bytes cause)
+    → (log data_disk : Disk) → log_entry.tells ≡ Some log → data_entry.tells ≡ Some data_disk → ⊥
+unrefused laws log_entry data_entry log_found data_found cause prepared formatted refused log data_disk log_is data_is =
+    let log_told = goes-on log_entry log_found log prepared.log_device.same.tells log_is in
+    let data_told = goes-on data_entry data_found data_disk prepared.data_device.same.tells data_is in
+    laws.one_answer log_told.0.reads data_told.0.reads (formatted_store default_shape) cause
+    (formatted-read laws.formatted log_found.seen.tells data_found.seen.tells log_told.0 data_told.0 formatted log_told.1 data_told.1)
+    (on-contents log_found.seen.tells data_found.seen.tells (λ log_bytes data_bytes. Refuses log_bytes data_bytes cause) refused log_told.0 data_told.0 log_told.1 data_told.1)
+
+refused-found : ReadingLaws → (log_entry data_entry : Seen) (log_found data_found : Guarded) (cause : Refusal) → ArePrepared log_entry data_entry log_found data_found
+    → OnContents log_found.seen.tells data_found.seen.tells (λ log_bytes data_bytes. Refuses log_bytes data_bytes cause)
+    → WhereTold log_entry data_entry (λ log data_disk. (IsUnused log.reads → ⊥) × AreRefused cause log data_disk)
+refused-found laws log_entry data_entry log_found data_found cause prepared refused log data_disk log_is data_is = ⊎_elim
+    (λ both. absurd (unrefused laws log_entry data_entry log_found data_found cause prepared both.formatted refused log data_disk log_is data_is))
+    (λ both. (
+      both.used log data_disk log_is data_is,
+      on-contents log_found.seen.tells data_found.seen.tells (λ log_bytes data_bytes. Refuses log_bytes data_bytes cause) refused log data_disk
+          (both.kept.log_device.tells ∙ log_is) (both.kept.data_device.tells ∙ data_is),
+    ))
+    prepared.which
+
+-- what a refusal leaves: both devices mean what they meant when the fuses were armed
+pub record LeavesFound (log_found data_found log_now data_now : Guarded) : Type 0 where
+  pub tells : WhereBothTell log_found.seen.tells data_found.seen.tells (λ log data_disk. (log_now.seen.tells ≡ Some log) × (data_now.seen.tells ≡ Some data_disk))
+  pub crashed : WhereBothTell log_found.seen.tells data_found.seen.tells
+      (λ log data_disk. (log_now.seen.crashed_from ≡ log_found.seen.crashed_from) × (data_now.seen.crashed_from ≡ data_found.seen.crashed_from))
+
+kept-found : ReadingLaws → (log_entry data_entry : Seen) (log_found data_found log_now data_now : Guarded) (cause : Refusal)
+    → ArePrepared log_entry data_entry log_found data_found
+    → OnContents log_found.seen.tells data_found.seen.tells (λ log_bytes data_bytes. Refuses log_bytes data_bytes cause)
+    → LeavesFound log_found data_found log_now data_now
+    → WhereTold log_entry data_entry (λ log data_disk. BothKept log_entry data_entry log_now data_now)
+kept-found laws log_entry data_entry log_found data_found log_now data_now cause prepared refused leaves log data_disk log_is data_is = ⊎_elim
+    (λ both. absurd (unrefused laws log_entry data_entry log_found data_found cause prepared both.formatted refused log data_disk log_is data_is))
+    (λ both.
+    let log_told = both.kept.log_device.tells ∙ log_is in
+    let data_told = both.kept.data_device.tells ∙ data_is in
+    let tells = both-told _ _ (λ l d. (log_now.seen.tells ≡ Some l) × (data_now.seen.tells ≡ Some d)) leaves.tells log data_disk log_told data_told in
+    let crashed = both-told _ _ (λ l d. (log_now.seen.crashed_from ≡ log_found.seen.crashed_from) × (data_now.seen.crashed_from ≡ data_found.seen.crashed_from))
+    leaves.crashed log data_disk log_told data_told in
+    record {
+      log_device = record { tells = tells.0 ∙ sym log_is; crashed_from = crashed.0 ∙ both.kept.log_device.crashed_from };
+      data_device = record { tells = tells.1 ∙ sym data_is; crashed_from = crashed.1 ∙ both.kept.data_device.crashed_from };
+    })
+    prepared.which
+
+-- WHAT A RUN COMES TO whose store wasn't opened, for this fault
+pub record IsUnopened {L D : Type 0} (log_seen : L → Seen) (log_gives : L → Call → L → Type 0) (data_seen : D → Seen) (data_gives : D → Call → D → Type 0)
+    (log_entry data_entry : Seen) (stops : Stops) (log_found data_found : Guarded) (log : Fused L) (data_device : Fused D) (f : RecFault)
+    (log_now : Fused L) (data_now : Fused D) : Type 0 where
+  pub laws : ReadingLaws
+  pub armed : AreArmed log_entry data_entry stops log_found data_found (guarded log_seen log) (guarded data_seen data_device)
+  pub keeps : (reading : Reading) → WhereBothTell (log_seen log.inner).tells (data_seen data_device.inner).tells (λ log_disk data_disk.
+      IsOpenable reading log_disk data_disk → WhereBothTell (log_seen log_now.inner).tells (data_seen data_now.inner).tells (KeepsOpened reading))
+  pub cause : HasFaultCause (seen_through log_seen log) (seen_through data_seen data_device) (seen_through log_seen log_now) (seen_through data_seen data_now) f
+  pub log_calls : MakesCalls (CallsThrough log_seen log_gives) log log_now (OpensLog (log_seen log.inner).size (log_error f))
+  pub data_calls : MakesCalls (CallsThrough data_seen data_gives) data_device data_now (MayEndWith (data_error f))
+
+-- a device failed
+stopped : {L D : Type 0} {log_seen : L → Seen} {log_gives : L → Call → L → Type 0} {data_seen : D → Seen} {data_gives : D → Call → D → Type 0}
+    {log_entry data_entry : Seen} {stops : Stops} {log_found data_found : Guarded} {log : Fused L} {data_device : Fused D} {f : RecFault} {log_now : Fused L} {data_now : Fused D}
+    → IsUnopened log_seen log_gives data_seen data_gives log_entry data_entry stops log_found data_found log data_device f log_now data_now
+    → AreStopped log_entry data_entry stops (failures (log_error f)) (failures (data_error f)) (guarded log_seen log_now) (guarded data_seen data_now)
+stopped {log_seen = log_seen} {data_seen = data_seen} {log_found = log_found} {data_found = data_found} {log = log} {data_device = data_device} {log_now = log_now} {data_now = data_now} is = record {
+  way = way-of log_found data_found is.armed.prepared (counted-opening is.armed is.log_calls is.data_calls);
+  keeps = keeps-found log_found data_found (guarded log_seen log) (guarded data_seen data_device) (guarded log_seen log_now) (guarded data_seen data_now)
+      is.armed.log_same is.armed.data_same is.keeps;
+}
+
+-- the store was refused
+refuses-cause : (f : RecFault) (cause : Refusal) (log data_told : Option Disk) → refusal_of f ≡ Some cause
+    → IfSome (refusal_of f) (λ cause. OnContents log data_told (λ log_bytes data_bytes. Refuses log_bytes data_bytes cause))
+    → OnContents log data_told (λ log_bytes data_bytes. Refuses log_bytes data_bytes cause)
+refuses-cause f cause log data_told is holds =
+    subst (λ (o : Option Refusal). IfSome o (λ cause. OnContents log data_told (λ log_bytes data_bytes. Refuses log_bytes data_bytes cause))) is holds
+
+where-cause : (f : RecFault) (cause : Refusal) (P : Type 0) → refusal_of f ≡ Some cause → IfSome (refusal_of f) (λ _. P) → P
+where-cause f cause P is holds = subst (λ (o : Option Refusal). IfSome o (λ _. P)) is holds
+
+refused-opened : {L D : Type 0} {log_seen : L → Seen} {log_gives : L → Call → L → Type 0} {data_seen : D → Seen} {data_gives : D → Call → D → Type 0}
+    {log_entry data_entry : Seen} {stops : Stops} {log_found data_found : Guarded} {log : Fused L} {data_device : Fused D} {f : RecFault} {log_now : Fused L} {data_now : Fused D}
+    (cause : Refusal) → refusal_of f ≡ Some cause → log_error f ≡ None → data_error f ≡ None → IsShorter (log_seen log.inner).size (data_seen data_device.inner).size cause
+    → IsUnopened log_seen log_gives data_seen data_gives log_entry data_entry stops log_found data_found log data_device f log_now data_now
+    → AreRefusedOpened log_entry data_entry stops cause (guarded log_seen log_now) (guarded data_seen data_now)
+refused-opened {log_seen = log_seen} {data_seen = data_seen} {log_entry = log_entry} {data_entry = data_entry} {stops = stops} {log_found = log_found} {data_found = data_found} {log = log} {data_device = data_device} {f = f} {log_now = log_now} {data_now = data_now} cause is_cause log_none data_none short is =
+    let log_tells : (log_seen log.inner).tells ≡ log_found.seen.tells = ap (λ (seen : Seen). seen.tells) is.armed.log_same in
+    let data_tells : (data_seen data_device.inner).tells ≡ data_found.seen.tells = ap (λ (seen : Seen). seen.tells) is.armed.data_same in
+    let refused : OnContents log_found.seen.tells data_found.seen.tells (λ log_bytes data_bytes. Refuses log_bytes data_bytes cause) =
+    same-both (λ log_disk data_disk. Refuses log_disk.reads data_disk.reads cause) log_found.seen.tells data_found.seen.tells
+    (log_seen log.inner).tells (data_seen data_device.inner).tells log_tells data_tells
+    (refuses-cause f cause (log_seen log.inner).tells (data_seen data_device.inner).tells is_cause is.cause.refused) in
+    let tells = where-cause f cause _ is_cause is.cause.kept in
+    let crashed = where-cause f cause _ is_cause is.cause.kept_crashes in
+    let log_crashed : (log_seen log.inner).crashed_from ≡ log_found.seen.crashed_from = ap (λ (seen : Seen). seen.crashed_from) is.armed.log_same in
+    let data_crashed : (data_seen data_device.inner).crashed_from ≡ data_found.seen.crashed_from = ap (λ (seen : Seen). seen.crashed_from) is.armed.data_same in
+    let leaves : LeavesFound log_found data_found (guarded log_seen log_now) (guarded data_seen data_now) = record {
+      tells = same-both (λ l d. ((log_seen log_now.inner).tells ≡ Some l) × ((data_seen data_now.inner).tells ≡ Some d))
+          log_found.seen.tells data_found.seen.tells (log_seen log.inner).tells (data_seen data_device.inner).tells log_tells data_tells tells;
+      crashed = weaker-both log_found.seen.tells data_found.seen.tells
+          (λ both. (both.0 ∙ log_crashed, both.1 ∙ data_crashed))
+          (same-both (λ l d. ((log_seen log_now.inner).crashed_from ≡ (log_seen log.inner).crashed_from) × ((data_seen data_now.inner).crashed_from ≡ (data_seen data_device.inner).crashed_from))
+          log_found.seen.tells data_found.seen.tells (log_seen log.inner).tells (data_seen data_device.inner).tells log_tells data_tells crashed);
+    } in
+    let counted = counted-opening is.armed is.log_calls is.data_calls in
+    let unfailed : AreCounted log_entry data_entry stops log_found data_found 0 0 (guarded log_seen log_now) (guarded data_seen data_now) =
+    subst (λ n. AreCounted log_entry data_entry stops log_found data_found 0 n (guarded log_seen log_now) (guarded data_seen data_now)) (ap failures data_none)
+    (subst (λ n. AreCounted log_entry data_entry stops log_found data_found n (failures (data_error f)) (guarded log_seen log_now) (guarded data_seen data_now)) (ap failures log_none) counted) in
+    record {
+      way = way-of log_found data_found is.armed.prepared unfailed;
+      keeps = keeps-found log_found data_found (guarded log_seen log) (guarded data_seen data_device) (guarded log_seen log_now) (guarded data_seen data_now)
+          is.armed.log_same is.armed.data_same is.keeps;
+      short = same-shorter cause _ _ _ _ is.armed.log_device.same.size is.armed.data_device.same.size short;
+      refused = refused-found is.laws log_entry data_entry log_found data_found cause is.armed.prepared refused;
+      kept = kept-found is.laws log_entry data_entry log_found data_found (guarded log_seen log_now) (guarded data_seen data_now) cause is.armed.prepared refused leaves;
+    }
+
+pub unopened-comes : {L D : Type 0} {log_seen : L → Seen} {log_gives : L → Call → L → Type 0} {data_seen : D → Seen} {data_gives : D → Call → D → Type 0}
+    {log_entry data_entry : Seen} {stops : Stops} {log_found data_found : Guarded} {log : Fused L} {data_device : Fused D}
+    (script : List ScriptLine) (f : RecFault) (log_now : Fused L) (data_now : Fused D)
+    → IsUnopened log_seen log_gives data_seen data_gives log_entry data_entry stops log_found data_found log data_device f log_now data_now
+    → ComesTo log_entry data_entry stops script (unopened f) (guarded log_seen log_now) (guarded data_seen data_now)
+unopened-comes script LogDev log_now data_now is = stopped is
+unopened-comes script DataDev log_now data_now is = stopped is
+unopened-comes script NoMemory log_now data_now is = inr (stopped is).way
+unopened-comes script (SmallLog n) log_now data_now is = inr (refused-opened (refusal.SmallLog n) refl refl refl is.cause.lengths is)
+unopened-comes script NotFormatted log_now data_now is = inr (refused-opened refusal.NotFormatted refl refl refl tt is)
+unopened-comes script (BadFormat n) log_now data_now is = inr (refused-opened (refusal.BadFormat n) refl refl refl tt is)
+unopened-comes script (SmallData n) log_now data_now is = inr (refused-opened (refusal.SmallData n) refl refl refl is.cause.lengths is)
+unopened-comes script NoCheckpoint log_now data_now is = inr (refused-opened refusal.NoCheckpoint refl refl refl tt is)
+unopened-comes script (BadRecord lsn) log_now data_now is = inr (refused-opened (refusal.BadRecord lsn) refl refl refl tt is)
+unopened-comes script (PageLost p) log_now data_now is = inr (refused-opened (refusal.PageLost p) refl refl refl tt is)
+unopened-comes script (PageAhead p lsn) log_now data_now is = inr (refused-opened (refusal.PageAhead p lsn) refl refl refl tt is)

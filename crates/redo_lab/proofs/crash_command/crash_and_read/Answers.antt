@@ -1,0 +1,22 @@
+use Rattle.redo_recover.specs.Reading.{reading_of}
+use Rattle.redo_lab.specs.Reported.{run_of}
+use Rattle.redo_lab.proofs.Crashing.{back-fails, back-read, data-crashed, log-crashed}
+use Rattle.redo_lab.proofs.crash_command.crash_and_read.Goals as goal
+
+pub returns-in-Ok : goal.returns-in-Ok
+returns-in-Ok g c =
+    let now = c.in-Ok.ensures in
+    rw c.of_text.ensures (back-read c.args.pick c.args.script.now (run_of c.args.played) (reading_of c.in-Ok.recovered) _ _ _ _
+    (g.L.Sectors.seen c.crash.new.self.inner) (g.D.Sectors.seen c.crash-2.new.self.inner) _
+    (record { log_device = log-crashed c.crash.ensures.gives now.log_calls; data_device = data-crashed c.crash-2.ensures.gives now.data_calls })
+    (record { tells = now.log.tells; size = now.log.size }) (record { tells = now.data_device.tells; size = now.data_device.size })
+    now.read c.report_crash.ensures)
+
+pub returns-in-Err : goal.returns-in-Err
+returns-in-Err g c =
+    let now = c.in-Err.ensures in
+    rw c.fault_of.ensures (back-fails c.args.pick c.args.script.now (run_of c.args.played) _ _ _ _
+    (g.L.Sectors.seen c.crash.new.self.inner) (g.D.Sectors.seen c.crash-2.new.self.inner) c.in-Err.fault
+    (record { log_device = log-crashed c.crash.ensures.gives now.log_calls; data_device = data-crashed c.crash-2.ensures.gives now.data_calls })
+    (record { tells = now.log.tells; size = now.log.size }) (record { tells = now.data_device.tells; size = now.data_device.size })
+    now.cause now.lengths)

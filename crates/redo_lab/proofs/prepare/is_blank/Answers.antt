@@ -1,0 +1,5 @@
+use Rattle.redo_lab.proofs.Once.{is-text}
+use Rattle.redo_lab.proofs.prepare.is_blank.Goals as goal
+
+pub returns : goal.returns
+returns c = is-text _ _ _ c.eq.ensures

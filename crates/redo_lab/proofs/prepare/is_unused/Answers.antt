@@ -1,0 +1,13 @@
+-- The first block of the log device.
+use Rattle.redo_lab.proofs.Once.{is-unused, read-once}
+use Rattle.redo_lab.proofs.prepare.is_unused.Goals as goal
+
+pub returns-in-Ok-clause-unused : goal.returns-in-Ok-clause-unused
+returns-in-Ok-clause-unused g c =
+    is-unused (g.L.Sectors.seen c.args.log.now).tells c.is_blank.result c.read.new.out c.in-Ok.ensures.step.bytes c.is_blank.ensures
+
+pub returns-in-Ok-clause-calls : goal.returns-in-Ok-clause-calls
+returns-in-Ok-clause-calls g c = read-once c.in-Ok.ensures.gives
+
+pub returns-in-Err-clause-calls : goal.returns-in-Err-clause-calls
+returns-in-Err-clause-calls g c = read-once c.in-Err.ensures.gives

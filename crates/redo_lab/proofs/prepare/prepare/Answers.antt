@@ -1,0 +1,37 @@
+-- Both devices are prepared for a run.
+use Rattle.std.proofs.Common.{◌≤◌, arith}
+use Rattle.model_base.specs.Limits.{default_shape}
+use Rattle.model_log.specs.declared.layout.TheConstants.{HEADER_BYTES}
+use Rattle.redo_memdisk.specs.Fused.{seen_through}
+use Rattle.redo_lab.proofs.Formatting.{format-fault}
+use Rattle.redo_lab.proofs.Preparing.{prepared-formatted, prepared-in-use, read-first, unprepared-formatted, unprepared-read}
+use Rattle.redo_lab.proofs.prepare.prepare.Goals as goal
+
+pub returns-in-Ok : goal.returns-in-Ok
+returns-in-Ok g c =
+    let header : HEADER_BYTES ≤ (g.L.Sectors.seen c.args.log.now.inner).size = omega (arith, c.len.ensures.size, c.if-len-lt-HEADER_BYTES.false) in
+    prepared-formatted c.in-Ok.field-0 header (read-first {data_seen = g.D.Sectors.seen} c.requires.log_fresh c.requires.data_fresh c.in-Ok-true.ensures.calls)
+    (rw c.in-Ok-true.field-0-test at c.in-Ok-true.ensures.unused) c.in-Ok.ensures.calls (rw c.default_shape.ensures at c.in-Ok.ensures.lengths) (rw c.default_shape.ensures at c.in-Ok.ensures.formatted)
+
+pub returns-in-Err-format : goal.returns-in-Err-format
+returns-in-Err-format g c =
+    let header : HEADER_BYTES ≤ (g.L.Sectors.seen c.args.log.now.inner).size = omega (arith, c.len.ensures.size, c.if-len-lt-HEADER_BYTES.false) in
+    unprepared-formatted g.L.Sectors.gives g.D.Sectors.gives c.format.new.log c.format.new.data_device c.in-Err-format.fault header
+    (read-first {data_seen = g.D.Sectors.seen} c.requires.log_fresh c.requires.data_fresh c.in-Ok-true.ensures.calls)
+    (rw c.in-Ok-true.field-0-test at c.in-Ok-true.ensures.unused) c.len.ensures.told c.in-Err-format.ensures.calls
+    (format-fault default_shape (seen_through g.L.Sectors.seen c.is_unused.new.log) (seen_through g.D.Sectors.seen c.args.store.now)
+    (seen_through g.L.Sectors.seen c.format.new.log) (seen_through g.D.Sectors.seen c.format.new.data_device) c.in-Err-format.fault
+    (rw c.default_shape.ensures at c.in-Err-format.ensures.cause))
+    (rw c.default_shape.ensures at c.in-Err-format.ensures.keeps)
+
+pub returns-in-Ok-false : goal.returns-in-Ok-false
+returns-in-Ok-false g c =
+    let header : HEADER_BYTES ≤ (g.L.Sectors.seen c.args.log.now.inner).size = omega (arith, c.len.ensures.size, c.if-len-lt-HEADER_BYTES.false) in
+    prepared-in-use g.L.Sectors.seen g.D.Sectors.seen _ _ c.is_unused.new.log c.args.store.now header
+    (read-first c.requires.log_fresh c.requires.data_fresh c.in-Ok-false.ensures.calls) (rw c.in-Ok-false.field-0-test at c.in-Ok-false.ensures.unused)
+
+pub returns-in-Err : goal.returns-in-Err
+returns-in-Err g c =
+    rw c.first_fault.ensures
+    (unprepared-read g.L.Sectors.seen g.D.Sectors.seen _ _ c.is_unused.new.log c.args.store.now c.in-Err.error
+    (read-first c.requires.log_fresh c.requires.data_fresh c.in-Err.ensures.calls))

@@ -1,0 +1,207 @@
+-- Why a call ends without the text that it was asked for. The first cause that holds decides: the words, the source and its
+-- script, formatting or opening, the fit, the run, the crash and the reading behind it. Want of memory decides where it is
+-- met.
+use Rattle.std.specs.Prelude.{ℕ, ◌≡◌, ◌≤◌, ◌<◌, ◌⊎◌, true, false, List, Option, Some, None, ⊤}
+use Rattle.model_base.specs.Count.{HasRisen}
+use Rattle.model_base.specs.Limits.{default_shape, IsWithinLimits}
+use Rattle.model_command.specs.declared.asked.Command.{Command}
+use Rattle.model_command.specs.declared.asked.Command.TheVariants.{Format, Run, Crash, Recover, Dump, Gen}
+use Rattle.model_device.specs.Disk.{Disk}
+use Rattle.model_log.specs.Lsn.{start_after}
+use Rattle.model_log.specs.declared.layout.TheConstants.{HEADER_BYTES}
+use Rattle.model_opening.specs.Formatted.{KeepsNoStore, formatted_store}
+use Rattle.model_opening.specs.Opened.{IsOpenable, KeepsOpened}
+use Rattle.model_report.specs.declared.fault.Fault.{Fault}
+use Rattle.model_report.specs.declared.fault.Fault.TheVariants.{Memory, Words, Script, Source, LogDevice, DataDevice, Store, Fit}
+use Rattle.model_script.specs.Fit.{first_misfit}
+use Rattle.model_script.specs.declared.misfit.Misfit.{Misfit}
+use Rattle.model_script.specs.declared.script.ScriptLine.{ScriptLine}
+use Rattle.model_store.specs.Opening.{IsUnused, OpensOrderly}
+use Rattle.model_store.specs.Reading.{Reading}
+use Rattle.model_store.specs.declared.refusal.Refusal.{Refusal}
+use Rattle.model_theorem.specs.Premises.{IsFresh}
+use Rattle.model_theorem.specs.Script.{room_of}
+use Rattle.model_theorem.specs.Values.{Opened}
+use Rattle.redo_disk.specs.Seen.{Seen}
+use Rattle.redo_memdisk.specs.declared.fuse.Fuse.{Fuse}
+use Rattle.redo_memdisk.specs.declared.fuse.Stage.TheVariants.{Before}
+use Rattle.redo_lab.specs.Answer.{AreUnfailed, AreUnfailedAside, shape_of}
+use Rattle.redo_lab.specs.Asked.{calls_devices, command_of, leaves_devices, reads_script, stops_of}
+use Rattle.redo_lab.specs.Call.{AreKept, AreLeftAlone, Call, Guarded, IsUnread}
+use Rattle.redo_lab.specs.Devices.{HasFailed, IsCrashedAs, IsUnfailed, WhereToldAtEntry, WhereToldNow}
+use Rattle.redo_lab.specs.Script.{IsBadLine, IsLongScript, IsScriptOf}
+use Rattle.redo_lab.specs.Store.{AreReadAsOpened, AreRefused, HasNoHeader, IsOpenedAs, IsShorter, IsTooShort}
+
+-- the script of a command that reads one was read; of any other command the source was left alone
+abbrev pub IsPastSource : Call → Command → Type 0
+IsPastSource call command =
+    ((reads_script command ≡ true) × (text : List ℕ) × (script : List ScriptLine) × IsScriptOf call.source call.source_now text script)
+    ⊎ ((reads_script command ≡ false) × IsUnread call)
+
+-- The log device was unused, and formatting both was begun: whatever a crash would leave is what they held, or no store, or
+-- the new one.
+pub record IsFormattingBegun (call : Call) : Type 0 where
+  pub unused : WhereToldAtEntry call (λ log data_disk. IsUnused log.reads)
+  pub no_store : WhereToldAtEntry call (λ log data_disk. WhereToldNow call (KeepsNoStore default_shape log data_disk))
+
+-- no store was opened: formatting both devices was begun, or they are as they were
+abbrev pub IsBegunOrKept : Call → Type 0
+IsBegunOrKept call = IsFormattingBegun call ⊎ AreKept call
+
+-- A call of this device failed that ends a crash with its fault: one before the fuse was armed, while the devices were
+-- formatted, or one behind the crash, while they were read. A failure between ends the run and not the call.
+abbrev pub FailsAside : Call → (limit : Option ℕ) → (pick : ℕ) → Fuse → Type 0
+FailsAside call limit pick fuse =
+    ((0 < fuse.early) × (fuse.stage ≡ Before) × IsBegunOrKept call)
+    ⊎ ((0 < fuse.late) × IsCrashedAs limit pick fuse)
+
+-- A call of the device failed, and so its count rose. The fuse failed none by itself but where the words ask for a stop.
+abbrev pub IsDeviceFault : Call → Command → (stop : Option ℕ) → Seen → Guarded → Type 0
+IsDeviceFault call (Crash drive stop_log stop_data pick) stop old new =
+    HasRisen old.faults new.seen.faults × FailsAside call stop pick new.fuse
+IsDeviceFault call command stop old new = HasRisen old.faults new.seen.faults × HasFailed new.fuse
+
+-- No call of the log device failed, which would have decided before the data device. In a crash a failure between opening and
+-- the crash decides nothing.
+abbrev pub IsLogUnfailed : Call → Command → Type 0
+IsLogUnfailed call (Crash drive stop_log stop_data pick) =
+    (call.log_device_now.fuse.early ≡ 0) × (call.log_device_now.fuse.late ≡ 0)
+IsLogUnfailed call command = IsUnfailed call.log_device_now.fuse
+
+-- The store is refused that a run was to open: a device is too short for a header, or the log device is unused and a
+-- device is too short for a new store; or it is in use, and what reads gave at entry is refused. Nothing was changed. A device
+-- that doesn't tell may read otherwise the second time, when opening has begun to write; so the last is said of those that tell.
+abbrev pub IsUnopenable : Call → Refusal → Type 0
+IsUnopenable call refusal =
+    (AreKept call × HasNoHeader call.log_device.size refusal)
+    ⊎ (AreKept call × (HEADER_BYTES ≤ call.log_device.size)
+    × IsTooShort default_shape call.log_device.size call.data_device.size refusal
+    × WhereToldAtEntry call (λ log data_disk. IsUnused log.reads))
+    ⊎ ((HEADER_BYTES ≤ call.log_device.size)
+    × IsShorter call.log_device.size call.data_device.size refusal
+    × WhereToldAtEntry call (λ log data_disk. AreKept call × (IsUnused log.reads → ⊥) × AreRefused refusal log data_disk))
+
+-- the store is refused that a run was to open, and no call of a device failed
+pub record IsOpeningRefused (call : Call) (refusal : Refusal) : Type 0 where
+  pub unfailed : AreUnfailed call
+  pub unopenable : IsUnopenable call refusal
+
+-- the store that a command was to read is refused, and no call of a device failed
+pub record IsReadingRefused (call : Call) (refusal : Refusal) : Type 0 where
+  pub unfailed : AreUnfailed call
+  pub shorter : IsShorter call.log_device.size call.data_device.size refusal
+  pub refused : WhereToldAtEntry call (AreRefused refusal)
+
+-- the store that a crash left is refused, and no call of a device failed but between opening and the crash
+pub record IsLeftRefused (call : Call) (stop_log stop_data : Option ℕ) (pick : ℕ) (refusal : Refusal) : Type 0 where
+  pub log_crashed : IsCrashedAs stop_log pick call.log_device_now.fuse
+  pub data_crashed : IsCrashedAs stop_data pick call.data_device_now.fuse
+  pub unfailed : AreUnfailedAside call
+  pub shorter : IsShorter call.log_device.size call.data_device.size refusal
+  pub refused : WhereToldNow call (AreRefused refusal)
+
+-- The store is refused. What a crash left may be so too, where the premises of the crash theorem don't hold.
+abbrev pub IsRefused : Call → Command → Refusal → Type 0
+IsRefused call (Format pages space log_blocks) refusal =
+    AreLeftAlone call × IsTooShort (shape_of pages space log_blocks) call.log_device.size call.data_device.size refusal
+IsRefused call (Run drive) refusal = IsOpeningRefused call refusal
+IsRefused call (Crash drive stop_log stop_data pick) refusal =
+    IsOpeningRefused call refusal ⊎ IsLeftRefused call stop_log stop_data pick refusal
+IsRefused call Recover refusal = IsReadingRefused call refusal
+IsRefused call Dump refusal = IsReadingRefused call refusal
+IsRefused call (Gen seed users groups run max) refusal = ⊥
+
+-- A quantity of the script is the first that doesn't fit the store that was opened, without a failure of a device. No
+-- checkpoint frees the log yet, so it has room for one round from the opened checkpoint on.
+pub record IsScriptMisfit (call : Call) (misfit : Misfit) : Type 0 where
+  pub text : List ℕ
+  pub script : List ScriptLine
+  pub opened : Opened
+  pub source : IsScriptOf call.source call.source_now text script
+  pub opens : WhereToldAtEntry call (IsOpenedAs opened)
+  pub limits : IsWithinLimits opened.shape
+  pub unfailed : AreUnfailed call
+  pub first : first_misfit opened.shape (start_after opened.end) (room_of true opened) script ≡ Some misfit
+
+-- a quantity doesn't fit
+abbrev pub IsMisfit : Call → Misfit → Type 0
+IsMisfit call misfit = (IsLongScript call.source misfit × AreLeftAlone call) ⊎ IsScriptMisfit call misfit
+
+-- why the command isn't done
+abbrev pub IsCauseOf : Call → Command → Fault → Type 0
+IsCauseOf call command Memory = ⊤
+IsCauseOf call command (Script n) = (reads_script command ≡ true) × IsBadLine call.source call.source_now n × AreLeftAlone call
+IsCauseOf call command Source = (reads_script command ≡ true) × HasRisen call.source.faults call.source_now.faults × AreLeftAlone call
+IsCauseOf call command LogDevice =
+    (calls_devices command ≡ true) × IsPastSource call command
+    × IsDeviceFault call command (stops_of command).0 call.log_device call.log_device_now
+IsCauseOf call command DataDevice =
+    (calls_devices command ≡ true) × IsPastSource call command × IsLogUnfailed call command
+    × IsDeviceFault call command (stops_of command).1 call.data_device call.data_device_now
+IsCauseOf call command (Store refusal) = IsPastSource call command × IsRefused call command refusal
+IsCauseOf call command (Fit misfit) = (reads_script command ≡ true) × IsMisfit call misfit
+IsCauseOf call command _ = ⊥
+
+-- What is left of a store in use, on fresh devices, where a run ended before its first line: it is read with the pages that
+-- it had, whatever a crash would leave.
+abbrev pub KeepsStore : Call → Type 0
+KeepsStore call =
+    (log data_disk : Disk) (opened : Opened) → call.log_device.tells ≡ Some log → call.data_device.tells ≡ Some data_disk
+    → IsFresh log call.log_device.faults → IsFresh data_disk call.data_device.faults
+    → OpensOrderly log.reads data_disk.reads opened.shape opened.pages opened.end
+    → WhereToldNow call (AreReadAsOpened opened)
+
+-- What both devices meant when their fuses were armed, before opening: a store that was just formatted, where the log device
+-- was unused when it was handed in; else what they meant then.
+pub record AreFound (call : Call) (log data_disk : Disk) : Type 0 where
+  pub log_found : Disk
+  pub data_found : Disk
+  pub log_is : call.log_device_now.armed_from ≡ Some log_found
+  pub data_is : call.data_device_now.armed_from ≡ Some data_found
+  pub unused : IsUnused log.reads → IsOpenable (formatted_store default_shape) log_found data_found
+  pub log_in_use : (IsUnused log.reads → ⊥) → log_found ≡ log
+  pub data_in_use : (IsUnused log.reads → ⊥) → data_found ≡ data_disk
+
+-- The store that was found when the fuses were armed is kept, also a new one: what could be opened then is read with its
+-- pages, whatever a crash would leave.
+pub record IsFoundKept (call : Call) : Type 0 where
+  pub found : WhereToldAtEntry call (AreFound call)
+  pub keeps : (log data_disk : Disk) (opened : Reading) → call.log_device_now.armed_from ≡ Some log
+      → call.data_device_now.armed_from ≡ Some data_disk → IsOpenable opened log data_disk → WhereToldNow call (KeepsOpened opened)
+
+-- neither fuse was armed, and no store was opened
+pub record AreNotArmed (call : Call) : Type 0 where
+  pub log_device : call.log_device_now.fuse.stage ≡ Before
+  pub data_device : call.data_device_now.fuse.stage ≡ Before
+  pub left : IsBegunOrKept call
+
+-- what is left where a run ended before its first line
+abbrev pub LeavesStore : Call → Type 0
+LeavesStore call = KeepsStore call × (AreNotArmed call ⊎ IsFoundKept call)
+
+-- what a fault leaves beside its cause: want of memory may come behind the run
+abbrev pub LeavesBehind : Call → Command → Fault → Type 0
+LeavesBehind call (Run drive) Memory = ⊤
+LeavesBehind call (Run drive) fault = LeavesStore call
+LeavesBehind call (Crash drive stop_log stop_data pick) (Fit misfit) = LeavesStore call
+LeavesBehind call command fault = ⊤
+
+-- the words ask for no command that is served, and nothing was done
+pub record AsksNothing (call : Call) (fault : Fault) : Type 0 where
+  pub fault_is : ((command_of call.words ≡ None) × (fault ≡ Words)) ⊎ (fault ≡ Memory)
+  pub unread : IsUnread call
+  pub alone : AreLeftAlone call
+
+-- The words ask for a command, and this is why it isn't done. A command that reads no script leaves the source alone, and
+-- one that only reads the devices leaves them as they are.
+pub record FailsCommand (call : Call) (fault : Fault) : Type 0 where
+  pub command : Command
+  pub asked : command_of call.words ≡ Some command
+  pub cause : IsCauseOf call command fault
+  pub unread : reads_script command ≡ false → IsUnread call
+  pub kept : leaves_devices command ≡ true → AreKept call
+  pub behind : LeavesBehind call command fault
+
+-- why the call has no text
+abbrev pub IsCause : Call → Fault → Type 0
+IsCause call fault = AsksNothing call fault ⊎ FailsCommand call fault

@@ -1,0 +1,92 @@
+-- The two devices once a run has prepared them: formatted with the default sizes, where the log device is unused, else as
+-- they were.
+use Rattle.std.specs.Prelude.{ℕ, ◌≡◌, ◌≤◌, ◌⊎◌, List, length, Option, Some, Result, Ok, Err, IfSome}
+use Rattle.model_base.specs.Limits.{default_shape}
+use Rattle.model_device.specs.Disk.{Disk}
+use Rattle.model_log.specs.declared.layout.TheConstants.{HEADER_BYTES}
+use Rattle.model_opening.specs.Formatted.{IsFormatted, KeepsNoStore}
+use Rattle.model_store.specs.Opening.{IsUnused}
+use Rattle.model_store.specs.declared.refusal.Refusal.{Refusal}
+use Rattle.model_store.specs.declared.refusal.Refusal.TheVariants as refusal
+use Rattle.redo_disk.specs.Calls.{Call, ReadsEndWith}
+use Rattle.redo_disk.specs.Seen.{HasSize, Seen}
+use Rattle.redo_disk.specs.declared.error.DevError.{DevError}
+use Rattle.redo_open.specs.Devices.{WhereBothTell}
+use Rattle.redo_recover.specs.declared.fault.RecFault.{RecFault}
+use Rattle.redo_recover.specs.declared.fault.RecFault.TheVariants.{SmallLog, SmallData, LogDev, DataDev, NoMemory}
+use Rattle.redo_lab.specs.Call.{Guarded, IsKept}
+use Rattle.redo_lab.specs.Stages.{IsUnarmed}
+use Rattle.redo_lab.specs.Store.{HasNoHeader, IsTooShort}
+use Rattle.redo_lab.specs.Complete.{AreLongEnough}
+
+-- the calls are one read, which answered this
+pub record ReadsOnce (error : Option DevError) (calls : List Call) : Type 0 where
+  pub reads : ReadsEndWith error calls
+  pub one : length calls ≡ 1
+
+-- where both devices told what they mean when they were handed in, this holds of the two
+abbrev pub WhereTold : Seen → Seen → (Disk → Disk → Type 0) → Type 0
+WhereTold log_entry data_entry P = (log data_disk : Disk) → log_entry.tells ≡ Some log → data_entry.tells ≡ Some data_disk → P log data_disk
+
+-- the log device was unused, where the devices told
+abbrev pub WasUnused : Seen → Seen → Type 0
+WasUnused log_entry data_entry = WhereTold log_entry data_entry (λ log data_disk. IsUnused log.reads)
+
+-- both devices are as they were
+pub record BothKept (log_entry data_entry : Seen) (log_now data_now : Guarded) : Type 0 where
+  pub log_device : IsKept log_entry log_now
+  pub data_device : IsKept data_entry data_now
+
+-- both were formatted, which was unused; where they tell they hold a store that was just formatted
+pub record BothFormatted (log_entry data_entry : Seen) (log_now data_now : Guarded) : Type 0 where
+  pub unused : WasUnused log_entry data_entry
+  pub long : AreLongEnough default_shape log_entry.size data_entry.size
+  pub formatted : IfSome log_now.seen.tells (λ log. IfSome data_now.seen.tells (λ data_disk. IsFormatted default_shape log data_disk))
+
+-- both are as they were, and in use where they told; before that came one read of the log device
+pub record BothInUse (log_entry data_entry : Seen) (log_now data_now : Guarded) : Type 0 where
+  pub used : WhereTold log_entry data_entry (λ log data_disk. IsUnused log.reads → ⊥)
+  pub kept : BothKept log_entry data_entry log_now data_now
+  pub log_calls : log_now.fuse.early_calls ≤ 1
+  pub data_calls : data_now.fuse.early_calls ≡ 0
+
+-- BOTH ARE READY TO BE OPENED: no call failed, and they were formatted or are in use.
+pub record ArePrepared (log_entry data_entry : Seen) (log_now data_now : Guarded) : Type 0 where
+  pub log_device : IsUnarmed log_entry 0 log_now
+  pub data_device : IsUnarmed data_entry 0 data_now
+  pub header : HEADER_BYTES ≤ log_entry.size
+  pub which : BothFormatted log_entry data_entry log_now data_now ⊎ BothInUse log_entry data_entry log_now data_now
+
+-- formatting both was begun, since the log device was unused; it leaves no store but the new one
+pub record BothBegun (log_entry data_entry : Seen) (log_now data_now : Guarded) : Type 0 where
+  pub unused : WasUnused log_entry data_entry
+  pub no_store : WhereTold log_entry data_entry
+      (λ log data_disk. WhereBothTell log_now.seen.tells data_now.seen.tells (KeepsNoStore default_shape log data_disk))
+
+-- THEY AREN'T: so many calls failed, and formatting was begun or both are as they were.
+pub record EndUnprepared (log_entry data_entry : Seen) (log_failed data_failed : ℕ) (log_now data_now : Guarded) : Type 0 where
+  pub log_device : IsUnarmed log_entry log_failed log_now
+  pub data_device : IsUnarmed data_entry data_failed data_now
+  pub begun_or_kept : BothBegun log_entry data_entry log_now data_now ⊎ BothKept log_entry data_entry log_now data_now
+
+-- nothing was written, since a device is too short for a header, or for a new store, where the log device was unused
+pub record AreTooShort (log_entry data_entry : Seen) (cause : Refusal) (log_now data_now : Guarded) : Type 0 where
+  pub ends : EndUnprepared log_entry data_entry 0 0 log_now data_now
+  pub kept : BothKept log_entry data_entry log_now data_now
+  pub sized : IfSome log_entry.tells (HasSize log_entry.size)
+  pub short : HasNoHeader log_entry.size cause
+      ⊎ ((HEADER_BYTES ≤ log_entry.size) × IsTooShort default_shape log_entry.size data_entry.size cause × WasUnused log_entry data_entry)
+
+-- why they aren't
+abbrev pub IsUnpreparedBy : Seen → Seen → RecFault → Guarded → Guarded → Type 0
+IsUnpreparedBy log_entry data_entry (SmallLog n) log_now data_now = AreTooShort log_entry data_entry (refusal.SmallLog n) log_now data_now
+IsUnpreparedBy log_entry data_entry (SmallData n) log_now data_now = AreTooShort log_entry data_entry (refusal.SmallData n) log_now data_now
+IsUnpreparedBy log_entry data_entry LogDev log_now data_now = EndUnprepared log_entry data_entry 1 0 log_now data_now
+IsUnpreparedBy log_entry data_entry DataDev log_now data_now = EndUnprepared log_entry data_entry 0 1 log_now data_now
+IsUnpreparedBy log_entry data_entry NoMemory log_now data_now = EndUnprepared log_entry data_entry 0 0 log_now data_now
+IsUnpreparedBy log_entry data_entry fault log_now data_now = ⊥
+
+-- what preparing leaves
+abbrev pub Prepares : Seen → Seen → Result (Unit {0}) RecFault → Guarded → Guarded → Type 0
+Prepares log_entry data_entry (Ok done) log_now data_now = ArePrepared log_entry data_entry log_now data_now
+Prepares log_entry data_entry (Err fault) log_now data_now = IsUnpreparedBy log_entry data_entry fault log_now data_now

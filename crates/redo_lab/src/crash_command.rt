@@ -1,0 +1,110 @@
+// The command `crash`.
+ghost use Rattle.std.specs.Prelude.{ℕ, ◌≤◌, List, Some, IfOk, length};
+ghost use Rattle.std.specs.List.{AllByRecursion};
+ghost use Rattle.model_base.specs.declared.limits.TheConstants.{MAX_PAGES};
+ghost use Rattle.model_command.specs.declared.asked.Command.TheVariants.{Crash};
+ghost use Rattle.model_command.specs.declared.asked.Drive.{Drive};
+ghost use Rattle.model_script.specs.Ranges.{IsScriptLine};
+ghost use Rattle.redo_io.specs.Source.{SourceSeen};
+ghost use Rattle.redo_lab.specs.Call.{guarded};
+ghost use Rattle.redo_lab.specs.Crashed.{ReadsBack};
+ghost use Rattle.redo_lab.specs.Outcome.{EndsCommand, call_of};
+ghost use Rattle.redo_lab.specs.Reported.{IsReportOf, run_of};
+ghost use Rattle.redo_lab.specs.Script.{IsScriptRead};
+
+use crate::faults::fault_of;
+use crate::outcome::{Done, Outcome};
+use crate::playing::{Course, Played, Ran, Stops, run_lines};
+use crate::reading::contents;
+use crate::reporting::report_of;
+use model_opening::formatted_is_openable;
+use model_run::{closed_run_is_safe, crash_of_safe_run};
+use model_script::{Script, unfit_is_misfit};
+use model_store::{one_answer, one_reading};
+use redo_disk::Sectors;
+use redo_io::Text;
+use redo_lsn::NoMemory;
+use redo_memdisk::Fused;
+use redo_recover::{Recovered, recover};
+use std::alloc::Global;
+
+/// The report of a run and of what was read behind the crash.
+fn report_crash(
+    alloc: Global,
+    script: &Script,
+    played: Option<&Played>,
+    recovered: &Recovered,
+) -> Result<Text, NoMemory>
+    requires { length recovered.now.pages ≤ MAX_PAGES }
+    ensures { IfOk result (λ text. IsReportOf script.now (run_of played.entry) (Some (recovered.now.end, recovered.now.pages)) text) }
+{
+    let pages = contents(alloc, &recovered.pages)?;
+    report_of(
+        alloc,
+        script,
+        played,
+        Some((recovered.end, pages.as_slice())),
+    )
+}
+
+/// Crashes both devices with this pick, and reads the store off what they kept.
+fn crash_and_read<L: Sectors, D: Sectors>(
+    alloc: Global,
+    script: &Script,
+    pick: u64,
+    played: Option<&Played>,
+    mut log: Fused<L>,
+    mut store: Fused<D>,
+) -> Done<L, D>
+    ensures { ReadsBack pick script.now (run_of played.entry) result.outcome
+        (guarded L.seen log) (guarded D.seen store) (guarded L.seen result.log) (guarded D.seen result.store) }
+{
+    log.crash(pick);
+    store.crash(pick);
+    match recover(alloc, &mut log, &mut store) {
+        Ok(recovered) => Done {
+            outcome: Outcome::of_text(report_crash(alloc, script, played, &recovered)),
+            log,
+            store,
+        },
+        Err(fault) => Done {
+            outcome: Outcome::Fault(fault_of(fault)),
+            log,
+            store,
+        },
+    }
+}
+
+/// Runs the script with these stops, crashes both devices with this pick, reads the store, and reports it all. A device
+/// that fails before the crash ends the run and not the command.
+pub(crate) fn crash_command<L: Sectors, D: Sectors>(
+    alloc: Global,
+    script: &Script,
+    stops: Stops,
+    pick: u64,
+    log: L,
+    store: D,
+) -> Done<L, D>
+    requires { AllByRecursion IsScriptLine script.now }
+    ensures { (words : List (List ℕ)) (source source_now : SourceSeen) (drive : Drive) → IsScriptRead source source_now script.now
+        → EndsCommand (call_of L.seen D.seen words source source_now log store result) (Crash drive stops.log stops.store pick) result.outcome }
+{
+    one_answer();
+    one_reading();
+    formatted_is_openable();
+    closed_run_is_safe();
+    crash_of_safe_run();
+    unfit_is_misfit();
+    let Ran { course, log, store } = run_lines(alloc, script, stops, log, store);
+    match course {
+        Course::Ended(fault) => Done {
+            outcome: Outcome::Fault(fault),
+            log,
+            store,
+        },
+        Course::Stopped(_) => crash_and_read(alloc, script, pick, None, log, store),
+        Course::Played(played, _) => {
+            crash_and_read(alloc, script, pick, Some(&played), log, store)
+        }
+    }
+}

@@ -1,0 +1,26 @@
+// The faults of a call, by those of the layers below.
+ghost use Rattle.std.specs.Prelude.{◌≡◌};
+ghost use Rattle.redo_lab.specs.Faults.{fault_of};
+
+use model_report::Fault;
+use model_store::Refusal;
+use redo_recover::RecFault;
+
+/// The fault of a call whose store isn't formatted, read or opened.
+pub(crate) fn fault_of(fault: RecFault) -> Fault
+    ensures { result ≡ fault_of fault }
+{
+    match fault {
+        RecFault::SmallLog(n) => Fault::Store(Refusal::SmallLog(n)),
+        RecFault::NotFormatted => Fault::Store(Refusal::NotFormatted),
+        RecFault::BadFormat(n) => Fault::Store(Refusal::BadFormat(n)),
+        RecFault::SmallData(n) => Fault::Store(Refusal::SmallData(n)),
+        RecFault::NoCheckpoint => Fault::Store(Refusal::NoCheckpoint),
+        RecFault::BadRecord(lsn) => Fault::Store(Refusal::BadRecord(lsn)),
+        RecFault::PageLost(page) => Fault::Store(Refusal::PageLost(page)),
+        RecFault::PageAhead(page, lsn) => Fault::Store(Refusal::PageAhead(page, lsn)),
+        RecFault::LogDev => Fault::LogDevice,
+        RecFault::DataDev => Fault::DataDevice,
+        RecFault::NoMemory => Fault::Memory,
+    }
+}

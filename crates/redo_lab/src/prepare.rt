@@ -1,0 +1,73 @@
+// The devices before a run: formatted, where the log device is unused.
+ghost use Rattle.std.specs.Prelude.{◌≡◌, ◌≤◌, ◌↔◌, IsTrue, IfOk, IfSome, replicate};
+ghost use Rattle.model_base.specs.declared.limits.TheConstants.{BLOCK_SIZE};
+ghost use Rattle.model_log.specs.declared.layout.TheConstants.{HEADER_BYTES};
+ghost use Rattle.model_store.specs.Opening.{IsUnused};
+ghost use Rattle.redo_disk.specs.Calls.{error_of};
+ghost use Rattle.redo_disk.specs.Made.{MakesCalls};
+ghost use Rattle.redo_disk.specs.Seen.{ReadStep};
+ghost use Rattle.redo_lab.specs.Call.{guarded};
+ghost use Rattle.redo_lab.specs.Prepared.{ReadsOnce, Prepares};
+ghost use Rattle.redo_memdisk.specs.Fuse.{fresh};
+ghost use Rattle.redo_recover.specs.Devices.{log_fault_of};
+ghost use Rattle.redo_memdisk.specs.Fused.{fuse_of, inner_of};
+
+use crate::shapes::default_shape;
+use model_log::HEADER_BYTES;
+use redo_disk::{DevError, Sectors};
+use redo_memdisk::Fused;
+use redo_open::format;
+use redo_recover::RecFault;
+
+/// Whether a block is all zero.
+fn is_blank(block: &[u8; 512]) -> bool
+    ensures { IsTrue result ↔ block.now ≡ replicate BLOCK_SIZE 0 }
+{
+    *block == [0; 512]
+}
+
+/// Whether the log device is unused: its first block is all zero.
+fn is_unused<L: Sectors>(log: &mut L) -> Result<bool, DevError>
+    requires { HEADER_BYTES ≤ (L.seen log.old).size }
+    ensures unused { IfOk result (λ unused. IfSome (L.seen log.old).tells (λ disk. IsTrue unused ↔ IsUnused disk.reads)) }
+    ensures calls { MakesCalls L.gives log.old log.new (ReadsOnce (error_of result)) }
+{
+    let mut block = [0; 512];
+    match log.read(0, &mut block) {
+        Ok(()) => Ok(is_blank(&block)),
+        Err(error) => Err(error),
+    }
+}
+
+/// The fault of a call whose log device answered this at its first read.
+fn first_fault(error: DevError) -> RecFault
+    ensures { result ≡ log_fault_of error }
+{
+    match error {
+        DevError::Failed => RecFault::LogDev,
+        DevError::NoMemory => RecFault::NoMemory,
+    }
+}
+
+/// Formats both devices with the default sizes, where the log device is unused. It needs room for a header to be judged.
+pub(crate) fn prepare<L: Sectors, D: Sectors>(
+    log: &mut Fused<L>,
+    store: &mut Fused<D>,
+) -> Result<(), RecFault>
+    requires log_fresh { fuse_of log.old ≡ fresh }
+    requires data_fresh { fuse_of store.old ≡ fresh }
+    ensures { Prepares (L.seen (inner_of log.old)) (D.seen (inner_of store.old)) result
+        (guarded L.seen log.new) (guarded D.seen store.new) }
+{
+    if log.len() < HEADER_BYTES {
+        return Err(RecFault::SmallLog(HEADER_BYTES));
+    }
+    match is_unused(log) {
+        Ok(true) => match format(log, store, &default_shape()) {
+            Ok(()) => Ok(()),
+            Err(fault) => Err(fault),
+        },
+        Ok(false) => Ok(()),
+        Err(error) => Err(first_fault(error)),
+    }
+}

@@ -1,0 +1,121 @@
+// The commands that run no script.
+ghost use Rattle.std.specs.Prelude.{ℕ, List, ◌≤◌};
+ghost use Rattle.model_base.specs.Limits.{IsWithinLimits};
+ghost use Rattle.model_command.specs.declared.asked.Command.TheVariants.{Format, Recover, Dump, Gen};
+ghost use Rattle.model_script.specs.declared.misfit.TheConstants.{MAX_USERS};
+ghost use Rattle.redo_io.specs.Source.{SourceSeen};
+ghost use Rattle.redo_lab.specs.Answer.{shape_of};
+ghost use Rattle.redo_lab.specs.Outcome.{EndsCommand, call_of};
+
+use crate::faults::fault_of;
+use crate::outcome::{Done, Outcome};
+use crate::reading::{listing_of, reading_text};
+use crate::shapes::shape_of;
+use model_opening::formatted_is_openable;
+use model_store::one_answer;
+use redo_disk::Sectors;
+use redo_memdisk::Fused;
+use redo_open::format;
+use redo_recover::recover;
+use redo_report::formatted;
+use redo_script::generate;
+use std::alloc::Global;
+
+/// Formats both devices.
+pub(crate) fn format_devices<L: Sectors, D: Sectors>(
+    alloc: Global,
+    pages: u32,
+    space: u32,
+    log_blocks: u32,
+    log: L,
+    store: D,
+) -> Done<L, D>
+    requires { IsWithinLimits (shape_of pages space log_blocks) }
+    ensures { (words : List (List ℕ)) (source : SourceSeen)
+        → EndsCommand (call_of L.seen D.seen words source source log store result) (Format pages space log_blocks) result.outcome }
+{
+    formatted_is_openable();
+    let mut log = Fused::plain(log);
+    let mut store = Fused::plain(store);
+    match format(&mut log, &mut store, &shape_of(pages, space, log_blocks)) {
+        Ok(()) => Done {
+            outcome: Outcome::of_text(formatted(alloc)),
+            log,
+            store,
+        },
+        Err(fault) => Done {
+            outcome: Outcome::Fault(fault_of(fault)),
+            log,
+            store,
+        },
+    }
+}
+
+/// Reads the store, and prints its pages.
+pub(crate) fn print_pages<L: Sectors, D: Sectors>(alloc: Global, log: L, store: D) -> Done<L, D>
+    ensures { (words : List (List ℕ)) (source : SourceSeen)
+        → EndsCommand (call_of L.seen D.seen words source source log store result) (Recover) result.outcome }
+{
+    one_answer();
+    let mut log = Fused::plain(log);
+    let mut store = Fused::plain(store);
+    match recover(alloc, &mut log, &mut store) {
+        Ok(recovered) => Done {
+            outcome: Outcome::of_text(reading_text(alloc, &recovered)),
+            log,
+            store,
+        },
+        Err(fault) => Done {
+            outcome: Outcome::Fault(fault_of(fault)),
+            log,
+            store,
+        },
+    }
+}
+
+/// Reads the store, and lists what stands on its devices.
+pub(crate) fn print_store<L: Sectors, D: Sectors>(alloc: Global, log: L, store: D) -> Done<L, D>
+    ensures { (words : List (List ℕ)) (source : SourceSeen)
+        → EndsCommand (call_of L.seen D.seen words source source log store result) (Dump) result.outcome }
+{
+    one_answer();
+    let mut log = Fused::plain(log);
+    let mut store = Fused::plain(store);
+    match recover(alloc, &mut log, &mut store) {
+        Ok(recovered) => Done {
+            outcome: Outcome::of_text(listing_of(alloc, &recovered)),
+            log,
+            store,
+        },
+        Err(fault) => Done {
+            outcome: Outcome::Fault(fault_of(fault)),
+            log,
+            store,
+        },
+    }
+}
+
+/// Generates a script.
+pub(crate) fn print_script<L: Sectors, D: Sectors>(
+    alloc: Global,
+    seed: u64,
+    users: u32,
+    groups: u64,
+    run: bool,
+    max: u64,
+    log: L,
+    store: D,
+) -> Done<L, D>
+    requires some_users { 1 ≤ users }
+    requires few_users { users ≤ MAX_USERS }
+    ensures { (words : List (List ℕ)) (source : SourceSeen)
+        → EndsCommand (call_of L.seen D.seen words source source log store result) (Gen seed users groups run max) result.outcome }
+{
+    let log = Fused::plain(log);
+    let store = Fused::plain(store);
+    Done {
+        outcome: Outcome::of_text(generate(alloc, seed, users, groups)),
+        log,
+        store,
+    }
+}

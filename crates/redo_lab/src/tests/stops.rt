@@ -1,0 +1,205 @@
+// Crashes of a script of three lines under every stop, against what the first lines alone make of the pages.
+use super::calls::{Called, Devices, call_on};
+use redo_memdisk::MemDisk;
+use std::alloc::{AllocError, Global};
+use std::process::Abort;
+use std::test::Fail;
+
+/// A line that writes one byte, and the lsn at which its group ends.
+#[derive(Clone, Copy)]
+struct Line {
+    user: u32,
+    page: u32,
+    offset: usize,
+    value: u8,
+    end: u64,
+}
+
+/// Three lines of two users. Each group is 6 bytes long, and the first starts at 8204.
+const LINES: [Line; 3] = [
+    Line {
+        user: 1,
+        page: 3,
+        offset: 40,
+        value: 7,
+        end: 8210,
+    },
+    Line {
+        user: 2,
+        page: 4,
+        offset: 39,
+        value: 8,
+        end: 8216,
+    },
+    Line {
+        user: 1,
+        page: 3,
+        offset: 42,
+        value: 9,
+        end: 8222,
+    },
+];
+
+/// The picks that keep no write, every other write, and all of them.
+const PICKS: [u64; 3] = [0, 6_148_914_691_236_517_205, 18_446_744_073_709_551_615];
+
+/// More calls than the opening and three lines make of a device.
+const MANY_CALLS: u64 = 200;
+
+/// The words that make a small store, and how long its devices are.
+const FORMAT: &str = "format --pages 5 --log-blocks 1024";
+
+const SMALL_LOG: u64 = 526_336;
+
+const SMALL_STORE: u64 = 53_248;
+
+fn script(alloc: Global) -> Result<String, AllocError> {
+    let mut script = String::new(alloc);
+    for line in LINES {
+        let Line {
+            user,
+            page,
+            offset,
+            value,
+            ..
+        } = line;
+        let text = format!(in alloc; "{user} f b1 {page} {offset} {value}\n")?;
+        script.push_str(&text)?;
+    }
+    Ok(script)
+}
+
+/// The line of a page to which these lines were applied, if any of them changes it. Its user bytes begin at offset 38.
+fn page_line(alloc: Global, lines: &[Line], page: u32) -> Result<String, AllocError> {
+    let mut bytes = [0; 10];
+    let mut lsn = 0;
+    let mut length = 0usize;
+    for line in lines {
+        if line.page == page {
+            let at = line.offset.saturating_sub(38);
+            if let Some(byte) = bytes.get_mut(at) {
+                *byte = line.value;
+            }
+            length = length.max(at.saturating_add(1));
+            lsn = line.end;
+        }
+    }
+    if lsn == 0 {
+        return Ok(String::new(alloc));
+    }
+    let mut text = format!(in alloc; "p {page} {lsn} ")?;
+    for byte in bytes.iter().take(length) {
+        text.push_str(&format!(in alloc; "{byte:02x}")?)?;
+    }
+    text.push_str("\n")?;
+    Ok(text)
+}
+
+/// What is read where the first `count` lines are kept.
+fn reading_of(alloc: Global, count: usize) -> Result<String, AllocError> {
+    let (kept, _) = LINES.split_at(count.min(3));
+    let end = kept.last().map_or(8204, |line| line.end);
+    let mut text = format!(in alloc; "recovered {count} {end}\n")?;
+    text.push_str(&page_line(alloc, kept, 3)?)?;
+    text.push_str(&page_line(alloc, kept, 4)?)?;
+    Ok(text)
+}
+
+/// How many of the first lines the report says are kept, where the rest of it is what they make of the pages.
+fn kept_lines(alloc: Global, report: &[u8]) -> Result<Option<usize>, AllocError> {
+    for count in 0..4usize {
+        if report.ends_with(reading_of(alloc, count)?.as_bytes()) {
+            return Ok(Some(count));
+        }
+    }
+    Ok(None)
+}
+
+/// How many groups the report says are in this state.
+fn groups_in(state: &str, report: &[u8]) -> Result<usize, Fail> {
+    let text = str::from_utf8(report)?;
+    Ok(text.lines().filter(|line| line.ends_with(state)).count())
+}
+
+/// How many lines the report tells of: its groups, and those that it says are left.
+fn told_lines(report: &[u8]) -> Result<usize, Fail> {
+    let text = str::from_utf8(report)?;
+    let mut count = 0usize;
+    for line in text.lines() {
+        if line.starts_with("g ") {
+            count = count.saturating_add(1);
+        } else if line.starts_with("left ") {
+            count = count.saturating_add(if line.ends_with(" 2") { 2 } else { 1 });
+        }
+    }
+    Ok(count)
+}
+
+/// A crash of the three lines on a small store that was just formatted.
+fn crash(alloc: Global, words: &str, script: &str) -> Result<Called, AllocError> {
+    let devices = Devices {
+        log: MemDisk::new(alloc, SMALL_LOG)?,
+        store: MemDisk::new(alloc, SMALL_STORE)?,
+    };
+    let made = call_on(alloc, FORMAT, "", devices)?;
+    call_on(alloc, words, script, made.devices)
+}
+
+/// Crashes under these stops with each pick: whether all lines are flushed each time. Of each crash, lines that are printed
+/// as flushed are kept, and what is read is what the kept lines make of the pages.
+fn crash_with_each_pick(rt: &(impl Abort + AllocGlobal), stops: &str) -> Result<bool, Fail> {
+    let alloc = rt.alloc();
+    let script = script(alloc)?;
+    let mut all_flushed = true;
+    for pick in PICKS {
+        let words = format!(in alloc; "crash {stops} --pick {pick}")?;
+        let called = crash(alloc, &words, &script)?;
+        assert_eq!(rt; called.status, 0, "at {words:?}");
+        let flushed = groups_in(" flushed", called.sink.bytes())?;
+        let kept = kept_lines(alloc, called.sink.bytes())?;
+        assert!(rt; kept.is_some(), "at {words:?}");
+        assert!(rt; flushed <= kept.unwrap_or(0), "at {words:?}");
+        assert_eq!(rt; told_lines(called.sink.bytes())?, 3, "at {words:?}");
+        all_flushed = all_flushed && flushed == 3;
+    }
+    Ok(all_flushed)
+}
+
+#[test]
+fn keeps_flushed_lines_where_the_log_device_stops(rt: HostRuntime) -> Result<(), Fail> {
+    let alloc = rt.alloc();
+    for calls in 0..MANY_CALLS {
+        let stops = format!(in alloc; "--stop-log {calls}")?;
+        if crash_with_each_pick(&rt, &stops)? {
+            return Ok(());
+        }
+    }
+    assert!(rt; false, "no stop comes behind all calls");
+    Ok(())
+}
+
+#[test]
+fn keeps_flushed_lines_where_the_data_device_stops(rt: HostRuntime) -> Result<(), Fail> {
+    let alloc = rt.alloc();
+    for calls in 0..MANY_CALLS {
+        let stops = format!(in alloc; "--stop-data {calls}")?;
+        if crash_with_each_pick(&rt, &stops)? {
+            return Ok(());
+        }
+    }
+    assert!(rt; false, "no stop comes behind all calls");
+    Ok(())
+}
+
+#[test]
+fn keeps_flushed_lines_where_both_devices_stop(rt: HostRuntime) -> Result<(), Fail> {
+    let alloc = rt.alloc();
+    for calls in 0..MANY_CALLS {
+        let stops = format!(in alloc; "--stop-log {calls} --stop-data {calls}")?;
+        if crash_with_each_pick(&rt, &stops)? {
+            return Ok(());
+        }
+    }
+    assert!(rt; false, "no stop comes behind all calls");
+    Ok(())
+}

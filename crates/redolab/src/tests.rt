@@ -1,0 +1,119 @@
+// Calls on devices in files, and the words that ask for them.
+use super::*;
+use redo_io::{MemSink, MemSource};
+use std::fs;
+use std::test::Fail;
+
+const LINE: &str = "1 f b1 3 100 7";
+
+const LINE_RUN: &str = "open 8204\n\
+    g 8204 8210 1 0 flushed\n\
+    marks 8210 8210 8210 8192\n";
+
+/// What is read where the line was run twice.
+const LINE_READ: &str = "read 1 8722\np 3 8722 \
+    00000000000000000000000000000000000000000000000000000000000000\
+    00000000000000000000000000000000000000000000000000000000000000\
+    07\n";
+
+fn words_of(alloc: Global, text: &str) -> Result<Vec<String>, AllocError> {
+    let mut words = Vec::new(alloc);
+    for word in text.split_whitespace() {
+        words.push(word.to_string(alloc)?)?;
+    }
+    Ok(words)
+}
+
+/// A call on the devices in these files: its status and what was printed.
+fn call(
+    rt: &HostRuntime,
+    text: &str,
+    log_file: &str,
+    data_file: &str,
+) -> Result<(u8, MemSink), AllocError> {
+    let alloc = rt.alloc();
+    let log = in_file(rt, log_file)?;
+    let store = in_file(rt, data_file)?;
+    let mut source = MemSource::new(LINE.as_bytes().to_vec(alloc)?);
+    let mut sink = MemSink::new(alloc);
+    let words = words_of(alloc, text)?;
+    let ended = lab(alloc, &words, &mut source, &mut sink, log, store);
+    Ok((ended.status, sink))
+}
+
+/// Whether a call on the devices in these files ends with this status and prints this text.
+fn answers(
+    rt: &HostRuntime,
+    words: &str,
+    files: (&str, &str),
+    status: u8,
+    text: &str,
+) -> Result<bool, Fail> {
+    let (found, sink) = call(rt, words, files.0, files.1)?;
+    Ok(found == status && sink.bytes() == text.as_bytes())
+}
+
+/// How long a file is, and whether it begins so.
+fn begins_with(rt: &HostRuntime, file: &str, front: &[u8]) -> Result<(usize, bool), Fail> {
+    let bytes = fs::read(rt, file)?;
+    Ok((bytes.len(), bytes.starts_with(front)))
+}
+
+#[test]
+fn keeps_a_store_in_files(rt: HostRuntime) -> Result<(), Fail> {
+    let files = (LOG_FILE, DATA_FILE);
+    assert!(rt; answers(&rt, "run --files", files, 0, LINE_RUN)?);
+    // the log device begins with its format, 1
+    let log = begins_with(&rt, LOG_FILE, &[0, 0, 0, 1, 0, 0, 0, 0])?;
+    assert_eq!(rt; log, (LOG_LENGTH as usize, true));
+    // no page was written, so the slots are as they were formatted
+    let data = begins_with(&rt, DATA_FILE, &[0, 0, 0, 0])?;
+    assert_eq!(rt; data, (STORE_LENGTH as usize, true));
+    let text = "store 4096 8 1 2048 8\ncheckpoint 1 8192\nblock 8192 17 18 12 1\n\
+        group 8204 8210 1\nrec b1 3 100 7\nend 8210\n";
+    assert!(rt; answers(&rt, "dump --files", files, 0, text)?);
+    fs::remove_file(&rt, LOG_FILE)?;
+    fs::remove_file(&rt, DATA_FILE)?;
+    Ok(())
+}
+
+#[test]
+fn runs_again_in_files(rt: HostRuntime) -> Result<(), Fail> {
+    let files = ("again.log", "again.data");
+    assert!(rt; answers(&rt, "run --files", files, 0, LINE_RUN)?);
+    let text = "open 8716\ng 8716 8722 1 0 flushed\nmarks 8722 8722 8722 8704\n";
+    assert!(rt; answers(&rt, "run --files", files, 0, text)?);
+    assert!(rt; answers(&rt, "recover --files", files, 0, LINE_READ)?);
+    fs::remove_file(&rt, files.0)?;
+    fs::remove_file(&rt, files.1)?;
+    Ok(())
+}
+
+#[test]
+fn tells_of_files_that_cannot_be_made(rt: HostRuntime) -> Result<(), Fail> {
+    let text = "fault log device\n";
+    assert!(rt; answers(&rt, "run --files", ("no/redo.log", "spare.data"), 6, text)?);
+    let text = "fault data device\n";
+    assert!(rt; answers(&rt, "run --files", ("spare.log", "no/redo.data"), 7, text)?);
+    assert!(rt; fs::read(&rt, "spare.data").is_err());
+    fs::remove_file(&rt, "spare.log")?;
+    Ok(())
+}
+
+#[test]
+fn asks_for_files_where_the_words_do(rt: HostRuntime) -> Result<(), Fail> {
+    let alloc = rt.alloc();
+    let table = [
+        ("run", false),
+        ("run --files", true),
+        ("crash --pick 1 --files --stop-log 2", true),
+        ("gen 1 1 1 --files", true),
+        ("run --files --files", false),
+        ("--files run", false),
+    ];
+    for (text, want) in table {
+        let found = asks_for_files(alloc, &words_of(alloc, text)?).ok();
+        assert_eq!(rt; found, Some(want), "at {text:?}");
+    }
+    Ok(())
+}
