@@ -1,5 +1,5 @@
-//! The bytes that both programs work on: noise for the checksum, and a stream of groups for the decoder. Each run makes
-//! the same ones.
+//! The bytes that both programs work on: noise for the checksum, a stream of groups for the decoder, and one for the log
+//! that is recovered. Each run makes the same ones.
 
 const NOISE_LENGTH: usize = 64 << 20;
 const GROUPS: usize = 100_000;
@@ -55,6 +55,25 @@ pub fn groups() -> Vec<u8> {
             2 => put_string(&mut stream, &mut draws),
             3 => put_number(&mut stream, SINGLE, 8, &mut draws),
             _ => put_page(&mut stream, SINGLE | INIT, &mut draws),
+        }
+    }
+    stream
+}
+
+/// Groups of the first four of these kinds, so many bytes of them and a few more.
+pub fn small_groups(length: usize) -> Vec<u8> {
+    let mut draws = Draws(3);
+    let mut stream = Vec::new();
+    while stream.len() < length {
+        match draws.below(4) {
+            0 => put_number(&mut stream, SINGLE, 1, &mut draws),
+            1 => {
+                put_number(&mut stream, 0, 2, &mut draws);
+                put_number(&mut stream, 0, 4, &mut draws);
+                stream.push(END_MARK);
+            }
+            2 => put_string(&mut stream, &mut draws),
+            _ => put_number(&mut stream, SINGLE, 8, &mut draws),
         }
     }
     stream

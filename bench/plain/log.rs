@@ -9,11 +9,11 @@ pub const MARK: usize = 16_384;
 pub const MARK_DATA: usize = 15_872;
 pub const MARKS: usize = 4096;
 
-const BLOCK_SIZE: usize = 512;
-const BLOCK_HEADER: usize = 12;
-const BLOCK_DATA: usize = 496;
-const HEADER_BYTES: usize = 2048;
-const START_LSN: u64 = 8192;
+pub const BLOCK_SIZE: usize = 512;
+pub const BLOCK_HEADER: usize = 12;
+pub const BLOCK_DATA: usize = 496;
+pub const HEADER_BYTES: usize = 2048;
+pub const START_LSN: u64 = 8192;
 const LOG_BYTES: usize = 131_073 * BLOCK_SIZE;
 
 struct Write {
@@ -74,7 +74,7 @@ pub fn write_all(device: &mut Device, noise: &[u8]) {
 }
 
 /// A log block at this lsn.
-fn fill(block: &mut [u8], lsn: u64, bytes: &[u8], first: u16, ckpt: u32) {
+pub fn fill(block: &mut [u8], lsn: u64, bytes: &[u8], first: u16, ckpt: u32) {
     let number = 1 + (lsn / BLOCK_SIZE as u64 & 0x3FFF_FFFF) as u32;
     let length = if bytes.len() == BLOCK_DATA {
         BLOCK_SIZE

@@ -5,6 +5,9 @@ mod checksum;
 mod decoder;
 mod generator;
 mod log;
+mod recovering;
+mod recovery;
+mod store;
 
 use decoder::{Got, Rec, decode};
 use std::hint::black_box;
@@ -13,12 +16,16 @@ use std::{env, fs, io, process};
 
 const NOISE_FILE: &str = "noise.bin";
 const GROUPS_FILE: &str = "groups.bin";
+const LOG_FILE: &str = "log.bin";
+const DATA_FILE: &str = "data.bin";
 /// How often each work is done; the fastest time counts.
 const ROUNDS: u32 = 10;
 
 fn write() -> io::Result<()> {
     fs::write(NOISE_FILE, generator::noise())?;
-    fs::write(GROUPS_FILE, generator::groups())
+    fs::write(GROUPS_FILE, generator::groups())?;
+    fs::write(LOG_FILE, store::log_bytes())?;
+    fs::write(DATA_FILE, store::data_bytes())
 }
 
 fn time() -> io::Result<()> {
@@ -31,6 +38,7 @@ fn time() -> io::Result<()> {
     let mut device = log::Device::new();
     let (best, ()) = fastest(|| log::write_all(black_box(&mut device), black_box(&noise)));
     report("write_to", log::MARK * log::MARKS, best, &format!("{:08x}", device.sum()));
+    recovering::time(fs::read(LOG_FILE)?, fs::read(DATA_FILE)?);
     Ok(())
 }
 

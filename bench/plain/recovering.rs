@@ -1,0 +1,68 @@
+//! The times of recovery, and of the three things that most of it goes to, over the same bytes.
+
+use crate::checksum::crc32c;
+use crate::log::{BLOCK_DATA, BLOCK_HEADER, BLOCK_SIZE, HEADER_BYTES};
+use crate::recovery::{Device, Pages, Recovered, apply, blank, fits, recover};
+use crate::{decode_all, report};
+use std::hint::black_box;
+use std::time::Instant;
+
+pub fn time(log: Vec<u8>, data: Vec<u8>) {
+    let length = log.len() - HEADER_BYTES;
+    let (log, data) = (Device(log), Device(data));
+    let start = Instant::now();
+    let recovered = black_box(recover(black_box(&log), black_box(&data)));
+    let took = start.elapsed();
+    let Some(recovered) = recovered else {
+        println!("recover: refused");
+        return;
+    };
+    report("recover", length, took, &outcome(&recovered));
+    let blocks = &log.0[HEADER_BYTES..];
+    let start = Instant::now();
+    let sum = black_box(checksums(black_box(blocks)));
+    report("-checksum", length, start.elapsed(), &format!("{sum:x}"));
+    let joined = joined(blocks);
+    let start = Instant::now();
+    let tally = decode_all(black_box(&joined));
+    report("-decode", length, start.elapsed(), &tally);
+    let start = Instant::now();
+    let pages = black_box(apply_all(black_box(&recovered)));
+    report("-apply", length, start.elapsed(), &format!("{:x}", sum_of(&pages)));
+}
+
+fn outcome(recovered: &Recovered) -> String {
+    let (blocks, groups) = (recovered.views.len(), recovered.groups.len());
+    format!("{blocks} {groups} {} {:x}", recovered.end, sum_of(&recovered.pages))
+}
+
+/// A sum over the pages.
+fn sum_of(pages: &Pages) -> u64 {
+    let pages = pages.lsns.iter().zip(&pages.users);
+    pages.map(|(lsn, user)| lsn + u64::from(crc32c(user))).sum()
+}
+
+/// The sum of the checksums of the blocks.
+fn checksums(blocks: &[u8]) -> u64 {
+    let blocks = blocks.chunks_exact(BLOCK_SIZE);
+    blocks.map(|block| u64::from(crc32c(&block[..BLOCK_HEADER + BLOCK_DATA]))).sum()
+}
+
+/// The data of the blocks; the unused bytes of the last one stand behind the groups.
+fn joined(blocks: &[u8]) -> Vec<u8> {
+    let blocks = blocks.chunks_exact(BLOCK_SIZE);
+    blocks.flat_map(|block| &block[BLOCK_HEADER..BLOCK_HEADER + BLOCK_DATA]).copied().collect()
+}
+
+/// Blank pages with all the groups applied.
+fn apply_all(recovered: &Recovered) -> Pages {
+    let mut pages = blank(&recovered.shape);
+    for whole in &recovered.groups {
+        if fits(&whole.group, &recovered.shape) {
+            for rec in &whole.group {
+                apply(&mut pages, rec, whole.end);
+            }
+        }
+    }
+    pages
+}

@@ -1,0 +1,82 @@
+//! The bytes of the two devices of the store that is recovered: a log of 256 MiB, full of small groups but for its last
+//! block, and 64 pages, of which every other one has an lsn in the middle of the log.
+
+use crate::checksum::crc32c;
+use crate::generator::small_groups;
+use crate::log::{BLOCK_DATA, BLOCK_HEADER, BLOCK_SIZE, HEADER_BYTES, START_LSN, fill};
+
+pub const LOG_BLOCKS: usize = 524_288;
+pub const PAGES: usize = 64;
+pub const PAGE_SIZE: usize = 4096;
+pub const SLOTS: usize = 8;
+pub const SPACE: u32 = 1;
+
+/// Whole groups, which end in the log's last block.
+fn stream() -> Vec<u8> {
+    small_groups(BLOCK_DATA * (LOG_BLOCKS - 1))
+}
+
+/// The log device.
+pub fn log_bytes() -> Vec<u8> {
+    let stream = stream();
+    let mut log = vec![0; HEADER_BYTES + BLOCK_SIZE * LOG_BLOCKS];
+    head(&mut log[..BLOCK_SIZE]);
+    checkpoint(&mut log[BLOCK_SIZE..2 * BLOCK_SIZE]);
+    let blocks = log[HEADER_BYTES..].chunks_exact_mut(BLOCK_SIZE);
+    for (i, (block, data)) in blocks.zip(stream.chunks(BLOCK_DATA)).enumerate() {
+        let first = if i == 0 { BLOCK_HEADER } else { 0 };
+        fill(block, START_LSN + (BLOCK_SIZE * i) as u64, data, first as u16, 0);
+    }
+    log
+}
+
+fn seal(block: &mut [u8], fields: &[&[u8]]) {
+    let joined = fields.concat();
+    block[..joined.len()].copy_from_slice(&joined);
+    let checksum = crc32c(&block[..508]);
+    block[508..].copy_from_slice(&checksum.to_be_bytes());
+}
+
+/// The file header.
+fn head(block: &mut [u8]) {
+    let mut creator = [0; 32];
+    creator[..9].copy_from_slice(b"redolab 1");
+    let sizes = [PAGE_SIZE as u32, PAGES as u32, SPACE, LOG_BLOCKS as u32, SLOTS as u32];
+    let sizes = sizes.map(u32::to_be_bytes).concat();
+    seal(block, &[&1u32.to_be_bytes(), &[0; 4], &START_LSN.to_be_bytes(), &creator, &sizes]);
+}
+
+/// The checkpoint of the number 0, at the log's start.
+fn checkpoint(block: &mut [u8]) {
+    let place = (HEADER_BYTES as u64).to_be_bytes();
+    seal(block, &[&[0; 8], &START_LSN.to_be_bytes(), &place, &RING.to_be_bytes()]);
+}
+
+/// What the checkpoint says of the ring, which has no other value.
+const RING: u64 = 65_536;
+
+/// The data device: empty slots, and behind them the pages.
+pub fn data_bytes() -> Vec<u8> {
+    let mut data = vec![0; PAGE_SIZE * (SLOTS + PAGES)];
+    let places = data.chunks_exact_mut(PAGE_SIZE).skip(SLOTS);
+    for (number, place) in places.enumerate().filter(|(number, _)| number % 2 == 1) {
+        page(place, number as u32, lsn_of(number));
+    }
+    data
+}
+
+/// An lsn in the middle of the log.
+fn lsn_of(number: usize) -> u64 {
+    START_LSN + (number * LOG_BLOCKS / PAGES * BLOCK_SIZE + BLOCK_HEADER) as u64
+}
+
+fn page(place: &mut [u8], number: u32, lsn: u64) {
+    place[4..8].copy_from_slice(&number.to_be_bytes());
+    place[16..24].copy_from_slice(&lsn.to_be_bytes());
+    place[34..38].copy_from_slice(&SPACE.to_be_bytes());
+    place[38..PAGE_SIZE - 8].fill(number as u8);
+    let checksum = crc32c(&place[4..PAGE_SIZE - 8]).to_be_bytes();
+    place[..4].copy_from_slice(&checksum);
+    place[PAGE_SIZE - 8..PAGE_SIZE - 4].copy_from_slice(&checksum);
+    place[PAGE_SIZE - 4..].copy_from_slice(&(lsn as u32).to_be_bytes());
+}
