@@ -3,7 +3,7 @@ use Rattle.std.proofs.Common.{Bool, List, None, [], ap, arith, cond, false, leng
 use Rattle.std.specs.Prelude.{slice_index}
 use lib.ListN.{get_elem?}
 use mathlib.Core.Option.{some}
-use Rattle.model_core.proofs.Lsns.{lsn_le}
+use Rattle.model_core.proofs.Lsns.{lsn_le, lsn_small}
 use Rattle.model_base.specs.Limits.{IsWithinLimits}
 use Rattle.model_base.specs.declared.shape.Shape.{Shape}
 use Rattle.model_core.specs.Actors as model
@@ -23,7 +23,6 @@ use Rattle.model_core.specs.declared.ops.Answer.{Answer}
 use Rattle.model_core.specs.declared.ops.Op.{Op}
 use Rattle.model_core.specs.declared.ops.Op.TheVariants as op
 use Rattle.model_core.specs.declared.words.Word.TheVariants as word
-use Rattle.model_logcore.proofs.AnswersFit.{small_sn}
 use Rattle.model_logcore.specs.LogFacts.{LogGhost}
 use Rattle.model_logcore.specs.LogLaws.{LogLaws}
 use Rattle.model_logcore.specs.Ready.{CanLend, Ready}
@@ -36,7 +35,6 @@ use Rattle.model_running.proofs.Turns.{next_words}
 use Rattle.model_running.specs.Bounds.{HaveSmallCodes}
 use Rattle.model_running.specs.DataReady as running
 use Rattle.model_running.specs.ListReady.{ListReady}
-use Rattle.redo_dataside.proofs.Lent.{lent_batch}
 use Rattle.redo_dataside.proofs.MayCall.{may_write_batch}
 use Rattle.redo_dataside.specs.DataPartSide as data_part
 use Rattle.redo_disk.specs.Seen.{Seen}
@@ -47,6 +45,7 @@ use Rattle.redo_logdev.specs.Part as log
 use Rattle.redo_logside.proofs.MayCall.{may_checkpoint, may_sync, may_write}
 use Rattle.redo_logside.proofs.Outcome.{not_failed}
 use Rattle.redo_logside.specs.LogPartSide as log_part
+use Rattle.redo_machine.proofs.LentBatches.{lent_batch, pairs_of}
 use Rattle.redo_machine.specs.Lists.{lists_of}
 use Rattle.redo_machine.specs.Playing.{DataReady, HasWholePages, IsPlayable, LogReady, MayBatchLent, MayWriteLent, RunOf, data_of, log_of}
 use Rattle.redo_machine.specs.Running.{MayServe, RunsOn}
@@ -161,7 +160,8 @@ module _ {D : Type 0} (seen : D → Seen) (faults : ℕ) (shape : Shape) (Begun 
   batch_ready (model.Batch batch) (lending.Batch pairs frames) lends can =
       may_write_batch seen faults shape Begun kept_page [] batch pairs.now frames.now d limits can.0
       (subst (λ (n : ℕ). CanBatch data_side n kept_page batch d) (sym its_pages) can.1)
-      (lent_batch batch pairs.now frames.now (whole_by batch can.1) lends.0 lends.1)
+      (subst (λ (ps : List (ℕ × ℕ)). data_part.IsBatchOf ps frames.now batch) (sym lends.0)
+      (subst (λ (us : List ℕ). data_part.IsBatchOf (pairs_of batch) us batch) (sym lends.1) (lent_batch batch (whole_by batch can.1))))
 
   pub data_call : (o : Op) (ml : model.Lent) (l : Lent) → Lends l ml → running.DataReady data_side pages kept_page ml d o → DataReady d l o
   data_call op.WriteBatch ml l lends can = batch_ready ml l lends can
@@ -205,7 +205,7 @@ module _ {L D : Type 0} (log_seen : L → Seen) (data_seen : D → Seen) (run : 
       let P = half.global.part in let O = half.global.order in
       let a = P.stable_written in let b = P.written_wtail in let e = O.wtail_is in
       let l = lsn_le R.running.log_ghost.wtail R.running.shared.sn (let x = O.wtail_tail in let y = O.tail_sn in omega arith) in
-      let s = small_sn A c 0 R.running.shared R.running.log_ghost parts.log (views_of actors) 0 half in
+      let s = lsn_small R.running.shared.sn (let r = half.room in omega arith) in
       omega arith
 
   module _ (seat : ℕ) (who : model.Actor) (at : get_elem? (views_of actors) seat ≡ some who) where

@@ -1,19 +1,16 @@
 -- What a call of a part leaves, as the definition of a turn tells it.
-use Rattle.std.proofs.Common.{Bor, List, subst, ℕ, ◌≡◌}
-use Rattle.std.specs.List.{flat_map}
-use Rattle.std.specs.Prelude.{map}
+use Rattle.std.proofs.Common.{Bor, List, subst, sym, ℕ, ◌≡◌}
 use Rattle.model_base.specs.declared.shape.Shape.{Shape}
 use Rattle.model_core.specs.Actors as model
 use Rattle.model_core.specs.Groups.{KeptPage}
 use Rattle.model_core.specs.States.{BatchPage}
 use Rattle.model_core.specs.Turn.{DataServed, LogServed}
 use Rattle.model_core.specs.declared.ops.Op.TheVariants as op
-use Rattle.model_page.specs.Page.{user_part}
-use Rattle.redo_dataside.proofs.Lent.{lent_batch}
 use Rattle.redo_dataside.specs.DataPartSide as data_part
 use Rattle.redo_disk.specs.Seen.{Seen}
 use Rattle.redo_logdev.specs.Part as log
 use Rattle.redo_logside.specs.LogPartSide as log_part
+use Rattle.redo_machine.proofs.LentBatches.{lent_batch, pairs_of, users_of}
 use Rattle.redo_machine.specs.Playing.{HasWholePages}
 use Rattle.redo_store.specs.Part as store
 use Rattle.redo_words.specs.Lending.{Lends}
@@ -35,8 +32,7 @@ blocks_served seen faults Begun bytes firsts mark code p q (model.Blocks kept of
 
 -- what is lent is a batch of these pairs and user bytes
 abbrev pub LendsBatch : List (ℕ × ℕ) → List ℕ → model.Lent → Type 0
-LendsBatch pages frames (model.Batch batch) =
-    (pages ≡ map (λ (b : BatchPage). (b.page, b.lsn)) batch) × (frames ≡ flat_map (λ (b : BatchPage). user_part b.bytes) batch)
+LendsBatch pages frames (model.Batch batch) = (pages ≡ pairs_of batch) × (frames ≡ users_of batch)
 LendsBatch pages frames _ = ⊥
 
 pub batch_served : {D : Type 0} (seen : D → Seen) (faults : ℕ) (shape : Shape) (Begun : Type 0) (pages : List (ℕ × ℕ)) (frames : List ℕ) (code : ℕ) (d e : store.Part D) (l : model.Lent) → LendsBatch pages frames l → HasWholePages op.WriteBatch l
@@ -45,7 +41,8 @@ pub batch_served : {D : Type 0} (seen : D → Seen) (faults : ℕ) (shape : Shap
 batch_served seen faults shape Begun pages frames code d e model.Nothing lends whole wrote = absurd lends
 batch_served seen faults shape Begun pages frames code d e (model.Blocks kept offsets) lends whole wrote = absurd lends
 batch_served seen faults shape Begun pages frames code d e (model.Batch batch) lends whole wrote =
-    wrote batch (lent_batch batch pages frames whole lends.0 lends.1)
+    wrote batch (subst (λ (ps : List (ℕ × ℕ)). data_part.IsBatchOf ps frames batch) (sym lends.0)
+    (subst (λ (us : List ℕ). data_part.IsBatchOf (pairs_of batch) us batch) (sym lends.1) (lent_batch batch whole)))
 
 -- what is lent, by what it is
 pub batch_lent : (given : Lent) (pages : Bor (List (ℕ × ℕ))) (frames : Bor (List ℕ)) → given ≡ lent.Batch pages frames → (l : model.Lent) → Lends given l → LendsBatch pages.now frames.now l

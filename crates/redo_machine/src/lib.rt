@@ -6,11 +6,21 @@
 mod actor;
 mod asking;
 mod calling;
+mod finishing;
+mod history;
 mod lists;
 mod machine;
+mod making;
+mod open_users;
 mod parts;
 mod playing;
+mod running;
+mod seating;
+mod start_words;
+#[cfg(test)]
+mod tests;
 mod turning;
 
 pub use machine::Machine;
 pub use redo_words::Step as Turned;
+pub use running::Ran;

@@ -1,7 +1,6 @@
 // The flush lists of a store.
 ghost use Rattle.std.specs.Prelude.{◌≡◌, ◌<◌, ◌%◌, ◌+◌, IfOk};
 ghost use Rattle.model_core.specs.FlushLists.{Each, oldest_end, oldest_of};
-ghost use Rattle.model_core.specs.declared.limits.TheConstants.{CLOSED_LINKS};
 ghost use Rattle.redo_machine.specs.Lists.{AreLists, added, empty_lists, lists_of, removed};
 
 use model_core::FLUSH_LISTS;
@@ -45,7 +44,7 @@ impl FlushLists {
     pub fn add(&mut self, page: u32, oldest: u64)
         requires below { page < self.old.pages }
         requires unlisted { oldest_of page (lists_of self.old (page % FLUSH_LISTS)) ≡ 0 }
-        requires order { Each (λ listed. listed.oldest < oldest + CLOSED_LINKS) (lists_of self.old (page % FLUSH_LISTS)) }
+        requires order { Each (λ listed. listed.oldest < oldest + 16384) (lists_of self.old (page % FLUSH_LISTS)) }
         requires real { Each (λ listed. 0 < listed.oldest) (lists_of self.old (page % FLUSH_LISTS)) }
         ensures { self.new ≡ added self.old page oldest }
     {

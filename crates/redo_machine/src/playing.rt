@@ -5,7 +5,6 @@ ghost use Rattle.model_core.specs.FlushLists.{Each, oldest_end, oldest_of};
 ghost use Rattle.model_core.specs.Layout.{IsWord, index};
 ghost use Rattle.model_core.specs.Turn.{list_word};
 ghost use Rattle.model_core.specs.WordTurn.{answer_of, list_answer, words_left};
-ghost use Rattle.model_core.specs.declared.limits.TheConstants.{CLOSED_LINKS};
 ghost use Rattle.model_core.specs.declared.ops.Op.TheVariants as op;
 ghost use Rattle.model_core.specs.declared.words.Word.TheVariants as word_is;
 ghost use Rattle.redo_logside.specs.LogPartSide.{has_failed};
@@ -70,7 +69,7 @@ impl<L: Sectors, D: Sectors> Parts<L, D> {
     fn take_add(&mut self, page: u32, oldest: u64) -> Answer
         requires below { page < self.old.lists.pages }
         requires unlisted { oldest_of page (lists_of self.old.lists (page % FLUSH_LISTS)) ≡ 0 }
-        requires order { Each (λ listed. listed.oldest < oldest + CLOSED_LINKS) (lists_of self.old.lists (page % FLUSH_LISTS)) }
+        requires order { Each (λ listed. listed.oldest < oldest + 16384) (lists_of self.old.lists (page % FLUSH_LISTS)) }
         requires real { Each (λ listed. 0 < listed.oldest) (lists_of self.old.lists (page % FLUSH_LISTS)) }
         ensures pages { HasSamePages self.old self.new }
         ensures devices { HasSameDevices self.old self.new }
