@@ -8,5 +8,6 @@ pub mod Cuts
 pub mod Closing
 pub mod Safe
 pub mod Growing
+pub mod Numbered
 pub mod Played
 pub mod Start

@@ -161,6 +161,7 @@ played-closed failures out is =
       };
       log_marks = log_marks;
       marks = record { flushed = omega arith; ckpt = omega arith; small = is.small };
+      number_kept = omega arith;
       log_holds = subst (λ (ws : List Whole). LogHolds shape s ws log_marks out.log_disk) (sym same) is.log_holds;
       data_holds = unwritten-holds shape out.opened.pages s wholes log_marks.stable log_marks.asked out.data_disk place run good
           (λ p page at. (let old : page.lsn ≤ out.opened.end = is.given.not_ahead p page at in let later : out.opened.end ≤ s = end-start out.opened.end in omega arith))

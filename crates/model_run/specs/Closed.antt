@@ -13,10 +13,12 @@ use Rattle.model_logdev.specs.declared.marks.LogMarks.{LogMarks}
 use Rattle.model_run.specs.Given.{AreGiven}
 use Rattle.model_run.specs.Kept.{DataHolds}
 
--- what a drive was given, and what it gives back: the run, what is left of the script, and what both devices mean then
+-- what a drive was given, with the number of the checkpoint that opening made, and what it gives back: the run, what is left
+-- of the script, and what both devices mean then
 pub record Closed : Type 0 where
   pub script : List ScriptLine
   pub opened : Opened
+  pub number : ℕ
   pub run : Ran
   pub left : List (ℕ × ℕ)
   pub log_disk : Disk
@@ -42,8 +44,8 @@ pub record AreMarksBehind (marks : Marks) (log_marks : LogMarks) : Type 0 where
   pub ckpt : marks.ckpt ≤ log_marks.ckpt
   pub small : log_marks.given ≤ LSN_LIMIT
 
--- A closed run: the run is a legal one, which loses something only where a call failed; the log device holds it, and the
--- data device keeps of each page a prefix of it.
+-- A closed run: the run is a legal one, which loses something only where a call failed; the log device holds it, with no older
+-- checkpoint than opening made, and the data device keeps of each page a prefix of it.
 pub record IsClosed (failures : ℕ) (closed : Closed) : Type 0 where
   pub given : AreGiven closed.script closed.opened
   pub is_run : IsRun closed.script closed.opened closed.run
@@ -51,5 +53,6 @@ pub record IsClosed (failures : ℕ) (closed : Closed) : Type 0 where
   pub loses : LosesOnlyByFailure failures (Some closed.run) closed.left
   pub log_marks : LogMarks
   pub marks : AreMarksBehind closed.run.marks log_marks
+  pub number_kept : closed.number ≤ log_marks.number
   pub log_holds : LogHolds closed.opened.shape closed.run.start (groups_of_run closed) log_marks closed.log_disk
   pub data_holds : DataHolds closed.opened.shape closed.opened.pages (groups_of_run closed) log_marks.stable log_marks.asked closed.data_disk

@@ -57,11 +57,12 @@ start_of_play out = start_after out.opened.end
 abbrev pub run_of_play : PlayedOut → Ran
 run_of_play out = run_in_turn out.opened.shape.space (start_of_play out) out.log_marks out.turns
 
--- as what every drive hands over
+-- as what every drive hands over; such a run takes no checkpoint, so the newest is the one that opening made
 abbrev pub closed_of : PlayedOut → Closed
 closed_of out = record {
   script = out.script;
   opened = out.opened;
+  number = out.log_marks.number;
   run = run_of_play out;
   left = out.left;
   log_disk = out.log_disk;

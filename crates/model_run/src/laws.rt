@@ -15,6 +15,7 @@ ghost use Rattle.model_store.specs.Fair.{IsFair};
 ghost use Rattle.model_store.specs.Reading.{IsReading, Reading, Refuses};
 ghost use Rattle.model_store.specs.declared.refusal.Refusal.{Refusal};
 ghost use Rattle.model_theorem.specs.Crash.{CrashSafe, failures_of};
+ghost use Rattle.model_theorem.specs.Opening.{HasCheckpointFrom, HeldOlder, IsOpenedBefore};
 ghost use Rattle.model_theorem.specs.Run.{IsPrefixRead, ReadsPrefix, RunSafe};
 ghost use Rattle.model_theorem.specs.Values.{Account, Crash, Opened};
 ghost use Rattle.model_run.specs.Closed.{Closed, IsClosed, result_of};
@@ -62,21 +63,35 @@ pub fn closed_run_is_safe()
     closed_run_reads();
 }
 
+/// Whatever a crash leaves of the log device of a closed run has a newest checkpoint, which isn't older than the one that
+/// opening made. So, where the device held an older one when its fuse was armed, it tells that opening came to its end.
+pub fn closed_run_is_opened()
+    ensures number { (failures : ℕ) (closed : Closed) (log : List ℕ) → IsClosed failures closed → IsImage closed.log_disk log
+        → HasCheckpointFrom closed.opened.shape closed.number log }
+    ensures opened { (failures : ℕ) (closed : Closed) (armed_from : Disk) → IsClosed failures closed
+        → HeldOlder closed.opened.shape closed.number armed_from
+        → IsOpenedBefore closed.opened.shape armed_from closed.log_disk (Some closed.run) }
+{}
+
 /// The crash theorem holds of a call whose run is safe, or whose opening was stopped, and whose devices were crashed and
 /// read.
 pub fn crash_of_safe_run()
     ensures { (crash : Crash) (opened : Opened) (account : Account) → IsCrashOf crash opened account
+        → IsOpenedBefore opened.shape crash.log_device.armed_from crash.log_device.crashed_from account.run
         → RunSafe (failures_of crash) (before_crash crash opened account) → CrashSafe crash opened account }
 {
     one_reading();
 }
 
-/// So it holds of a call whose run is closed.
+/// So it holds of a call whose run is closed, where the log device held an older checkpoint than the run's when its fuse was
+/// armed.
 pub fn crash_of_closed_run()
     ensures { (crash : Crash) (opened : Opened) (account : Account) (closed : Closed) → IsCrashOf crash opened account
         → IsClosed (failures_of crash) closed → result_of closed ≡ before_crash crash opened account
+        → HeldOlder opened.shape closed.number crash.log_device.armed_from
         → CrashSafe crash opened account }
 {
+    closed_run_is_opened();
     closed_run_is_safe();
     crash_of_safe_run();
 }

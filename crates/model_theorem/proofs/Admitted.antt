@@ -1,14 +1,17 @@
 -- What the promise admits.
-use Rattle.std.proofs.Common.{◌≡◌, ℕ, zero, suc, ◌+◌, ◌==◌, Bool, true, false, cond, length, slice_get, ◌≤◌, ◌<◌, List, [], ◌∷◌, Some, Ok, sym, ap, ◌∙◌, refl, subst, arith, inl, inr}
+use Rattle.std.proofs.Common.{◌≡◌, ℕ, zero, suc, ◌+◌, ◌==◌, Bool, true, false, cond, length, slice_get, ◌≤◌, ◌<◌, List, [], ◌∷◌, Some, Ok, sym, ap, ◌∙◌, refl, subst, arith, inl, inr, ⊎_elim}
 use Rattle.std.specs.Prelude.{take}
+use Rattle.model_base.specs.declared.shape.Shape.{Shape}
 use Rattle.model_store.specs.Apply.{folded}
 use Rattle.std.proofs.lemmas.Bool.{eqb-true}
 use Rattle.model_base.specs.Lines as lines
-use Rattle.model_device.specs.Disk.{Disk, IsImage, settled}
+use Rattle.model_device.specs.Disk.{Disk, IsImage, IsWrittenBy, sector, settled}
 use Rattle.model_device.specs.declared.write.Write.{Write}
 use Rattle.model_history.specs.Legal.{IsLeft, HasLeft, IsLegal, IsLegalEntry, count_up_to, wholes_of, lines_of_user, entries_of_user}
 use Rattle.model_history.specs.declared.entry.Entry.{Entry}
 use Rattle.model_history.specs.declared.entry.State.TheVariants.{Lost, Flushed}
+use Rattle.model_log.specs.Checkpoint.{read_checkpoint}
+use Rattle.model_log.specs.Device.{newer, newest_checkpoint}
 use Rattle.model_log.specs.Lsn.{lsn_of, sn_of}
 use Rattle.model_script.specs.declared.script.ScriptLine.{ScriptLine}
 use Rattle.model_number.specs.Spelling as spelling
@@ -24,11 +27,42 @@ use Rattle.model_theorem.specs.Crash.{CrashSafe}
 use Rattle.model_script.specs.Fit.{LineFits, script_end}
 use Rattle.model_base.specs.declared.limits.TheConstants.{LSN_LIMIT}
 use Rattle.model_theorem.specs.Values.{Opened}
-use Rattle.model_theorem.specs.Examples.{new_store, ReadsAsOpened, lost_run, line_of_value, two_lines, text_of_two, text_of_one, empty_account, empty_call, lost_account, lost_call, stopped_account, stopped_call}
+use Rattle.model_theorem.specs.Opening.{IsOpeningDone}
+use Rattle.model_theorem.proofs.Refused.{base-image}
+use Rattle.model_theorem.specs.Examples.{AreOfBlocks, MovedCheckpoint, new_store, ReadsAsOpened, lost_run, line_of_value, two_lines, text_of_two, text_of_one, empty_account, empty_call, lost_account, lost_call, stopped_account, stopped_call}
 
--- what a device held at its last good sync is an image
-base-image : (disk : Disk) → IsImage disk disk.base
-base-image disk = record { same_length = refl; each = λ k below. inl refl }
+-- WHAT STANDS IN THE HEADER while only log blocks are written
+unwritten : (writes : List Write) (k : ℕ) (bytes : List ℕ) → k < 4 → AreOfBlocks writes → IsWrittenBy writes k bytes → ⊥
+unwritten [] k bytes low are is = is
+unwritten (write ∷ writes) k bytes low are is =
+    ⊎_elim (λ here. absurd (omega (arith, here.0.from, are.0))) (λ there. unwritten writes k bytes low are.1 there) is
+
+same-sector : (disk : Disk) (image : List ℕ) (k : ℕ) → k < 4 → 2048 ≤ length disk.base → AreOfBlocks disk.writes → IsImage disk image → sector k image ≡ sector k disk.base
+same-sector disk image k low long are is =
+    ⊎_elim (λ same. same) (λ written. absurd (unwritten disk.writes k (sector k image) low are written)) (is.each k (omega arith))
+
+same-newest : (shape : Shape) (disk : Disk) (image : List ℕ) → 2048 ≤ length disk.base → AreOfBlocks disk.writes → IsImage disk image
+    → newest_checkpoint shape image ≡ newest_checkpoint shape disk.base
+same-newest shape disk image long are is =
+    let even = same-sector disk image 1 (omega arith) long are is in
+    let odd = same-sector disk image 3 (omega arith) long are is in
+    (λ i. newer (read_checkpoint 1 shape (even i)) (read_checkpoint 3 shape (odd i)))
+
+-- so the checkpoint that is read is newer than the one that was found, in each image
+opening-done : (found log data_bytes : List ℕ) (writes : List Write) (reads : List ℕ) (opened : Opened) (reading : Reading) → ReadsAsOpened log data_bytes opened reading
+    → MovedCheckpoint found opened reading → AreOfBlocks writes → IsOpeningDone opened.shape (settled found) (record { base = log; writes = writes; reads = reads })
+opening-done found log data_bytes writes reads opened reading as_opened held are = record {
+  number = held.older.found;
+  ckpt = held.older.ckpt;
+  found = held.older.newest;
+  moved = λ image is. record {
+    number = reading.number;
+    ckpt = reading.ckpt;
+    newest = same-newest opened.shape (record { base = log; writes = writes; reads = reads }) image as_opened.is_read.scan.devices.head.long are is
+        ∙ subst (λ (shape : Shape). newest_checkpoint shape log ≡ Some (reading.number, reading.ckpt)) as_opened.shape as_opened.is_read.scan.checkpoint;
+    from = omega (arith, held.older.older);
+  };
+}
 
 empty-text : script_of [] ≡ Ok []
 unfolding script_of lines.lines_of
@@ -118,14 +152,19 @@ left-none = record {
   no_other = λ user count more has. absurd (omega arith);
 }
 
-pub admits-empty : (log data_bytes : List ℕ) (opened : Opened) (reading : Reading) → ReadsAsOpened log data_bytes opened reading
-    → CrashSafe (empty_call log data_bytes opened reading) opened (empty_account opened reading)
-admits-empty log data_bytes opened reading reads = record {
+pub admits-empty : (found log data_bytes : List ℕ) (opened : Opened) (reading : Reading) → ReadsAsOpened log data_bytes opened reading → MovedCheckpoint found opened reading
+    → CrashSafe (empty_call found log data_bytes opened reading) opened (empty_account opened reading)
+admits-empty found log data_bytes opened reading reads held = record {
   every_script = record { whole = record { all_read = (refl, refl); is_script = empty-text }; fits = record { lines = tt; end = reads.room; room = tt } };
   any_stops = record {
     log_device = record { limit = refl; passed_at_most = tt; armed_first = refl; cause = λ some. absurd (omega arith) };
     data_device = record { limit = refl; passed_at_most = tt; armed_first = refl; cause = λ some. absurd (omega arith) };
-    armed_first = record { opening_counted = omega arith; unused = λ unused. absurd (reads.in_use unused); log_in_use = λ used. refl; data_in_use = λ used. refl; log_calls = λ used. omega arith; data_calls = λ used. refl };
+    armed_first = record {
+      opening_counted = omega arith;
+      unopened = record { unused = λ unused. absurd (held.in_use unused); log_in_use = λ used. refl; data_in_use = λ used. refl };
+      log_calls = λ used. omega arith;
+      data_calls = λ used. refl;
+    };
   };
   prints = record { taken = refl; report = refl; left_is = left-none };
   in_lsn_order = record {
@@ -136,6 +175,7 @@ admits-empty log data_bytes opened reading reads = record {
     flushed = refl;
     write_within = omega arith;
   };
+  opened_first = opening-done found log data_bytes [] log opened reading reads held tt;
   read_from_devices = record {
     log_device = record { pick_is = refl; kept = base-image (settled log); one_image = refl; unchanged_since = refl; unfailed_since = refl };
     data_device = record { pick_is = refl; kept = base-image (settled data_bytes); one_image = refl; unchanged_since = refl; unfailed_since = refl };
@@ -196,9 +236,9 @@ legal-lost = record {
 none-first : (end : ℕ) → end ≡ 8204 → count_up_to end lost_run.entries ≡ 0
 none-first end is = ap (λ end. count_up_to end lost_run.entries) is
 
-pub admits-lost : (log : List ℕ) (writes : List Write) (reads data_bytes : List ℕ) (reading : Reading) → ReadsAsOpened log data_bytes new_store reading
-    → 8192 ≤ reading.ckpt → CrashSafe (lost_call log writes reads data_bytes reading) new_store (lost_account reading)
-admits-lost log writes reads data_bytes reading as_opened ckpt = record {
+pub admits-lost : (found log : List ℕ) (writes : List Write) (reads data_bytes : List ℕ) (reading : Reading) → ReadsAsOpened log data_bytes new_store reading
+    → MovedCheckpoint found new_store reading → AreOfBlocks writes → 8192 ≤ reading.ckpt → CrashSafe (lost_call found log writes reads data_bytes reading) new_store (lost_account reading)
+admits-lost found log writes reads data_bytes reading as_opened held are ckpt = record {
   every_script = record {
     whole = record { all_read = (refl, refl); is_script = two-text };
     fits = record {
@@ -210,7 +250,12 @@ admits-lost log writes reads data_bytes reading as_opened ckpt = record {
   any_stops = record {
     log_device = record { limit = refl; passed_at_most = tt; armed_first = refl; cause = λ some. inl (inl (omega arith)) };
     data_device = record { limit = refl; passed_at_most = tt; armed_first = refl; cause = λ some. absurd (omega arith) };
-    armed_first = record { opening_counted = omega arith; unused = λ unused. absurd (as_opened.in_use unused); log_in_use = λ used. refl; data_in_use = λ used. refl; log_calls = λ used. omega arith; data_calls = λ used. refl };
+    armed_first = record {
+      opening_counted = omega arith;
+      unopened = record { unused = λ unused. absurd (held.in_use unused); log_in_use = λ used. refl; data_in_use = λ used. refl };
+      log_calls = λ used. omega arith;
+      data_calls = λ used. refl;
+    };
   };
   prints = record { taken = refl; report = refl; left_is = left-one two_lines lost_run.entries refl others-of-two };
   in_lsn_order = record {
@@ -221,6 +266,7 @@ admits-lost log writes reads data_bytes reading as_opened ckpt = record {
     flushed = inl refl;
     write_within = omega arith;
   };
+  opened_first = opening-done found log data_bytes writes reads new_store reading as_opened held are;
   read_from_devices = record {
     log_device = record { pick_is = refl; kept = record { same_length = refl; each = λ k below. inl refl }; one_image = refl; unchanged_since = refl; unfailed_since = refl };
     data_device = record { pick_is = refl; kept = base-image (settled data_bytes); one_image = refl; unchanged_since = refl; unfailed_since = refl };
@@ -245,10 +291,18 @@ admits-stopped log data_bytes reading as_opened = record {
   any_stops = record {
     log_device = record { limit = refl; armed_first = refl; passed_at_most = omega arith; cause = λ some. inr (omega arith) };
     data_device = record { limit = refl; passed_at_most = tt; armed_first = refl; cause = λ some. absurd (omega arith) };
-    armed_first = record { opening_counted = omega arith; unused = λ unused. absurd (as_opened.in_use unused); log_in_use = λ used. refl; data_in_use = λ used. refl; log_calls = λ used. omega arith; data_calls = λ used. refl };
+    armed_first = record {
+      opening_counted = omega arith;
+      unopened = record { unused = λ unused. absurd (as_opened.in_use unused); log_in_use = λ used. refl; data_in_use = λ used. refl };
+      log_calls = λ used. omega arith;
+      data_calls = λ used. refl;
+    };
   };
   prints = record { taken = refl; report = refl; left_is = left-one (line_of_value 7 ∷ []) [] refl others-of-one };
   in_lsn_order = tt;
+  opened_first =
+      (let newest = subst (λ (shape : Shape). newest_checkpoint shape log ≡ Some (reading.number, reading.ckpt)) as_opened.shape as_opened.is_read.scan.checkpoint in
+      record { number = reading.number; ckpt = reading.ckpt; found = newest; unmoved = newest });
   read_from_devices = record {
     log_device = record { pick_is = refl; kept = record { same_length = refl; each = λ k below. inl refl }; one_image = refl; unchanged_since = refl; unfailed_since = refl };
     data_device = record { pick_is = refl; kept = base-image (settled data_bytes); one_image = refl; unchanged_since = refl; unfailed_since = refl };

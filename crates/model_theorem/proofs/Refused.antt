@@ -1,10 +1,12 @@
 -- What the promise refuses.
-use Rattle.std.proofs.Common.{◌≡◌, ℕ, ◌+◌, ◌<◌, List, [], ◌∷◌, Option, Some, None, ap, ◌∙◌, subst, arith, ⊎_elim}
+use Rattle.std.proofs.Common.{◌≡◌, ℕ, ◌+◌, ◌<◌, List, [], ◌∷◌, Option, Some, None, inl, refl, sym, ap, ◌∙◌, subst, arith, ⊎_elim}
 use Rattle.std.specs.Prelude.{IfSome, slice_get, take}
 use Rattle.std.proofs.lemmas.Bool.{cases_lt}
 use Rattle.std.proofs.lemmas.Bool.Decides.{nat_tests}
 use Rattle.model_base.specs.Count.{HasRisen}
 use Rattle.model_base.specs.Limits.{default_shape}
+use Rattle.model_device.specs.Disk.{Disk, IsImage}
+use Rattle.model_log.specs.Device.{newest_checkpoint}
 use Rattle.model_opening.specs.Formatted.{formatted_store}
 use Rattle.model_store.specs.Apply.{folded}
 use Rattle.model_store.specs.Reading.{Reading, IsReading}
@@ -14,7 +16,8 @@ use Rattle.model_history.specs.declared.entry.Entry.{Entry}
 use Rattle.model_theorem.specs.Values.{Crash, Opened, Ran, Account, Device, entries_of}
 use Rattle.model_theorem.specs.Run.{IsRun, first_count}
 use Rattle.model_theorem.specs.Crash.{CrashSafe, HasPassedAll, IsStoppedAsAsked}
-use Rattle.model_theorem.specs.Examples.{LacksFlushedGroup, HasGap, StartsElsewhere, ChangesPages, LosesForNothing, StopsOtherwise, StopsForNothing, ArmsLate}
+use Rattle.model_theorem.specs.Examples.{LacksFlushedGroup, HasGap, StartsElsewhere, ChangesPages, LosesForNothing, RunsUnopened, StopsOpened, StopsOtherwise, StopsForNothing, ArmsLate}
+use Rattle.model_theorem.specs.Opening.{HasCheckpointFrom, IsOpenedBefore, IsOpeningDone, IsOpeningStopped}
 
 none-up-to : (end : ℕ) (entry : Entry) → end < entry.end → count_up_to end (entry ∷ []) ≡ 0
 none-up-to end entry below = grind (arith, nat_tests)
@@ -53,6 +56,34 @@ refuses-loss crash opened account safe loses =
     let data_well = loses.data_well in
     absurd (omega arith)
 
+-- what a device held at its last good sync is an image
+pub base-image : (disk : Disk) → IsImage disk disk.base
+base-image disk = record { same_length = refl; each = λ k below. inl refl }
+
+-- of one newest checkpoint there is one number
+same-number : (found now : Option (ℕ × ℕ)) (number ckpt later later_ckpt : ℕ) → now ≡ found → found ≡ Some (number, ckpt) → now ≡ Some (later, later_ckpt) → number ≡ later
+same-number found now number ckpt later later_ckpt same is is_now =
+    let both : Some (number, ckpt) ≡ Some (later, later_ckpt) = sym is ∙ sym same ∙ is_now in
+    let pair : (number, ckpt) ≡ (later, later_ckpt) = cc in
+    ap (λ (checkpoint : ℕ × ℕ). checkpoint.0) pair
+
+pub refuses-run : (crash : Crash) (opened : Opened) (account : Account) → CrashSafe crash opened account → RunsUnopened crash opened account → ⊥
+refuses-run crash opened account safe runs =
+    let armed : Disk = crash.log_device.armed_from in
+    let met : Disk = crash.log_device.crashed_from in
+    let done : IsOpeningDone opened.shape armed met = subst (IsOpenedBefore opened.shape armed met) runs.ran safe.opened_first in
+    let here : HasCheckpointFrom opened.shape (done.number + 1) met.base = done.moved met.base (base-image met) in
+    let same = same-number (newest_checkpoint opened.shape armed.base) (newest_checkpoint opened.shape met.base) done.number done.ckpt here.number here.ckpt
+    runs.unmoved done.found here.newest in
+    absurd (omega (arith, here.from))
+
+pub refuses-stopped : (crash : Crash) (opened : Opened) (account : Account) → CrashSafe crash opened account → StopsOpened crash opened account → ⊥
+refuses-stopped crash opened account safe stops =
+    let armed : Disk = crash.log_device.armed_from in
+    let met : Disk = crash.log_device.crashed_from in
+    let stopped : IsOpeningStopped opened.shape armed met = subst (IsOpenedBefore opened.shape armed met) stops.stopped safe.opened_first in
+    stops.moved (stopped.unmoved ∙ sym stopped.found)
+
 pub refuses-stop : (crash : Crash) (opened : Opened) (account : Account) → CrashSafe crash opened account → StopsOtherwise crash → ⊥
 refuses-stop crash opened account safe stops =
     ⊎_elim (λ log. log safe.any_stops.log_device.limit) (λ other. other safe.any_stops.data_device.limit) stops
@@ -74,7 +105,7 @@ refuses-opening crash opened account safe stops =
 pub refuses-late : ((log data_bytes : List ℕ) (first second : Reading) → IsReading log data_bytes first → IsReading log data_bytes second → first ≡ second)
     → (crash : Crash) (opened : Opened) (account : Account) → CrashSafe crash opened account → ArmsLate crash → ⊥
 refuses-late one crash opened account safe late =
-    let formatted = safe.any_stops.armed_first.unused late.unused in
+    let formatted = safe.any_stops.armed_first.unopened.unused late.unused in
     let same : late.reading ≡ formatted_store default_shape =
     one crash.log_device.armed_from.reads crash.data_device.armed_from.reads late.reading (formatted_store default_shape) late.is_read formatted.orderly.reads in
     let number : late.reading.number ≡ 0 = ap (λ (reading : Reading). reading.number) same in

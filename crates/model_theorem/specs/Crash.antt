@@ -4,13 +4,12 @@
 -- lost only where a device call failed.
 use Rattle.std.specs.Prelude.{ℕ, ◌≡◌, ◌≤◌, ◌<◌, ◌⊎◌, ◌+◌, ◌++◌, Option, Some, None, IfSome}
 use Rattle.model_base.specs.Count.{HasRisen}
-use Rattle.model_base.specs.Limits.{default_shape}
-use Rattle.model_device.specs.Disk.{Disk, IsImage, HasOneImage, settled}
-use Rattle.model_opening.specs.Formatted.{formatted_store}
+use Rattle.model_device.specs.Disk.{IsImage, settled}
 use Rattle.model_store.specs.Opening.{IsUnused}
-use Rattle.model_store.specs.Reading.{IsReading, IsOrderly, HasOldCopies}
+use Rattle.model_store.specs.Reading.{IsReading, HasOldCopies}
 use Rattle.model_history.specs.Legal.{IsLeft}
 use Rattle.model_report.specs.Report.{report_text}
+use Rattle.model_theorem.specs.Opening.{AreUnopened, IsOpenedBefore}
 use Rattle.model_theorem.specs.Run.{IsRun, IsPrefixRead, LosesOnlyByFailure}
 use Rattle.model_theorem.specs.Script.{IsWholeScript, FitsOpened}
 use Rattle.model_theorem.specs.Values.{Device, Crash, Opened, Account, entries_of, start_of, marks_of}
@@ -36,21 +35,11 @@ pub record IsStoppedAsAsked (asked : Option ℕ) (device : Device) : Type 0 wher
   pub cause : 0 < device.stop.failures
       → HasRisen device.faults_at_entry device.faults ⊎ HasPassedAll asked device.stop.passed
 
--- the devices are at rest, and hold what formatting leaves, with the checkpoint of number 0, which the first opening
--- replaces
-pub record AreFormatted (log_disk data_disk : Disk) : Type 0 where
-  pub log_rests : HasOneImage log_disk log_disk.reads
-  pub data_rests : HasOneImage data_disk data_disk.reads
-  pub orderly : IsOrderly log_disk.reads data_disk.reads (formatted_store default_shape)
-
--- The fuses were armed before opening. Opening reads the log device, and the fuse has counted that. The devices were then
--- as formatting leaves them, where the log device was unused; else as they were handed in, and before came at most one read
--- of the log device's first block.
+-- The fuses were armed before opening. Opening reads the log device, and the fuse has counted that. Before came at most one
+-- read of the log device's first block, where that was in use.
 pub record AreArmedFirst (log_device data_device : Device) : Type 0 where
   pub opening_counted : 0 < log_device.stop.passed + log_device.stop.failures
-  pub unused : IsUnused log_device.at_entry.reads → AreFormatted log_device.armed_from data_device.armed_from
-  pub log_in_use : (IsUnused log_device.at_entry.reads → ⊥) → log_device.armed_from ≡ log_device.at_entry
-  pub data_in_use : (IsUnused log_device.at_entry.reads → ⊥) → data_device.armed_from ≡ data_device.at_entry
+  pub unopened : AreUnopened log_device.at_entry data_device.at_entry log_device.armed_from data_device.armed_from
   pub log_calls : (IsUnused log_device.at_entry.reads → ⊥) → log_device.stop.calls_before ≤ 1
   pub data_calls : (IsUnused log_device.at_entry.reads → ⊥) → data_device.stop.calls_before ≡ 0
 
@@ -95,6 +84,8 @@ pub record CrashSafe (crash : Crash) (opened : Opened) (account : Account) : Typ
   pub any_stops : AreAnyStops crash
   pub prints : IsPrinted crash account
   pub in_lsn_order : IfSome account.run (IsRun account.script opened)
+  -- opening came to its end just where a run is told
+  pub opened_first : IsOpenedBefore opened.shape crash.log_device.armed_from crash.log_device.crashed_from account.run
   pub read_from_devices : IsReadFromDevices crash account
   -- the pages are those of the first n groups, n reaching every group printed flushed
   pub first_groups_whole : IsPrefixRead account.script opened account.run account.reading

@@ -1,11 +1,14 @@
 -- Calls that the promise is tried on: what it refuses, and what it admits.
-use Rattle.std.specs.Prelude.{ℕ, false, ◌≡◌, ◌≢◌, ◌<◌, ◌⊎◌, List, [], ◌∷◌, codes, slice_get, Option, Some, None}
+use Rattle.std.specs.Prelude.{ℕ, false, ◌≡◌, ◌≢◌, ◌≤◌, ◌<◌, ◌⊎◌, List, [], ◌∷◌, codes, slice_get, Option, Some, None}
+use Rattle.std.specs.List.{AllByRecursion}
 use Rattle.model_base.specs.Limits.{default_shape}
 use Rattle.model_base.specs.declared.limits.TheConstants.{FIRST_DATA_LSN, LSN_LIMIT}
 use Rattle.model_page.specs.Blank.{blank_pages}
 use Rattle.model_device.specs.Disk.{settled}
 use Rattle.model_device.specs.declared.write.Write.{Write}
+use Rattle.model_log.specs.Device.{newest_checkpoint}
 use Rattle.model_log.specs.Lsn.{start_after}
+use Rattle.model_log.specs.declared.layout.TheConstants.{HEADER_BYTES}
 use Rattle.model_report.specs.Report.{report_text}
 use Rattle.model_script.specs.Fit.{script_end}
 use Rattle.model_script.specs.declared.item.Item.TheVariants.{Num}
@@ -14,6 +17,7 @@ use Rattle.model_store.specs.Opening.{IsUnused}
 use Rattle.model_store.specs.Reading.{Reading, IsReading, HasOldCopies}
 use Rattle.model_history.specs.declared.entry.Entry.{Entry}
 use Rattle.model_history.specs.declared.entry.State.TheVariants.{Lost, Flushed}
+use Rattle.model_theorem.specs.Opening.{HeldOlder}
 use Rattle.model_theorem.specs.Values.{CrashOptions, Device, Crash, Opened, Ran, Account, entries_of, start_of, marks_of}
 
 -- REFUSED.
@@ -56,6 +60,19 @@ pub record LosesForNothing (crash : Crash) (account : Account) : Type 0 where
   pub log_well : crash.log_device.stop.failures ≡ 0
   pub data_well : crash.data_device.stop.failures ≡ 0
 
+-- a run is told, and at the log device's last good sync the newest checkpoint was the one that was found
+pub record RunsUnopened (crash : Crash) (opened : Opened) (account : Account) : Type 0 where
+  pub run : Ran
+  pub ran : account.run ≡ Some run
+  pub unmoved : newest_checkpoint opened.shape crash.log_device.crashed_from.base
+      ≡ newest_checkpoint opened.shape crash.log_device.armed_from.base
+
+-- opening is told as stopped, and at the log device's last good sync the newest checkpoint was another than was found
+pub record StopsOpened (crash : Crash) (opened : Opened) (account : Account) : Type 0 where
+  pub stopped : account.run ≡ None
+  pub moved : newest_checkpoint opened.shape crash.log_device.crashed_from.base
+      ≢ newest_checkpoint opened.shape crash.log_device.armed_from.base
+
 -- a device was stopped otherwise than the words ask
 abbrev pub StopsOtherwise : Crash → Type 0
 StopsOtherwise crash =
@@ -91,12 +108,22 @@ pub record ReadsAsOpened (log data_bytes : List ℕ) (opened : Opened) (reading 
   pub pages : reading.pages ≡ opened.pages
   pub end : reading.end ≡ start_after opened.end
 
--- a device of which no call failed, and that had no write pending when it was crashed
-abbrev pub quiet_device : List ℕ → Device
-quiet_device bytes = record {
-  at_entry = settled bytes;
+-- The log device was in use and held these bytes when its fuse was armed, with an older checkpoint than is read.
+pub record MovedCheckpoint (found : List ℕ) (opened : Opened) (reading : Reading) : Type 0 where
+  pub in_use : IsUnused found → ⊥
+  pub older : HeldOlder opened.shape reading.number (settled found)
+
+-- the writes are of log blocks, behind the header and the checkpoints
+abbrev pub AreOfBlocks : List Write → Type 0
+AreOfBlocks writes = AllByRecursion (λ (write : Write). HEADER_BYTES ≤ write.at) writes
+
+-- a device that was found so and then holds these bytes, of which no call failed, and that had no write pending when it was
+-- crashed
+abbrev pub quiet_device : (found bytes : List ℕ) → Device
+quiet_device found bytes = record {
+  at_entry = settled found;
   faults_at_entry = 0;
-  armed_from = settled bytes;
+  armed_from = settled found;
   crashed_from = settled bytes;
   left = settled bytes;
   faults = 0;
@@ -112,13 +139,13 @@ quiet_device bytes = record {
   };
 }
 
--- a device that held these bytes at its last good sync, and of which one call failed then; it was crashed with these
--- writes pending, and has kept none of them
-abbrev pub failed_device : List ℕ → List Write → List ℕ → Option ℕ → ℕ → ℕ → Device
-failed_device bytes writes reads limit passed faults = record {
-  at_entry = settled bytes;
+-- a device that was found so and held these bytes at its last good sync, and of which one call failed then; it was crashed
+-- with these writes pending, and has kept none of them
+abbrev pub failed_device : (found bytes : List ℕ) → List Write → List ℕ → Option ℕ → ℕ → ℕ → Device
+failed_device found bytes writes reads limit passed faults = record {
+  at_entry = settled found;
   faults_at_entry = 0;
-  armed_from = settled bytes;
+  armed_from = settled found;
   crashed_from = record { base = bytes; writes = writes; reads = reads };
   left = settled bytes;
   faults = faults;
@@ -203,9 +230,9 @@ lost_run = record {
 abbrev pub lost_account : Reading → Account
 lost_account reading = account_of text_of_two two_lines (Some lost_run) ((1, 1) ∷ []) reading
 
-abbrev pub lost_call : List ℕ → List Write → List ℕ → List ℕ → Reading → Crash
-lost_call log writes reads data_bytes reading =
-    call_of no_stop (failed_device log writes reads None 3 1) (quiet_device data_bytes) (lost_account reading)
+abbrev pub lost_call : (found log : List ℕ) → List Write → (reads data_bytes : List ℕ) → Reading → Crash
+lost_call found log writes reads data_bytes reading =
+    call_of no_stop (failed_device found log writes reads None 3 1) (quiet_device data_bytes data_bytes) (lost_account reading)
 
 -- Opening was stopped at the log device's first call, as the words ask.
 abbrev pub stopped_account : Reading → Account
@@ -213,13 +240,13 @@ stopped_account reading = account_of text_of_one (line_of_value 7 ∷ []) None (
 
 abbrev pub stopped_call : List ℕ → List ℕ → Reading → Crash
 stopped_call log data_bytes reading =
-    call_of (record { log_only = false; stop_log = Some 0; stop_data = None; pick = 0 }) (failed_device log [] log (Some 0) 0 0)
-    (quiet_device data_bytes) (stopped_account reading)
+    call_of (record { log_only = false; stop_log = Some 0; stop_data = None; pick = 0 }) (failed_device log log [] log (Some 0) 0 0)
+    (quiet_device data_bytes data_bytes) (stopped_account reading)
 
 -- The script is empty.
 abbrev pub empty_account : Opened → Reading → Account
 empty_account opened reading = account_of [] [] (Some (empty_run (start_after opened.end) reading.ckpt)) [] reading
 
-abbrev pub empty_call : List ℕ → List ℕ → Opened → Reading → Crash
-empty_call log data_bytes opened reading =
-    call_of no_stop (quiet_device log) (quiet_device data_bytes) (empty_account opened reading)
+abbrev pub empty_call : (found log data_bytes : List ℕ) → Opened → Reading → Crash
+empty_call found log data_bytes opened reading =
+    call_of no_stop (quiet_device found log) (quiet_device data_bytes data_bytes) (empty_account opened reading)

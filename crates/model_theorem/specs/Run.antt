@@ -11,6 +11,7 @@ use Rattle.model_history.specs.Legal.{IsLegal, IsLeft, entry_spans, wholes_of, c
 use Rattle.model_history.specs.declared.entry.Entry.{Entry}
 use Rattle.model_history.specs.declared.entry.State.TheVariants.{Lost, Flushed}
 use Rattle.model_report.specs.Report.{report_text}
+use Rattle.model_theorem.specs.Opening.{AreUnopened, IsOpenedBefore}
 use Rattle.model_theorem.specs.Script.{IsWholeScript, FitsOpened}
 use Rattle.model_theorem.specs.Values.{Opened, Ran, RunAccount, RunCall, RunResult, entries_of}
 
@@ -68,11 +69,14 @@ pub record RunSafe (failures : ℕ) (result : RunResult) : Type 0 where
   pub lost_only_by_failure : LosesOnlyByFailure failures result.run result.left
 
 -- What is promised of a call of `run` on devices that open this store: the account is one of it, and the report is that of
--- the account. A failure of either device counts.
+-- the account. The fuses were armed before opening, which came to its end, so that there is a run. A failure of either device
+-- counts.
 pub record RunPromise (call : RunCall) (opened : Opened) (account : RunAccount) : Type 0 where
   pub every_script : IsWholeScript call.source call.source_left account.text account.script
   pub fits : FitsOpened call.log_only opened account.script
   pub prints : call.report ≡ report_text (Some account.run.start) account.run.entries account.left (Some account.run.marks) None
+  pub unopened : AreUnopened call.log_device.at_entry call.data_device.at_entry call.log_device.armed_from call.data_device.armed_from
+  pub opened_first : IsOpenedBefore opened.shape call.log_device.armed_from call.log_device.left (Some account.run)
   pub safe : RunSafe (call.log_device.failures + call.data_device.failures) (record {
     script = account.script;
     opened = opened;

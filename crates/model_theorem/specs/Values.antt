@@ -68,6 +68,8 @@ pub record RunDevice : Type 0 where
   -- what it meant when it was handed in, and how often it had failed
   pub at_entry : Disk
   pub faults_at_entry : ℕ
+  -- what it meant when its fuse was armed
+  pub armed_from : Disk
   -- what it means now
   pub left : Disk
   -- how many calls of it answered `Failed`

@@ -3,7 +3,7 @@ ghost use Rattle.std.specs.Prelude.{◌≡◌, ◌≤◌, ℕ, List};
 ghost use Rattle.model_device.specs.declared.write.Write.{Write};
 ghost use Rattle.model_store.specs.Reading.{Reading};
 ghost use Rattle.model_theorem.specs.Crash.{CrashSafe};
-ghost use Rattle.model_theorem.specs.Examples.{LacksFlushedGroup, HasGap, StartsElsewhere, ChangesPages, LosesForNothing, StopsOtherwise, StopsForNothing, ArmsLate, new_store, ReadsAsOpened, empty_account, empty_call, lost_account, lost_call, stopped_account, stopped_call};
+ghost use Rattle.model_theorem.specs.Examples.{LacksFlushedGroup, HasGap, StartsElsewhere, ChangesPages, LosesForNothing, RunsUnopened, StopsOpened, StopsOtherwise, StopsForNothing, ArmsLate, AreOfBlocks, MovedCheckpoint, new_store, ReadsAsOpened, empty_account, empty_call, lost_account, lost_call, stopped_account, stopped_call};
 ghost use Rattle.model_theorem.specs.Values.{Crash, Opened, Account};
 
 use model_store::one_reading;
@@ -38,6 +38,19 @@ pub fn loss_for_nothing_is_refused()
         CrashSafe crash opened account → LosesForNothing crash account → ⊥ }
 {}
 
+/// A run that is told though opening was stopped is refused: the log device's newest checkpoint is the one that was found.
+pub fn run_without_opening_is_refused()
+    ensures { (crash : Crash) (opened : Opened) (account : Account) →
+        CrashSafe crash opened account → RunsUnopened crash opened account → ⊥ }
+{}
+
+/// An opening that is told as stopped though it came to its end is refused: the log device's newest checkpoint is another
+/// than was found.
+pub fn stop_behind_opening_is_refused()
+    ensures { (crash : Crash) (opened : Opened) (account : Account) →
+        CrashSafe crash opened account → StopsOpened crash opened account → ⊥ }
+{}
+
 /// A stop that isn't the one of the words is refused.
 pub fn other_stop_is_refused()
     ensures { (crash : Crash) (opened : Opened) (account : Account) →
@@ -58,18 +71,18 @@ pub fn late_arming_is_refused()
     one_reading();
 }
 
-/// An empty script is admitted, over devices that are read as what was opened.
+/// An empty script is admitted, over devices that are read as what was opened, once the checkpoint was moved.
 pub fn empty_run_is_admitted()
-    ensures { (log data_bytes : List ℕ) (opened : Opened) (reading : Reading) →
-        ReadsAsOpened log data_bytes opened reading →
-        CrashSafe (empty_call log data_bytes opened reading) opened (empty_account opened reading) }
+    ensures { (found log data_bytes : List ℕ) (opened : Opened) (reading : Reading) →
+        ReadsAsOpened log data_bytes opened reading → MovedCheckpoint found opened reading →
+        CrashSafe (empty_call found log data_bytes opened reading) opened (empty_account opened reading) }
 {}
 
 /// A lost group is admitted where the sync after its write failed.
 pub fn lost_group_is_admitted()
-    ensures { (log : List ℕ) (writes : List Write) (reads data_bytes : List ℕ) (reading : Reading) →
-        ReadsAsOpened log data_bytes new_store reading → 8192 ≤ reading.ckpt →
-        CrashSafe (lost_call log writes reads data_bytes reading) new_store (lost_account reading) }
+    ensures { (found log : List ℕ) (writes : List Write) (reads data_bytes : List ℕ) (reading : Reading) →
+        ReadsAsOpened log data_bytes new_store reading → MovedCheckpoint found new_store reading → AreOfBlocks writes → 8192 ≤ reading.ckpt →
+        CrashSafe (lost_call found log writes reads data_bytes reading) new_store (lost_account reading) }
 {}
 
 /// An opening that was stopped as the words ask is admitted.

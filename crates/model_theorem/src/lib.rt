@@ -7,6 +7,6 @@ mod examples;
 pub use examples::{
     changed_pages_are_refused, empty_run_is_admitted, gap_is_refused, late_arming_is_refused,
     loss_for_nothing_is_refused, lost_group_is_admitted, missing_flushed_group_is_refused,
-    other_start_is_refused, other_stop_is_refused, stop_for_nothing_is_refused,
-    stopped_opening_is_admitted,
+    other_start_is_refused, other_stop_is_refused, run_without_opening_is_refused,
+    stop_behind_opening_is_refused, stop_for_nothing_is_refused, stopped_opening_is_admitted,
 };
