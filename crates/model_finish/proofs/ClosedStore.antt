@@ -26,13 +26,14 @@ use Rattle.model_running.specs.Seating.{AreSeated}
 use Rattle.model_script.specs.declared.script.ScriptLine.{ScriptLine}
 use Rattle.model_theorem.specs.Values.{Opened}
 
-module _ (D : LogSide) (E : DataSide) (c : Setup) (script : List ScriptLine) (opened : Opened) (failures : ℕ) (left : List (ℕ × ℕ)) (log_disk data_disk : Disk) (s : Core D E) (start : lsn c.base ≡ start_after opened.end) (given : AreGiven script opened)
-    (log_tells : LogTells D c opened.shape s.log_part log_disk) (data_tells : DataTells E opened s.data_part data_disk) where
+module _ (D : LogSide) (E : DataSide) (c : Setup) (script : List ScriptLine) (opened : Opened) (number failures : ℕ) (left : List (ℕ × ℕ)) (log_disk data_disk : Disk) (s : Core D E) (start : lsn c.base ≡ start_after opened.end) (given : AreGiven script opened)
+    (log_tells : LogTells D c opened.shape number s.log_part log_disk) (data_tells : DataTells E opened s.data_part data_disk) where
   -- the log half of a finished store and its page half
   pub closed_run : (finished : FinishedStore D E c script opened failures left s) → FinishedPages D E script opened finished.run s → IsLeft script finished.run.entries left
       → IsClosed failures (record {
         script = script;
         opened = opened;
+        number = number;
         run = finished.run;
         left = left;
         log_disk = log_disk;
@@ -58,13 +59,14 @@ module _ (D : LogSide) (E : DataSide) (c : Setup) (script : List ScriptLine) (op
           ckpt = (let a = stands.ckpt in let b = log_tells.ckpt in omega arith);
           small = (let a = stands.small in let b = log_tells.given in omega arith);
         };
+        number_kept = log_tells.number_kept stands.log stands.holds;
         log_holds = subst (λ (x : ℕ). LogHolds shape x wholes log_tells.marks log_disk) same (log_tells.holds stands.log wholes stands.holds stands.groups);
         data_holds = subst (λ (x : ℕ). DataHolds shape opened.pages wholes x log_tells.marks.asked data_disk) stable
             (subst (λ (x : ℕ). DataHolds shape opened.pages wholes (D.stable s.log_part) x data_disk) asked kept);
       }
 
   pub closed_store : (spare : ℕ) → IsRunning D E c spare s → AreSeated c s.actors → HaveEnded s.actors → IsOfScript c script opened.shape.space → HasItsPages c opened → CausesAreFailures D E failures s.log_part s.data_part
-      → ClosedStore D E script opened failures left log_disk data_disk s
+      → ClosedStore D E script opened number failures left log_disk data_disk s
   unfolding finished_store stands_for_run
   closed_store spare running seated ended of_script pages causes =
       let finished = finished_store D E c spare script opened failures left s running seated ended of_script start causes in

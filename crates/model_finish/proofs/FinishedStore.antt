@@ -1,6 +1,8 @@
 -- A running store stands for a run; one all users of which have ended is a finished run.
-use Rattle.std.proofs.Common.{List, arith, length, subst, sym, ℕ, ⊎_elim, ◌<◌, ◌≡◌}
+use Rattle.std.proofs.Common.{List, arith, inl, inr, length, subst, sym, ℕ, ⊎_elim, ◌<◌, ◌≡◌, ap}
+use Rattle.std.specs.Prelude.{slice_index}
 use Rattle.model_core.specs.DataSide.{DataSide}
+use Rattle.model_core.specs.Groups.{Tiles}
 use Rattle.model_core.specs.LogSide.{LogSide}
 use Rattle.model_core.specs.Lsn.{lsn}
 use Rattle.model_core.specs.Setup.{Setup}
@@ -8,16 +10,20 @@ use Rattle.model_core.specs.Turn.{Core}
 use Rattle.model_finish.proofs.Finished.{finished_groups, finished_losses, finished_marks, finished_run, marks_same}
 use Rattle.model_finish.proofs.Seated.{seated_end, seated_seats}
 use Rattle.model_finish.proofs.Losses.{lost_entry_exactly, open_line}
-use Rattle.model_finish.specs.Finished.{CausesAreFailures, FinishedStore, SpentStore, StandsForRun}
-use Rattle.model_finish.specs.History.{run_of, word_marks}
+use Rattle.model_finish.proofs.OpenLines.{leaves_open}
+use Rattle.model_finish.specs.Finished.{CausesAreFailures, FinishedStore, HasCause, SpentStore, StandsForRun}
+use Rattle.model_finish.specs.History.{run_of, word_marks, history_of}
 use Rattle.model_finish.specs.Script.{IsOfScript}
 use Rattle.model_history.specs.Legal.{lines_of_user}
+use Rattle.model_history.specs.declared.entry.Marks.{Marks}
 use Rattle.model_log.specs.Lsn.{start_after}
+use Rattle.model_logcore.specs.LogFits.{UserFits}
 use Rattle.model_running.specs.RunningStore.{IsRunning}
 use Rattle.model_running.specs.Schedule.{HaveEnded, IsSpent}
 use Rattle.model_running.specs.Seating.{AreSeated}
 use Rattle.model_script.specs.declared.script.ScriptLine.{ScriptLine}
 use Rattle.model_theorem.specs.Values.{Opened}
+use Rattle.model_core.specs.Actors as actor
 
 -- at any moment the store stands for a run of the script
 unfoldable pub stands_for_run : (D : LogSide) (E : DataSide) (c : Setup) (spare : ℕ) (script : List ScriptLine) (opened : Opened) (s : Core D E) → IsRunning D E c spare s → IsOfScript c script opened.shape.space → lsn c.base ≡ start_after opened.end → StandsForRun D E c script opened s
@@ -29,6 +35,11 @@ stands_for_run D E c spare script opened s running of_script start =
       marks = sym (marks_same s.words m running.flat_is);
       is_run = finished_run D c spare m g s.log_part s.actors half script opened of_script start;
       log = g.log;
+      tiles = subst (Tiles c.base g.log) (sym (ap (λ (ws : List ℕ). slice_index ws 0) running.flat_is)) half.global.tiled.tiles;
+      are_of_actors = half.counted;
+      answered = g.answered;
+      answers = λ seat u at. let f : UserFits D c m g s.log_part seat u = half.each seat (actor.User u) at in f.answers;
+      entries = ap (λ (marks : Marks). history_of g.answered marks g.log) (sym (marks_same s.words m running.flat_is));
       holds = half.global.part.holds;
       groups = finished_groups D c spare m g s.log_part s.actors half script opened.shape.space of_script;
       flushed = behind.0;
@@ -50,9 +61,10 @@ finished_store D E c spare script opened failures left s running seated ended of
     }
 
 -- where the turns are spent a user has a line left that isn't answered
-pub spent_store : (D : LogSide) (E : DataSide) (c : Setup) (spare : ℕ) (script : List ScriptLine) (opened : Opened) (seed max user : ℕ) (first last : Core D E) → IsRunning D E c spare last → IsOfScript c script opened.shape.space → lsn c.base ≡ start_after opened.end
+unfoldable pub spent_store : (D : LogSide) (E : DataSide) (c : Setup) (spare : ℕ) (script : List ScriptLine) (opened : Opened) (seed max user : ℕ) (first last : Core D E) → IsRunning D E c spare last → AreSeated c last.actors → IsOfScript c script opened.shape.space → lsn c.base ≡ start_after opened.end
     → IsSpent D E seed max user first last → SpentStore D E c script opened user last
-spent_store D E c spare script opened seed max user first last running of_script start spent =
+unfolding stands_for_run
+spent_store D E c spare script opened seed max user first last running seated of_script start spent =
     let m = running.shared in let g = running.log_ghost in let half = running.both.logged in
     record {
       stands = stands_for_run D E c spare script opened last running of_script start;
@@ -63,5 +75,8 @@ spent_store D E c spare script opened seed max user first last running of_script
       not_ended = spent.not_ended;
       unanswered = subst (λ (v : ℕ). spent.state.k < length (lines_of_user v script)) spent.number
           (let count = of_script.count spent.state.user in let below = open_line D c spare m g last.log_part last.actors half spent.seat spent.state spent.is spent.not_ended in omega arith);
+      leaves = leaves_open D c spare m g last.log_part last.actors half (word_marks m) script opened.shape.space of_script (seated_seats c last.actors seated script opened.shape.space of_script)
+          (HasCause D E last.log_part last.data_part)
+          (λ failed. ⊎_elim (λ cause. (m.failed, inl cause)) (λ cause. (m.failed, inr cause)) (running.both.cause failed)) user spent.seat spent.state spent.is spent.number spent.not_ended spent.least;
       least = spent.least;
     }

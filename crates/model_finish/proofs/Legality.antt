@@ -72,7 +72,7 @@ counts answered marks user (x ∷ xs) = by (eqb x.user user) (counts answered ma
     by true r = omega arith
     by false r = omega arith
 
-get_below : (xs : List Entry) (i : ℕ) (x : Entry) → slice_get xs i ≡ Some x → i < length xs
+pub get_below : (xs : List Entry) (i : ℕ) (x : Entry) → slice_get xs i ≡ Some x → i < length xs
 get_below [] i x h = absurd (cc)
 get_below (y ∷ ys) zero x h = omega arith
 get_below (y ∷ ys) (suc i) x h = let r = get_below ys i x h in omega arith

@@ -9,6 +9,7 @@ pub mod Given
 pub mod Groups
 pub mod Legality
 pub mod Losses
+pub mod OpenLines
 pub mod PagePrefixes
 pub mod Places
 pub mod RunEnds

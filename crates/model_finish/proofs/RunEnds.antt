@@ -31,13 +31,13 @@ module _ (D : LogSide) (L : LogLaws D) (E : DataSide) (EL : DataLaws E) (c : Set
       finished_store D E c spare script opened failures left last after (run_keeps_seats D E c seed max done.count first last seated done.turns) done.ended of_script start causes
 
   -- so its devices, where they hold what the parts tell, and the lines that are left make it a closed run
-  pub run_closed : (failures : ℕ) (left : List (ℕ × ℕ)) (log_disk data_disk : Disk) → AreGiven script opened → HasItsPages c opened → LogTells D c opened.shape last.log_part log_disk → DataTells E opened last.data_part data_disk
-      → AreSeated c first.actors → CausesAreFailures D E failures last.log_part last.data_part → IsDone D E seed max first last → ClosedStore D E script opened failures left log_disk data_disk last
-  run_closed failures left log_disk data_disk given pages log_tells data_tells seated causes done =
+  pub run_closed : (number failures : ℕ) (left : List (ℕ × ℕ)) (log_disk data_disk : Disk) → AreGiven script opened → HasItsPages c opened → LogTells D c opened.shape number last.log_part log_disk → DataTells E opened last.data_part data_disk
+      → AreSeated c first.actors → CausesAreFailures D E failures last.log_part last.data_part → IsDone D E seed max first last → ClosedStore D E script opened number failures left log_disk data_disk last
+  run_closed number failures left log_disk data_disk given pages log_tells data_tells seated causes done =
       let after : IsRunning D E c spare last = run_keeps D L E EL c spare seed max done.count first last running done.turns in
-      closed_store D E c script opened failures left log_disk data_disk last start given log_tells data_tells spare after (run_keeps_seats D E c seed max done.count first last seated done.turns) done.ended of_script pages causes
+      closed_store D E c script opened number failures left log_disk data_disk last start given log_tells data_tells spare after (run_keeps_seats D E c seed max done.count first last seated done.turns) done.ended of_script pages causes
 
-  pub run_spent : (user : ℕ) → IsSpent D E seed max user first last → SpentStore D E c script opened user last
-  run_spent user spent =
+  pub run_spent : (user : ℕ) → AreSeated c first.actors → IsSpent D E seed max user first last → SpentStore D E c script opened user last
+  run_spent user seated spent =
       let after : IsRunning D E c spare last = run_keeps D L E EL c spare seed max max first last running spent.turns in
-      spent_store D E c spare script opened seed max user first last after of_script start spent
+      spent_store D E c spare script opened seed max user first last after (run_keeps_seats D E c seed max max first last seated spent.turns) of_script start spent

@@ -1,5 +1,5 @@
 -- What a finished store comes to, with what its devices hold: a closed run.
-use Rattle.std.specs.Prelude.{List, ℕ, ◌≡◌}
+use Rattle.std.specs.Prelude.{List, ℕ, ◌≡◌, ◌≤◌}
 use Rattle.model_base.specs.declared.shape.Shape.{Shape}
 use Rattle.model_core.specs.DataSide.{DataSide}
 use Rattle.model_core.specs.Groups.{Entry, KeptPage}
@@ -23,13 +23,15 @@ use Rattle.model_run.specs.Kept.{DataHolds}
 use Rattle.model_script.specs.declared.script.ScriptLine.{ScriptLine}
 use Rattle.model_theorem.specs.Values.{Opened, Ran}
 
--- What the log part holds of a run's groups its device does, by these marks of the part.
-pub record LogTells (D : LogSide) (c : Setup) (shape : Shape) (part : D.Part) (disk : Disk) : Type 0 where
+-- What the log part holds of a run's groups its device does, by these marks of the part; and while it holds a run, the
+-- checkpoint's number isn't below this.
+pub record LogTells (D : LogSide) (c : Setup) (shape : Shape) (number : ℕ) (part : D.Part) (disk : Disk) : Type 0 where
   pub marks : LogMarks
   pub stable : marks.stable ≡ D.stable part
   pub given : marks.given ≡ D.given part
   pub ckpt : marks.ckpt ≡ D.ckpt part
   pub asked : marks.asked ≡ D.asked part
+  pub number_kept : (log : List Entry) → D.Holds c.blocks c.base log part → number ≤ marks.number
   pub holds : (log : List Entry) (wholes : List Whole) → D.Holds c.blocks c.base log part → AreWholesOf log wholes → LogHolds shape (lsn c.base) wholes marks disk
 
 -- What the data part holds of a run's pages its device does.
@@ -37,14 +39,16 @@ pub record DataTells (E : DataSide) (opened : Opened) (part : E.Part) (disk : Di
   pub holds : (kept_page : ℕ → KeptPage) (unfinished : List BatchPage) (wholes : List Whole) (stable ckpt : ℕ) → E.Holds kept_page unfinished part → AreApart unfinished
       → ArePrefixes opened.pages wholes stable ckpt (contents_of kept_page) (content_in unfinished) → DataHolds opened.shape opened.pages wholes stable ckpt disk
 
--- The run that the store stands for is a closed one, with the lines that are left and both devices as they are.
-pub record ClosedStore (D : LogSide) (E : DataSide) (script : List ScriptLine) (opened : Opened) (failures : ℕ) (left : List (ℕ × ℕ)) (log_disk data_disk : Disk) (s : Core D E) : Type 0 where
+-- The run that the store stands for is a closed one, behind the checkpoint of this number, with the lines that are left and
+-- both devices as they are.
+pub record ClosedStore (D : LogSide) (E : DataSide) (script : List ScriptLine) (opened : Opened) (number failures : ℕ) (left : List (ℕ × ℕ)) (log_disk data_disk : Disk) (s : Core D E) : Type 0 where
   pub run : Ran
   pub marks : ◌≡◌ {A = Marks} run.marks (marks_in s.words)
   pub closed : IsLeft script run.entries left
       → IsClosed failures (record {
         script = script;
         opened = opened;
+        number = number;
         run = run;
         left = left;
         log_disk = log_disk;

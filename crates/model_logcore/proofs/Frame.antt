@@ -116,7 +116,9 @@ module _ (D : LogSide) (c : Setup) where
     linked_later j u T later h = let w = (tiles_at g.log c.base m.sn h.0 _ T h.1).1 in (h.0, later.logs _ _ h.1, λ x lo hi. later.linked x (omega arith) (h.2 x lo hi))
 
     stopped_later : (seat j : ℕ) (u : UserState) → Tiles c.base g.log m.sn → Later m g m' g' seat → j ≢ seat → HasStoppedAt D c m g p j u → HasStoppedAt D c m' g' p' j u
-    stopped_later seat j u T later ne h = ⊎_elim (λ z. inl (in_hand_later seat j u T later ne z.1 z.0, z.1)) (λ z. inr (linked_later j u T later z)) h
+    stopped_later seat j u T later ne h = ⊎_elim
+        (λ z. inl (in_hand_later seat j u T later ne z.1 z.0, z.1, λ some. let e = z.2 some in let f = floor_grows m.write m'.write later.write in omega arith))
+        (λ z. inr (linked_later j u T later z)) h
 
     user_at_later : (seat j : ℕ) (u : UserState) → Tiles c.base g.log m.sn → Later m g m' g' seat → j ≢ seat → (f : UserStep) → UserAt D c m g p j u f → UserAt D c m' g' p' j u f
     user_at_later seat j u T later ne user_step.LoadCheckpoint h = h

@@ -1,6 +1,7 @@
 pub mod AnswersFit
 pub mod DeviceSteps
 pub mod Frame
+pub mod GroupEnds
 pub mod Joins
 pub mod LinkSteps
 pub mod LogAside

@@ -19,6 +19,7 @@ use Rattle.model_core.specs.WordTurn.{OnWord, after, found}
 use Rattle.model_core.specs.declared.ops.Op.{Op}
 use Rattle.model_core.specs.declared.steps.UserStep.{UserStep}
 use Rattle.model_logcore.proofs.Frame.{Later}
+use Rattle.model_logcore.proofs.GroupEnds.{hand_end_near}
 use Rattle.model_logcore.proofs.LinkSteps.{answer_global, answered_fits, keeps_reserve, keeps_store_link}
 use Rattle.model_logcore.proofs.RingSteps.{keeps_store_cell, keeps_store_first, refit, shifted, steps, still_words}
 use Rattle.model_logcore.specs.LogFacts.{LogGhost, LogFacts, Place, count_of}
@@ -118,11 +119,11 @@ module _ (D : LogSide) (L : LogLaws D) (c : Setup) (spare : ℕ) (m : SharedWord
   dead_at user_step.Reserve h = let z = h.0 in (omega arith, λ held. absurd (omega arith))
   dead_at user_step.TakeLatch h = let z = h.0 in (omega arith, λ held. absurd (omega arith))
   dead_at user_step.Done h = let z = h.0 in (omega arith, λ held. absurd (omega arith))
-  dead_at user_step.LoadWrite h = let z = h.0 in (omega arith, λ held. inl (h.2, let y = h.3 in omega arith))
-  dead_at user_step.StoreCell h = let z = h.0 in (omega arith, λ held. inl (h.2, let y = h.3 in omega arith))
-  dead_at user_step.StoreFirst h = let z = h.0 in (omega arith, λ held. inl (h.2, let y = h.3 in omega arith))
-  dead_at user_step.LoadWtail h = let z = h.0 in (omega arith, λ held. inl (h.2, let y = h.3 in omega arith))
-  dead_at user_step.StoreLink h = let z = h.0 in (omega arith, λ held. inl (h.2, let y = h.3 in omega arith))
+  dead_at user_step.LoadWrite h = let z = h.0 in let y = h.3 in (omega arith, λ held. inl (h.2, omega arith, λ some. absurd (omega arith)))
+  dead_at user_step.StoreCell h = let z = h.0 in let y = h.3 in (omega arith, λ held. inl (h.2, omega arith, λ some. h.4))
+  dead_at user_step.StoreFirst h = let z = h.0 in let y = h.3 in (omega arith, λ held. inl (h.2, omega arith, λ some. h.4))
+  dead_at user_step.LoadWtail h = let z = h.0 in let y = h.3 in (omega arith, λ held. inl (h.2, omega arith, λ some. hand_end_near D c m g p seat u before.global h.2 h.3 h.4 some))
+  dead_at user_step.StoreLink h = let z = h.0 in let y = h.3 in (omega arith, λ held. inl (h.2, omega arith, λ some. hand_end_near D c m g p seat u before.global h.2 h.3 h.4 some))
   dead_at user_step.LoadCtail h = let z = h.0 in (omega arith, λ held. inr h.2)
   dead_at user_step.StoreFrame h = let z = h.0 in (omega arith, λ held. inr h.2)
   dead_at user_step.StoreNewest h = let z = h.0 in (omega arith, λ held. inr h.2)

@@ -1,9 +1,8 @@
 -- The log half of the invariant gives the watermarks.
-use Rattle.std.proofs.Common.{List, ap, arith, inl, inr, refl, subst, ℕ, ⊎_elim, ◌+◌, ◌/◌, ◌<◌, ◌∙◌, ◌≡◌, ◌≤◌}
+use Rattle.std.proofs.Common.{List, ap, arith, inl, inr, length, refl, subst, ℕ, ⊎_elim, ◌+◌, ◌<◌, ◌∙◌, ◌≡◌, ◌≤◌}
 use lib.ListN.{get_elem?}
 use native.Mathlib.Decide.{dec_le}
 use Rattle.model_core.proofs.Groups.{tiles_at}
-use Rattle.model_core.proofs.Lsns.{block_below, lsn_block, lsn_offset}
 use Rattle.model_core.specs.Actors.{Actor}
 use Rattle.model_core.specs.Groups.{Entry, end_of, first_of}
 use Rattle.model_core.specs.Layout.{SharedWords}
@@ -12,8 +11,9 @@ use Rattle.model_core.specs.Lsn.{floor, lsn}
 use Rattle.model_core.specs.Setup.{Setup}
 use Rattle.model_core.specs.States.{UserState}
 use Rattle.model_core.specs.declared.steps.UserStep.{UserStep}
+use Rattle.model_logcore.proofs.GroupEnds.{end_near, hand_end_near}
 use Rattle.model_logcore.specs.LogFacts.{LogGhost}
-use Rattle.model_logcore.specs.LogFits.{CheckpointerAt, CheckpointerFits, FlusherAt, FlusherFits, Hand, UserAt, UserFits, WriterAt, WriterFits}
+use Rattle.model_logcore.specs.LogFits.{CheckpointerAt, CheckpointerFits, EndIsNear, FlusherAt, FlusherFits, Hand, HasLinked, UserAt, UserFits, WriterAt, WriterFits}
 use Rattle.model_logcore.specs.LogHalf.{LogHalf}
 use Rattle.model_logcore.specs.Watermarks.{HandAgrees, HasCopied, HasLoadedBelow, HasMetFailure, IsGroupLinked, LogWatermarks, UsersAgree}
 use Rattle.model_core.specs.declared.steps.UserStep.TheVariants as user_step
@@ -50,6 +50,15 @@ module _ (D : LogSide) (c : Setup) (spare : ℕ) (m : SharedWords) (g : LogGhost
       (λ e. let z : CheckpointerAt D c m g p t checkpointer_step.Failed = subst (CheckpointerAt D c m g p t) e f.step in z) met
   failures_show seat (actor.Joined es) at met = absurd met
 
+  -- a group with a byte that is copied and not linked isn't linked
+  not_linked : (u : UserState) → HasLinked D c m g p u → HasCopied g.state u → 0 < u.copied → ⊥
+  not_linked u h copied some =
+      let one = copied.copied u.start (omega arith) (omega arith) in
+      let w = tiles_at g.log c.base m.sn h.0 _ half.global.tiled.tiles h.1 in
+      let w0 = w.2 in
+      let two = h.2 u.start (omega arith) (omega arith) in
+      omega arith
+
   hand_copied : (seat : ℕ) (u : UserState) → Hand D c m g p seat u → HasCopied g.state u
   hand_copied seat u h = record { copied = h.done; left = h.bare }
 
@@ -81,21 +90,31 @@ module _ (D : LogSide) (c : Setup) (spare : ℕ) (m : SharedWords) (g : LogGhost
     failed = λ seat u at is. let z : UserAt D c m g p seat u user_step.Failed = subst (UserAt D c m g p seat u) is (user_fits seat u at).step in z.2;
   }
 
-  end_below : (i : ℕ) (e : Entry) → get_elem? g.log i ≡ maybe.some e → g.read ≤ e.start → IsGroupLinked g.state e → lsn (end_of e) < floor m.write + 65536
-  end_below i e is from linked =
+  -- a linked group that isn't wholly read has a byte that isn't read, and FIRST of the block that it ends in is stored
+  end_below : (i : ℕ) (e : Entry) → get_elem? g.log i ≡ maybe.some e → g.read < end_of e → IsGroupLinked g.state e → lsn (end_of e) < floor m.write + 65536
+  end_below i e is unread linked =
       let G = half.global in
       let w = tiles_at g.log c.base m.sn i e G.tiled.tiles is in
       let w1 = w.1 in let w2 = w.2 in
       let two : g.state e.start ≡ 2 = linked e.start (omega arith) (omega arith) in
-      let start = (G.ring_cells.each e.start from (omega arith) (omega arith)).1 in
-      let write : m.write ≡ lsn g.write = G.order.write_is in
-      let b = block_below e.start g.write (subst (λ (k : ℕ). lsn e.start < floor k + 65536) write start) in
-      let f : floor m.write ≡ floor (lsn g.write) = ap floor write in
-      let o = lsn_offset (end_of e) in let q = lsn_block (end_of e) in
-      elim (dec_le (end_of e / 496) (e.start / 496)) [
-        | yes d ↦ (let same : end_of e / 496 ≡ e.start / 496 = omega arith in omega arith)
-        | no n ↦ (let near = G.first_offsets.near (end_of e / 496) (G.first_offsets.stored i e is two (omega arith)) in omega arith)
-      ]
+      let by : (x : ℕ) → g.read ≤ x → e.start ≤ x → x < end_of e → lsn (end_of e) < floor m.write + 65536 = λ x above lo hi. let copied = linked x lo hi in
+      end_near c.base m.firsts m.write g.write g.log g.first g.state g.entered e.start x (end_of e) G.order.write_is G.first_offsets lo (G.ring_cells.each x above (omega arith) (omega arith)).1 (λ crosses. G.first_offsets.stored i e is two crosses) in
+      elim (dec_le g.read e.start) [ yes d ↦ by e.start d (omega arith) (omega arith) | no n ↦ by g.read (omega arith) (omega arith) unread ]
+
+  -- what a step says of a group in hand of which a byte is copied and none is linked
+  hand_near : (seat : ℕ) (u : UserState) (f : UserStep) → UserAt D c m g p seat u f → length u.starts ≡ u.k + 1 → HasCopied g.state u → 0 < u.copied → EndIsNear D c m g p u
+  hand_near seat u user_step.LoadCheckpoint h held copied some = let z = h.0 in absurd (omega arith)
+  hand_near seat u user_step.LoadSn h held copied some = let z = h.0 in absurd (omega arith)
+  hand_near seat u user_step.TakeLatch h held copied some = let z = h.0 in absurd (omega arith)
+  hand_near seat u user_step.Reserve h held copied some = let z = h.0 in absurd (omega arith)
+  hand_near seat u user_step.LoadWrite h held copied some = let z = h.3 in absurd (omega arith)
+  hand_near seat u user_step.StoreCell h held copied some = h.4
+  hand_near seat u user_step.StoreFirst h held copied some = h.4
+  hand_near seat u user_step.LoadWtail h held copied some = hand_end_near D c m g p seat u half.global h.2 h.3 h.4 some
+  hand_near seat u user_step.StoreLink h held copied some = hand_end_near D c m g p seat u half.global h.2 h.3 h.4 some
+  hand_near seat u user_step.Done h held copied some = let z = h.0 in absurd (omega arith)
+  hand_near seat u user_step.Failed h held copied some = ⊎_elim (λ z. z.2 some) (λ z. absurd (not_linked u z copied some)) (h.3 held)
+  hand_near seat u _ h held copied some = absurd (not_linked u h.2 copied some)
 
   pub log_watermarks : LogWatermarks D c m p actors
   log_watermarks = let G = half.global in let O = G.order in let P = G.part in record {
@@ -108,12 +127,14 @@ module _ (D : LogSide) (c : Setup) (spare : ℕ) (m : SharedWords) (g : LogGhost
     tail = g.tail;
     read = g.read;
     entered = g.entered;
-    groups_tile = record { tile = G.tiled.tiles; are_of_actors = half.counted; in_order = G.tiled.ranks; of_lines = λ i e is. let l = G.tiled.lines i e is in (l.0, l.1) };
+    groups_tile = record { tile = G.tiled.tiles; are_of_actors = half.counted; in_order = G.tiled.ranks; of_lines = G.tiled.lines };
     users_agree = users_agree;
     copied_bytes_stand = record {
       cell = λ x lo hi copied. (G.ring_cells.each x lo hi copied).0;
       below = λ x lo hi copied. (G.ring_cells.each x lo hi copied).1;
+      tail_below = λ seat s at. let f : WriterFits D c m g p seat s = half.each seat (actor.Writer s) at in let w = f.write in let n = f.small in omega arith;
       end_below = end_below;
+      hand_below = λ seat u at. let f = user_fits seat u at in hand_near seat u u.step f.step;
       first_stands = G.first_offsets.slots_are;
       first_true = G.first_offsets.true_first;
       first_below = G.first_offsets.near;
@@ -128,12 +149,14 @@ module _ (D : LogSide) (c : Setup) (spare : ℕ) (m : SharedWords) (g : LogGhost
       read_wtail = O.read_wtail;
       wtail_tail = O.wtail_tail;
       tail_sn = O.tail_sn;
+      read_entered = O.read_entered;
+      entered_tail = O.entered_tail;
       linked_below = G.written_links.linked;
       write_boundary = O.write_bound;
       wtail_boundary = O.wtail_bound;
       flushed_boundary = O.flushed_bound;
       tail_boundary = O.tail_bound;
-      writer = λ seat s at. let f : WriterFits D c m g p seat s = half.each seat (actor.Writer s) at in (f.tail, f.long);
+      writer = λ seat s at. let f : WriterFits D c m g p seat s = half.each seat (actor.Writer s) at in (f.tail, f.long, f.wide);
       loaded = loaded_below;
     };
     device_holds_stream = record {

@@ -50,9 +50,14 @@ module _ (D : LogSide) (c : Setup) (m : SharedWords) (g : LogGhost) (p : D.Part)
   abbrev pub IsLinked : UserState → Type 0
   IsLinked u = (length u.starts ≡ u.k + 1) × (u.k < length u.lines) × HasLinked u
 
-  -- How far the group in hand came of a user that has ended by a failure: so many of its bytes are copied, or it is linked.
+  -- its group in hand ends below the block floor of WRITE plus the log buffer
+  abbrev pub EndIsNear : UserState → Type 0
+  EndIsNear u = lsn (group_end u) < floor m.write + LOG_BUFFER
+
+  -- How far the group in hand came of a user that has ended by a failure: so many of its bytes are copied, none but where its
+  -- end is near; or it is linked.
   abbrev pub HasStoppedAt : ℕ → UserState → Type 0
-  HasStoppedAt seat u = (Hand seat u × (u.copied ≤ length (group_bytes u))) ⊎ HasLinked u
+  HasStoppedAt seat u = (Hand seat u × (u.copied ≤ length (group_bytes u)) × (0 < u.copied → EndIsNear u)) ⊎ HasLinked u
 
   -- FIRST of the block in which it ends is stored, if it starts in another
   abbrev pub HasFirst : UserState → Type 0
@@ -63,8 +68,8 @@ module _ (D : LogSide) (c : Setup) (m : SharedWords) (g : LogGhost) (p : D.Part)
   UserAt seat u user_step.LoadSn = IsBefore u
   UserAt seat u user_step.Reserve = IsBefore u
   UserAt seat u user_step.LoadWrite = (length u.starts ≡ u.k + 1) × (u.k < length u.lines) × Hand seat u × (u.copied ≡ 0)
-  UserAt seat u user_step.StoreCell = (length u.starts ≡ u.k + 1) × (u.k < length u.lines) × Hand seat u × (u.copied < length (group_bytes u)) × (lsn (group_end u) < floor m.write + LOG_BUFFER)
-  UserAt seat u user_step.StoreFirst = (length u.starts ≡ u.k + 1) × (u.k < length u.lines) × Hand seat u × (u.copied ≡ length (group_bytes u)) × (lsn (group_end u) < floor m.write + LOG_BUFFER) × (u.start / BLOCK_DATA < group_end u / BLOCK_DATA)
+  UserAt seat u user_step.StoreCell = (length u.starts ≡ u.k + 1) × (u.k < length u.lines) × Hand seat u × (u.copied < length (group_bytes u)) × EndIsNear u
+  UserAt seat u user_step.StoreFirst = (length u.starts ≡ u.k + 1) × (u.k < length u.lines) × Hand seat u × (u.copied ≡ length (group_bytes u)) × EndIsNear u × (u.start / BLOCK_DATA < group_end u / BLOCK_DATA)
   UserAt seat u user_step.LoadWtail = (length u.starts ≡ u.k + 1) × (u.k < length u.lines) × Hand seat u × (u.copied ≡ length (group_bytes u)) × HasFirst u
   UserAt seat u user_step.StoreLink = (length u.starts ≡ u.k + 1) × (u.k < length u.lines) × Hand seat u × (u.copied ≡ length (group_bytes u)) × HasFirst u × (lsn u.start < m.wtail + WRITTEN_LINKS)
   UserAt seat u user_step.TakeLatch = IsBefore u

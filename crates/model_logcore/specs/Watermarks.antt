@@ -5,7 +5,7 @@ use lib.ListN.{get_elem?}
 use mathlib.Core.Option.{some}
 use Rattle.model_base.specs.declared.limits.TheConstants.{BLOCK_SIZE}
 use Rattle.model_core.specs.Actors.{Actor}
-use Rattle.model_core.specs.Groups.{Entry, IsBound, Tiles, byte_at, end_of, first_of}
+use Rattle.model_core.specs.Groups.{Entry, IsBound, PageChange, Tiles, byte_at, end_of, first_of}
 use Rattle.model_core.specs.Layout.{SharedWords}
 use Rattle.model_core.specs.LogSide.{LogSide}
 use Rattle.model_core.specs.Lsn.{floor, lsn}
@@ -67,19 +67,23 @@ pub record UsersAgree (log : List Entry) (progress : ℕ → ℕ) (actors : List
   pub failed : (seat : ℕ) (u : UserState) → get_elem? actors seat ≡ some (actor.User u) → u.step ≡ user_step.Failed → u.checks ≡ false
 
 -- RESERVED GROUPS TILE THE SEQUENCE NUMBERS, each number once. They are the groups that the actors have, each once; a
--- user's are of its lines, in order.
+-- user's are of its lines, in order, with their bytes and with what they change.
 pub record GroupsTile (c : Setup) (sn : ℕ) (actors : List Actor) (log : List Entry) : Type 0 where
   pub tile : Tiles c.base log sn
   pub are_of_actors : Counted actors log
   pub in_order : (i : ℕ) (e : Entry) → get_elem? log i ≡ some e → e.k ≡ count_of e.user (take i log)
-  pub of_lines : (i : ℕ) (e : Entry) → get_elem? log i ≡ some e → (e.k < length (c.script e.user)) × (e.bytes ≡ (line_at (c.script e.user) e.k).bytes)
+  pub of_lines : (i : ℕ) (e : Entry) → get_elem? log i ≡ some e → (e.k < length (c.script e.user)) × (e.bytes ≡ (line_at (c.script e.user) e.k).bytes) × ◌≡◌ {A = List PageChange} e.changes (line_at (c.script e.user) e.k).changes
 
--- COPIED BYTES STAND IN THEIR CELLS: each that the writer hasn't read, below the block floor of WRITE plus the log buffer.
--- A first offset that was stored stands until the writer enters its block, and is the true one; the others are 0.
-pub record CopiedBytesStand (base : ℕ) (m : SharedWords) (log : List Entry) (progress first : ℕ → ℕ) (read entered : ℕ) : Type 0 where
+-- COPIED BYTES STAND IN THEIR CELLS: each that the writer hasn't read, below the block floor of WRITE plus the log buffer. So
+-- low are the writer's tail, the end of each linked group that isn't wholly read, and that of a user's group in hand once a
+-- byte of it is copied. A first offset that was stored stands until the writer enters its block, and is the true one; the
+-- others are 0.
+pub record CopiedBytesStand (base : ℕ) (m : SharedWords) (actors : List Actor) (log : List Entry) (progress first : ℕ → ℕ) (read entered : ℕ) : Type 0 where
   pub cell : (x : ℕ) → read ≤ x → x < m.sn → IsCopied progress x → slice_index m.cells (lsn x % LOG_BUFFER) ≡ byte_at base log x
   pub below : (x : ℕ) → read ≤ x → x < m.sn → IsCopied progress x → lsn x < floor m.write + LOG_BUFFER
-  pub end_below : (i : ℕ) (e : Entry) → get_elem? log i ≡ some e → read ≤ e.start → IsGroupLinked progress e → lsn (end_of e) < floor m.write + LOG_BUFFER
+  pub tail_below : (seat : ℕ) (s : WriterState) → get_elem? actors seat ≡ some (actor.Writer s) → s.tail < floor m.write + LOG_BUFFER
+  pub end_below : (i : ℕ) (e : Entry) → get_elem? log i ≡ some e → read < end_of e → IsGroupLinked progress e → lsn (end_of e) < floor m.write + LOG_BUFFER
+  pub hand_below : (seat : ℕ) (u : UserState) → get_elem? actors seat ≡ some (actor.User u) → length u.starts ≡ u.k + 1 → HasCopied progress u → 0 < u.copied → lsn (group_end u) < floor m.write + LOG_BUFFER
   pub first_stands : (q : ℕ) → entered ≤ q → q < entered + BUFFER_BLOCKS → slice_index m.firsts (q % BUFFER_BLOCKS) ≡ first q
   pub first_true : (q : ℕ) → 0 < first q → first q ≡ first_of base log q
   pub first_below : (q : ℕ) → 0 < first q → q * BLOCK_SIZE < floor m.write + LOG_BUFFER
@@ -93,6 +97,10 @@ pub record LinksAreGroups (m : SharedWords) (log : List Entry) (progress first :
   pub first_stored : (i : ℕ) (e : Entry) → get_elem? log i ≡ some e → progress e.start ≡ 2 → e.start / BLOCK_DATA < end_of e / BLOCK_DATA → 0 < first (end_of e / BLOCK_DATA)
   pub standing : (i : ℕ) (e : Entry) → get_elem? log i ≡ some e → progress e.start ≡ 2 → tail ≤ e.start → (0 < slice_index m.wlinks (lsn e.start % WRITTEN_LINKS)) × (lsn e.start < m.wtail + WRITTEN_LINKS)
 
+-- where the last block ends that the writer has entered: it keeps the first offset of each, from the block of WRITE on
+abbrev pub entered_place : WriterState → ℕ
+entered_place s = s.from + BLOCK_DATA * length s.firsts
+
 -- each mark of the log that an actor has loaded is at most the word now
 abbrev pub HasLoadedBelow : SharedWords → Actor → Type 0
 HasLoadedBelow m (actor.User u) = AreBelow u.loaded m.ckpt m.write m.wtail m.flushed
@@ -100,8 +108,9 @@ HasLoadedBelow m (actor.Writer s) = (s.write ≤ m.write) × (s.ckpt ≤ m.ckpt)
 HasLoadedBelow m (actor.Flusher f) = (f.write ≤ m.write) × (f.last ≤ m.flushed)
 HasLoadedBelow m _ = Unit {0}
 
--- THE ORDER OF THE LOG'S MARKS. All but the read place stand between groups, and below the tail all is linked.
-pub record MarksAreOrdered (base : ℕ) (m : SharedWords) (actors : List Actor) (log : List Entry) (progress : ℕ → ℕ) (write wtail flushed tail read : ℕ) : Type 0 where
+-- THE ORDER OF THE LOG'S MARKS. All but the read place stand between groups, and below the tail all is linked. The writer
+-- has entered each block of which it has read a byte, and none that begins at its tail or behind.
+pub record MarksAreOrdered (base : ℕ) (m : SharedWords) (actors : List Actor) (log : List Entry) (progress : ℕ → ℕ) (write wtail flushed tail read entered : ℕ) : Type 0 where
   pub write_is : m.write ≡ lsn write
   pub wtail_is : m.wtail ≡ lsn wtail
   pub flushed_is : m.flushed ≡ lsn flushed
@@ -109,12 +118,14 @@ pub record MarksAreOrdered (base : ℕ) (m : SharedWords) (actors : List Actor) 
   pub read_wtail : read ≤ wtail
   pub wtail_tail : wtail ≤ tail
   pub tail_sn : tail ≤ m.sn
+  pub read_entered : read ≤ BLOCK_DATA * entered
+  pub entered_tail : BLOCK_DATA * entered < tail + BLOCK_DATA
   pub linked_below : (x : ℕ) → base ≤ x → x < tail → progress x ≡ 2
   pub write_boundary : IsBound base log write
   pub wtail_boundary : IsBound base log wtail
   pub flushed_boundary : IsBound base log flushed
   pub tail_boundary : IsBound base log tail
-  pub writer : (seat : ℕ) (s : WriterState) → get_elem? actors seat ≡ some (actor.Writer s) → (s.tail ≡ lsn tail) × (read_place s ≡ read)
+  pub writer : (seat : ℕ) (s : WriterState) → get_elem? actors seat ≡ some (actor.Writer s) → (s.tail ≡ lsn tail) × (read_place s ≡ read) × (entered_place s ≡ BLOCK_DATA * entered)
   pub loaded : (seat : ℕ) (a : Actor) → get_elem? actors seat ≡ some a → HasLoadedBelow m a
 
 -- THE DEVICE HOLDS THE FRAMED STREAM, and beyond the log's end nothing fits: what that says of each image is the log
@@ -164,9 +175,9 @@ pub record LogWatermarks (D : LogSide) (c : Setup) (m : SharedWords) (p : D.Part
   pub entered : ℕ
   pub groups_tile : GroupsTile c m.sn actors log
   pub users_agree : UsersAgree log progress actors
-  pub copied_bytes_stand : CopiedBytesStand c.base m log progress first read entered
+  pub copied_bytes_stand : CopiedBytesStand c.base m actors log progress first read entered
   pub links_are_groups : LinksAreGroups m log progress first tail
-  pub marks_are_ordered : MarksAreOrdered c.base m actors log progress write wtail flushed tail read
+  pub marks_are_ordered : MarksAreOrdered c.base m actors log progress write wtail flushed tail read entered
   pub device_holds_stream : DeviceHoldsStream D c p actors log
   pub part_marks_are_ordered : PartMarksAreOrdered D m p
   pub failures_show : FailuresShow m.failed actors

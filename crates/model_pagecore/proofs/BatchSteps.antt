@@ -83,7 +83,7 @@ module _ (E : DataSide) (c : Setup) (seat_of : ℕ → ℕ) (m : SharedWords) (l
 
     -- it is written: each page of the batch is kept as the batch has it
     pub keeps_written : (e : E.Part) → E.failed e ≡ false → E.Holds (renewed h.kept_page v.batch) [] e
-        → (k : PageGhost) × PageHalf E c m log stable k ls e (set actors seat (actor.Cleaner (record v { code = 0; step = cleaner_step.RemoveFromList }))) × Grows h k
+        → (k : PageGhost) × PageHalf E c m log stable k ls e (set actors seat (actor.Cleaner (record v { code = 0; step = cleaner_step.RemoveFromList }))) × Grows m h k
     keeps_written e sound holds =
         let P = before.paged in
         let kept_page : ℕ → KeptPage = renewed h.kept_page v.batch in
@@ -162,6 +162,7 @@ module _ (E : DataSide) (c : Setup) (seat_of : ℕ → ℕ) (m : SharedWords) (l
                 page_words = λ q _ _. refl;
                 holders = λ q _ _. refl;
                 listeds = λ q _ _. refl;
+                taken = λ q la _. (la, refl);
                 opens = λ _ _ _ _. refl;
                 lists = λ i o _. (o, refl);
                 ctail = omega arith;
@@ -171,7 +172,7 @@ module _ (E : DataSide) (c : Setup) (seat_of : ℕ → ℕ) (m : SharedWords) (l
               (λ other. absurd (other own.alone))
               (λ _. record { given = refl; passed = λ p x _ _ y i w is tc lt. let k = y i w is tc lt in let mo = more p in omega arith })
               a (mate E c seat_of m log stable h ls d actors seat before mates j a z) (before.each j a z)),
-          record { given = omega arith; closed = λ x z. z },
+          record { given = omega arith; closed = λ x z. z; holder = λ _ _. refl },
         )
 
     -- what the batch has of its pages may be kept
@@ -197,7 +198,7 @@ module _ (E : DataSide) (c : Setup) (seat_of : ℕ → ℕ) (m : SharedWords) (l
 
     -- it fails: nothing is known but that each page is as it was or as the batch has it
     pub keeps_unwritten : (code : ℕ) (e : E.Part) → E.Cause e code → E.Holds h.kept_page v.batch e
-        → (k : PageGhost) × PageHalf E c m log stable k ls e (set actors seat (actor.Cleaner (record v { code = code; step = cleaner_step.StoreFailed }))) × Grows h k
+        → (k : PageGhost) × PageHalf E c m log stable k ls e (set actors seat (actor.Cleaner (record v { code = code; step = cleaner_step.StoreFailed }))) × Grows m h k
     keeps_unwritten code e cause holds =
         let P = before.paged in
         let h' : PageGhost = record h { unfinished = v.batch } in
@@ -214,6 +215,7 @@ module _ (E : DataSide) (c : Setup) (seat_of : ℕ → ℕ) (m : SharedWords) (l
                 page_words = λ q _ _. refl;
                 holders = λ q _ _. refl;
                 listeds = λ q _ _. refl;
+                taken = λ q la _. (la, refl);
                 opens = λ _ _ _ _. refl;
                 lists = λ i o _. (o, refl);
                 ctail = omega arith;
@@ -223,5 +225,5 @@ module _ (E : DataSide) (c : Setup) (seat_of : ℕ → ℕ) (m : SharedWords) (l
               (λ other. absurd (other own.alone))
               (λ _. record { given = refl; passed = λ p x _ _ y. y })
               a (mate E c seat_of m log stable h ls d actors seat before mates j a z) (before.each j a z)),
-          record { given = omega arith; closed = λ x z. z },
+          record { given = omega arith; closed = λ x z. z; holder = λ _ _. refl },
         )

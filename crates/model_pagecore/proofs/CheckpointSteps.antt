@@ -112,7 +112,7 @@ module _ (E : DataSide) (c : Setup) (seat_of : ℕ → ℕ) (m : SharedWords) (l
         let here = at_here E c seat_of m log stable h ls d actors seat before mates p w' h.holder a.there long (inr a.mine) (λ _ _. refl) none_in_hand All Last Unlisted a.latched a.mine (record { frame = a.page.frame; newest = a.page.newest; listing = (refl, st) }) in
         leaf_step E c seat_of m log stable h ls d actors seat before mates p w' h.holder a.there long (inr a.mine) (λ _ _. refl) (actor.Cleaner (record v { step = cleaner_step.GiveList }))
         (latched_sheet E c seat_of m log stable h ls d actors seat before mates p w' a.there a.latched (λ z. absurd (omega arith)))
-        (λ n. absurd (n own.alone))
+        (λ n. absurd (n own.alone)) (λ _. a.mine)
         (at_stage (record v { step = cleaner_step.GiveList }) (ap runs ph) refl refl refl refl (λ z. absurd (cc)) m' h refl refl
         ((o.0.0, others_in long InWordOnly o.0 w' refl refl 1 (omega arith) o.0.1, first_in long InWordOnly o.0 w' refl refl Unlisted here, o.0.3), o.1))
 
@@ -162,7 +162,7 @@ module _ (E : DataSide) (c : Setup) (seat_of : ℕ → ℕ) (m : SharedWords) (l
         ] in
         leaf_step E c seat_of m log stable h ls d actors seat before mates p w' h.holder a.there long (inr a.mine) (λ _ _. refl) (actor.Cleaner (cleaner_took v (answer.Old 0) cleaner_step.ReleaseLatch))
         (freed_sheet E c seat_of m log stable h ls d actors seat before mates p w' a.there refl (before.paged.each_page p a.there).oldest (record { frame = a.page.frame; newest = a.page.newest; listing = s0 ∙ sym s1 }))
-        (λ _ z. z)
+        (λ _ z. z) (λ _. a.mine)
         (by (eqb (length v.batch) 1) refl)
 
   module _ (t : CheckpointerState) (at : get_elem? actors seat ≡ some (actor.Checkpointer t)) where
@@ -202,7 +202,7 @@ module _ (E : DataSide) (c : Setup) (seat_of : ℕ → ℕ) (m : SharedWords) (l
         by false e o = mild (record t { flushed = m.flushed; checks = true; step = checkpointer_step.LoadCtail }) (record { alone = his.alone; with_pages = his.with_pages; loaded = (his.loaded.0, (omega arith)); given = λ _. his.given (ap rests ph); step = tt })
 
     -- it takes the log part, and from now on its candidate may be the newest checkpoint
-    pub keeps_promise : t.step ≡ checkpointer_step.TakeDevice → (k : PageGhost) × PageHalf E c (record m { device = 1 }) log stable k ls d (set actors seat (actor.Checkpointer (record t { checks = false; step = checkpointer_step.Checkpoint }))) × Grows h k
+    pub keeps_promise : t.step ≡ checkpointer_step.TakeDevice → (k : PageGhost) × PageHalf E c (record m { device = 1 }) log stable k ls d (set actors seat (actor.Checkpointer (record t { checks = false; step = checkpointer_step.Checkpoint }))) × Grows m h k
     keeps_promise ph =
         let o : CanGive E c m log h ls d t = subst (CheckpointerPagesAt E c m log h ls d seat t) ph his.step in
         let P = before.paged in
@@ -240,6 +240,7 @@ module _ (E : DataSide) (c : Setup) (seat_of : ℕ → ℕ) (m : SharedWords) (l
                 page_words = λ q _ _. refl;
                 holders = λ q _ _. refl;
                 listeds = λ q _ _. refl;
+                taken = λ q la _. (la, refl);
                 opens = λ _ _ _ _. refl;
                 lists = λ i y _. (y, refl);
                 ctail = omega arith;
@@ -249,7 +250,7 @@ module _ (E : DataSide) (c : Setup) (seat_of : ℕ → ℕ) (m : SharedWords) (l
               (λ _. record { kept_page = λ _. refl; oldest = λ q y. y; store = refl; unfinished = refl })
               (λ other. absurd (other his.alone))
               a (mate E c seat_of m log stable h ls d actors seat before mates j a z) (before.each j a z)),
-          record { given = (let given = his.given (ap rests ph) in let above = o.4 in omega arith); closed = λ x z. z },
+          record { given = (let given = his.given (ap rests ph) in let above = o.4 in omega arith); closed = λ x z. z; holder = λ _ _. refl },
         )
 
     -- every group that starts below its candidate ends at or below the stable mark, so the call's condition holds

@@ -157,7 +157,7 @@ module _ (E : DataSide) (c : Setup) (seat_of : ℕ → ℕ) (m : SharedWords) (l
 
     -- it takes the latch
     pub keeps_latched : length m.page_words ≡ c.pages → v.step ≡ cleaner_step.TakeLatch → (page_words_at m.page_words v.page).latch ≡ 0
-        → (k : PageGhost) × PageHalf E c (with_page_words m v.page (record (page_words_at m.page_words v.page) { latch = 1 })) log stable k ls d (set actors seat (actor.Cleaner (record v { step = cleaner_step.LoadNewest }))) × Grows h k
+        → (k : PageGhost) × PageHalf E c (with_page_words m v.page (record (page_words_at m.page_words v.page) { latch = 1 })) log stable k ls d (set actors seat (actor.Cleaner (record v { step = cleaner_step.LoadNewest }))) × Grows m h k
     keeps_latched long ph free =
         let o : CleanerAt E c m log h ls d seat v cleaner_step.TakeLatch = subst (CleanerAt E c m log h ls d seat v) ph own.step in
         let p : ℕ = v.page in
@@ -190,10 +190,10 @@ module _ (E : DataSide) (c : Setup) (seat_of : ℕ → ℕ) (m : SharedWords) (l
         } in (
           h',
           leaf_step E c seat_of m log stable h ls d actors seat before mates p w' holders there long (inl free) same (actor.Cleaner (record v { step = cleaner_step.LoadNewest }))
-              (latched_sheet E c seat_of m log stable h ls d actors seat before mates p w' there refl S.oldest) (λ _ z. z)
+              (latched_sheet E c seat_of m log stable h ls d actors seat before mates p w' there refl S.oldest) (λ _ z. z) (λ _. changed_here h.holder p seat p refl)
               (at_stage (record v { step = cleaner_step.LoadNewest }) (ap runs ph) refl refl refl refl (λ z. absurd (cc)) m' h' ls refl refl
               (looks, (at_here E c seat_of m log stable h ls d actors seat before mates p w' holders there long (inl free) same none_in_hand All Last Agree refl (changed_here h.holder p seat p refl) is, subst (λ (k : PageWords). 0 < k.oldest) (sym we) o.1))),
-          record { given = omega arith; closed = λ x z. z },
+          record { given = omega arith; closed = λ x z. z; holder = λ q la. same q (λ e. let one : (page_words_at m.page_words p).latch ≡ 1 = subst (λ (x : ℕ). (page_words_at m.page_words x).latch ≡ 1) e la in absurd (omega arith)) },
         )
 
     -- it loads NEWEST
@@ -216,7 +216,7 @@ module _ (E : DataSide) (c : Setup) (seat_of : ℕ → ℕ) (m : SharedWords) (l
         let w' : PageWords = record (page_words_at m.page_words p) { latch = 0 } in
         leaf_step E c seat_of m log stable h ls d actors seat before mates p w' h.holder a.there long (inr a.mine) (λ _ _. refl) (actor.Cleaner (next_in_round v))
         (freed_sheet E c seat_of m log stable h ls d actors seat before mates p w' a.there refl (before.paged.each_page p a.there).oldest (record { frame = a.page.frame; newest = a.page.newest; listing = a.page.listing }))
-        (λ _ z. z)
+        (λ _ z. z) (λ _. a.mine)
         (next_in_round_fits (with_page_words m p w') h v refl refl (ap runs ph) refl refl refl
         (λ i y lo z. let r = o.0.held i y lo z in let ne = not_in o.0 i y z in
         let ye = leaf_else E c seat_of m log stable h ls d actors seat before mates p w' y.page ne in (

@@ -46,7 +46,7 @@ module _ (E : DataSide) (c : Setup) (seat_of : ℕ → ℕ) (m : SharedWords) (l
     (mates : (j : ℕ) (u : UserState) → get_elem? actors j ≡ some (actor.User u) → seat_of u.user ≡ j) (W : Laid (lsn c.base) (lsn m.sn) log) where
   -- a user stores its closed link
   pub keeps_close : (u : UserState) → get_elem? actors seat ≡ some (actor.User u) → length m.clinks ≡ CLOSED_LINKS → u.step ≡ user_step.StoreClosedLink
-      → (k : PageGhost) × PageHalf E c (record m { clinks = slice_set m.clinks (lsn u.start % CLOSED_LINKS) (lsn (group_end u) - lsn u.start) }) log stable k ls d (set actors seat (actor.User (user_took u 0 user_step.StoreClosedLink))) × Grows h k
+      → (k : PageGhost) × PageHalf E c (record m { clinks = slice_set m.clinks (lsn u.start % CLOSED_LINKS) (lsn (group_end u) - lsn u.start) }) log stable k ls d (set actors seat (actor.User (user_took u 0 user_step.StoreClosedLink))) × Grows m h k
   keeps_close u at long ph =
       let F : UserPageFits E c m log h ls d seat u = before.each seat (actor.User u) at in
       let o : UserPagesAt E c m log h ls d seat u user_step.StoreClosedLink = subst (UserPagesAt E c m log h ls d seat u) ph F.step in
@@ -115,7 +115,7 @@ module _ (E : DataSide) (c : Setup) (seat_of : ℕ → ℕ) (m : SharedWords) (l
                 o.3,
               );
             }),
-        record { given = omega arith; closed = grows },
+        record { given = omega arith; closed = grows; holder = λ _ _. refl },
       )
 
   -- the closer finds a link at its tail, or none
@@ -140,7 +140,7 @@ module _ (E : DataSide) (c : Setup) (seat_of : ℕ → ℕ) (m : SharedWords) (l
 
   -- it clears that link, and its tail goes on
   pub keeps_closer_clear : (t : CloserState) → get_elem? actors seat ≡ some (actor.Closer t) → length m.clinks ≡ CLOSED_LINKS → t.step ≡ closer_step.ClearClosedLink
-      → (k : PageGhost) × PageHalf E c (record m { clinks = slice_set m.clinks (t.tail % CLOSED_LINKS) 0 }) log stable k ls d (set actors seat (actor.Closer (record t { tail = t.tail + t.link; step = closer_step.StoreCtail }))) × Grows h k
+      → (k : PageGhost) × PageHalf E c (record m { clinks = slice_set m.clinks (t.tail % CLOSED_LINKS) 0 }) log stable k ls d (set actors seat (actor.Closer (record t { tail = t.tail + t.link; step = closer_step.StoreCtail }))) × Grows m h k
   keeps_closer_clear t at long ph =
       let F : CloserFits E c m log h ls d seat t = before.each seat (actor.Closer t) at in
       let o : CloserAt E c m log h ls d t closer_step.ClearClosedLink = subst (CloserAt E c m log h ls d t) ph F.step in
@@ -189,12 +189,12 @@ module _ (E : DataSide) (c : Setup) (seat_of : ℕ → ℕ) (m : SharedWords) (l
             (λ _ z. z)
             (λ n. absurd (n F.alone))
             (record { alone = F.alone; tail = refl; step = tt }),
-        record { given = omega arith; closed = λ x z. z },
+        record { given = omega arith; closed = λ x z. z; holder = λ _ _. refl },
       )
 
   -- it stores its tail
   pub keeps_closer_publish : (t : CloserState) → get_elem? actors seat ≡ some (actor.Closer t) → t.step ≡ closer_step.StoreCtail
-      → (k : PageGhost) × PageHalf E c (record m { ctail = t.tail }) log stable k ls d (set actors seat (actor.Closer (record t { step = closer_step.LoadClosedLink }))) × Grows h k
+      → (k : PageGhost) × PageHalf E c (record m { ctail = t.tail }) log stable k ls d (set actors seat (actor.Closer (record t { step = closer_step.LoadClosedLink }))) × Grows m h k
   keeps_closer_publish t at ph =
       let F : CloserFits E c m log h ls d seat t = before.each seat (actor.Closer t) at in
       let P = before.paged in
@@ -209,5 +209,5 @@ module _ (E : DataSide) (c : Setup) (seat_of : ℕ → ℕ) (m : SharedWords) (l
             (λ _ z. z)
             (λ _. refl)
             (record { alone = F.alone; tail = F.tail; step = tt }),
-        record { given = omega arith; closed = λ x z. z },
+        record { given = omega arith; closed = λ x z. z; holder = λ _ _. refl },
       )

@@ -45,7 +45,7 @@ module _ (E : DataSide) (c : Setup) (seat_of : ℕ → ℕ) (m : SharedWords) (l
   -- a user adds the page that it is at, with its group's start
   pub keeps_add : (u : UserState) → get_elem? actors seat ≡ some (actor.User u) → (ls' : ℕ → List Listed) → ls' (page_of u % 4) ≡ joined (ls (page_of u % 4)) (page_of u) (lsn u.start) → ((i : ℕ) → i ≢ page_of u % 4 → ls' i ≡ ls i)
       → length m.lists ≡ 4 → slice_index m.lists (page_of u % 4) ≡ 0 → u.checks ≡ false → u.step ≡ user_step.AddToList
-      → (k : PageGhost) × PageHalf E c (record m { lists = slice_set m.lists (page_of u % 4) 1 }) log stable k ls' d (set actors seat (actor.User (user_took u 0 user_step.AddToList))) × Grows h k
+      → (k : PageGhost) × PageHalf E c (record m { lists = slice_set m.lists (page_of u % 4) 1 }) log stable k ls' d (set actors seat (actor.User (user_took u 0 user_step.AddToList))) × Grows m h k
   keeps_add u at ls' ls_here ls_else long free checks ph =
       let F : UserPageFits E c m log h ls d seat u = before.each seat (actor.User u) at in
       let o : UserPagesAt E c m log h ls d seat u user_step.AddToList = subst (UserPagesAt E c m log h ls d seat u) ph F.step in
@@ -117,14 +117,14 @@ module _ (E : DataSide) (c : Setup) (seat_of : ℕ → ℕ) (m : SharedWords) (l
                 (get_or-set_same m.lists i 1 0 (omega arith), changed_here h.list_holder i seat i refl),
               );
             }),
-        record { given = omega arith; closed = λ x z. z },
+        record { given = omega arith; closed = λ x z. z; holder = λ _ _. refl },
       )
 
   -- the cleaner takes the first page of its batch off its list
   pub keeps_remove : (v : CleanerState) → get_elem? actors seat ≡ some (actor.Cleaner v) → (ls' : ℕ → List Listed) → ls' (first_of_batch v % 4) ≡ without (first_of_batch v) (ls (first_of_batch v % 4)) → ((i : ℕ) → i ≢ first_of_batch v % 4 → ls' i ≡ ls i)
       → length m.lists ≡ 4 → slice_index m.lists (first_of_batch v % 4) ≡ 0 → v.step ≡ cleaner_step.RemoveFromList
       → (x : BatchPage) → get_elem? v.batch 0 ≡ some x → first_of_batch v ≡ x.page
-      → (k : PageGhost) × PageHalf E c (record m { lists = slice_set m.lists (first_of_batch v % 4) 1 }) log stable k ls' d (set actors seat (actor.Cleaner (record v { step = cleaner_step.ClearOldest }))) × Grows h k
+      → (k : PageGhost) × PageHalf E c (record m { lists = slice_set m.lists (first_of_batch v % 4) 1 }) log stable k ls' d (set actors seat (actor.Cleaner (record v { step = cleaner_step.ClearOldest }))) × Grows m h k
   keeps_remove v at ls' ls_here ls_else long free ph x x_is x_page =
       let F : CleanerFits E c m log h ls d seat v = before.each seat (actor.Cleaner v) at in
       let o : CleanerAt E c m log h ls d seat v cleaner_step.RemoveFromList = subst (CleanerAt E c m log h ls d seat v) ph F.step in
@@ -206,12 +206,12 @@ module _ (E : DataSide) (c : Setup) (seat_of : ℕ → ℕ) (m : SharedWords) (l
                 (get_or-set_same m.lists i 1 0 (omega arith), changed_here h.list_holder i seat i refl),
               );
             }),
-        record { given = omega arith; closed = λ x z. z },
+        record { given = omega arith; closed = λ x z. z; holder = λ _ _. refl },
       )
 
   -- the checkpointer reads a list's first lsn
   pub keeps_oldest_end : (t : CheckpointerState) → get_elem? actors seat ≡ some (actor.Checkpointer t) → (ls' : ℕ → List Listed) → ((i : ℕ) → ls' i ≡ ls i) → length m.lists ≡ 4 → slice_index m.lists t.list ≡ 0 → t.step ≡ checkpointer_step.ReadList
-      → (k : PageGhost) × PageHalf E c (record m { lists = slice_set m.lists t.list 1 }) log stable k ls' d (set actors seat (actor.Checkpointer (record t { to = lowered t.to (oldest_end (ls t.list)); step = checkpointer_step.GiveList }))) × Grows h k
+      → (k : PageGhost) × PageHalf E c (record m { lists = slice_set m.lists t.list 1 }) log stable k ls' d (set actors seat (actor.Checkpointer (record t { to = lowered t.to (oldest_end (ls t.list)); step = checkpointer_step.GiveList }))) × Grows m h k
   keeps_oldest_end t at ls' ls_same long free ph =
       let F : CheckpointerPageFits E c m log h ls d seat t = before.each seat (actor.Checkpointer t) at in
       let o : CheckpointerPagesAt E c m log h ls d seat t checkpointer_step.ReadList = subst (CheckpointerPagesAt E c m log h ls d seat t) ph F.step in
@@ -248,5 +248,5 @@ module _ (E : DataSide) (c : Setup) (seat_of : ℕ → ℕ) (m : SharedWords) (l
                 (get_or-set_same m.lists t.list 1 0 (let l = o.2 in omega arith), changed_here h.list_holder t.list seat t.list refl),
               );
             }),
-        record { given = omega arith; closed = λ x z. z },
+        record { given = omega arith; closed = λ x z. z; holder = λ _ _. refl },
       )

@@ -22,8 +22,9 @@ use Rattle.model_core.specs.declared.steps.CloserStep.{CloserStep}
 use Rattle.model_core.specs.declared.steps.UserStep.{UserStep}
 use Rattle.model_core.specs.declared.steps.CheckpointerStep.{CheckpointerStep}
 use Rattle.model_pagecore.proofs.PageHistory.{last_snoc, puts_none, whole_snoc}
+use Rattle.model_pagecore.specs.Latches.{CleanerHasLatch, UserHasLatch}
 use Rattle.model_pagecore.specs.PageFacts.{PageGhost, PageFacts, listed}
-use Rattle.model_pagecore.specs.PageHalf.{AreBatch, AreHeld, AreKept, At, CanGive, CleanerAt, CleanerFits, CleanerHolds, CloserAt, CloserFits, HasList, HasPage, InBatch, HasPagesInHand, IsFresh, IsNear, Looking, PageFits, PageHalf, CheckpointerPagesAt, CheckpointerPageFits, ReadBelow, Unlisting, UserHolds, UserPagesAt, UserPageFits, PagesInHand, group_in_hand}
+use Rattle.model_pagecore.specs.PageHalf.{AreBatch, AreHeld, AreKept, At, CanGive, CleanerAt, CleanerFits, CleanerHolds, CloserAt, CloserFits, HasList, HasPage, HoldsOnly, InBatch, HasPagesInHand, IsFresh, IsNear, Looking, PageFits, PageHalf, CheckpointerPagesAt, CheckpointerPageFits, ReadBelow, Unlisting, UserHolds, UserPagesAt, UserPageFits, PagesInHand, group_in_hand}
 use Rattle.model_pagecore.specs.Pages.{InListOnly, All, Before, AgreeBelow, Cells, InWordOnly, FrameIs, FrameStage, GroupInHand, Last, NewestIs, NewestStage, Unlisted, PageIs, Passed, OnePage, ListingStage, ListingIs, IsListed, Agree, cells_on, end_lsn, none_in_hand, last_end, write_cells, touches, applied_upto, applied_all}
 use Rattle.model_core.specs.declared.steps.UserStep.TheVariants as user_step
 use Rattle.model_core.specs.declared.steps.CloserStep.TheVariants as closer_step
@@ -113,6 +114,7 @@ module _ (E : DataSide) (c : Setup) (seat_of : ℕ → ℕ) (m m' : SharedWords)
     pub page_words : (p : ℕ) → (page_words_at m.page_words p).latch ≡ 1 → h.holder p ≢ seat → ◌≡◌ {A = PageWords} (page_words_at m'.page_words p) (page_words_at m.page_words p)
     pub holders : (p : ℕ) → (page_words_at m.page_words p).latch ≡ 1 → h.holder p ≢ seat → h'.holder p ≡ h.holder p
     pub listeds : (p : ℕ) → (page_words_at m.page_words p).latch ≡ 1 → h.holder p ≢ seat → listed ls' p ≡ listed ls p
+    pub taken : (p : ℕ) → (page_words_at m'.page_words p).latch ≡ 1 → h'.holder p ≢ seat → ((page_words_at m.page_words p).latch ≡ 1) × (h'.holder p ≡ h.holder p)
     pub opens : (i : ℕ) (e : Entry) → get_elem? log i ≡ some e → seat_of e.user ≢ seat → h'.closed e.start ≡ h.closed e.start
     pub lists : (i : ℕ) → slice_index m.lists i ≡ 1 → h.list_holder i ≢ seat → (slice_index m'.lists i ≡ 1) × (h'.list_holder i ≡ h.list_holder i)
     pub ctail : m.ctail ≤ m'.ctail
@@ -151,6 +153,9 @@ module _ (E : DataSide) (c : Setup) (seat_of : ℕ → ℕ) (m m' : SharedWords)
 
     list_later : (i : ℕ) → HasList E c m log h ls d j i → HasList E c m' log' h' ls' d' j i
     list_later i o = let r = later.lists i o.0 (λ z. ne (sym o.1 ∙ z)) in (r.0, r.1 ∙ o.1)
+
+    only_later : (named : ℕ → Type 0) → HoldsOnly E c m log h ls d j named → HoldsOnly E c m' log' h' ls' d' j named
+    only_later named o p there la own = let r = later.taken p la (λ z. ne (sym own ∙ z)) in o p there r.0 (sym r.1 ∙ own)
 
     held_later : (u : UserState) (lo hi : ℕ) → AreHeld E c m log h ls d j u lo hi → AreHeld E c m' log' h' ls' d' j u lo hi
     held_later u lo hi o k a b = at_later ((change_at (changes u) k).page) none_in_hand All Last Agree refl (o k a b)
@@ -213,7 +218,7 @@ module _ (E : DataSide) (c : Setup) (seat_of : ℕ → ℕ) (m m' : SharedWords)
     user_holds_later u own_seat user_step.Failed o = absurd o
 
     user_pages_later : (u : UserState) → seat_of u.user ≡ j → (f : UserStep) → UserPagesAt E c m log h ls d j u f → UserPagesAt E c m' log' h' ls' d' j u f
-    user_pages_later u own_seat user_step.Failed o = (o.0, user_holds_later u own_seat o.0 o.1)
+    user_pages_later u own_seat user_step.Failed o = (o.0, user_holds_later u own_seat o.0 o.1, only_later (UserHasLatch u o.0) o.2)
     user_pages_later u own_seat f o = user_holds_later u own_seat f o
 
     pub user_page_fits_later : (u : UserState) → seat_of u.user ≡ j → UserPageFits E c m log h ls d j u → UserPageFits E c m' log' h' ls' d' j u
@@ -268,7 +273,7 @@ module _ (E : DataSide) (c : Setup) (seat_of : ℕ → ℕ) (m m' : SharedWords)
     cleaner_holds_later v still cleaner_step.Failed o = absurd o
 
     cleaner_at_later : (v : CleanerState) → StillCleaner → (f : CleanerStep) → CleanerAt E c m log h ls d j v f → CleanerAt E c m' log' h' ls' d' j v f
-    cleaner_at_later v still cleaner_step.Failed o = (o.0, cleaner_holds_later v still o.0 o.1)
+    cleaner_at_later v still cleaner_step.Failed o = (o.0, cleaner_holds_later v still o.0 o.1, only_later (CleanerHasLatch v o.0) o.2)
     cleaner_at_later v still f o = cleaner_holds_later v still f o
 
     pub cleaner_later : (v : CleanerState) → StillCleaner → CleanerFits E c m log h ls d j v → CleanerFits E c m' log' h' ls' d' j v

@@ -73,6 +73,7 @@ module _ (E : DataSide) (c : Setup) (seat_of : ℕ → ℕ) (m : SharedWords) (l
         page_words = λ p _ _. ap (λ (x : List PageWords). page_words_at x p) e1;
         holders = λ p _ _. refl;
         listeds = λ p _ _. refl;
+        taken = λ q la _. (sym (ap (λ (x : List PageWords). (page_words_at x q).latch) e1) ∙ la, refl);
         opens = λ _ _ _ _. refl;
         lists = λ i o _. (ap (λ (x : List ℕ). slice_index x i) e2 ∙ o, refl);
         ctail = omega arith;
@@ -112,9 +113,9 @@ module _ (E : DataSide) (c : Setup) (seat_of : ℕ → ℕ) (m : SharedWords) (l
       page = page_later q (c.opened q).bytes log log k (page_words_at m.page_words q) (page_words_at leaf_mem.page_words q) (listed ls q) (listed ls q) f n t (log_same q log) refl we refl o.page;
     }
 
-    pub leaf_step : (b : Actor) → OnePage p (lsn c.base) (c.opened p) log h.closed h.given stable w (listed ls p) (h.kept_page p) → (seat ≢ c.cleaner → 0 < (page_words_at m.page_words p).oldest → 0 < w.oldest)
+    pub leaf_step : (b : Actor) → OnePage p (lsn c.base) (c.opened p) log h.closed h.given stable w (listed ls p) (h.kept_page p) → (seat ≢ c.cleaner → 0 < (page_words_at m.page_words p).oldest → 0 < w.oldest) → (w.latch ≡ 1 → holders p ≡ seat)
         → PageFits E c leaf_mem log leaf_folio ls d seat b → PageHalf E c leaf_mem log stable leaf_folio ls d (set actors seat b)
-    leaf_step b sheet kept fits = let P = before.paged in let l : p < length m.page_words = omega arith in
+    leaf_step b sheet kept owned fits = let P = before.paged in let l : p < length m.page_words = omega arith in
         page_moved E c m leaf_mem log log stable stable h leaf_folio ls ls d d actors seat b
         (record {
           closed_links = P.closed_links;
@@ -140,6 +141,10 @@ module _ (E : DataSide) (c : Setup) (seat_of : ℕ → ℕ) (m : SharedWords) (l
           page_words = λ q la ho. leaf_else p w q (not_mine q la ho);
           holders = λ q la ho. same q (not_mine q la ho);
           listeds = λ q _ _. refl;
+          taken = λ q la ho. elim (ℕ_discrete q p) [
+            | yes e ↦ absurd (ho (ap holders e ∙ owned (sym (ap (λ (x : PageWords). x.latch) (leaf_here p w l)) ∙ subst (λ (x : ℕ). (page_words_at leaf_mem.page_words x).latch ≡ 1) e la)))
+            | no n ↦ (sym (ap (λ (x : PageWords). x.latch) (leaf_else p w q n)) ∙ la, same q n)
+          ];
           opens = λ _ _ _ _. refl;
           lists = λ i o _. (o, refl);
           ctail = omega arith;
@@ -260,6 +265,7 @@ module _ (E : DataSide) (c : Setup) (seat_of : ℕ → ℕ) (m : SharedWords) (l
           page_words = λ q _ _. refl;
           holders = λ q _ _. refl;
           listeds = others;
+          taken = λ q la _. (la, refl);
           opens = λ _ _ _ _. refl;
           lists = λ j o t. let ne : j ≢ i = (λ z. ⊎_elim (λ y. let k : slice_index m.lists i ≡ 1 = subst (λ (r : ℕ). slice_index m.lists r ≡ 1) z o in absurd (omega arith)) (λ y. absurd (t (ap h.list_holder z ∙ y))) mine) in
               (get_or-set_other m.lists i j x 0 ne ∙ o, same j ne);
@@ -307,6 +313,7 @@ module _ (E : DataSide) (c : Setup) (seat_of : ℕ → ℕ) (m : SharedWords) (l
           page_words = λ q _ _. refl;
           holders = λ q _ _. refl;
           listeds = λ q _ _. refl;
+          taken = λ q la _. (la, refl);
           opens = opens;
           lists = λ i o _. (o, refl);
           ctail = le;

@@ -128,6 +128,7 @@ module _ (E : DataSide) (c : Setup) (seat_of : ℕ → ℕ) (m : SharedWords) (l
         page_words = λ q _ _. refl;
         holders = λ q _ _. refl;
         listeds = λ q _ _. refl;
+        taken = λ q la _. (la, refl);
         opens = λ _ _ _ _. refl;
         lists = λ i y _. (y, refl);
         ctail = omega arith;

@@ -104,7 +104,7 @@ module _ (E : DataSide) (c : Setup) (seat_of : ℕ → ℕ) (m : SharedWords) (l
       own_step : (x : UserState) → UserPageFits E c (with_page_words m p w') log h ls d seat x → Now (with_page_words m p w') h x
       own_step x fits = let a = o.here pl in
           leaf_step E c seat_of m log stable h ls d actors seat before mates p w' h.holder a.there long (inr a.mine) (λ _ _. refl) (actor.User x)
-          (latched_sheet E c seat_of m log stable h ls d actors seat before mates p w' a.there la old) (λ _ z. kept z) fits
+          (latched_sheet E c seat_of m log stable h ls d actors seat before mates p w' a.there la old) (λ _ z. kept z) (λ _. a.mine) fits
 
     -- it loads CTAIL, and waits while its group is too far ahead
     pub keeps_load_ctail : u.step ≡ user_step.LoadCtail → Now m h (user_took u m.ctail user_step.LoadCtail)
@@ -239,7 +239,7 @@ module _ (E : DataSide) (c : Setup) (seat_of : ℕ → ℕ) (m : SharedWords) (l
 
     -- it takes the latch of its next page, if that is free
     pub keeps_take_latch : length m.page_words ≡ c.pages → u.step ≡ user_step.TakeLatch → w.latch ≡ 0
-        → (k : PageGhost) × PageHalf E c (with_page_words m p (record w { latch = 1 })) log stable k ls d (set actors seat (actor.User (user_took u 0 user_step.TakeLatch))) × Grows h k
+        → (k : PageGhost) × PageHalf E c (with_page_words m p (record w { latch = 1 })) log stable k ls d (set actors seat (actor.User (user_took u 0 user_step.TakeLatch))) × Grows m h k
     keeps_take_latch long ph free =
         let o : UserPagesAt E c m log h ls d seat u user_step.TakeLatch = subst (UserPagesAt E c m log h ls d seat u) ph own.step in
         let holders : ℕ → ℕ = changed h.holder p seat in
@@ -261,9 +261,9 @@ module _ (E : DataSide) (c : Setup) (seat_of : ℕ → ℕ) (m : SharedWords) (l
         ] in (
           h',
           leaf_step E c seat_of m log stable h ls d actors seat before mates p w' holders there long (inl free) same (actor.User (user_took u 0 user_step.TakeLatch))
-              (latched_sheet E c seat_of m log stable h ls d actors seat before mates p w' there refl S.oldest) (λ _ z. z)
+              (latched_sheet E c seat_of m log stable h ls d actors seat before mates p w' there refl S.oldest) (λ _ z. z) (λ _. changed_here h.holder p seat p refl)
               (record { there = own.there; apart = own.apart; within = own.within; loaded = own.loaded; step = next (eqb (u.page + 1) (length (changes u))) refl }),
-          record { given = omega arith; closed = λ x z. z },
+          record { given = omega arith; closed = λ x z. z; holder = λ q la. same q (λ e. let one : (page_words_at m.page_words p).latch ≡ 1 = subst (λ (x : ℕ). (page_words_at m.page_words x).latch ≡ 1) e la in absurd (omega arith)) },
         )
 
     -- nothing is said of the pages of a user whose commit is answered or awaited
@@ -283,7 +283,7 @@ module _ (E : DataSide) (c : Setup) (seat_of : ℕ → ℕ) (m : SharedWords) (l
         leaf_step_by o x fits = let a = o.0 u.page (omega arith) o.1 in
             leaf_step E c seat_of m log stable h ls d actors seat before mates p (record w { latch = 0 }) h.holder a.there long (inr a.mine) (λ _ _. refl) (actor.User x)
             (freed_sheet E c seat_of m log stable h ls d actors seat before mates p (record w { latch = 0 }) a.there refl (before.paged.each_page p a.there).oldest (record { frame = a.page.frame; newest = a.page.newest; listing = a.page.listing }))
-            (λ _ z. z) fits
+            (λ _ z. z) (λ _. a.mine) fits
 
         by : (b : Bool) → eqb (u.page + 1) (length (changes u)) ≡ b → UserPagesAt E c m log h ls d seat u user_step.ReleaseLatch → Now (with_page_words m p (record w { latch = 0 })) h (cond b (after_link u) (record u { page = u.page + 1; step = user_step.ReleaseLatch }))
         by true e o = leaf_step_by o (after_link u) (tied_fits (with_page_words m p (record w { latch = 0 })) h ls own.loaded (eqb (mode u) 0) refl)

@@ -18,6 +18,7 @@ use Rattle.model_core.specs.declared.steps.CloserStep.{CloserStep}
 use Rattle.model_core.specs.declared.steps.UserStep.{UserStep}
 use Rattle.model_core.specs.declared.steps.CheckpointerStep.{CheckpointerStep}
 use Rattle.model_pagecore.specs.DataLaws.{AreApart}
+use Rattle.model_pagecore.specs.Latches.{CleanerHasLatch, UserHasLatch}
 use Rattle.model_pagecore.specs.PageFacts.{PageGhost, PageFacts, listed}
 use Rattle.model_pagecore.specs.Pages.{InListOnly, All, Before, AgreeBelow, Cells, InWordOnly, FrameStage, GroupInHand, Last, NewestStage, Unlisted, PageIs, Passed, ListingStage, IsListed, Agree, end_lsn, none_in_hand, start_lsn, touches}
 use Rattle.model_core.specs.declared.steps.UserStep.TheVariants as user_step
@@ -110,9 +111,14 @@ module _ (E : DataSide) (c : Setup) (m : SharedWords) (log : List Entry) (h : Pa
   UserHolds seat u user_step.Failed = ⊥
   UserHolds seat u _ = Unit {0}
 
-  -- A user that has failed still holds what it held before the step at which it met the failure.
+  -- each latch that the seat took last and that is held is one of these pages'
+  abbrev pub HoldsOnly : ℕ → (ℕ → Type 0) → Type 0
+  HoldsOnly seat named = (p : ℕ) → p < c.pages → (page_words_at m.page_words p).latch ≡ 1 → h.holder p ≡ seat → named p
+
+  -- A user that has failed still holds what it held before the step at which it met the failure: that step tells of each page
+  -- whose latch it still holds.
   abbrev pub UserPagesAt : ℕ → UserState → UserStep → Type 0
-  UserPagesAt seat u user_step.Failed = (f : UserStep) × UserHolds seat u f
+  UserPagesAt seat u user_step.Failed = (f : UserStep) × UserHolds seat u f × HoldsOnly seat (UserHasLatch u f)
   UserPagesAt seat u f = UserHolds seat u f
 
   -- the lines name pages that there are, each once, and cells of a frame
@@ -183,9 +189,10 @@ module _ (E : DataSide) (c : Setup) (m : SharedWords) (log : List Entry) (h : Pa
   CleanerHolds seat v cleaner_step.StoreFailed = AreBatch seat v 0
   CleanerHolds seat v cleaner_step.Failed = ⊥
 
-  -- A cleaner that has failed still holds what it held before the step at which it met the failure: the pages of its batch.
+  -- A cleaner that has failed still holds what it held before the step at which it met the failure: the pages of its batch. So
+  -- that step tells of each page whose latch it still holds.
   abbrev pub CleanerAt : ℕ → CleanerState → CleanerStep → Type 0
-  CleanerAt seat v cleaner_step.Failed = (f : CleanerStep) × CleanerHolds seat v f
+  CleanerAt seat v cleaner_step.Failed = (f : CleanerStep) × CleanerHolds seat v f × HoldsOnly seat (CleanerHasLatch v f)
   CleanerAt seat v f = CleanerHolds seat v f
 
   pub record CleanerFits (seat : ℕ) (v : CleanerState) : Type 0 where

@@ -69,7 +69,9 @@ use Rattle.model_logcore.specs.LogFits as marks
 use Rattle.model_running.proofs.CallConditions.{after_batch, can_checkpoint}
 use Rattle.model_running.proofs.AskedBound.{asked_bound}
 use Rattle.model_running.proofs.Causes.{caused}
+use Rattle.model_running.proofs.CheckpointStays.{checkpoint_stays}
 use Rattle.model_running.proofs.ClosedKeep.{users_closed}
+use Rattle.model_running.proofs.LatchesKeep.{held_by, latches_kept}
 use Rattle.model_core.specs.declared.limits.TheConstants.{BUFFER_BLOCKS, FREE_MARGIN, LOG_BUFFER, WRITTEN_LINKS}
 use Rattle.model_log.specs.declared.layout.TheConstants.{BLOCK_DATA}
 use Rattle.model_base.specs.declared.limits.TheConstants.{BLOCK_SIZE}
@@ -90,15 +92,15 @@ module _ (D : LogSide) (L : LogLaws D) (E : DataSide) (EL : DataLaws E) (c : Set
   mates : (j : ℕ) (u : UserState) → get_elem? actors j ≡ some (actor.User u) → g.seat_of u.user ≡ j
   mates j u at = let f : UserFits D c m g p j u = M.each j (actor.User u) at in f.own_seat
 
-  unmoved : Grows h h
-  unmoved = record { given = omega arith; closed = λ x z. z }
+  unmoved : Grows m h h
+  unmoved = record { given = omega arith; closed = λ x z. z; holder = λ _ _. refl }
 
   abbrev pub PageDone : SharedWords → List Entry → (ℕ → List Listed) → Actor → Type 0
-  PageDone m' l ls' b = (k : PageGhost) × PageHalf E c m' l (D.stable q) k ls' e (set actors seat b) × Grows h k
+  PageDone m' l ls' b = (k : PageGhost) × PageHalf E c m' l (D.stable q) k ls' e (set actors seat b) × Grows m h k
 
   -- neither part has changed
-  as_is : (m' : SharedWords) {l : List Entry} {ls' : ℕ → List Listed} (b : Actor) → (x : ℕ) → ◌≡◌ {A = D.Part} q p → ◌≡◌ {A = E.Part} e d → (k : PageGhost) × PageHalf E c m' l (D.stable p) k ls' d (set actors seat b) × Grows h k → PageDone m' l ls' b
-  as_is m' {l} {ls'} b x s v r = subst (λ (y : D.Part). (k : PageGhost) × PageHalf E c m' l (D.stable y) k ls' e (set actors seat b) × Grows h k) (sym s) (subst (λ (y : E.Part). (k : PageGhost) × PageHalf E c m' l (D.stable p) k ls' y (set actors seat b) × Grows h k) (sym v) r)
+  as_is : (m' : SharedWords) {l : List Entry} {ls' : ℕ → List Listed} (b : Actor) → (x : ℕ) → ◌≡◌ {A = D.Part} q p → ◌≡◌ {A = E.Part} e d → (k : PageGhost) × PageHalf E c m' l (D.stable p) k ls' d (set actors seat b) × Grows m h k → PageDone m' l ls' b
+  as_is m' {l} {ls'} b x s v r = subst (λ (y : D.Part). (k : PageGhost) × PageHalf E c m' l (D.stable y) k ls' e (set actors seat b) × Grows m h k) (sym s) (subst (λ (y : E.Part). (k : PageGhost) × PageHalf E c m' l (D.stable p) k ls' y (set actors seat b) × Grows m h k) (sym v) r)
 
   rested : (a : Actor) → get_elem? actors seat ≡ some a → ◌≡◌ {A = D.Part} q p → ◌≡◌ {A = E.Part} e d → PageDone m g.log ls a
   rested a at s v = as_is m a 0 s v (h, subst (λ (z : List Actor). PageHalf E c m g.log (D.stable p) h ls d z) (sym (set_again actors seat a at)) B, unmoved)
@@ -117,6 +119,7 @@ module _ (D : LogSide) (L : LogLaws D) (E : DataSide) (EL : DataLaws E) (c : Set
         page_words = λ k _ _. ap (λ (x : List PageWords). page_words_at x k) e1;
         holders = λ k _ _. refl;
         listeds = λ k _ _. refl;
+        taken = λ k la _. (sym (ap (λ (x : List PageWords). (page_words_at x k).latch) e1) ∙ la, refl);
         opens = λ _ _ _ _. refl;
         lists = λ i o _. (ap (λ (x : List ℕ). slice_index x i) e2 ∙ o, refl);
         ctail = omega arith;
@@ -173,7 +176,7 @@ module _ (D : LogSide) (L : LogLaws D) (E : DataSide) (EL : DataLaws E) (c : Set
         (ap (λ (z : Bool). cond z (joined (ls (page_of u % 4)) (page_of u) (lsn u.start)) (ls (page_of u % 4))) (eq-eqb (page_of u % 4) (page_of u % 4) refl))
         (λ i n. ap (λ (z : Bool). cond z (joined (ls i) (page_of u) (lsn u.start)) (ls i)) (ne_eqb i (page_of u % 4) n))
         Z.lists (eqb-true (slice_index m.lists (page_of u % 4)) 0 f) checks is)
-    list_by false f is checks o s v = as_is m (actor.User (user_took u 1 user_step.AddToList)) 0 s v (subst (λ (z : ℕ → List Listed). (k : PageGhost) × PageHalf E c m g.log (D.stable p) k z d (set actors seat (actor.User (user_took u 1 user_step.AddToList))) × Grows h k) same (h, quiet_to (user_took u 1 user_step.AddToList) (record { there = F.there; apart = F.apart; within = F.within; loaded = F.loaded; step = o }), unmoved))
+    list_by false f is checks o s v = as_is m (actor.User (user_took u 1 user_step.AddToList)) 0 s v (subst (λ (z : ℕ → List Listed). (k : PageGhost) × PageHalf E c m g.log (D.stable p) k z d (set actors seat (actor.User (user_took u 1 user_step.AddToList))) × Grows m h k) same (h, quiet_to (user_took u 1 user_step.AddToList) (record { there = F.there; apart = F.apart; within = F.within; loaded = F.loaded; step = o }), unmoved))
       where
         both_same : (b : Bool) (l : List Listed) → ◌≡◌ {A = List Listed} l (cond b l l)
         both_same true l = refl
@@ -225,7 +228,7 @@ module _ (D : LogSide) (L : LogLaws D) (E : DataSide) (EL : DataLaws E) (c : Set
   pass m' b k after ge e1 e2 e3 e4 e5 fl f v =
       let P = after.global.part in let O = after.global.order in
       let z1 = P.stable_written in let z2 = P.written_wtail in let z3 = O.wtail_is in let z4 = lsn_le k.wtail m'.sn (let a = O.wtail_tail in let b = O.tail_sn in omega arith) in
-      subst (λ (y : E.Part). (k : PageGhost) × PageHalf E c m' g.log (D.stable q) k ls y (set actors seat b) × Grows h k) (sym v)
+      subst (λ (y : E.Part). (k : PageGhost) × PageHalf E c m' g.log (D.stable q) k ls y (set actors seat b) × Grows m h k) (sym v)
       (h, grown E c g.seat_of m g.log (D.stable p) h ls d actors seat B mates m' (D.stable q) b e1 e2 e3 e4 e5 fl ge P.flushed_stable (omega arith) f, unmoved)
 
   still_part : ◌≡◌ {A = D.Part} q p → D.stable p ≤ D.stable q
@@ -304,8 +307,8 @@ module _ (D : LogSide) (L : LogLaws D) (E : DataSide) (EL : DataLaws E) (c : Set
         holds_by b k = subst (λ (z : Bool). E.Holds (cond z (renewed h.kept_page x.batch) h.kept_page) (cond z [] x.batch) e) k A.holds
 
         by : (b : Bool) → eqb code 0 ≡ b → PageDone m g.log ls (actor.Cleaner (cleaner_took x (cond b (answer.Called 0) (answer.Failed code)) cleaner_step.WriteBatch))
-        by true k = subst (λ (y : D.Part). (n : PageGhost) × PageHalf E c m g.log (D.stable y) n ls e (set actors seat (actor.Cleaner (record x { code = 0; step = cleaner_step.RemoveFromList }))) × Grows h n) (sym s) (keeps_written E c g.seat_of m g.log (D.stable p) h ls d actors seat B mates W x at is e (A.sound (eqb-true code 0 k)) (holds_by true k))
-        by false k = subst (λ (y : D.Part). (n : PageGhost) × PageHalf E c m g.log (D.stable y) n ls e (set actors seat (actor.Cleaner (record x { code = code; step = cleaner_step.StoreFailed }))) × Grows h n) (sym s) (keeps_unwritten E c g.seat_of m g.log (D.stable p) h ls d actors seat B mates W x at is code e (A.cause (let n = eqb-false code 0 k in omega arith)) (holds_by false k))
+        by true k = subst (λ (y : D.Part). (n : PageGhost) × PageHalf E c m g.log (D.stable y) n ls e (set actors seat (actor.Cleaner (record x { code = 0; step = cleaner_step.RemoveFromList }))) × Grows m h n) (sym s) (keeps_written E c g.seat_of m g.log (D.stable p) h ls d actors seat B mates W x at is e (A.sound (eqb-true code 0 k)) (holds_by true k))
+        by false k = subst (λ (y : D.Part). (n : PageGhost) × PageHalf E c m g.log (D.stable y) n ls e (set actors seat (actor.Cleaner (record x { code = code; step = cleaner_step.StoreFailed }))) × Grows m h n) (sym s) (keeps_unwritten E c g.seat_of m g.log (D.stable p) h ls d actors seat B mates W x at is code e (A.cause (let n = eqb-false code 0 k in omega arith)) (holds_by false k))
 
     removed_by : (b : Bool) → eqb (slice_index m.lists (first_of_batch x % 4)) 0 ≡ b → x.step ≡ cleaner_step.RemoveFromList → ◌≡◌ {A = D.Part} q p → ◌≡◌ {A = E.Part} e d
         → PageDone (cond b (record m { lists = slice_set m.lists (first_of_batch x % 4) 1 }) m) g.log (λ i. cond (eqb i (first_of_batch x % 4)) (cond b (without (first_of_batch x) (ls i)) (ls i)) (ls i)) (actor.Cleaner (cleaner_took x (cond b (answer.Taken None) answer.Held) cleaner_step.RemoveFromList))
@@ -316,7 +319,7 @@ module _ (D : LogSide) (L : LogLaws D) (E : DataSide) (EL : DataLaws E) (c : Set
         (ap (λ (z : Bool). cond z (without (first_of_batch x) (ls (first_of_batch x % 4))) (ls (first_of_batch x % 4))) (eq-eqb (first_of_batch x % 4) (first_of_batch x % 4) refl))
         (λ i n. ap (λ (z : Bool). cond z (without (first_of_batch x) (ls i)) (ls i)) (ne_eqb i (first_of_batch x % 4) n))
         Z.lists (eqb-true (slice_index m.lists (first_of_batch x % 4)) 0 k) is r.0 r.1 r.2)
-    removed_by false k is s v = as_is m (actor.Cleaner (record x { checks = true; step = cleaner_step.RemoveFromList })) 0 s v (subst (λ (z : ℕ → List Listed). (n : PageGhost) × PageHalf E c m g.log (D.stable p) n z d (set actors seat (actor.Cleaner (record x { checks = true; step = cleaner_step.RemoveFromList }))) × Grows h n) same (h, keeps_list_held E c g.seat_of m g.log (D.stable p) h ls d actors seat B mates W x at is, unmoved))
+    removed_by false k is s v = as_is m (actor.Cleaner (record x { checks = true; step = cleaner_step.RemoveFromList })) 0 s v (subst (λ (z : ℕ → List Listed). (n : PageGhost) × PageHalf E c m g.log (D.stable p) n z d (set actors seat (actor.Cleaner (record x { checks = true; step = cleaner_step.RemoveFromList }))) × Grows m h n) same (h, keeps_list_held E c g.seat_of m g.log (D.stable p) h ls d actors seat B mates W x at is, unmoved))
       where
         both_same : (b : Bool) (l : List Listed) → ◌≡◌ {A = List Listed} l (cond b l l)
         both_same true l = refl
@@ -327,7 +330,7 @@ module _ (D : LogSide) (L : LogLaws D) (E : DataSide) (EL : DataLaws E) (c : Set
 
     -- it has failed, and holds what it held
     dead_fits : (n : ℕ) (checks : Bool) → CleanerFits E c m g.log h ls d seat (record x { checks = checks; code = n; step = cleaner_step.Failed })
-    dead_fits n checks = record { alone = XF.alone; pages = XF.pages; page = XF.page; flushed = XF.flushed; sound = λ z. absurd (cc); apart = XF.apart; few = XF.few; cause = λ z. absurd (cc); step = cleaner_still_holds E c m g.log h ls d seat x x.step XF.step }
+    dead_fits n checks = record { alone = XF.alone; pages = XF.pages; page = XF.page; flushed = XF.flushed; sound = λ z. absurd (cc); apart = XF.apart; few = XF.few; cause = λ z. absurd (cc); step = cleaner_still_holds E c m g.log h ls d seat x x.step (held_by D E c spare m g h ls p d actors seat both (actor.Cleaner x) at) XF.step }
 
     -- so too once it has stored its code
     stored_fits : (n : ℕ) (checks : Bool) → CleanerFits E c (record m { failed = n }) g.log h ls d seat (record x { checks = checks; code = n; step = cleaner_step.Failed })
@@ -338,6 +341,7 @@ module _ (D : LogSide) (L : LogLaws D) (E : DataSide) (EL : DataLaws E) (c : Set
           page_words = λ k _ _. refl;
           holders = λ k _ _. refl;
           listeds = λ k _ _. refl;
+          taken = λ q la _. (la, refl);
           opens = λ _ _ _ _. refl;
           lists = λ i o _. (o, refl);
           ctail = omega arith;
@@ -420,7 +424,7 @@ module _ (D : LogSide) (L : LogLaws D) (E : DataSide) (EL : DataLaws E) (c : Set
 
   user_hears : (u : UserState) (at : get_elem? actors seat ≡ some (actor.User u)) (b : Bool) → ◌≡◌ {A = D.Part} q p → ◌≡◌ {A = E.Part} e d → PageDone m g.log ls (actor.User (cond b (record u { checks = false }) (record u { checks = false; code = m.failed; step = user_step.Failed })))
   user_hears u at true s v = let f = F u at in as_is m (actor.User (record u { checks = false })) 0 s v (h, quiet_to u at (record u { checks = false }) (record { there = f.there; apart = f.apart; within = f.within; loaded = f.loaded; step = f.step }), unmoved)
-  user_hears u at false s v = let f = F u at in as_is m (actor.User (record u { checks = false; code = m.failed; step = user_step.Failed })) 0 s v (h, quiet_to u at (record u { checks = false; code = m.failed; step = user_step.Failed }) (record { there = f.there; apart = f.apart; within = f.within; loaded = f.loaded; step = user_still_holds E c m g.log h ls d seat u u.step f.step }), unmoved)
+  user_hears u at false s v = let f = F u at in as_is m (actor.User (record u { checks = false; code = m.failed; step = user_step.Failed })) 0 s v (h, quiet_to u at (record u { checks = false; code = m.failed; step = user_step.Failed }) (record { there = f.there; apart = f.apart; within = f.within; loaded = f.loaded; step = user_still_holds E c m g.log h ls d seat u u.step (held_by D E c spare m g h ls p d actors seat both (actor.User u) at) f.step }), unmoved)
 
   user_turn : (u : UserState) → get_elem? actors seat ≡ some (actor.User u) → (b : Bool) → u.checks ≡ b → LogServed D p Nothing (cond b (op.Load word.Failed) (user_op u u.step)) code q → DataServed E d Nothing (cond b (op.Load word.Failed) (user_op u u.step)) code e
       → PageDone (shared_left m (cond b (op.Load word.Failed) (user_op u u.step))) (cond b g.log (phase_log g.log m.sn u u.step)) (lists_left ls (λ i. slice_index m.lists i) (cond b (op.Load word.Failed) (user_op u u.step)))
@@ -555,4 +559,4 @@ module _ (D : LogSide) (L : LogLaws D) (E : DataSide) (EL : DataLaws E) (c : Set
   keeps_both a at w v =
       let r = keeps D L c spare m g p actors seat M code q ls (can_checkpoint D L E EL c spare m g h ls p d actors seat both) a at w in
       let b = page_turn a at w v r.0 r.1 in
-      (r.0, b.0, record { script = both.script; closed = subst (λ (l : List Entry). UsersClosed l b.0.closed (set actors seat (took a (shared_answer ls (D.failed p) code (D.stable q) m (next a))))) (sym r.2) (users_closed D E c spare m g h ls p d actors seat both b.0 b.2 a at (shared_answer ls (D.failed p) code (D.stable q) m (next a)) b.1.paged.closed_links); asked = (let up = b.2.given in let z = asked_bound D L E EL c spare m g h ls p d actors seat both code q a at w in omega arith); cause = caused D L E EL c spare m g h ls p d actors seat both code q e a at w v; logged = r.1; paged = subst (λ (l : List Entry). PageHalf E c (shared_left m (next a)) l (D.stable q) b.0 (lists_left ls (λ i. slice_index m.lists i) (next a)) e (set actors seat (took a (shared_answer ls (D.failed p) code (D.stable q) m (next a))))) (sym r.2) b.1 })
+      (r.0, b.0, record { script = both.script; closed = subst (λ (l : List Entry). UsersClosed l b.0.closed (set actors seat (took a (shared_answer ls (D.failed p) code (D.stable q) m (next a))))) (sym r.2) (users_closed D E c spare m g h ls p d actors seat both b.0 b.2 a at (shared_answer ls (D.failed p) code (D.stable q) m (next a)) b.1.paged.closed_links); asked = (let up = b.2.given in let z = asked_bound D L E EL c spare m g h ls p d actors seat both code q a at w in omega arith); latches = latches_kept D E c spare m g h ls p d actors seat both (D.failed p) code (D.stable q) (log_left g.log m.sn a) (D.stable q) b.0 (lists_left ls (λ i. slice_index m.lists i) (next a)) e b.2 a at b.1; stays = λ alone. checkpoint_stays D E c spare m g h ls p d actors seat both alone a at; cause = caused D L E EL c spare m g h ls p d actors seat both code q e a at w v; logged = r.1; paged = subst (λ (l : List Entry). PageHalf E c (shared_left m (next a)) l (D.stable q) b.0 (lists_left ls (λ i. slice_index m.lists i) (next a)) e (set actors seat (took a (shared_answer ls (D.failed p) code (D.stable q) m (next a))))) (sym r.2) b.1 })

@@ -4,10 +4,13 @@ pub mod BothKeep
 pub mod BothReady
 pub mod CallConditions
 pub mod Causes
+pub mod CheckpointStays
 pub mod ClosedKeep
 pub mod EachTurn
 pub mod FailedStays
 pub mod FlatWords
+pub mod LatchSteps
+pub mod LatchesKeep
 pub mod ListsReady
 pub mod SeatsKeep
 pub mod StartRunning

@@ -5,7 +5,7 @@ use mathlib.Core.Option.{some, some-ne-none}
 use Rattle.model_base.specs.declared.limits.TheConstants.{LSN_LIMIT}
 use Rattle.model_core.specs.Actors.{Actor}
 use Rattle.model_core.specs.DataSide.{DataSide}
-use Rattle.model_core.specs.Layout.{SharedWords, flat}
+use Rattle.model_core.specs.Layout.{PageWords, SharedWords, flat}
 use Rattle.model_core.specs.LogSide.{LogSide}
 use Rattle.model_core.specs.Lsn.{lsn}
 use Rattle.model_core.specs.Setup.{Setup}
@@ -83,6 +83,8 @@ module _ (D : LogSide) (E : DataSide) (c : Setup) (m : SharedWords) (p : D.Part)
     cause = λ some_code. absurd (omega arith);
     logged = half_starts D c m p seat_of writer S.words S.log_part spare actors S.each room;
     asked = (let z = S.log_part.asked in omega arith);
+    latches = λ q there latched. let free = ap (λ (x : PageWords). x.latch) (S.page_words.page_words q there) in absurd (omega arith);
+    stays = λ _. w.ckpt;
     closed = λ seat u at. let k = new_user_is c u (S.each seat (actor.User u) at).1 in record {
       answered = λ i e is. absurd (some-ne-none e (sym is));
       in_hand = subst (λ f. HandIsClosed (λ _. false) u f) (sym k.step) tt;

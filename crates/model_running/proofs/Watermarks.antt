@@ -1,5 +1,5 @@
 -- The invariant gives each of the watermarks.
-use Rattle.std.proofs.Common.{List, arith, subst, sym, ℕ, ◌<◌, ◌≡◌}
+use Rattle.std.proofs.Common.{List, arith, refl, subst, sym, ℕ, ⊎_elim, ◌<◌, ◌≡◌, ◌⊎◌}
 use lib.ListN.{get_elem?}
 use mathlib.Core.Option.{some}
 use Rattle.model_core.specs.Actors.{Actor}
@@ -11,16 +11,22 @@ use Rattle.model_core.specs.LogSide.{LogSide}
 use Rattle.model_core.specs.Setup.{Setup}
 use Rattle.model_core.specs.States.{CheckpointerState, CleanerState, CloserState, UserState}
 use Rattle.model_core.specs.Turn.{Core}
+use Rattle.model_core.specs.declared.steps.CleanerStep.{CleanerStep}
+use Rattle.model_core.specs.declared.steps.UserStep.{UserStep}
 use Rattle.model_logcore.proofs.Watermarks.{log_watermarks, watermarks_log}
 use Rattle.model_logcore.specs.LogFacts.{LogGhost}
 use Rattle.model_logcore.specs.LogLaws.{LogLaws}
 use Rattle.model_pagecore.specs.DataLaws.{DataLaws}
+use Rattle.model_pagecore.specs.Latches.{CleanerHasLatch, UserHasLatch}
 use Rattle.model_pagecore.specs.PageFacts.{PageGhost}
-use Rattle.model_pagecore.specs.PageHalf.{CheckpointerPageFits, CleanerFits, CloserFits, UserPageFits}
+use Rattle.model_pagecore.specs.PageHalf.{CheckpointerPageFits, CleanerAt, CleanerFits, CloserFits, HoldsOnly, UserPageFits, UserPagesAt}
 use Rattle.model_pagecore.specs.Pages.{Passed}
+use Rattle.model_running.proofs.LatchesKeep.{held_by}
 use Rattle.model_running.specs.RunningStore.{BothHalves, IsRunning}
-use Rattle.model_running.specs.Watermarks.{ClosedChangesAreListedOrKept, FailureHasCause, FramesAreApplied, HasWatermarks, KeptPagesArePrefixes, ListsAreRelaxed, Watermarks}
+use Rattle.model_running.specs.Watermarks.{CleanerTells, ClosedChangesAreListedOrKept, FailureHasCause, FramesAreApplied, HasWatermarks, KeptPagesArePrefixes, ListsAreRelaxed, UserTells, Watermarks}
 use Rattle.model_core.specs.Actors as actor
+use Rattle.model_core.specs.declared.steps.CleanerStep.TheVariants as cleaner_step
+use Rattle.model_core.specs.declared.steps.UserStep.TheVariants as user_step
 
 module _ (D : LogSide) (L : LogLaws D) (E : DataSide) (EL : DataLaws E) (c : Setup) (spare : ℕ) (m : SharedWords) (g : LogGhost) (h : PageGhost) (ls : ℕ → List Listed) (p : D.Part) (d : E.Part) (actors : List Actor) (both : BothHalves D E c spare m g h ls p d actors) where
   user_pages : (seat : ℕ) (u : UserState) → get_elem? actors seat ≡ some (actor.User u) → UserPageFits E c m g.log h ls d seat u
@@ -35,11 +41,21 @@ module _ (D : LogSide) (L : LogLaws D) (E : DataSide) (EL : DataLaws E) (c : Set
   closer_pages : (seat : ℕ) (t : CloserState) → get_elem? actors seat ≡ some (actor.Closer t) → CloserFits E c m g.log h ls d seat t
   closer_pages seat t at = both.paged.each seat (actor.Closer t) at
 
+  user_tells : (seat : ℕ) (u : UserState) (f : UserStep) → HoldsOnly E c m g.log h ls d seat (λ q. (f ≡ user_step.Failed) ⊎ UserHasLatch u f q) → UserPagesAt E c m g.log h ls d seat u f → UserTells E c m g.log h ls d seat u f
+  user_tells seat u user_step.Failed only o = record { met = o.0; own = λ other. absurd (other refl); holds = o.1; all = o.2 }
+  user_tells seat u f only o = record { met = f; own = λ _. refl; holds = o; all = λ q there latched mine. ⊎_elim (λ z. absurd (cc)) (λ z. z) (only q there latched mine) }
+
+  cleaner_tells : (seat : ℕ) (v : CleanerState) (f : CleanerStep) → HoldsOnly E c m g.log h ls d seat (λ q. (f ≡ cleaner_step.Failed) ⊎ CleanerHasLatch v f q) → CleanerAt E c m g.log h ls d seat v f → CleanerTells E c m g.log h ls d seat v f
+  cleaner_tells seat v cleaner_step.Failed only o = record { met = o.0; own = λ other. absurd (other refl); holds = o.1; all = o.2 }
+  cleaner_tells seat v f only o = record { met = f; own = λ _. refl; holds = o; all = λ q there latched mine. ⊎_elim (λ z. absurd (cc)) (λ z. z) (only q there latched mine) }
+
   frames_are_applied : FramesAreApplied E c m g.log h ls d actors
   frames_are_applied = record {
+    latch = λ q there. (both.paged.paged.each_page q there).latch;
     free = λ q there. (both.paged.paged.each_page q there).free;
-    user_held = λ seat u at. (user_pages seat u at).step;
-    cleaner_held = λ seat v at. (cleaner_pages seat v at).step;
+    held = both.latches;
+    user_held = λ seat u at. user_tells seat u u.step (held_by D E c spare m g h ls p d actors seat both (actor.User u) at) (user_pages seat u at).step;
+    cleaner_held = λ seat v at. cleaner_tells seat v v.step (held_by D E c spare m g h ls p d actors seat both (actor.Cleaner v) at) (cleaner_pages seat v at).step;
   }
 
   closed_changes : ClosedChangesAreListedOrKept c m g.log h ls actors
@@ -90,6 +106,7 @@ module _ (D : LogSide) (L : LogLaws D) (E : DataSide) (EL : DataLaws E) (c : Set
         closed_changes_are_listed_or_kept = subst (λ (l : List Entry). ClosedChangesAreListedOrKept c m l h ls actors) (sym log) closed_changes;
         lists_are_relaxed = lists_are_relaxed;
         kept_pages_are_prefixes = subst (λ (l : List Entry). KeptPagesArePrefixes E c m l (D.asked p) (D.stable p) h ls d actors) (sym log) kept_pages;
+        checkpoint_stays = both.stays;
         failure_has_cause = failure_has_cause;
       }
 

@@ -1,5 +1,6 @@
 pub mod Bounds
 pub mod DataReady
+pub mod LatchesHeld
 pub mod ListReady
 pub mod RunningStore
 pub mod Schedule

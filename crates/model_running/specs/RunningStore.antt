@@ -1,5 +1,5 @@
 -- Both halves of the invariant, over one list of actors.
-use Rattle.std.specs.Prelude.{List, ℕ, ◌<◌, ◌≡◌, ◌≤◌, ◌⊎◌}
+use Rattle.std.specs.Prelude.{List, true, ℕ, ◌<◌, ◌≡◌, ◌≤◌, ◌⊎◌}
 use Rattle.model_core.specs.Actors.{Actor}
 use Rattle.model_core.specs.DataSide.{DataSide}
 use Rattle.model_core.specs.FlushLists.{Listed}
@@ -9,8 +9,10 @@ use Rattle.model_core.specs.Setup.{IsScripted, Setup}
 use Rattle.model_core.specs.Turn.{Core}
 use Rattle.model_logcore.specs.LogFacts.{LogGhost}
 use Rattle.model_logcore.specs.LogHalf.{LogHalf}
+use Rattle.model_logcore.specs.Start.{start_checkpoint}
 use Rattle.model_pagecore.specs.PageFacts.{PageGhost}
 use Rattle.model_pagecore.specs.PageHalf.{PageHalf}
+use Rattle.model_running.specs.LatchesHeld.{LatchesAreHeld}
 use Rattle.model_running.specs.UsersClosed.{UsersClosed}
 
 pub record BothHalves (D : LogSide) (E : DataSide) (c : Setup) (spare : ℕ) (m : SharedWords) (g : LogGhost) (h : PageGhost) (ls : ℕ → List Listed) (p : D.Part) (d : E.Part) (actors : List Actor) : Type 0 where
@@ -20,6 +22,9 @@ pub record BothHalves (D : LogSide) (E : DataSide) (c : Setup) (spare : ℕ) (m 
   pub logged : LogHalf D c spare m g p actors
   -- no page lacks a change that starts below a checkpoint that was asked for, good or failed
   pub asked : D.asked p ≤ h.given
+  -- with the log alone no checkpoint is taken
+  pub stays : c.log_only ≡ true → m.ckpt ≡ start_checkpoint c
+  pub latches : LatchesAreHeld c.pages m h.holder actors
   -- the users' states say which groups are closed
   pub closed : UsersClosed g.log h.closed actors
   pub paged : PageHalf E c m g.log (D.stable p) h ls d actors

@@ -14,20 +14,45 @@ use Rattle.model_core.specs.Setup.{Setup}
 use Rattle.model_core.specs.States.{CheckpointerState, CleanerState, CloserState, UserState}
 use Rattle.model_core.specs.Turn.{Core}
 use Rattle.model_core.specs.declared.limits.TheConstants.{CLOSED_LINKS}
+use Rattle.model_core.specs.declared.steps.CleanerStep.{CleanerStep}
+use Rattle.model_core.specs.declared.steps.UserStep.{UserStep}
+use Rattle.model_logcore.specs.Start.{start_checkpoint}
 use Rattle.model_logcore.specs.Watermarks.{LogWatermarks}
+use Rattle.model_pagecore.specs.Latches.{CleanerHasLatch, UserHasLatch}
 use Rattle.model_pagecore.specs.PageFacts.{AreUnfinished, ClosedLink, PageGhost, listed}
-use Rattle.model_pagecore.specs.PageHalf.{CheckpointerPagesAt, CleanerAt, UserPagesAt}
+use Rattle.model_pagecore.specs.PageHalf.{CheckpointerPagesAt, CleanerHolds, HoldsOnly, UserHolds}
 use Rattle.model_pagecore.specs.Pages.{Agree, All, EndsAt, Last, PageIs, Passed, StartsAt, applied_upto, end_lsn, none_in_hand, start_lsn, touches}
+use Rattle.model_running.specs.LatchesHeld.{LatchesAreHeld}
 use Rattle.model_running.specs.UsersClosed.{UsersClosed}
 use Rattle.model_core.specs.Actors as actor
+use Rattle.model_core.specs.declared.steps.CleanerStep.TheVariants as cleaner_step
+use Rattle.model_core.specs.declared.steps.UserStep.TheVariants as user_step
+
+-- What a user holds is told by its step, or, where it has failed, by a step at which it met the failure: that step names each
+-- page whose latch the user took last and that is held, and says how far its frame, NEWEST and OLDEST are.
+pub record UserTells (E : DataSide) (c : Setup) (m : SharedWords) (log : List Entry) (h : PageGhost) (ls : ℕ → List Listed) (d : E.Part) (seat : ℕ) (u : UserState) (step : UserStep) : Type 0 where
+  pub met : UserStep
+  pub own : (step ≡ user_step.Failed → ⊥) → met ≡ step
+  pub holds : UserHolds E c m log h ls d seat u met
+  pub all : HoldsOnly E c m log h ls d seat (UserHasLatch u met)
+
+-- The same of the cleaner.
+pub record CleanerTells (E : DataSide) (c : Setup) (m : SharedWords) (log : List Entry) (h : PageGhost) (ls : ℕ → List Listed) (d : E.Part) (seat : ℕ) (v : CleanerState) (step : CleanerStep) : Type 0 where
+  pub met : CleanerStep
+  pub own : (step ≡ cleaner_step.Failed → ⊥) → met ≡ step
+  pub holds : CleanerHolds E c m log h ls d seat v met
+  pub all : HoldsOnly E c m log h ls d seat (CleanerHasLatch v met)
 
 -- FRAMES ARE THE APPLIED PAGES. A free page's frame is the page as it was opened with all its groups applied; NEWEST is the
--- end of the last of them, and OLDEST what stands in its list. What a held page's are is told by its holder's step: for a
--- user, all groups before the one in hand, and so many of its cells; for the cleaner, all.
+-- end of the last of them, and OLDEST what stands in its list. A page whose latch is held has a holder, the user or the cleaner
+-- that took it last, and what its are is told by that one's step: for a user, all groups before the one in hand, and so many
+-- of its cells; for the cleaner, all.
 pub record FramesAreApplied (E : DataSide) (c : Setup) (m : SharedWords) (log : List Entry) (h : PageGhost) (ls : ℕ → List Listed) (d : E.Part) (actors : List Actor) : Type 0 where
+  pub latch : (p : ℕ) → p < c.pages → (page_words_at m.page_words p).latch ≤ 1
   pub free : (p : ℕ) → p < c.pages → (page_words_at m.page_words p).latch ≡ 0 → PageIs p (c.opened p).bytes log none_in_hand (page_words_at m.page_words p) (listed ls p) All Last Agree
-  pub user_held : (seat : ℕ) (u : UserState) → get_elem? actors seat ≡ some (actor.User u) → UserPagesAt E c m log h ls d seat u u.step
-  pub cleaner_held : (seat : ℕ) (v : CleanerState) → get_elem? actors seat ≡ some (actor.Cleaner v) → CleanerAt E c m log h ls d seat v v.step
+  pub held : LatchesAreHeld c.pages m h.holder actors
+  pub user_held : (seat : ℕ) (u : UserState) → get_elem? actors seat ≡ some (actor.User u) → UserTells E c m log h ls d seat u u.step
+  pub cleaner_held : (seat : ℕ) (v : CleanerState) → get_elem? actors seat ≡ some (actor.Cleaner v) → CleanerTells E c m log h ls d seat v v.step
 
 -- A CLOSED CHANGE IS LISTED OR KEPT: a group that is closed finds each page that it touches in the page's list since its
 -- start or before, or kept up to its end. A closed link is a closed group behind the closer's tail, and below the tail all
@@ -79,6 +104,8 @@ pub record Watermarks (D : LogSide) (E : DataSide) (c : Setup) (m : SharedWords)
   pub closed_changes_are_listed_or_kept : ClosedChangesAreListedOrKept c m of_log.log pages ls actors
   pub lists_are_relaxed : ListsAreRelaxed ls m.ctail
   pub kept_pages_are_prefixes : KeptPagesArePrefixes E c m of_log.log (D.asked p) (D.stable p) pages ls d actors
+  -- with the log alone CKPT stays as opening left it
+  pub checkpoint_stays : c.log_only ≡ true → m.ckpt ≡ start_checkpoint c
   pub failure_has_cause : FailureHasCause D E m.failed p d
 
 -- and of a store's whole state
