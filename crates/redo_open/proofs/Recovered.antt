@@ -11,6 +11,7 @@ use Rattle.model_logdev.specs.Marks.{first_marks, next_number}
 use Rattle.model_opening.specs.Opened.{IsOpenable, KeepsOpened}
 use Rattle.model_opening.specs.Ready.{IsReady}
 use Rattle.model_opening.proofs.Keeping.{openable-keeps}
+use Rattle.model_page.specs.declared.content.Content.{Content}
 use Rattle.model_record.specs.declared.group.Whole.{Whole}
 use Rattle.model_store.specs.Reading.{Reading, IsOrderly}
 use Rattle.model_store.proofs.Ending.{StartsBehind, starts-behind}
@@ -24,6 +25,7 @@ use Rattle.redo_open.proofs.Endings.{any-known}
 use Rattle.redo_pageactors.specs.Opened.{IsRunnable}
 use Rattle.redo_pageactors.specs.declared.opened.Opened.{Opened}
 use Rattle.redo_recover.specs.Groups.{IsEndOf}
+use Rattle.redo_recover.specs.Pages.{AreNotAhead}
 use Rattle.redo_recover.specs.Reading.{reading_of}
 use Rattle.redo_recover.specs.declared.fault.RecFault.{RecFault}
 use Rattle.redo_recover.specs.declared.fault.RecFault.TheVariants.{NoMemory}
@@ -47,6 +49,12 @@ may-start shape ckpt wholes end limits aligned started small is =
       from = omega (arith, starts.behind, is.from);
       up_to = ⊎_elim (λ next. omega (arith, starts.next next)) (λ not_next. omega (arith, starts.here (omega arith))) (cases_lt 12 (end % 512));
     }
+
+-- pages that aren't ahead of the end aren't ahead of the start behind it
+pub not-ahead-of-start : (shape : Shape) (ckpt : ℕ) (wholes : List Whole) (end : ℕ) (pages : List Content) → IsEndOf shape ckpt wholes end
+    → AreNotAhead pages end → AreNotAhead pages (start_after end)
+not-ahead-of-start shape ckpt wholes end pages is not_ahead = λ p page at.
+    let starts : StartsBehind end = starts-behind end is.place in omega (arith, starts.behind, not_ahead p page at)
 
 -- BEFORE A STEP WAS TAKEN.
 
@@ -105,6 +113,7 @@ pub record IsStartable {D : Type 0} (recovered : Recovered) (store : Part D) (st
   pub may : MayStart recovered.shape recovered.ckpt start
   pub behind : start ≡ start_after recovered.end
   pub its_pages : ArePagesOf recovered.shape recovered.pages
+  pub not_ahead : AreNotAhead recovered.pages start
   pub data_shape : store.shape ≡ recovered.shape
   pub data_live : store.failed ≡ None
 
@@ -127,6 +136,7 @@ run-runnable log store recovered start run facts is =
       first = omega (arith, is.start_is, facts.may.started, facts.may.from);
       small = omega (arith, is.start_is, facts.may.up_to, facts.may.small, facts.may.limits.few_blocks);
       its_pages = subst (λ (s : Shape). ArePagesOf s run.pages) (sym is.shape) (subst (ArePagesOf recovered.shape) (sym is.pages) facts.its_pages);
+      not_ahead = subst (AreNotAhead run.pages) (sym is.start_is) (subst (λ (pages : List Content). AreNotAhead pages start) (sym is.pages) facts.not_ahead);
       log_shape = ap (λ (part : Log _). part.shape) is.log_part ∙ sym is.shape;
       log_marks = marks ∙ ap (λ n. first_marks n (next_number recovered.number)) (sym is.start_is)
           ∙ ap (first_marks run.start) (sym (ap (λ (part : Log _). part.marks.number) is.log_part));

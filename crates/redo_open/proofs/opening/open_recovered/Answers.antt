@@ -11,7 +11,8 @@ use Rattle.redo_recover.specs.Calls.{data_error}
 use Rattle.redo_open.specs.Clear.{MayStart}
 use Rattle.redo_open.specs.Devices.{DevicesStep}
 use Rattle.redo_open.specs.Opening.{OpensRecovered}
-use Rattle.redo_open.proofs.Recovered.{IsStartable, may-start, recovered-none, recovered-failed, recovered-started}
+use Rattle.redo_open.proofs.Recovered.{IsStartable, may-start, not-ahead-of-start, recovered-none, recovered-failed, recovered-started}
+use Rattle.redo_recover.specs.Pages.{AreNotAhead}
 use Rattle.redo_recover.specs.Reading.{reading_of}
 use Rattle.redo_recover.specs.declared.fault.RecFault.TheVariants.{NoMemory}
 use Rattle.redo_store.specs.Part.{Part}
@@ -46,6 +47,8 @@ returns-clause-step g c =
           (may-start c.args.recovered.shape c.args.recovered.ckpt c.args.recovered.groups.items c.args.recovered.end of.limits of.aligned of.started of.small of.end);
       behind = c.start_after-start.ensures;
       its_pages = of.its_pages;
+      not_ahead = subst (AreNotAhead c.args.recovered.pages) (sym c.start_after-start.ensures)
+          (not-ahead-of-start c.args.recovered.shape c.args.recovered.ckpt c.args.recovered.groups.items c.args.recovered.end c.args.recovered.pages of.end of.not_ahead);
       data_shape = c.in-Ok-open_devices.ensures.shape ∙ ap (λ (part : Part _). part.shape) c.in-Ok.ensures.part;
       data_live = c.in-Ok-open_devices.ensures.live;
     } in
