@@ -16,6 +16,7 @@ mod parsing;
 mod printing;
 mod unfit;
 
+pub use draws::Draws;
 pub use fault::ScriptFault;
 pub use fit::judge;
 pub use generator::generate;

@@ -1,7 +1,6 @@
 -- Each line of a user has bytes, and its records write within a page's user bytes.
-use Rattle.std.proofs.Common.{Bool, List, [], arith, length, refl, suc, zero, ℕ, ◌+◌, ◌-◌, ◌<◌, ◌∷◌, ◌≡◌, ◌≤◌}
+use Rattle.std.proofs.Common.{Bool, List, [], arith, length, refl, suc, zero, ℕ, ◌<◌, ◌∷◌, ◌≡◌}
 use Rattle.std.specs.List.{AllByRecursion}
-use Rattle.model_base.specs.Limits.{IsWithinLimits}
 use Rattle.model_base.specs.declared.shape.Shape.{Shape}
 use Rattle.model_changes.proofs.Collected.{group_has_text}
 use Rattle.model_core.specs.UserProgram.{line_at}

@@ -9,5 +9,6 @@ mod changing;
 mod line;
 mod making;
 mod taking;
+mod telling;
 
 pub use actor::UserActor;

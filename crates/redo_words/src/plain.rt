@@ -1,6 +1,6 @@
 // The words on the heap of one thread.
-ghost use Rattle.std.specs.Prelude.{◌≡◌, ℕ, slice_index, slice_set, IfOk};
-ghost use Rattle.model_core.specs.Layout.{index, IsWord};
+ghost use Rattle.std.specs.Prelude.{◌≡◌, ℕ, length, slice_index, slice_set, IfOk};
+ghost use Rattle.model_core.specs.Layout.{index, IsWord, word_count};
 ghost use Rattle.model_core.specs.WordTurn.{OnWord, OpWords, words_after, word_found};
 ghost use Rattle.model_core.specs.declared.ops.Answer.TheVariants as answer;
 ghost use Rattle.redo_words.specs.Plain.{HoldsSum};
@@ -36,6 +36,7 @@ impl PlainWords {
     /// The words of a store of so many pages, each 0.
     pub fn new(alloc: Global, pages: u32) -> Result<PlainWords, NoMemory>
         ensures pages { IfOk result (λ plain. plain.pages ≡ pages) }
+        ensures count { IfOk result (λ plain. length plain.words ≡ word_count pages) }
         ensures zero { IfOk result (λ plain. (i : ℕ) → slice_index plain.words i ≡ 0) }
     {
         let count = crate::count_of(Layout { pages }) as usize;

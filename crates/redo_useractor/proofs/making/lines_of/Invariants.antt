@@ -1,4 +1,4 @@
-use Rattle.std.proofs.Common.{length, take, vec_len, ◌≡◌}
+use Rattle.std.proofs.Common.{length, take, ◌≡◌}
 use Rattle.redo_useractor.specs.Lines.{lines_of}
 use Rattle.redo_useractor.proofs.making.lines_of.Given as goal
 

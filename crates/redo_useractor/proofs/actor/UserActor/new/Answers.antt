@@ -1,5 +1,5 @@
 -- Each line has bytes, and a user that has a line begins with the first.
-use Rattle.std.proofs.Common.{List, arith, length, rules, subst, sym, ℕ, ◌<◌}
+use Rattle.std.proofs.Common.{List, arith, length, subst, sym, ℕ, ◌<◌}
 use Rattle.std.proofs.lemmas.Grind.{common_steps}
 use Rattle.model_core.specs.States.{Line}
 use Rattle.model_core.specs.UserProgram.{line_at}
