@@ -3,6 +3,8 @@ ghost use Rattle.std.specs.Prelude.{List, None, ◌≡◌};
 ghost use Rattle.model_core.specs.States.{BatchPage};
 ghost use Rattle.model_datadev.specs.Batch.{IsWritable};
 ghost use Rattle.redo_dataside.specs.DataPartSide.{DataWrote, IsBatchOf, result_code};
+ghost use Rattle.redo_disk.specs.Calls.{EndWith};
+ghost use Rattle.redo_disk.specs.Made.{MakesCalls};
 
 use redo_disk::{DevError, Sectors};
 use redo_store::DataPart;
@@ -22,8 +24,9 @@ fn code_of(answer: &Result<(), DevError>) -> u32
 pub fn write_batch<D: Sectors>(part: &mut DataPart<D>, pairs: &[(u32, u64)], users: &[u8]) -> u32
     requires live { part.old.failed ≡ None }
     requires batch { IsWritable part.old.shape pairs.now users.now }
-    ensures { (batch : List BatchPage) → IsBatchOf pairs.now users.now batch
+    ensures wrote { (batch : List BatchPage) → IsBatchOf pairs.now users.now batch
         → DataWrote D.seen batch result part.old part.new }
+    ensures calls { MakesCalls D.gives part.old.dev part.new.dev (EndWith part.new.failed) }
 {
     let answer = part.write_batch(pairs, users);
     code_of(&answer)

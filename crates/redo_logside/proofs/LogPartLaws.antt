@@ -49,12 +49,12 @@ either P false x y z is a b = subst P (sym is) b
 next_is : (number ckpt : ℕ) → number ≤ 2 ^ 63 + ckpt / 512 → ckpt < 2 ^ 61 → (number + 1 < 2 ^ 64) × (next_number number ≡ number + 1)
 next_is number ckpt few small = let a : number + 1 < 2 ^ 64 = omega arith in (a, omega arith)
 
-module _ {L : Type 0} (seen : L → Seen) (faults : ℕ) (Begun : Type 0) where
+module _ {L : Type 0} (seen : L → Seen) (faults first : ℕ) (Begun : Type 0) where
   abbrev side : LogSide
-  side = log_side seen faults Begun
+  side = log_side seen faults first Begun
 
   abbrev Holds : ℕ → ℕ → List Entry → Part L → Type 0
-  Holds = HoldsLog seen faults Begun
+  Holds = HoldsLog seen faults first Begun
 
   -- a cause is of a part whose call has failed, so there is none yet
   no_cause : (part : Part L) (code : ℕ) → part.failed ≡ None → HasFailedBy seen faults part code → ⊥
@@ -71,6 +71,7 @@ module _ {L : Type 0} (seen : L → Seen) (faults : ℕ) (Begun : Type 0) where
     stable_written = H.stable_written;
     small = H.small;
     few = H.few;
+    number_kept = H.number_kept;
     groups = λ begun wholes are.
         let r = groups_snoc log e wholes are in
         let front : List Whole = r.0 in
@@ -112,6 +113,7 @@ module _ {L : Type 0} (seen : L → Seen) (faults : ℕ) (Begun : Type 0) where
           stable_written = (let a = H.stable_written in let b = C.on in let l = lsn_less w n b in either (λ (z : ℕ). q.marks.stable ≤ z) (code == 0) q.marks.written (lsn n) p.marks.written written (omega arith) (omega arith));
           small = (let a = H.small in let b = C.small in either (λ (z : ℕ). z < 2 ^ 61) (code == 0) q.marks.written (lsn n) p.marks.written written (omega arith) (omega arith));
           few = λ begun. (let f = H.few begun in let z : q.marks.ckpt / 512 ≡ p.marks.ckpt / 512 = ap (λ (k : ℕ). k / 512) ckpt in omega arith);
+          number_kept = λ begun. (let f = H.number_kept begun in omega arith);
           groups = λ begun wholes are. W.holds (lsn base) wholes (H.groups begun wholes are)
               (subst (λ (z : ℕ). IsGivenTo (lsn base) wholes (block_of z) (lsn n) bytes firsts) (sym at) (given_to base log w n C.end bytes firsts wholes C.even C.tiles C.base_w C.n_end C.on C.high C.lent are));
         };
@@ -148,6 +150,7 @@ module _ {L : Type 0} (seen : L → Seen) (faults : ℕ) (Begun : Type 0) where
           stable_written = (let a = H.stable_written in either (λ (z : ℕ). z ≤ q.marks.written) (code == 0) q.marks.stable p.marks.written p.marks.stable stable (omega arith) (omega arith));
           small = (let a = H.small in omega arith);
           few = λ begun. (let f = H.few begun in let z : q.marks.ckpt / 512 ≡ p.marks.ckpt / 512 = ap (λ (k : ℕ). k / 512) ckpt in omega arith);
+          number_kept = λ begun. (let f = H.number_kept begun in omega arith);
           groups = λ begun wholes are. S.holds (lsn base) wholes (H.groups begun wholes are);
         };
         written = written;
@@ -184,6 +187,12 @@ module _ {L : Type 0} (seen : L → Seen) (faults : ℕ) (Begun : Type 0) where
           stable_written = (let a = H.stable_written in omega arith);
           small = (let a = H.small in omega arith);
           few = λ begun. few_by (H.few begun) small even further H.aligned o.marks;
+          number_kept = λ begun.
+              (let next = next_is p.marks.number p.marks.ckpt (H.few begun) small in
+              let kept = H.number_kept begun in
+              let more = next.1 in
+              either (λ (z : ℕ). first ≤ z) (code == 0) q.marks.number (next_number p.marks.number) p.marks.number
+              (by_code (λ (z : LogMarks). z.number) code q.marks ok err o.marks) (omega arith) (omega arith));
           groups = λ begun wholes are. K.holds (next_is p.marks.number p.marks.ckpt (H.few begun) small).0 (lsn base) wholes (H.groups begun wholes are);
         };
         written = written;

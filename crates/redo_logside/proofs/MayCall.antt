@@ -39,9 +39,9 @@ firsts_fit base log end n even tiles bound q (first ∷ firsts) bytes long enoug
     near : (n q f k : ℕ) → 496 * q + k ≡ n → (f ≡ 0) ⊎ ((12 ≤ f) × (f < 508) × (496 * q + f ≤ n + 12)) → (f ≡ 0) ⊎ ((12 ≤ f) × (f < 508) × (f ≤ k + 12))
     near n q f k whole h = ⊎_elim (λ z. inl z) (λ z. let a = z.2 in inr (z.0, z.1, omega arith)) h
 
-module _ {L : Type 0} (seen : L → Seen) (faults : ℕ) (Begun : Type 0) where
+module _ {L : Type 0} (seen : L → Seen) (faults number : ℕ) (Begun : Type 0) where
   -- write_to
-  pub may_write : (blocks base : ℕ) (log : List Entry) (w n : ℕ) (bytes firsts : List ℕ) (p : Part L) → HoldsLog seen faults Begun blocks base log p → CanWrite (log_side seen faults Begun) blocks base log w n bytes firsts p → MayWrite p (lsn n) bytes firsts
+  pub may_write : (blocks base : ℕ) (log : List Entry) (w n : ℕ) (bytes firsts : List ℕ) (p : Part L) → HoldsLog seen faults number Begun blocks base log p → CanWrite (log_side seen faults number Begun) blocks base log w n bytes firsts p → MayWrite p (lsn n) bytes firsts
   may_write blocks base log w n bytes firsts p H C =
       let at : p.marks.written ≡ lsn w = C.at in
       let o = lsn_offset n in
@@ -66,11 +66,11 @@ module _ {L : Type 0} (seen : L → Seen) (faults : ℕ) (Begun : Type 0) where
       }
 
   -- sync
-  pub may_sync : (p : Part L) → (log_side seen faults Begun).failed p ≡ false → p.failed ≡ None
+  pub may_sync : (p : Part L) → (log_side seen faults number Begun).failed p ≡ false → p.failed ≡ None
   may_sync p sound = not_failed p.failed sound
 
   -- checkpoint
-  pub may_checkpoint : (blocks base : ℕ) (log : List Entry) (x : ℕ) (p : Part L) → HoldsLog seen faults Begun blocks base log p → CanCheckpoint (log_side seen faults Begun) blocks base log x p → p.marks.stable < 2 ^ 60 → MayBeNext p.marks x
+  pub may_checkpoint : (blocks base : ℕ) (log : List Entry) (x : ℕ) (p : Part L) → HoldsLog seen faults number Begun blocks base log p → CanCheckpoint (log_side seen faults number Begun) blocks base log x p → p.marks.stable < 2 ^ 60 → MayBeNext p.marks x
   may_checkpoint blocks base log x p H C limit = record {
     aligned = C.even;
     small = (let a = C.below in omega arith);

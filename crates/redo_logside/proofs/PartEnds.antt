@@ -13,15 +13,17 @@ use Rattle.redo_disk.specs.declared.error.DevError.TheVariants.{Failed, NoMemory
 use Rattle.redo_logdev.specs.Part.{DiskHolds, Part}
 use Rattle.redo_logside.specs.LogPartSide.{HasFailedBy, fault_code, log_side}
 
--- the device holds the groups that the part does, if it was as it should be when the run began
-pub log_tells : {L : Type 0} (seen : L → Seen) (faults : ℕ) (Begun : Type 0) (c : Setup) (shape : Shape) (p : Part L) (disk : Disk) → Begun → ◌≡◌ {A = Shape} p.shape shape → (seen p.dev).tells ≡ Some disk
-    → LogTells (log_side seen faults Begun) c shape p disk
-log_tells seen faults Begun c shape p disk begun same tells = record {
+-- The device holds the groups that the part does, if it was as it should be when the run began, and the checkpoint isn't older
+-- than then.
+pub log_tells : {L : Type 0} (seen : L → Seen) (faults number : ℕ) (Begun : Type 0) (c : Setup) (shape : Shape) (p : Part L) (disk : Disk) → Begun → ◌≡◌ {A = Shape} p.shape shape → (seen p.dev).tells ≡ Some disk
+    → LogTells (log_side seen faults number Begun) c shape number p disk
+log_tells seen faults number Begun c shape p disk begun same tells = record {
   marks = p.marks;
   stable = refl;
   given = refl;
   ckpt = refl;
   asked = refl;
+  number_kept = λ log held. held.number_kept begun;
   holds = λ log wholes held are.
       let here : DiskHolds p.shape (lsn c.base) wholes p.marks p.failed disk =
       subst (λ (o : Option Disk). IfSome o (DiskHolds p.shape (lsn c.base) wholes p.marks p.failed)) tells (held.groups begun wholes are) in

@@ -18,7 +18,7 @@ no_wholes (w ∷ ws) are = absurd are
 
 -- a new part at the sn base, over whatever device
 pub part_starts : {L : Type 0} (seen : L → Seen) (c : Setup) (number : ℕ) (p : Part L) → c.base % 496 ≡ 0 → lsn c.base < 2 ^ 61 → p.shape.log_blocks ≡ c.blocks → p.failed ≡ None → ◌≡◌ {A = LogMarks} p.marks (first_marks (lsn c.base) number)
-    → StartPart (log_side seen (seen p.dev).faults (HasBegun seen (lsn c.base) p)) c p
+    → StartPart (log_side seen (seen p.dev).faults p.marks.number (HasBegun seen (lsn c.base) p)) c p
 part_starts seen c number p even small blocks live marks =
     let stable : p.marks.stable ≡ lsn c.base = ap (λ (z : LogMarks). z.stable) marks in
     let written : p.marks.written ≡ lsn c.base = ap (λ (z : LogMarks). z.written) marks in
@@ -37,6 +37,7 @@ part_starts seen c number p even small blocks live marks =
         stable_written = omega arith;
         small = omega arith;
         few = λ begun. (let z = begun.few in omega arith);
+        number_kept = λ begun. omega arith;
         groups = λ begun wholes are. subst (λ (z : List Whole). PartHolds seen (lsn c.base) z p) (sym (no_wholes wholes are)) begun.holds;
       };
       written = written;

@@ -13,9 +13,9 @@ use Rattle.redo_logdev.specs.Part.{Part}
 use Rattle.redo_logside.specs.LogPartSide.{LogCheckpointed, LogSynced, LogWrote, log_side}
 use Rattle.model_core.specs.declared.ops.Op.TheVariants as op
 
-module _ {L : Type 0} (seen : L → Seen) (faults : ℕ) (Begun : Type 0) where
+module _ {L : Type 0} (seen : L → Seen) (faults number : ℕ) (Begun : Type 0) where
   abbrev side : LogSide
-  side = log_side seen faults Begun
+  side = log_side seen faults number Begun
 
   module _ (p q : Part L) (code : ℕ) where
     abbrev IsSame : Type 0

@@ -47,8 +47,8 @@ module _ {L : Type 0} (seen : L → Seen) where
     pub few : first.marks.number ≤ 2 ^ 63
 
   -- What holds of the part of a run, of a log of so many blocks, that started at the sn `base` and has these groups. What
-  -- the device holds it holds if it did so when the run began.
-  pub record HoldsLog (faults : ℕ) (Begun : Type 0) (blocks base : ℕ) (log : List Entry) (part : Part L) : Type 0 where
+  -- the device holds it holds if it did so when the run began, and the checkpoint's number isn't below the one of then.
+  pub record HoldsLog (faults number : ℕ) (Begun : Type 0) (blocks base : ℕ) (log : List Entry) (part : Part L) : Type 0 where
     pub blocks_are : part.shape.log_blocks ≡ blocks
     pub later : faults ≤ (seen part.dev).faults
     -- as long as no call has failed
@@ -59,6 +59,7 @@ module _ {L : Type 0} (seen : L → Seen) where
     pub stable_written : part.marks.stable ≤ part.marks.written
     pub small : part.marks.written < 2 ^ 61
     pub few : Begun → HasFewCheckpoints part.marks
+    pub number_kept : Begun → number ≤ part.marks.number
     pub groups : Begun → (wholes : List Whole) → AreWholesOf log wholes → PartHolds seen (lsn base) wholes part
 
   -- what a call leaves, whatever it answers
@@ -81,8 +82,9 @@ module _ {L : Type 0} (seen : L → Seen) where
     pub called : LogCalled code (after_checkpoint (next_number old.marks.number) lsn old.marks) (after_asked lsn old.marks) old new
     pub holds : KeepsNumbered seen old new
 
-  abbrev pub log_side : ℕ → Type 0 → LogSide
-  log_side faults Begun = record {
+  -- `number` is that of the checkpoint at the run's start
+  abbrev pub log_side : (faults number : ℕ) → Type 0 → LogSide
+  log_side faults number Begun = record {
     Part = Part L;
     written = λ part. part.marks.written;
     stable = λ part. part.marks.stable;
@@ -90,7 +92,7 @@ module _ {L : Type 0} (seen : L → Seen) where
     ckpt = λ part. part.marks.ckpt;
     asked = λ part. part.marks.asked;
     failed = λ part. has_failed part.failed;
-    Holds = HoldsLog faults Begun;
+    Holds = HoldsLog faults number Begun;
     Cause = HasFailedBy faults;
     Wrote = LogWrote;
     Synced = LogSynced;

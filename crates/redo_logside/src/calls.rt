@@ -1,6 +1,8 @@
 // The calls of the log part, answered by a code.
 ghost use Rattle.std.specs.Prelude.{◌≡◌, None};
 ghost use Rattle.model_logdev.specs.Marks.{MayBeNext};
+ghost use Rattle.redo_disk.specs.Calls.{EndWith};
+ghost use Rattle.redo_disk.specs.Made.{MakesCalls};
 ghost use Rattle.redo_logdev.specs.Part.{MayWrite};
 ghost use Rattle.redo_logside.specs.LogPartSide.{LogCheckpointed, LogSynced, LogWrote, result_code};
 
@@ -21,7 +23,8 @@ fn code_of(answer: &Result<(), DevError>) -> u32
 /// Writes the log up to a mark.
 pub fn write_to<L: Sectors>(part: &mut LogPart<L>, mark: u64, bytes: &[u8], firsts: &[u32]) -> u32
     requires { MayWrite part.old mark bytes.now firsts.now }
-    ensures { LogWrote L.seen mark bytes.now firsts.now result part.old part.new }
+    ensures wrote { LogWrote L.seen mark bytes.now firsts.now result part.old part.new }
+    ensures calls { MakesCalls L.gives part.old.dev part.new.dev (EndWith part.new.failed) }
 {
     let answer = part.write_to(mark, bytes, firsts);
     code_of(&answer)
@@ -30,7 +33,8 @@ pub fn write_to<L: Sectors>(part: &mut LogPart<L>, mark: u64, bytes: &[u8], firs
 /// Flushes the log.
 pub fn sync<L: Sectors>(part: &mut LogPart<L>) -> u32
     requires { part.old.failed ≡ None }
-    ensures { LogSynced L.seen result part.old part.new }
+    ensures synced { LogSynced L.seen result part.old part.new }
+    ensures calls { MakesCalls L.gives part.old.dev part.new.dev (EndWith part.new.failed) }
 {
     let answer = part.sync();
     code_of(&answer)
@@ -40,7 +44,8 @@ pub fn sync<L: Sectors>(part: &mut LogPart<L>) -> u32
 pub fn checkpoint<L: Sectors>(part: &mut LogPart<L>, lsn: u64) -> u32
     requires live { part.old.failed ≡ None }
     requires next { MayBeNext part.old.marks lsn }
-    ensures { LogCheckpointed L.seen lsn result part.old part.new }
+    ensures checkpointed { LogCheckpointed L.seen lsn result part.old part.new }
+    ensures calls { MakesCalls L.gives part.old.dev part.new.dev (EndWith part.new.failed) }
 {
     let answer = part.checkpoint(lsn);
     code_of(&answer)
