@@ -124,9 +124,9 @@ module _ (ls : ℕ → List Listed) (broken : Bool) (code mark : ℕ) (ws : List
   holds_sum (model.Joined es) fit = tt
 
 -- the calls of the log part
-module _ {L : Type 0} (seen : L → Seen) (faults : ℕ) (Begun : Type 0) (c : Setup) (g : LogGhost) (p : log.Part L) (a : model.Actor) (H : log_part.HoldsLog seen faults Begun c.blocks c.base g.log p) (small : p.marks.stable < 2 ^ 60) where
+module _ {L : Type 0} (seen : L → Seen) (faults number : ℕ) (Begun : Type 0) (c : Setup) (g : LogGhost) (p : log.Part L) (a : model.Actor) (H : log_part.HoldsLog seen faults number Begun c.blocks c.base g.log p) (small : p.marks.stable < 2 ^ 60) where
   abbrev side : LogSide
-  side = log_part.log_side seen faults Begun
+  side = log_part.log_side seen faults number Begun
 
   write_ready : (ml : model.Lent) (l : Lent) (t : ℕ) → Lends l ml → CanLend side c g p a ml t → MayWriteLent p t l
   write_ready model.Nothing l t lends can = absurd can
@@ -137,12 +137,12 @@ module _ {L : Type 0} (seen : L → Seen) (faults : ℕ) (Begun : Type 0) (c : S
       subst (λ (n : ℕ). MayWrite p n bytes.now firsts.now) (sym can.0)
       (subst (λ (b : List ℕ). MayWrite p (lsn g.tail) b firsts.now) (sym lends.0)
       (subst (λ (f : List ℕ). MayWrite p (lsn g.tail) kept f) (sym lends.1)
-      (may_write seen faults Begun c.blocks c.base g.log g.write g.tail kept offsets p H can.1)))
+      (may_write seen faults number Begun c.blocks c.base g.log g.write g.tail kept offsets p H can.1)))
 
   pub log_call : (o : Op) (l : Lent) → Lends l (lent a) → Ready side c g p a o → LogReady p l o
   log_call (op.WriteTo t) l lends can = write_ready (lent a) l t lends can.1
-  log_call op.Sync l lends can = may_sync seen faults Begun p can.1
-  log_call (op.Checkpoint x) l lends can = (not_failed p.failed can.1.sound, may_checkpoint seen faults Begun c.blocks c.base g.log x p H can.1 small)
+  log_call op.Sync l lends can = may_sync seen faults number Begun p can.1
+  log_call (op.Checkpoint x) l lends can = (not_failed p.failed can.1.sound, may_checkpoint seen faults number Begun c.blocks c.base g.log x p H can.1 small)
   log_call _ l lends can = tt
 
 -- the call of the data part
@@ -234,7 +234,7 @@ module _ {L D : Type 0} (log_seen : L → Seen) (data_seen : D → Seen) (run : 
       sum = holds_sum ls (log_part.has_failed parts.log.failed) 0 0 parts.words.words who (fits 0 0).log;
       listing = subst (λ (n : ℕ). ListReady n ls (next who)) (sym R.list_pages) (list_ready A B c 0 W.shared W.log_ghost W.page_ghost ls parts.log parts.store (views_of actors) seat W.both who at);
       real = W.both.paged.paged.lists.real;
-      log = log_call log_seen (log_seen run.first_log.dev).faults (log_part.HasBegun log_seen (lsn c.base) run.first_log) c W.log_ghost parts.log who W.both.logged.global.part.holds low_stable (next who) l lends
+      log = log_call log_seen (log_seen run.first_log.dev).faults run.first_log.marks.number (log_part.HasBegun log_seen (lsn c.base) run.first_log) c W.log_ghost parts.log who W.both.logged.global.part.holds low_stable (next who) l lends
           (both_ready.log_ready A log_laws B data_laws c 0 W.shared W.log_ghost W.page_ghost ls parts.log parts.store (views_of actors) seat W.both who at);
       data_part = data_call data_seen (data_seen run.first_data.dev).faults run.shape (data_part.HasBegun data_seen c.opened run.first_data) c.pages R.its_pages R.limits W.page_ghost.kept_page parts.store (next who) (lent who) l lends data_can;
     }

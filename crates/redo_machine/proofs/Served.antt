@@ -25,11 +25,11 @@ abbrev pub LendsBlocks : List ℕ → List ℕ → model.Lent → Type 0
 LendsBlocks bytes firsts (model.Blocks kept offsets) = (bytes ≡ kept) × (firsts ≡ offsets)
 LendsBlocks bytes firsts _ = ⊥
 
-pub blocks_served : {L : Type 0} (seen : L → Seen) (faults : ℕ) (Begun : Type 0) (bytes firsts : List ℕ) (mark code : ℕ) (p q : log.Part L) (l : model.Lent) → LendsBlocks bytes firsts l → log_part.LogWrote seen mark bytes firsts code p q
-    → LogServed (log_part.log_side seen faults Begun) p l (op.WriteTo mark) code q
-blocks_served seen faults Begun bytes firsts mark code p q model.Nothing lends wrote = absurd lends
-blocks_served seen faults Begun bytes firsts mark code p q (model.Batch batch) lends wrote = absurd lends
-blocks_served seen faults Begun bytes firsts mark code p q (model.Blocks kept offsets) lends wrote =
+pub blocks_served : {L : Type 0} (seen : L → Seen) (faults number : ℕ) (Begun : Type 0) (bytes firsts : List ℕ) (mark code : ℕ) (p q : log.Part L) (l : model.Lent) → LendsBlocks bytes firsts l → log_part.LogWrote seen mark bytes firsts code p q
+    → LogServed (log_part.log_side seen faults number Begun) p l (op.WriteTo mark) code q
+blocks_served seen faults number Begun bytes firsts mark code p q model.Nothing lends wrote = absurd lends
+blocks_served seen faults number Begun bytes firsts mark code p q (model.Batch batch) lends wrote = absurd lends
+blocks_served seen faults number Begun bytes firsts mark code p q (model.Blocks kept offsets) lends wrote =
     subst (λ (b : List ℕ). log_part.LogWrote seen mark b offsets code p q) lends.0
     (subst (λ (f : List ℕ). log_part.LogWrote seen mark bytes f code p q) lends.1 wrote)
 

@@ -1,8 +1,6 @@
 -- A served actor has had a turn of the definition, and the run goes on.
-use Rattle.std.proofs.Common.{List, [], ap, arith, get_or, length, map, refl, set, subst, suc, sym, true, zero, ℕ, ◌<◌, ◌∙◌, ◌∷◌, ◌≡◌}
+use Rattle.std.proofs.Common.{List, [], ap, get_or, length, set, subst, sym, true, ℕ, ◌<◌, ◌∙◌, ◌≡◌}
 use Rattle.std.proofs.lemmas.List.{map-set}
-use lib.ListN.{get_elem?}
-use mathlib.Core.Option.{some}
 use Rattle.model_core.specs.Actors as model
 use Rattle.model_core.specs.AnswerFits.{AnswerFits}
 use Rattle.model_core.specs.Program.{lent, next}
@@ -16,9 +14,10 @@ use Rattle.model_running.proofs.EachTurn.{turn_keeps}
 use Rattle.model_running.proofs.SeatsKeep.{turn_keeps_seats}
 use Rattle.redo_disk.specs.Seen.{Seen}
 use Rattle.redo_logside.specs.LogPartSide.{has_failed}
+use Rattle.redo_machine.proofs.Viewed.{view_at}
 use Rattle.redo_machine.specs.Lists.{lists_of}
 use Rattle.redo_machine.specs.Playing.{HasSamePages, IsPlayed, RunOf, data_of, log_of}
-use Rattle.redo_machine.specs.Running.{IsOnRun, IsServed, MayServe, RunsOn, TakesTurn, core_of}
+use Rattle.redo_machine.specs.Running.{IsServed, MayServe, RunsOn, TakesTurn, core_of}
 use Rattle.redo_machine.specs.Views.{view_of, views_of}
 use Rattle.redo_machine.specs.declared.actor.Actor.{Actor}
 use Rattle.redo_machine.specs.declared.parts.Parts.{Parts}
@@ -38,12 +37,6 @@ answer_fits log_seen data_seen run old new who o r is played may =
     subst (λ (z : Answer). AnswerFits who z)
     (sym (played.answered ∙ ap (λ (z : Op). answer_of (lists_of old.lists) (has_failed old.log.failed) played.code new.log.marks.stable old.words.words z) is))
     (may.fits played.code new.log.marks.stable)
-
--- the actor at a seat
-pub view_at : (actors : List Actor) (seat : ℕ) (d : Actor) → seat < length actors → get_elem? (views_of actors) seat ≡ some (view_of (get_or actors seat d))
-view_at [] seat d l = absurd (omega arith)
-view_at (x ∷ xs) zero d l = refl
-view_at (x ∷ xs) (suc seat) d l = view_at xs seat d (omega arith)
 
 module _ {L D : Type 0} (log_seen : L → Seen) (data_seen : D → Seen) (run : RunOf L D) (old new : Parts L D) (actors : List Actor) (seat : ℕ) (d who : Actor) (step : Step) (below : seat < length actors)
     (served : IsServed log_seen data_seen run old (view_of (get_or actors seat d)) step new (view_of who)) where

@@ -1,4 +1,13 @@
+pub mod Beginning
+pub mod Calls
+pub mod Drive
+pub mod History
 pub mod Lists
+pub mod Making
+pub mod OpenUsers
 pub mod Playing
 pub mod Running
+pub mod Setups
+pub mod StartWords
+pub mod Turns
 pub mod Views

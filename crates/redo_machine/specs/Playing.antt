@@ -41,7 +41,8 @@ pub record RunOf (L D : Type 0) : Type 0 where
 module _ {L D : Type 0} (log_seen : L → Seen) (data_seen : D → Seen) where
   -- both parts as the definition of a turn sees them
   abbrev pub log_of : RunOf L D → LogSide
-  log_of run = log_part.log_side log_seen (log_seen run.first_log.dev).faults (log_part.HasBegun log_seen (lsn run.setup.base) run.first_log)
+  log_of run = log_part.log_side log_seen (log_seen run.first_log.dev).faults run.first_log.marks.number
+      (log_part.HasBegun log_seen (lsn run.setup.base) run.first_log)
 
   abbrev pub data_of : RunOf L D → DataSide
   data_of run = data_part.data_side data_seen (data_seen run.first_data.dev).faults run.shape (data_part.HasBegun data_seen run.setup.opened run.first_data)

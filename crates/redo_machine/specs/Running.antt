@@ -1,9 +1,10 @@
 -- A machine on its run.
-use Rattle.std.specs.Prelude.{List, ℕ, ◌≡◌}
+use Rattle.std.specs.Prelude.{List, slice_index, ℕ, ◌≡◌, ◌⊎◌}
 use Rattle.model_base.specs.Limits.{IsWithinLimits}
 use Rattle.model_core.specs.Actors as model
 use Rattle.model_core.specs.AnswerFits.{AnswerFits}
 use Rattle.model_core.specs.DataSide.{DataSide}
+use Rattle.model_core.specs.Layout.{index}
 use Rattle.model_core.specs.LogSide.{LogSide}
 use Rattle.model_core.specs.Program.{lent, next, took}
 use Rattle.model_core.specs.Turn.{Core, Turn}
@@ -11,6 +12,7 @@ use Rattle.model_core.specs.Waiting.{step_of}
 use Rattle.model_core.specs.WordTurn.{answer_of}
 use Rattle.model_core.specs.declared.ops.Answer.{Answer}
 use Rattle.model_core.specs.declared.ops.Step.{Step}
+use Rattle.model_core.specs.declared.words.Word.TheVariants as word
 use Rattle.model_running.specs.Bounds.{HasBytes}
 use Rattle.model_running.specs.RunningStore.{IsRunning}
 use Rattle.model_running.specs.Seating.{AreSeated}
@@ -66,3 +68,12 @@ module _ {L D : Type 0} (log_seen : L → Seen) (data_seen : D → Seen) (run : 
 pub record IsOnRun {L D : Type 0} (log_seen : L → Seen) (data_seen : D → Seen) (parts : Parts L D) (actors : List Actor) : Type 0 where
   pub run : RunOf L D
   pub runs : RunsOn log_seen data_seen run parts actors
+
+-- the code in FAILED
+abbrev pub code_in : {L D : Type 0} → Parts L D → ℕ
+code_in parts = slice_index parts.words.words (index word.Failed)
+
+-- FAILED's code has a cause: a call of a part answered an error that has this code.
+abbrev pub HasCause : {L D : Type 0} (log_seen : L → Seen) (data_seen : D → Seen) → RunOf L D → Parts L D → Type 0
+HasCause log_seen data_seen run parts =
+    (log_of log_seen data_seen run).Cause parts.log (code_in parts) ⊎ (data_of log_seen data_seen run).Cause parts.store (code_in parts)

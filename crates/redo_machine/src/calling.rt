@@ -6,6 +6,8 @@ ghost use Rattle.model_core.specs.Groups.{KeptPage};
 ghost use Rattle.model_core.specs.Turn.{DataServed, LogServed};
 ghost use Rattle.model_core.specs.declared.ops.Op.TheVariants as op;
 ghost use Rattle.redo_dataside.specs.DataPartSide as data_part;
+ghost use Rattle.redo_disk.specs.Calls.{EndWith};
+ghost use Rattle.redo_disk.specs.Made.{MakesCalls};
 ghost use Rattle.redo_logdev.specs.Part as log_dev;
 ghost use Rattle.redo_logside.specs.LogPartSide as log_part;
 ghost use Rattle.redo_machine.specs.Playing.{HasWholePages, MayBatchLent, MayWriteLent};
@@ -33,8 +35,9 @@ pub fn called(code: u32, told: u64) -> Answer
 /// Writes the log up to a mark.
 pub fn call_write<L: Sectors>(log: &mut LogPart<L>, mark: u64, lent: Lent<'_>) -> u32
     requires { MayWriteLent log.old mark lent }
-    ensures { (faults start : ℕ) (first : log_dev.Part L) (l : model.Lent) → Lends lent.entry l
-        → LogServed (log_part.log_side L.seen faults (log_part.HasBegun L.seen start first)) log.old l (op.WriteTo mark) result log.new }
+    ensures served { (faults start : ℕ) (first : log_dev.Part L) (l : model.Lent) → Lends lent.entry l
+        → LogServed (log_part.log_side L.seen faults first.marks.number (log_part.HasBegun L.seen start first)) log.old l (op.WriteTo mark) result log.new }
+    ensures calls { MakesCalls L.gives log.old.dev log.new.dev (EndWith log.new.failed) }
 {
     match lent {
         Lent::Blocks { bytes, firsts } => write_to(log, mark, bytes, firsts),
@@ -45,9 +48,10 @@ pub fn call_write<L: Sectors>(log: &mut LogPart<L>, mark: u64, lent: Lent<'_>) -
 /// Writes a batch of pages.
 pub fn call_batch<D: Sectors>(store: &mut DataPart<D>, lent: Lent<'_>) -> u32
     requires { MayBatchLent store.old lent }
-    ensures { (faults : ℕ) (shape : Shape) (opened : ℕ → KeptPage) (first : store_dev.Part D) (l : model.Lent) → Lends lent.entry l
+    ensures served { (faults : ℕ) (shape : Shape) (opened : ℕ → KeptPage) (first : store_dev.Part D) (l : model.Lent) → Lends lent.entry l
         → HasWholePages op.WriteBatch l
         → DataServed (data_part.data_side D.seen faults shape (data_part.HasBegun D.seen opened first)) store.old l op.WriteBatch result store.new }
+    ensures calls { MakesCalls D.gives store.old.dev store.new.dev (EndWith store.new.failed) }
 {
     match lent {
         Lent::Batch { pages, frames } => write_batch(store, pages, frames),

@@ -6,11 +6,25 @@
 mod actor;
 mod asking;
 mod calling;
+mod drive;
+mod finishing;
+mod history;
+mod laws;
 mod lists;
 mod machine;
+mod making;
+mod open_users;
 mod parts;
 mod playing;
+mod running;
+mod seating;
+mod start_words;
+#[cfg(test)]
+mod tests;
 mod turning;
 
+pub use drive::{Driven, Turns, run_by_turns};
+pub use laws::{running_machine_has_watermarks, turn_keeps_failed};
 pub use machine::Machine;
 pub use redo_words::Step as Turned;
+pub use running::Ran;

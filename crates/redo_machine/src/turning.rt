@@ -1,7 +1,8 @@
 // One turn.
-ghost use Rattle.std.specs.Prelude.{◌≡◌, ◌<◌, length};
+ghost use Rattle.std.specs.Prelude.{◌≡◌, ◌<◌, ℕ, length};
+ghost use Rattle.redo_machine.specs.Calls.{CallOnBoth};
 ghost use Rattle.redo_machine.specs.Playing.{HasSamePages, RunOf};
-ghost use Rattle.redo_machine.specs.Running.{IsOnRun, IsServed, MayServe, RunsOn, TakesTurn};
+ghost use Rattle.redo_machine.specs.Running.{HasCause, IsOnRun, IsServed, MayServe, RunsOn, TakesTurn};
 ghost use Rattle.redo_machine.specs.Views.{view_of};
 
 use crate::actor::Actor;
@@ -18,6 +19,7 @@ impl<L: Sectors, D: Sectors> Parts<L, D> {
         requires { MayServe self.old (view_of actor.old) }
         ensures pages { HasSamePages self.old self.new }
         ensures served { (run : RunOf L D) → IsServed L.seen D.seen run self.old (view_of actor.old) result self.new (view_of actor.new) }
+        ensures calls { CallOnBoth L.gives D.gives self.old self.new }
     {
         let op = actor.next();
         let answer = self.play(op, actor.lent());
@@ -31,7 +33,9 @@ impl<L: Sectors, D: Sectors> Parts<L, D> {
         ensures turn { (run : RunOf L D) → RunsOn L.seen D.seen run self.old actors.old.items
             → TakesTurn L.seen D.seen run self.old actors.old.items seat result self.new actors.new.items }
         ensures runs { (run : RunOf L D) → RunsOn L.seen D.seen run self.old actors.old.items → RunsOn L.seen D.seen run self.new actors.new.items }
+        ensures cause { (run : RunOf L D) (code : ℕ) → RunsOn L.seen D.seen run self.old actors.old.items → result ≡ Step.Failed code → HasCause L.seen D.seen run self.new }
         ensures seats { length actors.new.items ≡ length actors.old.items }
+        ensures calls { CallOnBoth L.gives D.gives self.old self.new }
     {
         log_part_meets_laws::<L>();
         data_part_meets_laws::<D>();
@@ -55,7 +59,12 @@ impl<L: Sectors, D: Sectors> Machine<L, D> {
             → TakesTurn L.seen D.seen run self.old.parts self.old.actors.items seat result self.new.parts self.new.actors.items }
         ensures runs { (run : RunOf L D) → RunsOn L.seen D.seen run self.old.parts self.old.actors.items
             → RunsOn L.seen D.seen run self.new.parts self.new.actors.items }
+        ensures cause { (run : RunOf L D) (code : ℕ) → RunsOn L.seen D.seen run self.old.parts self.old.actors.items → result ≡ Step.Failed code
+            → HasCause L.seen D.seen run self.new.parts }
         ensures seats { length self.new.actors.items ≡ length self.old.actors.items }
+        ensures calls { CallOnBoth L.gives D.gives self.old.parts self.new.parts }
+        ensures start { self.new.start ≡ self.old.start }
+        ensures entries { self.new.entries ≡ self.old.entries }
     {
         self.parts.turn(&mut self.actors, seat)
     }

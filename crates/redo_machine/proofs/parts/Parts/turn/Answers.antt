@@ -1,9 +1,11 @@
-use Rattle.std.proofs.Common.{subst, sym}
+use Rattle.std.proofs.Common.{set, subst, sym}
 use Rattle.model_core.specs.Lsn.{lsn}
-use Rattle.redo_disk.specs.Seen.{Seen}
+use Rattle.redo_machine.proofs.FailedTurns.{failed_turn_has_cause}
 use Rattle.redo_machine.proofs.MayTurn.{may_serve}
-use Rattle.redo_machine.proofs.TurnsOf.{runs_on, takes_turn, view_at}
-use Rattle.redo_machine.specs.Running.{IsServed, MayServe}
+use Rattle.redo_machine.proofs.TurnsOf.{runs_on, takes_turn}
+use Rattle.redo_machine.proofs.Viewed.{view_at}
+use Rattle.redo_machine.specs.Playing.{data_of, log_of}
+use Rattle.redo_machine.specs.Running.{IsServed, MayServe, core_of}
 use Rattle.redo_machine.specs.Views.{view_of}
 use Rattle.redo_machine.specs.declared.actor.Actor.{Actor}
 use Rattle.redo_machine.proofs.parts.Parts.turn.Goals as goal
@@ -29,3 +31,14 @@ returns-clause-runs g c = λ run R.
     (c.log_part_meets_laws.ensures (g.L.Sectors.seen run.first_log.dev).faults (lsn run.setup.base) run.first_log)
     (c.data_part_meets_laws.ensures (g.D.Sectors.seen run.first_data.dev).faults run.shape run.setup.opened run.first_data)
     c.serve.ensures.pages R
+
+pub returns-clause-cause : goal.returns-clause-cause
+returns-clause-cause g c = λ run code R failed.
+    let log_laws = c.log_part_meets_laws.ensures (g.L.Sectors.seen run.first_log.dev).faults (lsn run.setup.base) run.first_log in
+    let data_laws = c.data_part_meets_laws.ensures (g.D.Sectors.seen run.first_data.dev).faults run.shape run.setup.opened run.first_data in
+    let served = subst (λ (z : Actor). IsServed g.L.Sectors.seen g.D.Sectors.seen run c.args.self.now (view_of z) c.serve.result c.serve.new.self (view_of c.serve.new.actor)) c.index_mut.ensures.value (c.serve.ensures.served run) in
+    let t = takes_turn g.L.Sectors.seen g.D.Sectors.seen run c.args.self.now c.serve.new.self c.args.actors.now.items c.args.seat c.index_mut.result.now c.serve.new.actor c.serve.result c.requires.seat served in
+    let R' = runs_on g.L.Sectors.seen g.D.Sectors.seen run c.args.self.now c.serve.new.self c.args.actors.now.items c.args.seat c.index_mut.result.now c.serve.new.actor c.serve.result c.requires.seat served log_laws data_laws c.serve.ensures.pages R in
+    failed_turn_has_cause (log_of g.L.Sectors.seen g.D.Sectors.seen run) log_laws (data_of g.L.Sectors.seen g.D.Sectors.seen run) data_laws run.setup 0
+    (core_of g.L.Sectors.seen g.D.Sectors.seen run c.args.self.now c.args.actors.now.items) (core_of g.L.Sectors.seen g.D.Sectors.seen run c.serve.new.self (set c.args.actors.now.items c.args.seat c.serve.new.actor))
+    c.args.seat t.answer c.serve.result R'.running t.turn code failed

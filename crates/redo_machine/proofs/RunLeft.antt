@@ -1,0 +1,196 @@
+-- What a run by turns leaves is a run of its script, and, where its devices tell and the store was ready, a closed one.
+use Rattle.std.proofs.Common.{List, None, Option, Some, ap, arith, inl, inr, refl, slice_get, subst, sym, ⊎_elim, ℕ, ◌+◌, ◌<◌, ◌∙◌, ◌≡◌}
+use Rattle.std.specs.Prelude.{IfSome}
+use Rattle.model_base.specs.declared.shape.Shape.{Shape}
+use Rattle.model_core.specs.DataSide.{DataSide}
+use Rattle.model_core.specs.LogSide.{LogSide}
+use Rattle.model_core.specs.Lsn.{lsn}
+use Rattle.model_device.specs.Disk.{Disk}
+use Rattle.model_finish.proofs.Finished.{finished_losses, finished_run, marks_same}
+use Rattle.model_finish.proofs.OpenLines as open_lines
+use Rattle.model_finish.proofs.Seated.{seated_end, seated_seats}
+use Rattle.model_finish.specs.ClosedStore.{DataTells, LogTells}
+use Rattle.model_finish.specs.Finished.{CausesAreFailures, HasCause}
+use Rattle.model_finish.specs.FinishedPages.{HasItsPages}
+use Rattle.model_finish.specs.History.{run_of, word_marks}
+use Rattle.model_finish.specs.OpenLines.{LeavesOpen}
+use Rattle.model_finish.specs.Script.{IsOfScript}
+use Rattle.model_history.specs.Legal.{IsLeft}
+use Rattle.model_history.specs.declared.entry.Entry.{Entry}
+use Rattle.model_history.specs.declared.entry.Marks.{Marks}
+use Rattle.model_log.specs.Lsn.{start_after}
+use Rattle.model_page.specs.declared.content.Content.{Content}
+use Rattle.model_run.proofs.Start.{start-given}
+use Rattle.model_run.specs.Closed.{IsClosed}
+use Rattle.model_run.specs.Start.{IsStart, opened_as}
+use Rattle.model_running.specs.Schedule.{HaveEnded, IsDone, IsSpent}
+use Rattle.model_script.specs.declared.script.ScriptLine.{ScriptLine}
+use Rattle.model_store.specs.Reading.{Reading}
+use Rattle.model_theorem.specs.Run.{IsRun, LosesOnlyByFailure}
+use Rattle.model_theorem.specs.Values as theorem
+use Rattle.redo_dataside.proofs.PartEnds.{data_tells}
+use Rattle.redo_dataside.specs.DataPartSide as data_part
+use Rattle.redo_disk.specs.Calls.{Call, failures}
+use Rattle.redo_disk.specs.Seen.{Seen}
+use Rattle.redo_disk.specs.declared.error.DevError.{DevError}
+use Rattle.redo_disk.specs.declared.error.DevError.TheVariants.{Failed, NoMemory}
+use Rattle.redo_logdev.specs.Part as log
+use Rattle.redo_logside.proofs.PartEnds.{log_tells}
+use Rattle.redo_logside.proofs.ShapeStays.{run_shape}
+use Rattle.redo_logside.specs.LogPartSide as log_part
+use Rattle.redo_machine.proofs.ClosedRun.{closed_as_told}
+use Rattle.redo_machine.specs.Beginning.{HaveBegun, IsOpenedAs, MayBegin}
+use Rattle.redo_machine.specs.Calls.{CallOnBoth, CallsOn}
+use Rattle.redo_machine.specs.Drive.{ComesToRun, HasMemory, HasMetError, IsOwed, RunsByTurns, failed_in, ran_of}
+use Rattle.redo_machine.specs.Playing.{RunOf, data_of, log_of}
+use Rattle.redo_machine.specs.Running.{RunsOn, core_of}
+use Rattle.redo_machine.specs.Turns.{EndsAs}
+use Rattle.redo_machine.specs.Views.{views_of}
+use Rattle.redo_machine.specs.declared.actor.Actor.{Actor}
+use Rattle.redo_machine.specs.declared.drive.Driven.{Driven}
+use Rattle.redo_machine.specs.declared.drive.Turns.{Turns}
+use Rattle.redo_machine.specs.declared.parts.Parts.{Parts}
+use Rattle.redo_machine.specs.declared.running.Ran.{Ran}
+use Rattle.redo_machine.specs.declared.running.Ran.TheVariants as ended
+use Rattle.redo_pageactors.specs.declared.opened.Opened.{Opened}
+use Rattle.redo_store.specs.Part as store
+
+-- where a device tells
+if_told : (tells : Option Disk) (Is : Disk → Type 0) → ((disk : Disk) → tells ≡ Some disk → Is disk) → IfSome tells Is
+if_told None Is each = tt
+if_told (Some disk) Is each = each disk refl
+
+as_told : (tells : Option Disk) (Is : Disk → Type 0) (disk : Disk) → tells ≡ Some disk → IfSome tells Is → Is disk
+as_told tells Is disk told is = subst (λ (o : Option Disk). IfSome o Is) told is
+
+-- an error of a part is a failure of its device, or the device had no memory
+failure_counts : (fault : DevError) (failed other : Option DevError) → failed ≡ Some fault → (failed ≡ Some NoMemory → 0 < failures failed + failures other) → 0 < failures failed + failures other
+failure_counts Failed failed other is memory = let n : failures failed ≡ 1 = ap failures is in omega arith
+failure_counts NoMemory failed other is memory = memory is
+
+module _ {L D : Type 0} (log_seen : L → Seen) (data_seen : D → Seen) (opened : Opened L D) (script : List ScriptLine) (turns : Turns) (driven : Driven L D) (by : RunsByTurns log_seen data_seen opened script turns driven) where
+  abbrev run : RunOf L D
+  run = by.begins.run
+
+  abbrev logs : LogSide
+  logs = log_of log_seen data_seen run
+
+  abbrev datas : DataSide
+  datas = data_of log_seen data_seen run
+
+  -- the run that the store stood for is the one that it leaves
+  abbrev ran : theorem.Ran
+  ran = ran_of opened.start driven.closed
+
+  ran_is : ◌≡◌ {A = theorem.Ran} (run_of run.setup by.runs.running.log_ghost by.runs.running.shared) ran
+  ran_is =
+      let start : lsn run.setup.base ≡ opened.start = by.begins.is_run.start in
+      let marks : ◌≡◌ {A = Marks} (word_marks by.runs.running.shared) driven.closed.marks = sym (by.marks ∙ marks_same by.last.words.words by.runs.running.shared by.runs.running.flat_is) in
+      let history = by.history in
+      cc
+
+  left_of_run : (left : List (ℕ × ℕ)) → IsLeft script driven.closed.history left → IsLeft script (run_of run.setup by.runs.running.log_ghost by.runs.running.shared).entries left
+  left_of_run left is = subst (λ (z : List Entry). IsLeft script z left) by.history is
+
+  is_run : (end : ℕ) → opened.start ≡ start_after end → IsRun script (record { shape = opened.shape; pages = opened.pages; end = end }) ran
+  is_run end start =
+      let was : theorem.Opened = record { shape = opened.shape; pages = opened.pages; end = end } in
+      subst (IsRun script was) ran_is
+      (finished_run logs run.setup 0 by.runs.running.shared by.runs.running.log_ghost by.last.log (views_of by.actors) by.runs.running.both.logged script was by.begins.is_run.of_script (by.begins.is_run.start ∙ start))
+
+  causes : HasMemory driven.closed → CausesAreFailures logs datas (failed_in driven.closed) by.last.log by.last.store
+  causes memory = record {
+    log = λ code cause. failure_counts cause.fault driven.closed.log.failed driven.closed.store.failed (ap (λ (z : log.Part L). z.failed) by.log ∙ cause.failed) (λ none. memory (inl none));
+    data_part = λ code cause. let n = failure_counts cause.fault driven.closed.store.failed driven.closed.log.failed (ap (λ (z : store.Part D). z.failed) by.data_part ∙ cause.failed) (λ none. let m = memory (inr none) in omega arith) in omega arith;
+  }
+
+  is_done : driven.ended ≡ ended.Done → IsDone logs datas turns.seed turns.max (core_of log_seen data_seen run by.first.parts by.first.actors.items) (core_of log_seen data_seen run by.last by.actors)
+  is_done done = subst (λ (z : Ran). EndsAs log_seen data_seen run turns.seed turns.max by.first.parts by.first.actors.items z by.last by.actors) done by.ends
+
+  loses : (left : List (ℕ × ℕ)) → driven.ended ≡ ended.Done → HasMemory driven.closed → IsLeft script driven.closed.history left → LosesOnlyByFailure (failed_in driven.closed) (Some ran) left
+  loses left done memory left_is =
+      let cause = causes memory in
+      subst (λ (z : theorem.Ran). LosesOnlyByFailure (failed_in driven.closed) (Some z) left) ran_is
+      (finished_losses logs run.setup 0 by.runs.running.shared by.runs.running.log_ghost by.last.log (views_of by.actors) by.runs.running.both.logged script opened.shape.space (failed_in driven.closed) left
+      (seated_end run.setup (views_of by.actors) by.runs.seated (is_done done).ended) by.begins.is_run.of_script (seated_seats run.setup (views_of by.actors) by.runs.seated script opened.shape.space by.begins.is_run.of_script)
+      (λ failed. ⊎_elim (λ c. cause.log by.runs.running.shared.failed c) (λ c. cause.data_part by.runs.running.shared.failed c) (by.runs.running.both.cause failed)) (left_of_run left left_is))
+
+  -- where the turns are spent
+  is_spent : (user : ℕ) → driven.ended ≡ ended.Spent user → IsSpent logs datas turns.seed turns.max user (core_of log_seen data_seen run by.first.parts by.first.actors.items) (core_of log_seen data_seen run by.last by.actors)
+  is_spent user spent = subst (λ (z : Ran). EndsAs log_seen data_seen run turns.seed turns.max by.first.parts by.first.actors.items z by.last by.actors) spent by.ends
+
+  met_error : HasCause logs datas by.last.log by.last.store → HasMetError driven.closed
+  met_error (code, cause) = ⊎_elim
+      (λ c. inl (λ none. let is : driven.closed.log.failed ≡ Some c.fault = ap (λ (z : log.Part L). z.failed) by.log ∙ c.failed in absurd (cc)))
+      (λ c. inr (λ none. let is : driven.closed.store.failed ≡ Some c.fault = ap (λ (z : store.Part D). z.failed) by.data_part ∙ c.failed in absurd (cc))) cause
+
+  leaves_open : (user : ℕ) → driven.ended ≡ ended.Spent user → LeavesOpen script driven.closed.history (HasMetError driven.closed) user
+  leaves_open user spent =
+      let end = is_spent user spent in
+      let c = run.setup in let g = by.runs.running.log_ghost in let m = by.runs.running.shared in
+      subst (λ (z : List Entry). LeavesOpen script z (HasMetError driven.closed) user) (sym by.history)
+      (open_lines.leaves_open logs c 0 m g by.last.log (views_of by.actors) by.runs.running.both.logged (word_marks m) script opened.shape.space by.begins.is_run.of_script
+      (seated_seats c (views_of by.actors) by.runs.seated script opened.shape.space by.begins.is_run.of_script) (HasMetError driven.closed)
+      (λ failed. met_error (⊎_elim (λ cause. (m.failed, inl cause)) (λ cause. (m.failed, inr cause)) (by.runs.running.both.cause failed))) user end.seat end.state end.is end.number end.not_ended end.least)
+
+  module _ (log_gives : L → Call → L → Type 0) (data_gives : D → Call → D → Type 0) (may : MayBegin opened script turns.log_only) where
+    log_calls : CallOnBoth log_gives data_gives by.first.parts by.last → CallsOn log_gives opened.log.dev None driven.closed.log.dev driven.closed.log.failed
+    log_calls calls = subst (λ (z : log.Part L). CallsOn log_gives opened.log.dev None z.dev z.failed) (sym by.log)
+        (subst (λ (o : Option DevError). CallsOn log_gives opened.log.dev o by.last.log.dev by.last.log.failed) may.runnable.log_live
+        (subst (λ (z : log.Part L). CallsOn log_gives z.dev z.failed by.last.log.dev by.last.log.failed) by.begins.log calls.log))
+
+    data_calls : CallOnBoth log_gives data_gives by.first.parts by.last → CallsOn data_gives opened.store.dev None driven.closed.store.dev driven.closed.store.failed
+    data_calls calls = subst (λ (z : store.Part D). CallsOn data_gives opened.store.dev None z.dev z.failed) (sym by.data_part)
+        (subst (λ (o : Option DevError). CallsOn data_gives opened.store.dev o by.last.store.dev by.last.store.failed) may.runnable.data_live
+        (subst (λ (z : store.Part D). CallsOn data_gives z.dev z.failed by.last.store.dev by.last.store.failed) by.begins.data_part calls.data_part))
+
+    pub comes_to_run : CallOnBoth log_gives data_gives by.first.parts by.last → ComesToRun log_gives data_gives opened script driven
+    comes_to_run calls = record {
+      is_run = is_run;
+      loses = loses;
+      spent = leaves_open;
+      log_calls = log_calls calls;
+      data_calls = data_calls calls;
+    }
+
+  module _ (may : MayBegin opened script turns.log_only) (reading : Reading) (as_read : IsOpenedAs reading opened) where
+    its_pages : HasItsPages run.setup (opened_as reading)
+    its_pages = let its = by.begins.is_run.its_pages in record {
+      count = its.count ∙ ap (λ (z : Shape). z.pages) as_read.shape;
+      each = λ p page at. its.each p page (subst (λ (z : List Content). slice_get z p ≡ Some page) (sym as_read.pages) at);
+    }
+
+    log_shape : driven.ended ≡ ended.Done → ◌≡◌ {A = Shape} by.last.log.shape reading.shape
+    log_shape done =
+        run_shape log_seen (log_seen run.first_log.dev).faults run.first_log.marks.number (log_part.HasBegun log_seen (lsn run.setup.base) run.first_log) datas turns.seed turns.max (is_done done).count
+        (core_of log_seen data_seen run by.first.parts by.first.actors.items) (core_of log_seen data_seen run by.last by.actors) (is_done done).turns
+        ∙ ap (λ (z : log.Part L). z.shape) by.begins.log ∙ may.runnable.log_shape ∙ as_read.shape
+
+    -- what the log device holds of the run, and the data device
+    log_device : driven.ended ≡ ended.Done → HaveBegun log_seen data_seen run → (disk : Disk) → (log_seen driven.closed.log.dev).tells ≡ Some disk → LogTells logs run.setup reading.shape (reading.number + 1) by.last.log disk
+    log_device done begun disk told =
+        subst (λ (n : ℕ). LogTells logs run.setup reading.shape n by.last.log disk) (ap (λ (z : log.Part L). z.marks.number) by.begins.is_run.first_log ∙ as_read.number)
+        (log_tells log_seen (log_seen run.first_log.dev).faults run.first_log.marks.number (log_part.HasBegun log_seen (lsn run.setup.base) run.first_log) run.setup reading.shape by.last.log disk begun.log (log_shape done)
+        (ap (λ (z : log.Part L). (log_seen z.dev).tells) (sym by.log) ∙ told))
+
+    data_device : HaveBegun log_seen data_seen run → (disk : Disk) → (data_seen driven.closed.store.dev).tells ≡ Some disk → DataTells datas (opened_as reading) by.last.store disk
+    data_device begun disk told =
+        data_tells data_seen (data_seen run.first_data.dev).faults run.shape (data_part.HasBegun data_seen run.setup.opened run.first_data) run.setup (opened_as reading) by.last.store disk its_pages
+        (sym as_read.shape ∙ sym by.begins.is_run.shape) begun.data_part (ap (λ (z : store.Part D). (data_seen z.dev).tells) (sym by.data_part) ∙ told)
+
+    closed : (left : List (ℕ × ℕ)) (log_disk data_disk log_now data_now : Disk) → driven.ended ≡ ended.Done → HasMemory driven.closed → IsLeft script driven.closed.history left → HaveBegun log_seen data_seen run
+        → IsStart reading script log_disk data_disk → (log_seen driven.closed.log.dev).tells ≡ Some log_now → (data_seen driven.closed.store.dev).tells ≡ Some data_now
+        → IsClosed (failed_in driven.closed) (record { script = script; opened = opened_as reading; number = reading.number + 1; run = ran; left = left; log_disk = log_now; data_disk = data_now })
+    closed left log_disk data_disk log_now data_now done memory left_is begun start log_told data_told =
+        subst (λ (z : theorem.Ran). IsClosed (failed_in driven.closed) (record { script = script; opened = opened_as reading; number = reading.number + 1; run = z; left = left; log_disk = log_now; data_disk = data_now })) ran_is
+        (closed_as_told logs datas run.setup script (opened_as reading) (reading.number + 1) (failed_in driven.closed) left log_now data_now (core_of log_seen data_seen run by.last by.actors) by.runs.running by.runs.seated (is_done done).ended
+        (subst (λ (z : Shape). IsOfScript run.setup script z.space) as_read.shape by.begins.is_run.of_script) (by.begins.is_run.start ∙ as_read.start) (start-given reading script log_disk data_disk start) its_pages
+        (log_device done begun log_now log_told) (data_device begun data_now data_told) (causes memory) (left_of_run left left_is))
+
+  pub is_owed : MayBegin opened script turns.log_only → IsOwed log_seen data_seen opened script driven
+  is_owed may reading left done memory as_read left_is =
+      if_told (log_seen opened.log.dev).tells _ (λ log_disk log_told. if_told (data_seen opened.store.dev).tells _ (λ data_disk data_told start.
+      if_told (log_seen driven.closed.log.dev).tells _ (λ log_now log_tells_now. if_told (data_seen driven.closed.store.dev).tells _ (λ data_now data_tells_now.
+      let begun : HaveBegun log_seen data_seen run = as_told (data_seen opened.store.dev).tells (λ disk. IsStart reading script log_disk disk → HaveBegun log_seen data_seen run) data_disk data_told
+      (as_told (log_seen opened.log.dev).tells (λ disk. IfSome (data_seen opened.store.dev).tells (λ other. IsStart reading script disk other → HaveBegun log_seen data_seen run)) log_disk log_told (by.begins.begun reading as_read)) start in
+      closed may reading as_read left log_disk data_disk log_now data_now done memory left_is begun start log_tells_now data_tells_now))))

@@ -1,0 +1,139 @@
+-- A run by turns, up to one of them.
+use Rattle.std.proofs.Common.{Bool, List, add-one, ap, arith, cond, false, length, length-append, map, nat_lt, refl, subst, suc, sym, true, zero, ℕ, ◌%◌, ◌+◌, ◌/◌, ◌<◌, ◌^◌, ◌∙◌, ◌∷◌, ◌≡◌, ◌≤◌}
+use Rattle.std.proofs.lemmas.Bool.{lt-ltb}
+use Rattle.model_core.specs.Actors as model
+use Rattle.model_core.specs.DataSide.{DataSide}
+use Rattle.model_core.specs.LogSide.{LogSide}
+use Rattle.model_core.specs.Setup.{Setup}
+use Rattle.model_core.specs.Turn.{Core, Turn}
+use Rattle.model_core.specs.declared.ops.Step.{Step}
+use Rattle.model_running.specs.Schedule.{HaveEnded, LastTurn, TakesTurns, seat_of_turn}
+use Rattle.model_running.specs.Seating.{AreSeated}
+use Rattle.model_script.specs.Generator.{draw, first_state, next_state, state_after}
+use Rattle.redo_disk.specs.Calls.{Call}
+use Rattle.redo_disk.specs.Seen.{Seen}
+use Rattle.redo_machine.proofs.UserSeats.{first_is_least}
+use Rattle.redo_machine.proofs.Viewed.{length_views}
+use Rattle.redo_machine.specs.Calls.{CallOnBoth}
+use Rattle.redo_machine.specs.OpenUsers.{IsFirstOpen}
+use Rattle.redo_machine.specs.Playing.{RunOf, data_of, log_of}
+use Rattle.redo_machine.specs.Running.{IsOnRun, RunsOn, TakesTurn, core_of}
+use Rattle.redo_machine.specs.Turns.{EndsAs, IsDrawn}
+use Rattle.redo_machine.specs.Views.{views_of}
+use Rattle.redo_machine.specs.declared.actor.Actor.{Actor}
+use Rattle.redo_machine.specs.declared.machine.Machine.{Machine}
+use Rattle.redo_machine.specs.declared.running.Ran.TheVariants as ran
+
+-- one draw more
+more_draws : (n state : ℕ) → state_after n (next_state state) ≡ next_state (state_after n state)
+more_draws zero state = refl
+more_draws (suc n) state = more_draws n (next_state state)
+
+next_after : (n state : ℕ) → state_after (n + 1) state ≡ next_state (state_after n state)
+next_after n state = ap (λ (k : ℕ). state_after k state) (add-one n) ∙ more_draws n state
+
+pub drawn_seat : (seed max seats turn state : ℕ) → turn < max / 2 → IsDrawn seed turn max state → draw 1 state % seats ≡ seat_of_turn seed max seats turn
+drawn_seat seed max seats turn state l drawn = by (nat_lt turn (max / 2)) (lt-ltb turn (max / 2) l)
+  where
+    by : (b : Bool) → b ≡ true → draw 1 state % seats ≡ cond b (draw (turn + 1) (seed % 2 ^ 31) % seats) (turn % seats)
+    by true is = ap (λ (k : ℕ). k / 65536 % seats) (ap next_state (drawn l) ∙ sym (next_after turn (seed % 2 ^ 31)))
+    by false is = absurd (cc)
+
+pub next_drawn : (seed max turn state : ℕ) → turn < max / 2 → IsDrawn seed turn max state → IsDrawn seed (turn + 1) max (next_state state)
+next_drawn seed max turn state l drawn more = ap next_state (drawn l) ∙ sym (next_after turn (first_state seed))
+
+module _ {L D : Type 0} (log_seen : L → Seen) (data_seen : D → Seen) where
+  -- so many turns of a run lead from the first state to this one
+  pub record GoesOn (run : RunOf L D) (seed max turn : ℕ) (first now : Machine L D) : Type 0 where
+    pub runs : RunsOn log_seen data_seen run now.parts now.actors.items
+    pub turns : TakesTurns (log_of log_seen data_seen run) (data_of log_seen data_seen run) seed max turn (core_of log_seen data_seen run first.parts first.actors.items) (core_of log_seen data_seen run now.parts now.actors.items)
+
+  -- A machine in its run, after so many turns. There are so many seats.
+  pub record InRun (seed max turn draws seats : ℕ) (first now : Machine L D) : Type 0 where
+    pub drawn : IsDrawn seed turn max draws
+    pub count : length now.actors.items ≡ seats
+    pub some_seats : 0 < seats
+    pub on_run : IsOnRun log_seen data_seen now.parts now.actors.items
+    pub goes : (run : RunOf L D) → RunsOn log_seen data_seen run first.parts first.actors.items → GoesOn run seed max turn first now
+
+-- the same, with what it leaves
+pub record InTurns {L D : Type 0} (log_seen : L → Seen) (data_seen : D → Seen) (log_gives : L → Call → L → Type 0) (data_gives : D → Call → D → Type 0) (seed max turn draws seats : ℕ) (first now : Machine L D) : Type 0 where
+  pub run : InRun log_seen data_seen seed max turn draws seats first now
+  pub calls : CallOnBoth log_gives data_gives first.parts now.parts
+  pub start : now.start ≡ first.start
+  pub entries : now.entries ≡ first.entries
+
+-- there is an actor
+some_actor : (c : Setup) (actors : List Actor) → AreSeated c (views_of actors) → 0 < length actors
+some_actor c actors S =
+    let long : length (views_of actors) ≡ length (map model.User S.users) + (2 + length S.others) = ap length S.are ∙ length-append (map model.User S.users) (model.Writer S.writer ∷ model.Flusher S.flusher ∷ S.others) ∙ omega arith in
+    let same = length_views actors in
+    omega arith
+
+-- so many turns, and one more
+one_more : {D : LogSide} {E : DataSide} (seed max n : ℕ) (first last : Core D E) → LastTurn D E seed max (TakesTurns D E seed max n first) n last → TakesTurns D E seed max (n + 1) first last
+one_more {D} {E} seed max n first last t = subst (λ (k : ℕ). TakesTurns D E seed max k first last) (sym (add-one n)) t
+
+module _ {L D : Type 0} (log_seen : L → Seen) (data_seen : D → Seen) (seed max : ℕ) where
+  -- a run before its first turn
+  pub starts_run : (seats : ℕ) (machine : Machine L D) → IsOnRun log_seen data_seen machine.parts machine.actors.items → length machine.actors.items ≡ seats
+      → InRun log_seen data_seen seed max 0 (first_state seed) seats machine machine
+  starts_run seats machine on count = record {
+    drawn = λ _. refl;
+    count = count;
+    some_seats = (let s = some_actor on.run.setup machine.actors.items on.runs.seated in omega arith);
+    on_run = on;
+    goes = λ run R. record { runs = R; turns = refl };
+  }
+
+  -- one turn more, of the seat whose turn it is
+  pub goes_on : (turn draws draws_left seats seat : ℕ) (step : Step) (first old new : Machine L D) → InRun log_seen data_seen seed max turn draws seats first old
+      → (HaveEnded (views_of old.actors.items) → ⊥)
+      → seat ≡ seat_of_turn seed max seats turn → IsDrawn seed (turn + 1) max draws_left
+      → ((run : RunOf L D) → RunsOn log_seen data_seen run old.parts old.actors.items → TakesTurn log_seen data_seen run old.parts old.actors.items seat step new.parts new.actors.items)
+      → ((run : RunOf L D) → RunsOn log_seen data_seen run old.parts old.actors.items → RunsOn log_seen data_seen run new.parts new.actors.items)
+      → length new.actors.items ≡ length old.actors.items
+      → InRun log_seen data_seen seed max (turn + 1) draws_left seats first new
+  goes_on turn draws draws_left seats seat step first old new I open_user its drawn takes keeps same = record {
+    drawn = drawn;
+    count = same ∙ I.count;
+    some_seats = I.some_seats;
+    on_run = record { run = I.on_run.run; runs = keeps I.on_run.run I.on_run.runs };
+    goes = λ run R.
+        let before = I.goes run R in
+        let taken = takes run before.runs in
+        let count : seats ≡ length (views_of old.actors.items) = sym (length_views old.actors.items ∙ I.count) in
+        record {
+          runs = keeps run before.runs;
+          turns = one_more seed max turn (core_of log_seen data_seen run first.parts first.actors.items) (core_of log_seen data_seen run new.parts new.actors.items) (record {
+            before = core_of log_seen data_seen run old.parts old.actors.items;
+            earlier = before.turns;
+            open_user = open_user;
+            answer = taken.answer;
+            step = step;
+            turn = subst (λ (s : ℕ). Turn (log_of log_seen data_seen run) (data_of log_seen data_seen run) (core_of log_seen data_seen run old.parts old.actors.items) s taken.answer step (core_of log_seen data_seen run new.parts new.actors.items))
+                (its ∙ ap (λ (n : ℕ). seat_of_turn seed max n turn) count) taken.turn;
+          });
+        };
+  }
+
+  -- a run in which each user has ended
+  pub ends_done : (turn draws seats : ℕ) (first last : Machine L D) → InRun log_seen data_seen seed max turn draws seats first last → turn ≤ max → HaveEnded (views_of last.actors.items)
+      → (run : RunOf L D) → RunsOn log_seen data_seen run first.parts first.actors.items
+      → EndsAs log_seen data_seen run seed max first.parts first.actors.items ran.Done last.parts last.actors.items
+  ends_done turn draws seats first last I within ended run R = record { count = turn; within = within; turns = (I.goes run R).turns; ended = ended }
+
+  -- a run whose turns are spent
+  pub ends_spent : (turn draws seats user : ℕ) (first last : Machine L D) → InRun log_seen data_seen seed max turn draws seats first last → turn ≡ max → IsFirstOpen (views_of last.actors.items) user
+      → (run : RunOf L D) → RunsOn log_seen data_seen run first.parts first.actors.items
+      → EndsAs log_seen data_seen run seed max first.parts first.actors.items (ran.Spent user) last.parts last.actors.items
+  ends_spent turn draws seats user first last I all open_user run R =
+      let goes = I.goes run R in record {
+        turns = subst (λ (n : ℕ). TakesTurns (log_of log_seen data_seen run) (data_of log_seen data_seen run) seed max n (core_of log_seen data_seen run first.parts first.actors.items) (core_of log_seen data_seen run last.parts last.actors.items)) all goes.turns;
+        seat = open_user.seat;
+        state = open_user.state;
+        is = open_user.is;
+        number = open_user.open_user.number;
+        not_ended = open_user.open_user.not_ended;
+        least = first_is_least run.setup (views_of last.actors.items) goes.runs.seated user open_user;
+      }

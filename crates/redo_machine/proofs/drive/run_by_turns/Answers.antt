@@ -1,0 +1,44 @@
+-- The machine begins the run, its turns lead to the end, and what `finish` tells of that end is what the run comes to.
+use Rattle.std.proofs.Common.{arith, length, rules, sym, ◌∙◌, ◌≡◌, ◌≤◌}
+use Rattle.std.specs.Prelude.{vec_capacity}
+use Rattle.model_core.specs.Lsn.{lsn}
+use Rattle.redo_machine.proofs.LogCount.{log_within_script}
+use Rattle.redo_machine.proofs.RunLeft.{comes_to_run, is_owed}
+use Rattle.redo_machine.proofs.drive.run_by_turns.Goals as goal
+
+pub run-ended-requires : goal.run-ended-requires
+run-ended-requires g c = let B = c.in_ok-machine.ensures.begins in record { run = B.run; runs = B.runs }
+
+pub finish-closed-requires : goal.finish-closed-requires
+finish-closed-requires g c = let B = c.in_ok-machine.ensures.begins in record { run = B.run; runs = c.run-ended.ensures.runs B.run B.runs }
+
+pub returns-in_err-machine : goal.returns-in_err-machine
+returns-in_err-machine g c = search rules
+
+pub returns-clause-turns : goal.returns-clause-turns
+returns-clause-turns g c =
+    let B = c.in_ok-machine.ensures.begins in
+    let R = c.run-ended.ensures.runs B.run B.runs in
+    let within = log_within_script B.run.setup c.args.script.now c.args.opened.shape.space R.running.shared.sn R.running.log_ghost.log R.running.log_ghost.place R.running.both.logged.global.tiled B.is_run.of_script in
+    record {
+      first = c.in_ok-machine.machine;
+      begins = B;
+      last = c.run-ended.new.self.parts;
+      actors = c.run-ended.new.self.actors.items;
+      runs = R;
+      ends = c.run-ended.ensures.ends B.run B.runs;
+      log = c.finish-closed.ensures.log;
+      data_part = c.finish-closed.ensures.data_part;
+      marks = c.finish-closed.ensures.marks;
+      code = c.finish-closed.ensures.code;
+      history = c.finish-closed.ensures.history B.run R (B.is_run.start ∙ sym B.start ∙ sym c.run-ended.ensures.start) (rw c.run-ended.ensures.entries B.no_entries) (rw c.run-ended.ensures.entries (omega arith));
+    }
+
+pub returns-clause-comes_to : goal.returns-clause-comes_to
+unfolding returns-clause-turns
+returns-clause-comes_to g c =
+    comes_to_run g.L.Sectors.seen g.D.Sectors.seen c.args.opened c.args.script.now c.args.turns.now _ (returns-clause-turns g c) g.L.Sectors.gives g.D.Sectors.gives c.requires c.run-ended.ensures.calls
+
+pub returns-clause-owed : goal.returns-clause-owed
+returns-clause-owed g c =
+    is_owed g.L.Sectors.seen g.D.Sectors.seen c.args.opened c.args.script.now c.args.turns.now _ (returns-clause-turns g c) c.requires

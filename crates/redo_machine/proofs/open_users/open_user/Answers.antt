@@ -1,0 +1,17 @@
+use Rattle.std.proofs.Common.{arith, subst}
+use Rattle.redo_machine.proofs.Ended.{all_ended, below_more, first_open}
+use Rattle.redo_machine.specs.OpenUsers.{IsOpen, IsOver}
+use Rattle.redo_machine.specs.Views.{view_of}
+use Rattle.redo_machine.specs.declared.actor.Actor.{Actor}
+use Rattle.redo_machine.proofs.open_users.open_user.Goals as goal
+
+pub returns-in-Some : goal.returns-in-Some
+returns-in-Some c = first_open c.args.actors.now c.loop-actor.actor-index c.actor-item.result c.in-Some.user (omega arith) c.loop-actor.invariant
+    (subst (λ (z : Actor). IsOpen (view_of z) c.in-Some.user) c.actor-item.is c.in-Some.ensures)
+
+pub loop-actor-preserved : goal.loop-actor-preserved
+loop-actor-preserved c = below_more c.args.actors.now c.loop-actor.actor-index c.actor-item.result (omega arith) c.loop-actor.invariant
+    (subst (λ (z : Actor). IsOver (view_of z)) c.actor-item.is c.in-None.ensures)
+
+pub returns : goal.returns
+returns c = all_ended c.args.actors.now c.loop-actor.actor-index (omega arith) c.loop-actor.invariant

@@ -1,0 +1,77 @@
+// A store behind its run.
+ghost use Rattle.std.specs.Prelude.{◌≡◌, ◌≤◌, [], length, slice_index, vec_capacity};
+ghost use Rattle.model_core.specs.Layout.{IsWord, index};
+ghost use Rattle.model_core.specs.Lsn.{lsn};
+ghost use Rattle.model_core.specs.declared.words.Word.TheVariants as word_is;
+ghost use Rattle.model_finish.specs.History.{history_of, marks_in, word_marks};
+ghost use Rattle.redo_machine.specs.Playing.{RunOf};
+ghost use Rattle.redo_machine.specs.Running.{IsOnRun, RunsOn};
+
+use crate::history::history_of;
+use crate::machine::Machine;
+use crate::parts::Parts;
+use model_history::Marks;
+use redo_disk::Sectors;
+use redo_pageactors::Closed;
+use redo_words::{Op, PlainWords, Word, old_of};
+
+/// What stands in a word.
+fn word(words: &mut PlainWords, word: Word) -> u64
+    requires { IsWord words.old.pages word }
+    ensures words { words.new.words ≡ words.old.words }
+    ensures pages { words.new.pages ≡ words.old.pages }
+    ensures value { result ≡ slice_index words.old.words (index word) }
+{
+    old_of(words.play(Op::Load(word)))
+}
+
+/// The marks of a run.
+fn marks_in(words: &mut PlainWords) -> Marks
+    ensures words { words.new.words ≡ words.old.words }
+    ensures pages { words.new.pages ≡ words.old.pages }
+    ensures marks { result ≡ marks_in words.old.words }
+{
+    Marks {
+        wtail: word(words, Word::Wtail),
+        write: word(words, Word::Write),
+        flushed: word(words, Word::Flushed),
+        ckpt: word(words, Word::Ckpt),
+    }
+}
+
+impl<L: Sectors, D: Sectors> Machine<L, D> {
+    /// What the run leaves: its history, its marks, both parts, and the code in FAILED.
+    pub fn finish(self) -> Closed<L, D>
+        requires { IsOnRun L.seen D.seen self.parts self.actors.items }
+        ensures log { result.log ≡ self.parts.log }
+        ensures data_part { result.store ≡ self.parts.store }
+        ensures code { result.code ≡ slice_index self.parts.words.words (index word_is.Failed) }
+        ensures marks { result.marks ≡ marks_in self.parts.words.words }
+        ensures history { (run : RunOf L D) (runs : RunsOn L.seen D.seen run self.parts self.actors.items) → lsn run.setup.base ≡ self.start
+            → self.entries.items ≡ [] → length runs.running.log_ghost.log ≤ vec_capacity self.entries
+            → result.history ≡ history_of runs.running.log_ghost.answered (word_marks runs.running.shared) runs.running.log_ghost.log }
+    {
+        let Machine {
+            parts,
+            actors,
+            entries,
+            ..
+        } = self;
+        let Parts {
+            mut words,
+            log,
+            store,
+            ..
+        } = parts;
+        let marks = marks_in(&mut words);
+        let code = word(&mut words, Word::Failed) as u32;
+        let history = history_of(entries, actors.as_slice(), &marks);
+        Closed {
+            history,
+            marks,
+            log,
+            store,
+            code,
+        }
+    }
+}

@@ -1,0 +1,28 @@
+// What holds of a machine in its run: the watermarks of the running store, and that a failure stays one. A caller learns it by
+// citing a function that does nothing.
+ghost use Rattle.std.specs.Prelude.{List, ℕ, ◌<◌};
+ghost use Rattle.model_core.specs.declared.ops.Step.{Step};
+ghost use Rattle.model_running.specs.Watermarks.{HasWatermarks};
+ghost use Rattle.redo_machine.specs.Playing.{RunOf, data_of, log_of};
+ghost use Rattle.redo_machine.specs.Running.{RunsOn, TakesTurn, code_in, core_of};
+ghost use Rattle.redo_machine.specs.declared.actor.Actor.{Actor};
+ghost use Rattle.redo_machine.specs.declared.parts.Parts.{Parts};
+
+use redo_dataside::data_part_meets_laws;
+use redo_disk::Sectors;
+use redo_logside::log_part_meets_laws;
+
+/// A machine in its run has each of the watermarks of a running store.
+pub fn running_machine_has_watermarks<L: Sectors, D: Sectors>()
+    ensures { (run : RunOf L D) (parts : Parts L D) (actors : List Actor) → RunsOn L.seen D.seen run parts actors
+        → HasWatermarks (log_of L.seen D.seen run) (data_of L.seen D.seen run) run.setup (core_of L.seen D.seen run parts actors) }
+{
+    log_part_meets_laws::<L>();
+    data_part_meets_laws::<D>();
+}
+
+/// Once FAILED has a code, it has one after each turn.
+pub fn turn_keeps_failed<L: Sectors, D: Sectors>()
+    ensures { (run : RunOf L D) (old new : Parts L D) (actors after : List Actor) (seat : ℕ) (step : Step) → RunsOn L.seen D.seen run old actors
+        → TakesTurn L.seen D.seen run old actors seat step new after → 0 < code_in old → 0 < code_in new }
+{}

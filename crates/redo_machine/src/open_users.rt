@@ -1,0 +1,47 @@
+// Which user of a run hasn't ended.
+ghost use Rattle.std.specs.Prelude.{◌≡◌, MatchOption};
+ghost use Rattle.model_running.specs.Schedule.{HasEnded, HaveEnded};
+ghost use Rattle.redo_machine.specs.OpenUsers.{IsFirstOpen, IsOpen, IsOpenUser, IsOver};
+ghost use Rattle.redo_machine.specs.Views.{view_of, views_of};
+
+use crate::actor::Actor;
+use redo_useractor::UserActor;
+
+/// A user's number, where it hasn't ended.
+#[tactic(auto, using(crate::proofs::Ended::ended_is, crate::proofs::Ended::open_is))]
+fn number_if_open(user: &UserActor) -> Option<u32>
+    ensures { MatchOption result (HasEnded user.now) (IsOpenUser user.now) }
+{
+    if user.has_ended() {
+        None
+    } else {
+        Some(user.number())
+    }
+}
+
+/// The number of an actor that is a user which hasn't ended.
+fn open_number(actor: &Actor) -> Option<u32>
+    ensures { MatchOption result (IsOver (view_of actor.now)) (IsOpen (view_of actor.now)) }
+{
+    match actor {
+        Actor::User(user) => number_if_open(user),
+        Actor::Writer(_)
+        | Actor::Flusher(_)
+        | Actor::Closer(_)
+        | Actor::Cleaner(_)
+        | Actor::Checkpointer(_) => None,
+    }
+}
+
+/// The first user that hasn't ended, by the seats.
+pub fn open_user(actors: &[Actor]) -> Option<u32>
+    ensures { MatchOption result (HaveEnded (views_of actors.now)) (IsFirstOpen (views_of actors.now)) }
+{
+    for actor in actors {
+        match open_number(actor) {
+            Some(user) => return Some(user),
+            None => {}
+        }
+    }
+    None
+}

@@ -1,0 +1,63 @@
+// A run by turns.
+ghost use Rattle.std.specs.Prelude.{◌≡◌, ◌<◌, ◌+◌, ℕ};
+ghost use Rattle.model_running.specs.Schedule.{seat_of_turn};
+ghost use Rattle.redo_machine.specs.Calls.{CallOnBoth};
+ghost use Rattle.redo_machine.specs.Playing.{RunOf};
+ghost use Rattle.redo_machine.specs.Running.{IsOnRun, RunsOn};
+ghost use Rattle.redo_machine.specs.Turns.{EndsAs, IsDrawn};
+
+use crate::machine::Machine;
+use crate::open_users::open_user;
+use redo_disk::Sectors;
+use redo_script::Draws;
+
+/// How a run ends.
+#[derive(Clone, Copy, Debug, PartialEq, Eq)]
+pub enum Ran {
+    /// Each user has ended.
+    Done,
+    /// The turns are spent, and this is the least user that hasn't ended.
+    Spent(u32),
+}
+
+/// The seat of a turn: as the seed draws in the first half of the turns, then one after another.
+fn seat_of(draws: &mut Draws, turn: u64, max: u64, seats: u64) -> u64
+    requires { 0 < seats }
+    ensures below { result < seats }
+    ensures seat { (seed : ℕ) → IsDrawn seed turn max draws.old → result ≡ seat_of_turn seed max seats turn }
+    ensures drawn { (seed : ℕ) → IsDrawn seed turn max draws.old → IsDrawn seed (turn + 1) max draws.new }
+{
+    if turn < max / 2 {
+        u64::from(draws.take()) % seats
+    } else {
+        turn % seats
+    }
+}
+
+impl<L: Sectors, D: Sectors> Machine<L, D> {
+    /// Gives turns to the actors, at most so many, until each user has ended.
+    pub fn run(&mut self, seed: u64, max: u64) -> Ran
+        requires { IsOnRun L.seen D.seen self.old.parts self.old.actors.items }
+        ensures runs { (run : RunOf L D) → RunsOn L.seen D.seen run self.old.parts self.old.actors.items
+            → RunsOn L.seen D.seen run self.new.parts self.new.actors.items }
+        ensures ends { (run : RunOf L D) → RunsOn L.seen D.seen run self.old.parts self.old.actors.items
+            → EndsAs L.seen D.seen run seed max self.old.parts self.old.actors.items result self.new.parts self.new.actors.items }
+        ensures calls { CallOnBoth L.gives D.gives self.old.parts self.new.parts }
+        ensures start { self.new.start ≡ self.old.start }
+        ensures entries { self.new.entries ≡ self.old.entries }
+    {
+        let seats = self.seats() as u64;
+        let mut draws = Draws::new(seed);
+        for turn in 0..max {
+            if open_user(self.actors.as_slice()).is_none() {
+                return Ran::Done;
+            }
+            let seat = seat_of(&mut draws, turn, max, seats);
+            let _ = self.turn(seat as usize);
+        }
+        match open_user(self.actors.as_slice()) {
+            None => Ran::Done,
+            Some(user) => Ran::Spent(user),
+        }
+    }
+}
