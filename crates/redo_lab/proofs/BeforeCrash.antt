@@ -1,5 +1,5 @@
 -- What a crash meets: a run whose lines were played, or none, where a device stopped opening.
-use Rattle.std.proofs.Common.{ℕ, ◌≡◌, ◌≤◌, ◌<◌, ◌+◌, List, [], Option, Some, None, IfSome, sym, subst, arith}
+use Rattle.std.proofs.Common.{ℕ, ◌≡◌, ◌≤◌, ◌<◌, ◌+◌, Bool, List, [], Option, Some, None, IfSome, refl, sym, subst, arith}
 use Rattle.model_base.specs.Limits.{default_shape}
 use Rattle.model_device.specs.Disk.{Disk, IsImage}
 use Rattle.model_history.specs.Legal.{IsLeft}
@@ -9,6 +9,7 @@ use Rattle.model_run.specs.Start.{opened_as}
 use Rattle.model_script.specs.declared.script.ScriptLine.{ScriptLine}
 use Rattle.model_store.specs.Fair.{IsFair}
 use Rattle.model_store.specs.Reading.{Reading}
+use Rattle.model_theorem.specs.Opening.{IsOpenedBefore}
 use Rattle.model_theorem.specs.Run.{LosesOnlyByFailure, ReadsPrefix, RunSafe}
 use Rattle.model_theorem.specs.Values.{Opened, Ran, RunResult, entries_of}
 use Rattle.redo_open.specs.Devices.{WhereBothTell}
@@ -17,7 +18,7 @@ use Rattle.redo_lab.specs.Answer.{TookPlace}
 use Rattle.redo_lab.specs.Course.{ArePlayed, AreStopped, AreUnderWay, ran_of}
 use Rattle.redo_lab.specs.declared.playing.Played.{Played}
 use Rattle.redo_lab.specs.declared.playing.Stops.{Stops}
-use Rattle.redo_lab.proofs.RunPlayed.{SafeLaw, WasFound, closed-as, safe-as}
+use Rattle.redo_lab.proofs.RunPlayed.{ClosedLaws, WasFound, closed-as, opened-before, safe-as, stopped-on}
 use Rattle.redo_lab.proofs.Told.{both-told}
 
 -- a run on this store, and what is left of the script, with what both devices mean
@@ -31,22 +32,25 @@ result_on script opened run left log_disk data_disk = record {
   data_disk = data_disk;
 }
 
--- The run is safe on each store that was found when the fuses were armed; where one took place, it was on that store.
-pub record IsSafeOn (script : List ScriptLine) (opened store : Opened) (run : Option Ran) (failed : ℕ) (left : List (ℕ × ℕ)) (log_disk data_disk : Disk) : Type 0 where
+-- The run is safe on each store that was found when the fuses were armed; where one took place, it was on that store, and
+-- opening came to its end.
+pub record IsSafeOn (script : List ScriptLine) (opened store : Opened) (run : Option Ran) (failed : ℕ) (left : List (ℕ × ℕ)) (log_found log_disk data_disk : Disk) : Type 0 where
   pub same : IfSome run (λ ran. opened ≡ store)
+  pub opened_first : IsOpenedBefore store.shape log_found log_disk run
   pub safe : RunSafe failed (result_on script store run left log_disk data_disk)
 
--- WHAT A CRASH MEETS: both devices are under way, and so many calls failed, one at the most; a run of the script took place on
+-- WHAT A CRASH MEETS: both devices are under way, and so many calls failed, one of each device at the most; a run of the script took place on
 -- the opened store, or none did; and it is a safe one.
-pub record IsBeforeCrash (call : Call) (stops : Stops) (script : List ScriptLine) (run : Option Ran) (log_failed data_failed : ℕ) (log_old data_old : Guarded) : Type 0 where
+pub record IsBeforeCrash (call : Call) (stops : Stops) (log_only : Bool) (script : List ScriptLine) (run : Option Ran) (log_failed data_failed : ℕ) (log_old data_old : Guarded) : Type 0 where
   pub way : AreUnderWay call.log_device call.data_device stops log_failed data_failed log_old data_old
-  pub once : log_failed + data_failed ≤ 1
+  pub log_once : log_failed ≤ 1
+  pub data_once : data_failed ≤ 1
   pub opened : Opened
-  pub took_place : IfSome run (TookPlace call opened script)
+  pub took_place : IfSome run (TookPlace call log_only opened script)
   pub loses : (left : List (ℕ × ℕ)) → IsLeft script (entries_of run) left → LosesOnlyByFailure (log_failed + data_failed) run left
-  pub safe : (store : Opened) → WasFound way.log_found way.data_found store → (left : List (ℕ × ℕ)) → IsLeft script (entries_of run) left
+  pub safe : (store : Opened) → (found : WasFound way.log_found way.data_found store) → (left : List (ℕ × ℕ)) → IsLeft script (entries_of run) left
       → (log_disk data_disk : Disk) → log_old.seen.tells ≡ Some log_disk → data_old.seen.tells ≡ Some data_disk
-      → IsSafeOn script opened store run (log_failed + data_failed) left log_disk data_disk
+      → IsSafeOn script opened store run (log_failed + data_failed) left found.log log_disk data_disk
 
 -- where no line was run something is lost only if a call failed
 lost-stopped : (failed : ℕ) (left : List (ℕ × ℕ)) → 0 < failed → LosesOnlyByFailure failed None left
@@ -80,12 +84,13 @@ safe-stopped script reading failed left log_disk data_disk some left_is keeps = 
 }
 
 -- OPENING WAS STOPPED.
-pub before-stopped : (call : Call) (stops : Stops) (script : List ScriptLine) (log_failed data_failed : ℕ) (log_old data_old : Guarded)
+pub before-stopped : (call : Call) (stops : Stops) (log_only : Bool) (script : List ScriptLine) (log_failed data_failed : ℕ) (log_old data_old : Guarded)
     → log_failed + data_failed ≡ 1 → AreStopped call.log_device call.data_device stops log_failed data_failed log_old data_old
-    → IsBeforeCrash call stops script None log_failed data_failed log_old data_old
-before-stopped call stops script log_failed data_failed log_old data_old one was = record {
+    → IsBeforeCrash call stops log_only script None log_failed data_failed log_old data_old
+before-stopped call stops log_only script log_failed data_failed log_old data_old one was = record {
   way = was.way;
-  once = omega arith;
+  log_once = omega arith;
+  data_once = omega arith;
   opened = opened_as (formatted_store default_shape);
   took_place = tt;
   loses = λ left left_is. lost-stopped (log_failed + data_failed) left (omega arith);
@@ -96,26 +101,29 @@ before-stopped call stops script log_failed data_failed log_old data_old one was
       let keeps_now = both-told log_old.seen.tells data_old.seen.tells (KeepsOpened found.reading) keeps log_disk data_disk log_is data_is in
       record {
         same = tt;
+        opened_first = stopped-on was.way.log_found was.way.data_found log_old store found was.unmoved log_disk log_is;
         safe = subst (λ (o : Opened). RunSafe (log_failed + data_failed) (result_on script o None left log_disk data_disk)) (sym found.same)
             (safe-stopped script found.reading (log_failed + data_failed) left log_disk data_disk (omega arith) left_is keeps_now);
       });
 }
 
 -- THE LINES WERE RUN.
-pub before-played : (call : Call) (stops : Stops) (script : List ScriptLine) (played : Played) (failed : ℕ) (log_old data_old : Guarded) → SafeLaw → failed ≤ 1
-    → ArePlayed call.log_device call.data_device stops script played failed log_old data_old
-    → IsBeforeCrash call stops script (Some (ran_of played)) failed 0 log_old data_old
-before-played call stops script played failed log_old data_old law once was = record {
+pub before-played : (call : Call) (stops : Stops) (log_only : Bool) (script : List ScriptLine) (played : Played) (log_failed data_failed : ℕ) (log_old data_old : Guarded) → ClosedLaws
+    → log_failed ≤ 1 → data_failed ≤ 1 → ArePlayed call.log_device call.data_device stops log_only script played log_failed data_failed log_old data_old
+    → IsBeforeCrash call stops log_only script (Some (ran_of played)) log_failed data_failed log_old data_old
+before-played call stops log_only script played log_failed data_failed log_old data_old laws log_once data_once was = record {
   way = was.way;
-  once = omega arith;
+  log_once = log_once;
+  data_once = data_once;
   opened = was.opened;
-  took_place = record { opens = was.opens; limits = was.limits; fits = was.fits; in_lsn_order = was.is_run; in_turn = was.in_turn };
-  loses = λ left left_is. subst (λ (n : ℕ). LosesOnlyByFailure n (Some (ran_of played)) left) (omega arith) (was.loses left left_is);
+  took_place = record { opens = was.opens; limits = was.limits; fits = was.fits; in_lsn_order = was.is_run };
+  loses = was.loses;
   safe = λ store found left left_is log_disk data_disk log_is data_is.
-      (let closed = closed-as call.log_device call.data_device stops script played failed log_old data_old was store found left left_is
+      (let closed = closed-as call.log_device call.data_device stops log_only script played log_failed data_failed log_old data_old was store found left left_is
       log_disk data_disk log_is data_is in
       record {
         same = closed.0;
-        safe = safe-as script played left failed (failed + 0) was.opened store log_disk data_disk law (omega arith) closed.0 closed.1;
+        opened_first = opened-before script played left (log_failed + data_failed) was.way.log_found was.way.data_found was.opened store log_disk data_disk laws.opened closed.0 found closed.1;
+        safe = safe-as script (found.reading.number + 1) played left (log_failed + data_failed) (log_failed + data_failed) was.opened store log_disk data_disk laws.safe refl closed.0 closed.1;
       });
 }

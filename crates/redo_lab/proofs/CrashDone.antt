@@ -1,5 +1,5 @@
 -- What a crash comes to: a report, or why there is none.
-use Rattle.std.proofs.Common.{ℕ, ◌≡◌, ◌≤◌, ◌+◌, List, Option, Some, None, IfSome, refl, sym, subst, ◌∙◌, inr, arith}
+use Rattle.std.proofs.Common.{ℕ, ◌≡◌, ◌≤◌, ◌+◌, Bool, List, Option, Some, None, IfSome, refl, sym, subst, ◌∙◌, inr, arith}
 use Rattle.std.proofs.lemmas.Bool.{false≢true}
 use Rattle.model_command.specs.declared.asked.Command.TheVariants.{Crash}
 use Rattle.model_command.specs.declared.asked.Drive.{Drive}
@@ -9,7 +9,9 @@ use Rattle.model_report.specs.declared.fault.Fault.TheVariants as fault
 use Rattle.model_script.specs.declared.script.ScriptLine.{ScriptLine}
 use Rattle.model_store.specs.Fair.{IsFair}
 use Rattle.model_store.specs.declared.refusal.Refusal.{Refusal}
+use Rattle.model_theorem.specs.Opening.{IsOpenedBefore}
 use Rattle.model_theorem.specs.Run.{LosesOnlyByFailure}
+use Rattle.model_history.specs.Legal.{IsLeft}
 use Rattle.model_theorem.specs.Values.{Ran, entries_of}
 use Rattle.redo_disk.specs.Seen.{Seen}
 use Rattle.redo_lab.specs.Answer.{AreUnfailedAside, IsCrashText}
@@ -18,8 +20,8 @@ use Rattle.redo_lab.specs.Cause.{IsLeftRefused}
 use Rattle.redo_lab.specs.Complete.{CanCrash}
 use Rattle.redo_lab.specs.Course.{IsPlayedBy, IsStoppedBy, ran_of}
 use Rattle.redo_lab.specs.Crashed.{AreCrashedSince, AreReadBack, AreRefusedBack, ReadsBack}
-use Rattle.redo_lab.specs.Devices.{IsCrashedAs, IsToldAtMost}
-use Rattle.redo_lab.specs.Outcome.{EndsCommand, IsDoneOrMemory, IsOutcome, IsSafeOutcome}
+use Rattle.redo_lab.specs.Devices.{IsCrashedAs, IsOpenedFirst, IsToldAtMost}
+use Rattle.redo_lab.specs.Outcome.{EndsCommand, IsDoneOrKeptFrom, IsOutcome, IsSafeOutcome}
 use Rattle.redo_lab.specs.Script.{IsScriptRead}
 use Rattle.redo_lab.specs.Stages.{IsCrashedWith}
 use Rattle.redo_lab.specs.Store.{IsShorter}
@@ -31,7 +33,7 @@ use Rattle.redo_lab.proofs.BeforeCrash.{IsBeforeCrash, before-played, before-sto
 use Rattle.redo_lab.proofs.CrashEnded.{past-crash}
 use Rattle.redo_lab.proofs.CrashSafe.{crashes-told, left-image}
 use Rattle.redo_lab.proofs.CrashTheorem.{CrashLaws, crash-theorem}
-use Rattle.redo_lab.proofs.RunPlayed.{SafeLaw, told-still, was-found}
+use Rattle.redo_lab.proofs.RunPlayed.{ClosedLaws, are-found, armed-same, told-still, was-found}
 use Rattle.redo_lab.proofs.SomeLeft.{some-left}
 use Rattle.redo_lab.proofs.Told.{both-told}
 
@@ -40,11 +42,11 @@ pub record AreBothCrashed (call : Call) (stops : Stops) (pick log_failed data_fa
   pub log_device : IsCrashedWith stops.log pick call.log_device log_found log_failed log_since call.log_device_now
   pub data_device : IsCrashedWith stops.store pick call.data_device data_found data_failed data_since call.data_device_now
 
-both-crashed : (call : Call) (stops : Stops) (pick : ℕ) (script : List ScriptLine) (run : Option Ran) (log_failed data_failed log_since data_since : ℕ) (log_old data_old : Guarded)
-    → (before : IsBeforeCrash call stops script run log_failed data_failed log_old data_old)
+both-crashed : (call : Call) (stops : Stops) (log_only : Bool) (pick : ℕ) (script : List ScriptLine) (run : Option Ran) (log_failed data_failed log_since data_since : ℕ) (log_old data_old : Guarded)
+    → (before : IsBeforeCrash call stops log_only script run log_failed data_failed log_old data_old)
     → AreCrashedSince pick log_since data_since log_old data_old call.log_device_now call.data_device_now
     → AreBothCrashed call stops pick log_failed data_failed log_since data_since before.way.log_found before.way.data_found
-both-crashed call stops pick script run log_failed data_failed log_since data_since log_old data_old before crashed = record {
+both-crashed call stops log_only pick script run log_failed data_failed log_since data_since log_old data_old before crashed = record {
   log_device = crashed.log_device.stage stops.log call.log_device before.way.log_found log_failed before.way.log_device;
   data_device = crashed.data_device.stage stops.store call.data_device before.way.data_found data_failed before.way.data_device;
 }
@@ -64,7 +66,7 @@ told-crashed limit pick entry found failed since now was = record {
 -- what is owed of each outcome of a crash
 ends-crash : (call : Call) (stops : Stops) (drive : Drive) (pick log_failed data_failed log_since data_since : ℕ) (log_found data_found : Guarded) (o : Outcome)
     → AreBothCrashed call stops pick log_failed data_failed log_since data_since log_found data_found
-    → IsOutcome call (Crash drive stops.log stops.store pick) o → (CanCrash call → AreUnfailedAside call → IsDoneOrMemory o)
+    → IsOutcome call (Crash drive stops.log stops.store pick) o → (CanCrash call drive.log_only → AreUnfailedAside call → IsDoneOrKeptFrom (Crash drive stops.log stops.store pick) o)
     → IsSafeOutcome call (Crash drive stops.log stops.store pick) o → EndsCommand call (Crash drive stops.log stops.store pick) o
 ends-crash call stops drive pick log_failed data_failed log_since data_since log_found data_found o both means complete safe = record {
   means = means;
@@ -80,12 +82,25 @@ ends-crash call stops drive pick log_failed data_failed log_since data_since log
   safe = safe;
 }
 
+-- OPENING CAME TO ITS END just where a run took place.
+crash-first : (call : Call) (stops : Stops) (log_only : Bool) (script : List ScriptLine) (run : Option Ran) (log_failed data_failed : ℕ) (log_old data_old : Guarded) → CrashLaws
+    → (before : IsBeforeCrash call stops log_only script run log_failed data_failed log_old data_old) → (left : List (ℕ × ℕ)) → IsLeft script (entries_of run) left
+    → call.log_device_now.armed_from ≡ before.way.log_found.seen.tells → call.log_device_now.seen.crashed_from ≡ log_old.seen.tells
+    → IsOpenedFirst call call.log_device_now.seen.crashed_from run
+crash-first call stops log_only script run log_failed data_failed log_old data_old laws before left left_is armed_found crashed log data_disk opened log_is data_is log_fresh data_fresh opens armed_from disk armed_is met_is =
+    let way = before.way in
+    let found = was-found call.log_device call.data_device way.log_found way.data_found log data_disk call.log_device.faults call.data_device.faults
+    opened laws.one_answer laws.formatted way.prepared log_is data_is log_fresh data_fresh opens in
+    let data_met = told-still call.data_device.tells data_old.seen.tells data_disk way.data_device.same.tells data_is in
+    subst (λ (armed_from : Disk). IsOpenedBefore opened.shape armed_from disk run) (armed-same _ _ found.log armed_from armed_found found.log_is armed_is)
+    (before.safe opened found left left_is disk data_met.0 (sym crashed ∙ met_is) data_met.1).opened_first
+
 -- THE REPORT.
-crash-text : (call : Call) (stops : Stops) (pick : ℕ) (script : List ScriptLine) (run : Option Ran) (text : List ℕ) (log_failed data_failed : ℕ) (log_old data_old : Guarded)
-    → IsScriptRead call.source call.source_now script → (before : IsBeforeCrash call stops script run log_failed data_failed log_old data_old)
+crash-text : (call : Call) (stops : Stops) (drive : Drive) (pick : ℕ) (script : List ScriptLine) (run : Option Ran) (text : List ℕ) (log_failed data_failed : ℕ) (log_old data_old : Guarded)
+    → IsScriptRead call.source call.source_now script → CrashLaws → (before : IsBeforeCrash call stops drive.log_only script run log_failed data_failed log_old data_old)
     → AreBothCrashed call stops pick log_failed data_failed 0 0 before.way.log_found before.way.data_found
-    → AreReadBack pick script run text log_old data_old call.log_device_now call.data_device_now → IsCrashText call stops.log stops.store pick text
-crash-text call stops pick script run text log_failed data_failed log_old data_old read before both back =
+    → AreReadBack pick script run text log_old data_old call.log_device_now call.data_device_now → IsCrashText call drive stops.log stops.store pick text
+crash-text call stops drive pick script run text log_failed data_failed log_old data_old read laws before both back =
     let counted : log_failed + data_failed ≡ call.log_device_now.fuse.mid + call.data_device_now.fuse.mid = omega (arith, both.log_device.mid, both.data_device.mid) in
     record {
       log_crashed = crashed-as _ _ _ _ _ _ _ both.log_device;
@@ -101,9 +116,12 @@ crash-text call stops pick script run text log_failed data_failed log_old data_o
         ran = before.took_place;
         left_is = back.report.left_is;
         loses = subst (λ (n : ℕ). LosesOnlyByFailure n run back.report.left) counted (before.loses back.report.left back.report.left_is);
-        once = record { log_device = omega (arith, both.log_device.mid, before.once); data_device = omega (arith, both.data_device.mid, before.once) };
+        once = record { log_device = omega (arith, both.log_device.mid, before.log_once); data_device = omega (arith, both.data_device.mid, before.data_once) };
+        found = are-found call before.way.log_found before.way.data_found laws.formatted before.way.prepared both.log_device.armed_from both.data_device.armed_from;
         text_is = back.report.text_is;
       };
+      opened_first = crash-first call stops drive.log_only script run log_failed data_failed log_old data_old laws before back.report.left back.report.left_is
+          both.log_device.armed_from back.crashed.log_device.from;
       is_read = back.is_read;
     }
 
@@ -117,11 +135,11 @@ unfailed-aside call stops pick log_failed data_failed log_found data_found both 
 }
 
 -- A STORE THAT CAN BE RUN ON is not refused behind the crash.
-possible-read-back : (call : Call) (stops : Stops) (pick : ℕ) (script : List ScriptLine) (run : Option Ran) (refusal : Refusal) (log_failed data_failed : ℕ) (log_old data_old : Guarded)
-    → CrashLaws → (before : IsBeforeCrash call stops script run log_failed data_failed log_old data_old)
+possible-read-back : (call : Call) (stops : Stops) (log_only : Bool) (pick : ℕ) (script : List ScriptLine) (run : Option Ran) (refusal : Refusal) (log_failed data_failed : ℕ) (log_old data_old : Guarded)
+    → CrashLaws → (before : IsBeforeCrash call stops log_only script run log_failed data_failed log_old data_old)
     → AreBothCrashed call stops pick log_failed data_failed 0 0 before.way.log_found before.way.data_found
-    → AreRefusedBack pick refusal log_old data_old call.log_device_now call.data_device_now → CanCrash call → ⊥
-possible-read-back call stops pick script run refusal log_failed data_failed log_old data_old laws before both back crash =
+    → AreRefusedBack pick refusal log_old data_old call.log_device_now call.data_device_now → CanCrash call log_only → ⊥
+possible-read-back call stops log_only pick script run refusal log_failed data_failed log_old data_old laws before both back crash =
     let can = crash.can in
     let found = was-found call.log_device call.data_device before.way.log_found before.way.data_found can.log can.data_disk
     call.log_device.faults call.data_device.faults can.opened laws.one_answer laws.formatted before.way.prepared can.log_fresh.tells can.data_fresh.tells
@@ -157,20 +175,20 @@ left-refused call stops pick refusal log_failed data_failed log_found data_found
 
 -- WHAT A CRASH COMES TO that met this.
 pub crash-done : (call : Call) (stops : Stops) (drive : Drive) (pick : ℕ) (script : List ScriptLine) (run : Option Ran) (log_failed data_failed : ℕ) (log_old data_old : Guarded) (o : Outcome)
-    → IsScriptRead call.source call.source_now script → CrashLaws → IsBeforeCrash call stops script run log_failed data_failed log_old data_old
+    → IsScriptRead call.source call.source_now script → CrashLaws → IsBeforeCrash call stops drive.log_only script run log_failed data_failed log_old data_old
     → ReadsBack pick script run o log_old data_old call.log_device_now call.data_device_now → EndsCommand call (Crash drive stops.log stops.store pick) o
 crash-done call stops drive pick script run log_failed data_failed log_old data_old (outcome.Text text) read laws before back =
-    let both = both-crashed call stops pick script run log_failed data_failed 0 0 log_old data_old before back.crashed in
+    let both = both-crashed call stops drive.log_only pick script run log_failed data_failed 0 0 log_old data_old before back.crashed in
     ends-crash call stops drive pick log_failed data_failed 0 0 _ _ (outcome.Text text) both
-    (unfailed-aside call stops pick log_failed data_failed _ _ both, crash-text call stops pick script run text log_failed data_failed log_old data_old read before both back)
+    (unfailed-aside call stops pick log_failed data_failed _ _ both, crash-text call stops drive pick script run text log_failed data_failed log_old data_old read laws before both back)
     (λ can unfailed. tt)
-    (crash-theorem call stops pick script run text log_failed data_failed log_old data_old laws (record { read = read; before = before; back = back }))
+    (crash-theorem call stops drive pick script run text log_failed data_failed log_old data_old laws (record { read = read; before = before; back = back }))
 crash-done call stops drive pick script run log_failed data_failed log_old data_old (outcome.Report text f) read laws before back = absurd back
 crash-done call stops drive pick script run log_failed data_failed log_old data_old (outcome.Fault fault.Memory) read laws before back =
     ends-crash call stops drive pick log_failed data_failed 0 0 _ _ (outcome.Fault fault.Memory)
-    (both-crashed call stops pick script run log_failed data_failed 0 0 log_old data_old before back) (tt, tt) (λ can unfailed. refl) tt
+    (both-crashed call stops drive.log_only pick script run log_failed data_failed 0 0 log_old data_old before back) (tt, tt) (λ can unfailed. tt) tt
 crash-done call stops drive pick script run log_failed data_failed log_old data_old (outcome.Fault fault.LogDevice) read laws before back =
-    let both = both-crashed call stops pick script run log_failed data_failed 1 0 log_old data_old before back in
+    let both = both-crashed call stops drive.log_only pick script run log_failed data_failed 1 0 log_old data_old before back in
     ends-crash call stops drive pick log_failed data_failed 1 0 _ _ (outcome.Fault fault.LogDevice) both (
       (
         refl,
@@ -181,7 +199,7 @@ crash-done call stops drive pick script run log_failed data_failed log_old data_
     )
     (λ can unfailed. absurd (omega (arith, both.log_device.late, unfailed.log_late))) tt
 crash-done call stops drive pick script run log_failed data_failed log_old data_old (outcome.Fault fault.DataDevice) read laws before back =
-    let both = both-crashed call stops pick script run log_failed data_failed 0 1 log_old data_old before back in
+    let both = both-crashed call stops drive.log_only pick script run log_failed data_failed 0 1 log_old data_old before back in
     ends-crash call stops drive pick log_failed data_failed 0 1 _ _ (outcome.Fault fault.DataDevice) both (
       (
         refl,
@@ -193,7 +211,7 @@ crash-done call stops drive pick script run log_failed data_failed log_old data_
     )
     (λ can unfailed. absurd (omega (arith, both.data_device.late, unfailed.data_late))) tt
 crash-done call stops drive pick script run log_failed data_failed log_old data_old (outcome.Fault (fault.Store refusal)) read laws before back =
-    let both = both-crashed call stops pick script run log_failed data_failed 0 0 log_old data_old before back.crashed in
+    let both = both-crashed call stops drive.log_only pick script run log_failed data_failed 0 0 log_old data_old before back.crashed in
     ends-crash call stops drive pick log_failed data_failed 0 0 _ _ (outcome.Fault (fault.Store refusal)) both (
       (
         past-crash call script drive stops.log stops.store pick read,
@@ -201,7 +219,7 @@ crash-done call stops drive pick script run log_failed data_failed log_old data_
       ),
       tt,
     )
-    (λ can unfailed. absurd (possible-read-back call stops pick script run refusal log_failed data_failed log_old data_old laws before both back can)) tt
+    (λ can unfailed. absurd (possible-read-back call stops drive.log_only pick script run refusal log_failed data_failed log_old data_old laws before both back can)) tt
 crash-done call stops drive pick script run log_failed data_failed log_old data_old (outcome.Fault f) read laws before back = absurd back
 
 -- A CRASH BEHIND AN OPENING that a device stopped.
@@ -209,20 +227,23 @@ pub crash-stopped : (call : Call) (stops : Stops) (drive : Drive) (pick : ℕ) (
     → IsScriptRead call.source call.source_now script → CrashLaws → IsStoppedBy call.log_device call.data_device stops f log_old data_old
     → ReadsBack pick script None o log_old data_old call.log_device_now call.data_device_now → EndsCommand call (Crash drive stops.log stops.store pick) o
 crash-stopped call stops drive pick script fault.LogDevice log_old data_old o read laws stopped back =
-    crash-done call stops drive pick script None 1 0 log_old data_old o read laws (before-stopped call stops script 1 0 log_old data_old refl stopped) back
+    crash-done call stops drive pick script None 1 0 log_old data_old o read laws (before-stopped call stops drive.log_only script 1 0 log_old data_old refl stopped) back
 crash-stopped call stops drive pick script fault.DataDevice log_old data_old o read laws stopped back =
-    crash-done call stops drive pick script None 0 1 log_old data_old o read laws (before-stopped call stops script 0 1 log_old data_old refl stopped) back
+    crash-done call stops drive pick script None 0 1 log_old data_old o read laws (before-stopped call stops drive.log_only script 0 1 log_old data_old refl stopped) back
 crash-stopped call stops drive pick script f log_old data_old o read laws stopped back = absurd stopped
 
 -- A CRASH BEHIND A RUN.
 pub crash-played : (call : Call) (stops : Stops) (drive : Drive) (pick : ℕ) (script : List ScriptLine) (played : Played) (failed : Option Fault) (log_old data_old : Guarded) (o : Outcome)
-    → IsScriptRead call.source call.source_now script → CrashLaws → SafeLaw → IsPlayedBy call.log_device call.data_device stops script played failed log_old data_old
+    → IsScriptRead call.source call.source_now script → CrashLaws → ClosedLaws → IsPlayedBy call.log_device call.data_device stops drive.log_only script played failed log_old data_old
     → ReadsBack pick script (Some (ran_of played)) o log_old data_old call.log_device_now call.data_device_now
     → EndsCommand call (Crash drive stops.log stops.store pick) o
 crash-played call stops drive pick script played None log_old data_old o read laws safe run back =
     crash-done call stops drive pick script (Some (ran_of played)) 0 0 log_old data_old o read laws
-    (before-played call stops script played 0 log_old data_old safe (omega arith) run) back
+    (before-played call stops drive.log_only script played 0 0 log_old data_old safe (omega arith) (omega arith) run) back
 crash-played call stops drive pick script played (Some fault.LogDevice) log_old data_old o read laws safe run back =
-    crash-done call stops drive pick script (Some (ran_of played)) 1 0 log_old data_old o read laws
-    (before-played call stops script played 1 log_old data_old safe (omega arith) run) back
+    crash-done call stops drive pick script (Some (ran_of played)) 1 run.data_failed log_old data_old o read laws
+    (before-played call stops drive.log_only script played 1 run.data_failed log_old data_old safe (omega arith) run.once run.are) back
+crash-played call stops drive pick script played (Some fault.DataDevice) log_old data_old o read laws safe run back =
+    crash-done call stops drive pick script (Some (ran_of played)) 0 1 log_old data_old o read laws
+    (before-played call stops drive.log_only script played 0 1 log_old data_old safe (omega arith) (omega arith) run) back
 crash-played call stops drive pick script played (Some f) log_old data_old o read laws safe run back = absurd run

@@ -1,4 +1,4 @@
--- A crash that was asked for and didn't come, since the run ended before its first line.
+-- A crash that was asked for and didn't come, since the run ended before its first line, or its turns were spent.
 use Rattle.std.proofs.Common.{ℕ, List, Option, Some, refl, sym, inl, inr, arith}
 use Rattle.std.proofs.lemmas.Bool.{false≢true}
 use Rattle.model_command.specs.declared.asked.Command.TheVariants.{Crash}
@@ -6,6 +6,7 @@ use Rattle.model_command.specs.declared.asked.Drive.{Drive}
 use Rattle.model_report.specs.declared.fault.Fault.{Fault}
 use Rattle.model_report.specs.declared.fault.Fault.TheVariants as fault
 use Rattle.model_script.specs.declared.script.ScriptLine.{ScriptLine}
+use Rattle.redo_lab.specs.Asked.{turns_of}
 use Rattle.redo_lab.specs.Call.{Call}
 use Rattle.redo_lab.specs.Cause.{IsCauseOf, IsPastSource, LeavesBehind}
 use Rattle.redo_lab.specs.Course.{IsEndedBy}
@@ -13,10 +14,10 @@ use Rattle.redo_lab.specs.Outcome.{EndsCommand}
 use Rattle.redo_lab.specs.Script.{IsScriptRead}
 use Rattle.redo_lab.specs.declared.outcome.Outcome.TheVariants as outcome
 use Rattle.redo_lab.specs.declared.playing.Stops.{Stops}
-use Rattle.redo_lab.proofs.Found.{begun-or-kept, leaves-stopped}
-use Rattle.redo_lab.proofs.RunEnds.{misfit-cause, steady-ended, store-cause}
+use Rattle.redo_lab.proofs.Found.{begun-or-kept, leaves-unstarted}
+use Rattle.redo_lab.proofs.RunEnds.{misfit-cause, spent-cause, steady-ended, store-cause}
 use Rattle.redo_lab.proofs.RunPlayed.{FormattedLaw}
-use Rattle.redo_lab.proofs.RunPossible.{OneReading, UnfitLaw, ended-by-memory}
+use Rattle.redo_lab.proofs.RunPossible.{OneReading, UnfitLaw, ended-kept}
 use Rattle.redo_lab.proofs.Told.{OneAnswer}
 
 pub past-crash : (call : Call) (script : List ScriptLine) (drive : Drive) (stop_log stop_data : Option ℕ) (pick : ℕ) → IsScriptRead call.source call.source_now script
@@ -25,7 +26,7 @@ past-crash call script drive stop_log stop_data pick read = inl (refl, read.text
 
 -- WHY IT DIDN'T COME
 crash-ended : (call : Call) (stops : Stops) (drive : Drive) (pick : ℕ) (script : List ScriptLine) (f : Fault) → IsScriptRead call.source call.source_now script
-    → OneAnswer → FormattedLaw → IsEndedBy call.log_device call.data_device stops script f call.log_device_now call.data_device_now
+    → OneAnswer → FormattedLaw → IsEndedBy call.log_device call.data_device stops (turns_of drive) script f call.log_device_now call.data_device_now
     → IsCauseOf call (Crash drive stops.log stops.store pick) f × LeavesBehind call (Crash drive stops.log stops.store pick) f
 crash-ended call stops drive pick script fault.Memory read one formatted ended = (tt, tt)
 crash-ended call stops drive pick script fault.LogDevice read one formatted ended = (
@@ -48,14 +49,16 @@ crash-ended call stops drive pick script fault.DataDevice read one formatted end
 crash-ended call stops drive pick script (fault.Store cause) read one formatted ended =
     ((past-crash call script drive stops.log stops.store pick read, inl (store-cause call stops cause ended)), tt)
 crash-ended call stops drive pick script (fault.Fit misfit) read one formatted ended =
-    ((refl, inr (misfit-cause call stops script misfit read ended)), leaves-stopped call stops 0 0 one formatted ended.stopped)
+    ((refl, inr (misfit-cause call (Crash drive stops.log stops.store pick) drive stops script misfit refl read ended)), leaves-unstarted call stops 0 0 one formatted ended.way ended.keeps)
+crash-ended call stops drive pick script (fault.Turns count user) read one formatted ended =
+    (spent-cause call (Crash drive stops.log stops.store pick) drive stops script count user refl read ended, tt)
 crash-ended call stops drive pick script f read one formatted ended = absurd ended
 
 pub crash-ends-early : (call : Call) (stops : Stops) (drive : Drive) (pick : ℕ) (script : List ScriptLine) (f : Fault) → IsScriptRead call.source call.source_now script
-    → OneAnswer → OneReading → FormattedLaw → UnfitLaw → IsEndedBy call.log_device call.data_device stops script f call.log_device_now call.data_device_now
+    → OneAnswer → OneReading → FormattedLaw → UnfitLaw → IsEndedBy call.log_device call.data_device stops (turns_of drive) script f call.log_device_now call.data_device_now
     → EndsCommand call (Crash drive stops.log stops.store pick) (outcome.Fault f)
 crash-ends-early call stops drive pick script f read one same formatted unfit ended =
-    let steady = steady-ended call stops (Some pick) script f ended in
+    let steady = steady-ended call stops (Some pick) (turns_of drive) script f ended in
     record {
       means = crash-ended call stops drive pick script f read one formatted ended;
       unread = λ plain. absurd (false≢true (sym plain));
@@ -64,6 +67,6 @@ crash-ends-early call stops drive pick script f read one same formatted unfit en
       log_tells = steady.log_tells;
       data_tells = steady.data_tells;
       complete = λ possible source unfailed.
-          ended-by-memory call stops script f read one same unfit possible.can unfailed.log_early unfailed.data_early ended;
+          ended-kept call (Crash drive stops.log stops.store pick) stops (turns_of drive) script f refl read one same unfit possible.can unfailed.log_early unfailed.data_early ended;
       safe = tt;
     }

@@ -1,13 +1,12 @@
 -- The crash theorem of a call whose devices were crashed and read.
-use Rattle.std.proofs.Common.{ℕ, ◌≡◌, ◌≢◌, Bool, true, false, List, Option, Some, None, IfSome, refl, sym, ap, subst, ◌∙◌, ⊎_elim, arith}
-use Rattle.model_base.specs.Limits.{default_shape}
+use Rattle.std.proofs.Common.{ℕ, ◌≡◌, ◌≢◌, Bool, List, Option, Some, None, IfSome, refl, sym, ap, subst, ◌∙◌, ⊎_elim, arith}
 use Rattle.model_device.specs.Calls.{Crashes}
 use Rattle.model_device.specs.Disk.{Disk, IsImage, settled}
-use Rattle.model_opening.specs.Formatted.{IsFormatted}
 use Rattle.model_run.specs.Crashed.{IsCrashOf, before_crash}
 use Rattle.model_script.specs.declared.script.ScriptLine.{ScriptLine}
 use Rattle.model_store.specs.Reading.{HasOldCopies, IsReading, Reading}
 use Rattle.model_theorem.specs.Crash.{AreArmedFirst, CrashSafe, IsCrashed, IsStoppedAsAsked, failures_of}
+use Rattle.model_theorem.specs.Opening.{IsOpenedBefore}
 use Rattle.model_theorem.specs.Run.{RunSafe}
 use Rattle.model_theorem.specs.Script.{FitsOpened}
 use Rattle.model_theorem.specs.Values as values
@@ -19,13 +18,13 @@ use Rattle.redo_lab.specs.Course.{AreUnderWay}
 use Rattle.redo_lab.specs.Promise.{IsDevice, stop_of}
 use Rattle.redo_lab.specs.Stages.{IsCrashedWith}
 use Rattle.redo_lab.specs.declared.playing.Stops.{Stops}
-use Rattle.redo_lab.proofs.RunPlayed.{FormattedLaw, fits-freed, default-within}
+use Rattle.redo_lab.proofs.RunPlayed.{FormattedLaw, unopened-as}
 use Rattle.redo_lab.proofs.RunPossible.{OneReading}
-use Rattle.redo_lab.proofs.Told.{both-told}
 
 -- the crash theorem holds of a call whose run is safe
 abbrev pub CrashLaw : Type 0
 CrashLaw = (crash : values.Crash) (opened : Opened) (account : Account) → IsCrashOf crash opened account
+    → IsOpenedBefore opened.shape crash.log_device.armed_from crash.log_device.crashed_from account.run
     → RunSafe (failures_of crash) (before_crash crash opened account) → CrashSafe crash opened account
 
 -- WHAT A DEVICE TOLD: when it was handed in, when its fuse was armed, just before its crash, and now.
@@ -119,9 +118,6 @@ is-crashed asked limit pick entry found old now failed told same crashed left =
       unfailed_since = crashed.late;
     }
 
-pub same-disk : (found entry : Option Disk) (armed_from at_entry : Disk) → found ≡ entry → found ≡ Some armed_from → entry ≡ Some at_entry → armed_from ≡ at_entry
-same-disk found entry armed_from at_entry same found_is entry_is = cc
-
 -- THE ARMING came before opening.
 pub armed-first : (call : Call) (stops : Stops) (pick log_failed data_failed : ℕ) (log_old data_old : Guarded) → FormattedLaw
     → (way : AreUnderWay call.log_device call.data_device stops log_failed data_failed log_old data_old)
@@ -132,22 +128,8 @@ pub armed-first : (call : Call) (stops : Stops) (pick log_failed data_failed : �
     → AreArmedFirst (device_of call.log_device way.log_found log_old call.log_device_now log_told) (device_of call.data_device way.data_found data_old call.data_device_now data_told)
 armed-first call stops pick log_failed data_failed log_old data_old law way log_told data_told log_crashed data_crashed passed = record {
   opening_counted = omega (arith, way.counted, passed, way.log_device.mid, log_crashed.mid);
-  unused = λ unused. ⊎_elim
-      (λ formatted.
-      let openable = law default_shape log_told.armed_from data_told.armed_from default-within
-      (both-told way.log_found.seen.tells way.data_found.seen.tells (IsFormatted default_shape) formatted.formatted
-      log_told.armed_from data_told.armed_from log_told.armed_is data_told.armed_is) in
-      record { log_rests = openable.log_rests.one_image; data_rests = openable.data_rests.one_image; orderly = openable.orderly })
-      (λ in_use. absurd (in_use.used log_told.at_entry data_told.at_entry log_told.entry_is data_told.entry_is unused))
-      way.prepared.which;
-  log_in_use = λ used. ⊎_elim
-      (λ formatted. absurd (used (formatted.unused log_told.at_entry data_told.at_entry log_told.entry_is data_told.entry_is)))
-      (λ in_use. same-disk _ _ log_told.armed_from log_told.at_entry in_use.kept.log_device.tells log_told.armed_is log_told.entry_is)
-      way.prepared.which;
-  data_in_use = λ used. ⊎_elim
-      (λ formatted. absurd (used (formatted.unused log_told.at_entry data_told.at_entry log_told.entry_is data_told.entry_is)))
-      (λ in_use. same-disk _ _ data_told.armed_from data_told.at_entry in_use.kept.data_device.tells data_told.armed_is data_told.entry_is)
-      way.prepared.which;
+  unopened = unopened-as call.log_device call.data_device way.log_found way.data_found log_told.at_entry data_told.at_entry log_told.armed_from data_told.armed_from
+      law way.prepared log_told.entry_is data_told.entry_is log_told.armed_is data_told.armed_is;
   log_calls = λ used. ⊎_elim
       (λ formatted. absurd (used (formatted.unused log_told.at_entry data_told.at_entry log_told.entry_is data_told.entry_is)))
       (λ in_use. omega (arith, log_crashed.early_calls, in_use.log_calls))
@@ -158,16 +140,12 @@ armed-first call stops pick log_failed data_failed log_old data_old law way log_
       way.prepared.which;
 }
 
--- a script that was run fits, whether or not checkpoints free the log
-fits-any : (log_only : Bool) (opened : Opened) (script : List ScriptLine) → FitsOpened true opened script → FitsOpened log_only opened script
-fits-any true opened script fits = fits
-fits-any false opened script fits = fits-freed opened script fits
-
-pub fits-run : (call : Call) (log_only : Bool) (was opened : Opened) (script : List ScriptLine) (run : Option Ran) → IfSome run (TookPlace call was script)
-    → IfSome run (λ ran. was ≡ opened) → IfSome run (λ ran. FitsOpened log_only opened script)
-fits-run call log_only was opened script None place same = tt
-fits-run call log_only was opened script (Some ran) place same =
-    fits-any log_only opened script (subst (λ (o : Opened). FitsOpened true o script) same place.fits)
+-- a script that was run fits
+pub fits-run : (call : Call) (log_only asked : Bool) (was opened : Opened) (script : List ScriptLine) (run : Option Ran) → asked ≡ log_only
+    → IfSome run (TookPlace call log_only was script) → IfSome run (λ ran. was ≡ opened) → IfSome run (λ ran. FitsOpened asked opened script)
+fits-run call log_only asked was opened script None is place same = tt
+fits-run call log_only asked was opened script (Some ran) is place same =
+    subst (λ (b : Bool). FitsOpened b opened script) (sym is) (subst (λ (o : Opened). FitsOpened log_only o script) same place.fits)
 
 -- of two readings of one store what the one says the other does
 pub same-copies : (log_bytes data_bytes : List ℕ) (first second : Reading) → OneReading → IsReading log_bytes data_bytes first → IsReading log_bytes data_bytes second

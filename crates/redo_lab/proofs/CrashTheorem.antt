@@ -1,5 +1,7 @@
 -- The crash theorem of a call, put together.
-use Rattle.std.proofs.Common.{ℕ, ◌≡◌, ◌≢◌, ◌+◌, ◌++◌, List, Option, Some, None, IfSome, refl, subst, arith}
+use Rattle.std.proofs.Common.{ℕ, ◌≡◌, ◌≢◌, ◌+◌, ◌++◌, Bool, List, Option, Some, None, IfSome, refl, subst, arith}
+use Rattle.model_command.specs.declared.asked.Drive.{Drive}
+use Rattle.model_device.specs.Disk.{Disk}
 use Rattle.model_script.specs.declared.script.ScriptLine.{ScriptLine}
 use Rattle.model_theorem.specs.Crash.{CrashSafe}
 use Rattle.model_theorem.specs.Premises.{Premises}
@@ -15,7 +17,7 @@ use Rattle.redo_lab.specs.Stages.{IsCrashedWith}
 use Rattle.redo_lab.specs.declared.playing.Stops.{Stops}
 use Rattle.redo_lab.proofs.BeforeCrash.{IsBeforeCrash, IsSafeOn, result_on}
 use Rattle.redo_lab.proofs.CrashSafe.{CrashLaw, HasTold, armed-first, device_of, fits-run, has-told, is-crashed, is-device, same-copies, stopped-as}
-use Rattle.redo_lab.proofs.RunPlayed.{FormattedLaw, was-found, whole-script}
+use Rattle.redo_lab.proofs.RunPlayed.{FormattedLaw, armed-same, was-found, whole-script}
 use Rattle.redo_lab.proofs.RunPossible.{OneReading}
 use Rattle.redo_lab.proofs.Told.{OneAnswer}
 
@@ -27,10 +29,10 @@ pub record CrashLaws : Type 0 where
   pub crash : CrashLaw
 
 -- THE CALL: what the crash met, what was read behind it, and what the two devices told.
-pub record IsCrashDone (call : Call) (stops : Stops) (pick : ℕ) (script : List ScriptLine) (run : Option Ran) (text : List ℕ)
+pub record IsCrashDone (call : Call) (stops : Stops) (log_only : Bool) (pick : ℕ) (script : List ScriptLine) (run : Option Ran) (text : List ℕ)
     (log_failed data_failed : ℕ) (log_old data_old : Guarded) : Type 0 where
   pub read : IsScriptRead call.source call.source_now script
-  pub before : IsBeforeCrash call stops script run log_failed data_failed log_old data_old
+  pub before : IsBeforeCrash call stops log_only script run log_failed data_failed log_old data_old
   pub back : AreReadBack pick script run text log_old data_old call.log_device_now call.data_device_now
 
 -- both devices told, and their fuses are crashed
@@ -40,10 +42,10 @@ pub record IsCrashTold (call : Call) (stops : Stops) (pick log_failed data_faile
   pub log_crashed : IsCrashedWith stops.log pick call.log_device log_found log_failed 0 call.log_device_now
   pub data_crashed : IsCrashedWith stops.store pick call.data_device data_found data_failed 0 call.data_device_now
 
-crash-told : (call : Call) (stops : Stops) (pick : ℕ) (script : List ScriptLine) (run : Option Ran) (text : List ℕ) (log_failed data_failed : ℕ) (log_old data_old : Guarded)
-    → (done : IsCrashDone call stops pick script run text log_failed data_failed log_old data_old) → call.log_device.tells ≢ None → call.data_device.tells ≢ None
+crash-told : (call : Call) (stops : Stops) (log_only : Bool) (pick : ℕ) (script : List ScriptLine) (run : Option Ran) (text : List ℕ) (log_failed data_failed : ℕ) (log_old data_old : Guarded)
+    → (done : IsCrashDone call stops log_only pick script run text log_failed data_failed log_old data_old) → call.log_device.tells ≢ None → call.data_device.tells ≢ None
     → IsCrashTold call stops pick log_failed data_failed done.before.way.log_found done.before.way.data_found log_old data_old
-crash-told call stops pick script run text log_failed data_failed log_old data_old done log_tells data_tells =
+crash-told call stops log_only pick script run text log_failed data_failed log_old data_old done log_tells data_tells =
     let way = done.before.way in
     let log_crashed = done.back.crashed.log_device.stage stops.log call.log_device way.log_found log_failed way.log_device in
     let data_crashed = done.back.crashed.data_device.stage stops.store call.data_device way.data_found data_failed way.data_device in
@@ -54,8 +56,9 @@ crash-told call stops pick script run text log_failed data_failed log_old data_o
       data_crashed = data_crashed;
     }
 
--- the words' stops and pick are these
-pub record AreTheOptions (options : CrashOptions) (stops : Stops) (pick : ℕ) : Type 0 where
+-- the words' drive, stops and pick are these
+pub record AreTheOptions (options : CrashOptions) (log_only : Bool) (stops : Stops) (pick : ℕ) : Type 0 where
+  pub log_only_is : options.log_only ≡ log_only
   pub stop_log : options.stop_log ≡ stops.log
   pub stop_data : options.stop_data ≡ stops.store
   pub pick_is : options.pick ≡ pick
@@ -67,12 +70,12 @@ crash_with call stops pick log_failed data_failed log_found data_found log_old d
     (device_of call.log_device log_found log_old call.log_device_now told.log_told) (device_of call.data_device data_found data_old call.data_device_now told.data_told)
 
 -- THE DEVICES were stopped and crashed as the words ask.
-as-asked : (call : Call) (stops : Stops) (pick : ℕ) (script : List ScriptLine) (run : Option Ran) (text : List ℕ) (log_failed data_failed : ℕ) (log_old data_old : Guarded)
-    → FormattedLaw → (done : IsCrashDone call stops pick script run text log_failed data_failed log_old data_old)
+as-asked : (call : Call) (stops : Stops) (log_only : Bool) (pick : ℕ) (script : List ScriptLine) (run : Option Ran) (text : List ℕ) (log_failed data_failed : ℕ) (log_old data_old : Guarded)
+    → FormattedLaw → (done : IsCrashDone call stops log_only pick script run text log_failed data_failed log_old data_old)
     → (told : IsCrashTold call stops pick log_failed data_failed done.before.way.log_found done.before.way.data_found log_old data_old)
-    → (options : CrashOptions) (taken taken_now : Option (List ℕ)) → AreTheOptions options stops pick
+    → (options : CrashOptions) (taken taken_now : Option (List ℕ)) → AreTheOptions options log_only stops pick
     → IsCrashAsAsked (crash_with call stops pick log_failed data_failed done.before.way.log_found done.before.way.data_found log_old data_old told options taken taken_now)
-as-asked call stops pick script run text log_failed data_failed log_old data_old law done told options taken taken_now asked = record {
+as-asked call stops log_only pick script run text log_failed data_failed log_old data_old law done told options taken taken_now asked = record {
   any_stops = record {
     log_device = stopped-as options.stop_log stops.log pick _ _ _ _ log_failed told.log_told asked.stop_log told.log_crashed;
     data_device = stopped-as options.stop_data stops.store pick _ _ _ _ data_failed told.data_told asked.stop_data told.data_crashed;
@@ -84,9 +87,9 @@ as-asked call stops pick script run text log_failed data_failed log_old data_old
 }
 
 -- THE ACCOUNT.
-abbrev account_of : (call : Call) (stops : Stops) (pick : ℕ) (script : List ScriptLine) (run : Option Ran) (text : List ℕ) (log_failed data_failed : ℕ) (log_old data_old : Guarded)
-    → IsCrashDone call stops pick script run text log_failed data_failed log_old data_old → Account
-account_of call stops pick script run text log_failed data_failed log_old data_old done = record {
+abbrev account_of : (call : Call) (stops : Stops) (log_only : Bool) (pick : ℕ) (script : List ScriptLine) (run : Option Ran) (text : List ℕ) (log_failed data_failed : ℕ) (log_old data_old : Guarded)
+    → IsCrashDone call stops log_only pick script run text log_failed data_failed log_old data_old → Account
+account_of call stops log_only pick script run text log_failed data_failed log_old data_old done = record {
   text = done.read.text;
   script = script;
   run = run;
@@ -96,34 +99,37 @@ account_of call stops pick script run text log_failed data_failed log_old data_o
 }
 
 -- the run is safe on the store of the premises
-safe-on : (call : Call) (stops : Stops) (pick : ℕ) (script : List ScriptLine) (run : Option Ran) (text : List ℕ) (log_failed data_failed : ℕ) (log_old data_old : Guarded)
-    → (laws : CrashLaws) (done : IsCrashDone call stops pick script run text log_failed data_failed log_old data_old)
+safe-on : (call : Call) (stops : Stops) (log_only : Bool) (pick : ℕ) (script : List ScriptLine) (run : Option Ran) (text : List ℕ) (log_failed data_failed : ℕ) (log_old data_old : Guarded)
+    → (laws : CrashLaws) (done : IsCrashDone call stops log_only pick script run text log_failed data_failed log_old data_old)
     → (told : IsCrashTold call stops pick log_failed data_failed done.before.way.log_found done.before.way.data_found log_old data_old)
     → (options : CrashOptions) (taken taken_now : Option (List ℕ)) (opened : Opened)
     → Premises (crash_with call stops pick log_failed data_failed done.before.way.log_found done.before.way.data_found log_old data_old told options taken taken_now) opened
-    → IsSafeOn script done.before.opened opened run (log_failed + data_failed) done.back.report.left told.log_told.crashed_from told.data_told.crashed_from
-safe-on call stops pick script run text log_failed data_failed log_old data_old laws done told options taken taken_now opened premises =
+    → IsSafeOn script done.before.opened opened run (log_failed + data_failed) done.back.report.left told.log_told.armed_from told.log_told.crashed_from told.data_told.crashed_from
+safe-on call stops log_only pick script run text log_failed data_failed log_old data_old laws done told options taken taken_now opened premises =
     let way = done.before.way in
     let found = was-found call.log_device call.data_device way.log_found way.data_found told.log_told.at_entry told.data_told.at_entry
     call.log_device.faults call.data_device.faults opened laws.one_answer laws.formatted way.prepared told.log_told.entry_is told.data_told.entry_is
     premises.log_fresh premises.data_fresh premises.opens in
-    done.before.safe opened found done.back.report.left done.back.report.left_is told.log_told.crashed_from told.data_told.crashed_from
-    told.log_told.crashed_is told.data_told.crashed_is
+    subst (λ (log_found : Disk).
+    IsSafeOn script done.before.opened opened run (log_failed + data_failed) done.back.report.left log_found told.log_told.crashed_from told.data_told.crashed_from)
+    (armed-same _ _ found.log told.log_told.armed_from refl found.log_is told.log_told.armed_is)
+    (done.before.safe opened found done.back.report.left done.back.report.left_is told.log_told.crashed_from told.data_told.crashed_from
+    told.log_told.crashed_is told.data_told.crashed_is)
 
 -- so the theorem holds of it
-theorem-on : (call : Call) (stops : Stops) (pick : ℕ) (script : List ScriptLine) (run : Option Ran) (text : List ℕ) (log_failed data_failed : ℕ) (log_old data_old : Guarded)
-    → (laws : CrashLaws) (done : IsCrashDone call stops pick script run text log_failed data_failed log_old data_old)
+theorem-on : (call : Call) (stops : Stops) (log_only : Bool) (pick : ℕ) (script : List ScriptLine) (run : Option Ran) (text : List ℕ) (log_failed data_failed : ℕ) (log_old data_old : Guarded)
+    → (laws : CrashLaws) (done : IsCrashDone call stops log_only pick script run text log_failed data_failed log_old data_old)
     → (told : IsCrashTold call stops pick log_failed data_failed done.before.way.log_found done.before.way.data_found log_old data_old)
-    → (options : CrashOptions) (taken taken_now : Option (List ℕ)) → AreTheOptions options stops pick
+    → (options : CrashOptions) (taken taken_now : Option (List ℕ)) → AreTheOptions options log_only stops pick
     → IfSome taken (λ before. taken_now ≡ Some (before ++ text)) → (opened : Opened)
     → Premises (crash_with call stops pick log_failed data_failed done.before.way.log_found done.before.way.data_found log_old data_old told options taken taken_now) opened
     → CrashSafe (crash_with call stops pick log_failed data_failed done.before.way.log_found done.before.way.data_found log_old data_old told options taken taken_now) opened
-    (account_of call stops pick script run text log_failed data_failed log_old data_old done)
-theorem-on call stops pick script run text log_failed data_failed log_old data_old laws done told options taken taken_now asked printed opened premises =
+    (account_of call stops log_only pick script run text log_failed data_failed log_old data_old done)
+theorem-on call stops log_only pick script run text log_failed data_failed log_old data_old laws done told options taken taken_now asked printed opened premises =
     let crash = crash_with call stops pick log_failed data_failed done.before.way.log_found done.before.way.data_found log_old data_old told options taken taken_now in
-    let account = account_of call stops pick script run text log_failed data_failed log_old data_old done in
-    let asked_for = as-asked call stops pick script run text log_failed data_failed log_old data_old laws.formatted done told options taken taken_now asked in
-    let on = safe-on call stops pick script run text log_failed data_failed log_old data_old laws done told options taken taken_now opened premises in
+    let account = account_of call stops log_only pick script run text log_failed data_failed log_old data_old done in
+    let asked_for = as-asked call stops log_only pick script run text log_failed data_failed log_old data_old laws.formatted done told options taken taken_now asked in
+    let on = safe-on call stops log_only pick script run text log_failed data_failed log_old data_old laws done told options taken taken_now opened premises in
     let log_left = told.log_told.left in
     let data_left = told.data_told.left in
     let read = done.back.is_read log_left data_left told.log_told.left_is told.data_told.left_is in
@@ -133,7 +139,7 @@ theorem-on call stops pick script run text log_failed data_failed log_old data_o
     (record {
       every_script = record {
         whole = whole-script call script call.source.left call.source_now.left refl refl done.read;
-        fits = fits-run call options.log_only done.before.opened opened script run done.before.took_place on.same;
+        fits = fits-run call log_only options.log_only done.before.opened opened script run asked.log_only_is done.before.took_place on.same;
       };
       any_stops = asked_for.any_stops;
       prints = record { taken = printed; report = done.back.report.text_is; left_is = done.back.report.left_is };
@@ -145,22 +151,23 @@ theorem-on call stops pick script run text log_failed data_failed log_old data_o
       };
       fair = premises.fair;
     })
+    on.opened_first
     (subst (λ (n : ℕ). RunSafe n (result_on script opened run done.back.report.left told.log_told.crashed_from told.data_told.crashed_from)) counted on.safe)
 
 -- THE CRASH THEOREM.
-pub crash-theorem : (call : Call) (stops : Stops) (pick : ℕ) (script : List ScriptLine) (run : Option Ran) (text : List ℕ) (log_failed data_failed : ℕ) (log_old data_old : Guarded)
-    → CrashLaws → IsCrashDone call stops pick script run text log_failed data_failed log_old data_old → IsSafeCrash call stops.log stops.store pick text
-crash-theorem call stops pick script run text log_failed data_failed log_old data_old laws done options taken taken_now log_is data_is pick_is printed log_tells data_tells =
-    let told = crash-told call stops pick script run text log_failed data_failed log_old data_old done log_tells data_tells in
-    let asked : AreTheOptions options stops pick = record { stop_log = log_is; stop_data = data_is; pick_is = pick_is } in
+pub crash-theorem : (call : Call) (stops : Stops) (drive : Drive) (pick : ℕ) (script : List ScriptLine) (run : Option Ran) (text : List ℕ) (log_failed data_failed : ℕ) (log_old data_old : Guarded)
+    → CrashLaws → IsCrashDone call stops drive.log_only pick script run text log_failed data_failed log_old data_old → IsSafeCrash call drive stops.log stops.store pick text
+crash-theorem call stops drive pick script run text log_failed data_failed log_old data_old laws done options taken taken_now log_only_is log_is data_is pick_is printed log_tells data_tells =
+    let told = crash-told call stops drive.log_only pick script run text log_failed data_failed log_old data_old done log_tells data_tells in
+    let asked : AreTheOptions options drive.log_only stops pick = record { log_only_is = log_only_is; stop_log = log_is; stop_data = data_is; pick_is = pick_is } in
     record {
       log_device = device_of _ _ _ _ told.log_told;
       data_device = device_of _ _ _ _ told.data_told;
       is_log = is-device stops.log pick _ _ _ _ log_failed told.log_told told.log_crashed done.back.crashed.log_device.from;
       is_data = is-device stops.store pick _ _ _ _ data_failed told.data_told told.data_crashed done.back.crashed.data_device.from;
-      as_asked = as-asked call stops pick script run text log_failed data_failed log_old data_old laws.formatted done told options taken taken_now asked;
+      as_asked = as-asked call stops drive.log_only pick script run text log_failed data_failed log_old data_old laws.formatted done told options taken taken_now asked;
       safe = λ opened premises. (
-        account_of call stops pick script run text log_failed data_failed log_old data_old done,
-        theorem-on call stops pick script run text log_failed data_failed log_old data_old laws done told options taken taken_now asked printed opened premises,
+        account_of call stops drive.log_only pick script run text log_failed data_failed log_old data_old done,
+        theorem-on call stops drive.log_only pick script run text log_failed data_failed log_old data_old laws done told options taken taken_now asked printed opened premises,
       );
     }

@@ -19,10 +19,10 @@ use Rattle.redo_memdisk.specs.Fuse.{fresh}
 use Rattle.redo_memdisk.specs.declared.fuse.Fuse.{Fuse}
 use Rattle.redo_lab.specs.Call.{AreLeftAlone, Call, LabCall}
 use Rattle.redo_lab.specs.Cause.{AsksNothing}
-use Rattle.redo_lab.specs.Complete.{IsComplete}
+use Rattle.redo_lab.specs.Complete.{IsComplete, MayKeepFrom}
 use Rattle.redo_lab.specs.Devices.{IsToldAtMost}
 use Rattle.redo_lab.specs.Ending.{HasFault, HasReport, HasText, IsEnding, IsFaultPrinted, IsTextPrinted, IsToldAsAsked, success}
-use Rattle.redo_lab.specs.Outcome.{EndsCommand, IsCrashWith, IsDoneOrMemory, IsOutcomePrinted, IsReported, IsSafeOutcome, crash_of}
+use Rattle.redo_lab.specs.Outcome.{EndsCommand, IsCrashWith, IsDoneOrKeptFrom, IsOutcomePrinted, IsReported, IsSafeOutcome, crash_of}
 use Rattle.redo_lab.specs.Promise.{IsCrashSafe}
 use Rattle.redo_lab.specs.declared.outcome.Outcome.{Outcome}
 use Rattle.redo_lab.specs.declared.outcome.Outcome.TheVariants as outcome
@@ -96,15 +96,15 @@ text-taken text status sink sink_now printed ended = ⊎_elim
     (λ part. absurd (faulty fault.Sink (sym part.0 ∙ ended)))
     printed
 
-safe-crash : (lab : LabCall) (options : CrashOptions) (drive : Drive) (o : Outcome)
+safe-crash : (lab : LabCall) (options : CrashOptions) (drive : Drive) (o : Outcome) → options.log_only ≡ drive.log_only
     → IsSafeOutcome lab.call (Crash drive options.stop_log options.stop_data options.pick) o
     → IsOutcomePrinted o lab.status lab.sink lab.sink_now → lab.status ≡ success
     → lab.call.log_device.tells ≢ None → lab.call.data_device.tells ≢ None
     → IsCrashWith lab.call options lab.sink.taken lab.sink_now.taken
-safe-crash lab options drive (outcome.Text text) safe printed ended log_tells data_tells =
-    safe options lab.sink.taken lab.sink_now.taken refl refl refl (text-taken text lab.status lab.sink lab.sink_now printed ended) log_tells data_tells
-safe-crash lab options drive (outcome.Report text f) safe printed ended log_tells data_tells = absurd (faulty f (sym printed.0 ∙ ended))
-safe-crash lab options drive (outcome.Fault f) safe printed ended log_tells data_tells = absurd (faulty f (sym printed.0 ∙ ended))
+safe-crash lab options drive (outcome.Text text) log_only safe printed ended log_tells data_tells =
+    safe options lab.sink.taken lab.sink_now.taken log_only refl refl refl (text-taken text lab.status lab.sink lab.sink_now printed ended) log_tells data_tells
+safe-crash lab options drive (outcome.Report text f) log_only safe printed ended log_tells data_tells = absurd (faulty f (sym printed.0 ∙ ended))
+safe-crash lab options drive (outcome.Fault f) log_only safe printed ended log_tells data_tells = absurd (faulty f (sym printed.0 ∙ ended))
 
 call-is-safe : (lab : LabCall) (command : Command) (o : Outcome) → command_of lab.call.words ≡ Some command → EndsCommand lab.call command o
     → IsOutcomePrinted o lab.status lab.sink lab.sink_now → IsCrashSafe lab
@@ -113,7 +113,7 @@ call-is-safe lab command o asked ends printed options asks ended log_tells data_
     let same : command ≡ Crash drive options.stop_log options.stop_data options.pick = cc (asked, asks.asked) in
     let P : Command → Type 0 = λ command. IsSafeOutcome lab.call command o in
     let safe = subst P same ends.safe in
-    let crash = safe-crash lab options drive o safe printed ended log_tells data_tells in (
+    let crash = safe-crash lab options drive o asks.log_only safe printed ended log_tells data_tells in (
       crash_of lab.call options lab.sink.taken lab.sink_now.taken crash.log_device crash.data_device,
       record {
         ended = ended;
@@ -129,12 +129,13 @@ call-is-safe lab command o asked ends printed options asks ended log_tells data_
       crash.safe,
     )
 
-done-status : (o : Outcome) (status : ℕ) (sink sink_now : SinkSeen) → IsOutcomePrinted o status sink sink_now
-    → (HasRisen sink.faults sink_now.faults → ⊥) → IsDoneOrMemory o → (status ≡ success) ⊎ (status ≡ status_of fault.Memory)
-done-status (outcome.Text text) status sink sink_now printed unfailed done =
+done-status : (command : Command) (o : Outcome) (status : ℕ) (sink sink_now : SinkSeen) → IsOutcomePrinted o status sink sink_now
+    → (HasRisen sink.faults sink_now.faults → ⊥) → IsDoneOrKeptFrom command o
+    → (status ≡ success) ⊎ ((f : Fault) × MayKeepFrom command f × (status ≡ status_of f))
+done-status command (outcome.Text text) status sink sink_now printed unfailed done =
     ⊎_elim (λ all. inl all.0) (λ part. absurd (unfailed part.1)) printed
-done-status (outcome.Report text f) status sink sink_now printed unfailed done = absurd done
-done-status (outcome.Fault f) status sink sink_now printed unfailed done = inr (printed.0 ∙ ap status_of done)
+done-status command (outcome.Report text f) status sink sink_now printed unfailed done = absurd done
+done-status command (outcome.Fault f) status sink sink_now printed unfailed done = inr (f, done, printed.0)
 
 call-is-complete : (lab : LabCall) (command : Command) (o : Outcome) → command_of lab.call.words ≡ Some command → EndsCommand lab.call command o
     → IsOutcomePrinted o lab.status lab.sink lab.sink_now → IsComplete lab
@@ -142,7 +143,7 @@ call-is-complete lab command o asked ends printed other asked_other possible unf
     let same : other ≡ command = cc (asked, asked_other) in
     let Owed : Command → Type 0 = λ command. EndsCommand lab.call command o in
     let ends_other = subst Owed (sym same) ends in
-    done-status o lab.status lab.sink lab.sink_now printed unfailed.sink (ends_other.complete possible unfailed.source unfailed.devices)
+    done-status other o lab.status lab.sink lab.sink_now printed unfailed.sink (ends_other.complete possible unfailed.source unfailed.devices)
 
 told-asked : (call : Call) (command : Command) → command_of call.words ≡ Some command → IsToldAsAsked call command
     → IfSome (command_of call.words) (IsToldAsAsked call)
@@ -181,7 +182,7 @@ still-tells old new same tells none = tells (ap (λ (seen : Seen). seen.tells) (
 nothing-complete : (lab : LabCall) (f : Fault) → AsksNothing lab.call f → lab.status ≡ status_of f → IsComplete lab
 nothing-complete lab f nothing status command asked possible unfailed = ⊎_elim
     (λ other. let none = other.0 in cc)
-    (λ memory. inr (status ∙ ap status_of memory))
+    (λ memory. inr (fault.Memory, tt, status ∙ ap status_of memory))
     nothing.fault_is
 
 -- THE CALL OF OTHER WORDS.

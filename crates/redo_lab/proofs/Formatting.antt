@@ -97,7 +97,7 @@ format-ends call pages space log_blocks (Err e) unread both limits law formatted
   told = record { log_device = told-unarmed _ _ _ _ _ both.log_device; data_device = told-unarmed _ _ _ _ _ both.data_device };
   log_tells = both.log_device.same.tells;
   data_tells = both.data_device.same.tells;
-  complete = λ possible source unfailed. refl;
+  complete = λ possible source unfailed. tt;
   safe = tt;
 }
 
@@ -155,7 +155,7 @@ format-fails call pages space log_blocks NoMemory unread both short = record {
   told = record { log_device = told-unarmed _ _ _ _ _ both.log_device; data_device = told-unarmed _ _ _ _ _ both.data_device };
   log_tells = both.log_device.same.tells;
   data_tells = both.data_device.same.tells;
-  complete = λ possible source unfailed. refl;
+  complete = λ possible source unfailed. tt;
   safe = tt;
 }
 format-fails call pages space log_blocks NotFormatted unread both short = absurd short

@@ -1,58 +1,30 @@
 -- The store that was found when both fuses were armed, and what is left of it where a run ended before its first line.
-use Rattle.std.proofs.Common.{ℕ, sym, ap, ◌∙◌, inl, inr, ⊎_elim}
+use Rattle.std.proofs.Common.{ℕ, None, sym, subst, ap, ◌∙◌, inl, inr, ⊎_elim}
 use Rattle.model_base.specs.Limits.{default_shape}
 use Rattle.model_device.specs.Disk.{Disk}
-use Rattle.model_opening.specs.Formatted.{IsFormatted, KeepsNoStore}
+use Rattle.model_opening.specs.Formatted.{KeepsNoStore}
 use Rattle.model_opening.specs.Opened.{IsOpenable, KeepsOpened}
+use Rattle.model_theorem.specs.Opening.{IsOpenedBefore}
 use Rattle.model_store.specs.declared.refusal.Refusal.{Refusal}
 use Rattle.redo_memdisk.specs.declared.fuse.Fuse.{Fuse}
 use Rattle.redo_open.specs.Devices.{WhereBothTell}
 use Rattle.redo_lab.specs.Call.{AreLeftAlone, Call}
-use Rattle.redo_lab.specs.Cause.{AreFound, IsBegunOrKept, IsFoundKept, KeepsStore, LeavesStore}
+use Rattle.redo_lab.specs.Cause.{IsBegunOrKept, IsFoundKept, KeepsStore, LeavesStopped, LeavesStore}
 use Rattle.redo_lab.specs.Course.{AreRefusedOpened, AreStopped, AreUnderWay, KeepsFound}
-use Rattle.redo_lab.specs.Devices.{WhereToldAtEntry}
+use Rattle.redo_lab.specs.Devices.{IsOpenedFirst}
 use Rattle.redo_lab.specs.Prepared.{AreTooShort, EndUnprepared}
 use Rattle.redo_lab.specs.declared.playing.Stops.{Stops}
-use Rattle.redo_lab.proofs.CrashSafe.{same-disk}
-use Rattle.redo_lab.proofs.Keeping.{OpenableLaw, keeps-stopped, keeps-store, keeps-unprepared, kept-both}
+use Rattle.redo_lab.proofs.Keeping.{OpenableLaw, keeps-under_way, keeps-store, keeps-unprepared, kept-both}
 use Rattle.redo_lab.proofs.PlainEnds.{kept-alone}
-use Rattle.redo_lab.proofs.RunPlayed.{FormattedLaw, default-within, told-still}
+use Rattle.redo_lab.proofs.RunPlayed.{FormattedLaw, are-found, armed-same, stopped-on, was-found}
 use Rattle.redo_lab.proofs.Told.{OneAnswer, both-told}
-
--- WHAT WAS FOUND
-are-found : (call : Call) (stops : Stops) (log_failed data_failed : ℕ) → FormattedLaw
-    → AreUnderWay call.log_device call.data_device stops log_failed data_failed call.log_device_now call.data_device_now
-    → WhereToldAtEntry call (AreFound call)
-are-found call stops log_failed data_failed law way log data_disk log_is data_is =
-    let log_told = told-still call.log_device.tells way.log_found.seen.tells log way.prepared.log_device.same.tells log_is in
-    let data_told = told-still call.data_device.tells way.data_found.seen.tells data_disk way.prepared.data_device.same.tells data_is in
-    record {
-      log_found = log_told.0;
-      data_found = data_told.0;
-      log_is = way.log_device.armed_from ∙ log_told.1;
-      data_is = way.data_device.armed_from ∙ data_told.1;
-      unused = λ unused. ⊎_elim
-          (λ formatted. law default_shape log_told.0 data_told.0 default-within
-          (both-told way.log_found.seen.tells way.data_found.seen.tells (IsFormatted default_shape) formatted.formatted
-          log_told.0 data_told.0 log_told.1 data_told.1))
-          (λ in_use. absurd (in_use.used log data_disk log_is data_is unused))
-          way.prepared.which;
-      log_in_use = λ used. ⊎_elim
-          (λ formatted. absurd (used (formatted.unused log data_disk log_is data_is)))
-          (λ in_use. same-disk _ _ log_told.0 log in_use.kept.log_device.tells log_told.1 log_is)
-          way.prepared.which;
-      data_in_use = λ used. ⊎_elim
-          (λ formatted. absurd (used (formatted.unused log data_disk log_is data_is)))
-          (λ in_use. same-disk _ _ data_told.0 data_disk in_use.kept.data_device.tells data_told.1 data_is)
-          way.prepared.which;
-    }
 
 -- IT IS KEPT
 found-kept : (call : Call) (stops : Stops) (log_failed data_failed : ℕ) → FormattedLaw
     → (way : AreUnderWay call.log_device call.data_device stops log_failed data_failed call.log_device_now call.data_device_now)
     → KeepsFound way.log_found way.data_found call.log_device_now call.data_device_now → IsFoundKept call
 found-kept call stops log_failed data_failed law way keeps = record {
-  found = are-found call stops log_failed data_failed law way;
+  found = are-found call way.log_found way.data_found law way.prepared way.log_device.armed_from way.data_device.armed_from;
   keeps = λ log data_disk opened log_is data_is openable log_now data_now log_now_is data_now_is.
       (let Keeps : Disk → Disk → Type 0 = λ log data_disk. IsOpenable opened log data_disk
       → WhereBothTell call.log_device_now.seen.tells call.data_device_now.seen.tells (KeepsOpened opened) in
@@ -87,7 +59,7 @@ leaves-alone call law alone = (
 )
 
 pub leaves-unprepared : (call : Call) (log_failed data_failed : ℕ) → OneAnswer → OpenableLaw
-    → EndUnprepared call.log_device call.data_device log_failed data_failed call.log_device_now call.data_device_now → LeavesStore call
+    → EndUnprepared call.log_device call.data_device log_failed data_failed call.log_device_now call.data_device_now → LeavesStopped call
 leaves-unprepared call log_failed data_failed one law ends = (
   keeps-unprepared call log_failed data_failed one law ends,
   inl (record { log_device = ends.log_device.stage; data_device = ends.data_device.stage; left = begun-or-kept call log_failed data_failed ends }),
@@ -100,11 +72,32 @@ leaves-short call cause law short = (
   inl (record { log_device = short.ends.log_device.stage; data_device = short.ends.data_device.stage; left = inr (kept-both call short.kept) }),
 )
 
+pub leaves-unstarted : (call : Call) (stops : Stops) (log_failed data_failed : ℕ) → OneAnswer → FormattedLaw
+    → (way : AreUnderWay call.log_device call.data_device stops log_failed data_failed call.log_device_now call.data_device_now)
+    → KeepsFound way.log_found way.data_found call.log_device_now call.data_device_now → LeavesStore call
+leaves-unstarted call stops log_failed data_failed one law way keeps =
+    (keeps-under_way call stops log_failed data_failed one way keeps, inr (found-kept call stops log_failed data_failed law way keeps))
+
+-- and of one on which a device stopped opening
+stopped-first : (call : Call) (stops : Stops) (log_failed data_failed : ℕ) → OneAnswer → FormattedLaw
+    → AreStopped call.log_device call.data_device stops log_failed data_failed call.log_device_now call.data_device_now
+    → IsOpenedFirst call call.log_device_now.seen.tells None
+stopped-first call stops log_failed data_failed one law stopped log data_disk opened log_is data_is log_fresh data_fresh opens armed_from disk armed_is now_is =
+    let way = stopped.way in
+    let found = was-found call.log_device call.data_device way.log_found way.data_found log data_disk call.log_device.faults call.data_device.faults
+    opened one law way.prepared log_is data_is log_fresh data_fresh opens in
+    subst (λ (armed_from : Disk). IsOpenedBefore opened.shape armed_from disk None)
+    (armed-same _ _ found.log armed_from way.log_device.armed_from found.log_is armed_is)
+    (stopped-on way.log_found way.data_found call.log_device_now opened found stopped.unmoved disk now_is)
+
 pub leaves-stopped : (call : Call) (stops : Stops) (log_failed data_failed : ℕ) → OneAnswer → FormattedLaw
-    → AreStopped call.log_device call.data_device stops log_failed data_failed call.log_device_now call.data_device_now → LeavesStore call
+    → AreStopped call.log_device call.data_device stops log_failed data_failed call.log_device_now call.data_device_now → LeavesStopped call
 leaves-stopped call stops log_failed data_failed one law stopped = (
-  keeps-stopped call stops log_failed data_failed one stopped,
-  inr (found-kept call stops log_failed data_failed law stopped.way stopped.keeps),
+  keeps-under_way call stops log_failed data_failed one stopped.way stopped.keeps,
+  inr (
+    found-kept call stops log_failed data_failed law stopped.way stopped.keeps,
+    stopped-first call stops log_failed data_failed one law stopped,
+  ),
 )
 
 -- what isn't read isn't in use

@@ -13,7 +13,7 @@ use Rattle.redo_disk.specs.Seen.{Seen}
 use Rattle.redo_open.specs.Devices.{WhereBothTell}
 use Rattle.redo_lab.specs.Call.{AreKept, Call, Guarded}
 use Rattle.redo_lab.specs.Cause.{KeepsStore}
-use Rattle.redo_lab.specs.Course.{AreStopped}
+use Rattle.redo_lab.specs.Course.{AreUnderWay, KeepsFound}
 use Rattle.redo_lab.specs.Prepared.{BothKept, EndUnprepared, WasUnused}
 use Rattle.redo_lab.specs.Store.{AreReadAsOpened}
 use Rattle.redo_lab.specs.declared.playing.Stops.{Stops}
@@ -77,9 +77,10 @@ found-told : (found : Guarded) (entry : Seen) (disk : Disk) → found.seen.tells
 found-told found entry disk same is = same ∙ is
 
 -- a store in use that is read with its pages behind an opening that ended early
-pub keeps-stopped : (call : Call) (stops : Stops) (log_failed data_failed : ℕ) → OneAnswer
-    → AreStopped call.log_device call.data_device stops log_failed data_failed call.log_device_now call.data_device_now → KeepsStore call
-keeps-stopped call stops log_failed data_failed one stopped log data_disk opened log_is data_is log_fresh data_fresh opens log_now data_now log_now_is data_now_is =
+pub keeps-under_way : (call : Call) (stops : Stops) (log_failed data_failed : ℕ) → OneAnswer
+    → (way : AreUnderWay call.log_device call.data_device stops log_failed data_failed call.log_device_now call.data_device_now)
+    → KeepsFound way.log_found way.data_found call.log_device_now call.data_device_now → KeepsStore call
+keeps-under_way call stops log_failed data_failed one way kept log data_disk opened log_is data_is log_fresh data_fresh opens log_now data_now log_now_is data_now_is =
     let openable = openable-fresh log data_disk call.log_device.faults call.data_device.faults opened log_fresh data_fresh opens in
     ⊎_elim
     (λ formatted. absurd (unused-unread one log.reads data_disk.reads opens.reading (formatted.unused log data_disk log_is data_is) opens.orderly.reads))
@@ -88,8 +89,8 @@ keeps-stopped call stops log_failed data_failed one stopped log data_disk opened
     let data_found = in_use.kept.data_device.tells ∙ data_is in
     let Keeps : Disk → Disk → Type 0 = λ log data_disk. IsOpenable opens.reading log data_disk
     → WhereBothTell call.log_device_now.seen.tells call.data_device_now.seen.tells (KeepsOpened opens.reading) in
-    let keeps = both-told stopped.way.log_found.seen.tells stopped.way.data_found.seen.tells Keeps (stopped.keeps opens.reading)
+    let keeps = both-told way.log_found.seen.tells way.data_found.seen.tells Keeps (kept opens.reading)
     log data_disk log_found data_found openable in
     as-opened opened opens.reading log_now data_now opens.shape_is opens.pages_are
     (both-told _ _ (KeepsOpened opens.reading) keeps log_now data_now log_now_is data_now_is))
-    stopped.way.prepared.which
+    way.prepared.which

@@ -14,6 +14,7 @@ pub mod Found
 pub mod Keeping
 pub mod LinesRun
 pub mod Once
+pub mod OpenedFirst
 pub mod OpenedRun
 pub mod PlainEnds
 pub mod Preparing
@@ -26,5 +27,6 @@ pub mod SomeLeft
 pub mod Stages
 pub mod Telling
 pub mod Told
+pub mod Turned
 pub mod UnderWay
 pub mod Unscripted

@@ -1,169 +1,181 @@
 -- What the lines of a script come to that were run on an opened store.
-use Rattle.std.proofs.Common.{ℕ, zero, suc, ◌≡◌, ◌<◌, ◌==◌, Bool, true, false, cond, List, [], ◌∷◌, ◌++◌, length, slice_get, Option, Some, None, refl, sym, ap, subst, ◌∙◌, arith}
-use Rattle.std.specs.Prelude.{nat_le}
-use Rattle.std.proofs.lemmas.List.{append-nil}
-use Rattle.model_history.specs.Answered.{state_by}
-use Rattle.model_history.specs.Legal.{IsLeft, entries_of_user, lines_of_user}
-use Rattle.model_history.specs.declared.entry.Entry.{Entry}
-use Rattle.model_history.specs.declared.entry.Marks.{Marks}
-use Rattle.model_history.specs.declared.entry.State.TheVariants.{Lost}
-use Rattle.model_logdev.specs.declared.marks.LogMarks.{LogMarks}
+use Rattle.std.proofs.Common.{ℕ, ◌≡◌, ◌<◌, ◌+◌, ◌⊎◌, List, Option, Some, None, IfSome, refl, sym, ap, subst, ◌∙◌, inl, inr, ⊎_elim, arith}
+use Rattle.model_run.specs.Closed.{IsClosed}
+use Rattle.model_run.specs.Start.{IsStart, opened_as}
 use Rattle.model_report.specs.declared.fault.Fault.TheVariants as fault
-use Rattle.model_run.specs.InTurn.{end_from, end_in_turn, entries_in_turn, entries_lost, lines_lost, played}
-use Rattle.model_run.specs.PlayedOut.{AreTurnsOf, Turns, run_in_turn}
-use Rattle.model_run.proofs.Turns.{not-lost}
+use Rattle.model_script.specs.Fit.{ScriptFits}
 use Rattle.model_script.specs.declared.script.ScriptLine.{ScriptLine}
 use Rattle.model_theorem.specs.Run.{LosesOnlyByFailure}
-use Rattle.model_theorem.specs.Values.{Ran}
-use Rattle.redo_disk.specs.Calls.{Call, MayEndWith}
+use Rattle.redo_disk.specs.Calls.{Call, MayEndWith, failures}
 use Rattle.redo_disk.specs.Made.{MakesCalls}
 use Rattle.redo_disk.specs.Seen.{Seen}
 use Rattle.redo_disk.specs.declared.error.DevError.{DevError}
 use Rattle.redo_disk.specs.declared.error.DevError.TheVariants.{Failed, NoMemory}
-use Rattle.redo_disk.proofs.Calls.{MayEndWith-ends}
-use Rattle.redo_disk.proofs.Made.{none_may_end, out_of_memory, weaker_calls}
-use Rattle.redo_pageactors.specs.Opened.{IsRunnable}
+use Rattle.redo_disk.proofs.Made.{may_end, none_may_end, out_of_memory}
+use Rattle.redo_machine.specs.Beginning.{room_from}
+use Rattle.redo_machine.specs.Drive.{ComesToRun, HasMemory, IsOwed, ran_of}
+use Rattle.redo_machine.specs.declared.drive.Driven.{Driven}
+use Rattle.redo_machine.specs.declared.drive.Turns.{Turns}
+use Rattle.redo_machine.specs.declared.running.Ran.{Ran}
+use Rattle.redo_machine.specs.declared.running.Ran.TheVariants as ended
 use Rattle.redo_pageactors.specs.declared.closed.Closed.{Closed}
 use Rattle.redo_pageactors.specs.declared.opened.Opened.{Opened}
 use Rattle.redo_script.specs.Judged.{IsUnfitScript}
 use Rattle.redo_script.specs.declared.unfit.Unfit.{Unfit}
 use Rattle.redo_script.specs.declared.unfit.Unfit.TheVariants as unfit
-use Rattle.redo_serial.specs.Runs as serial
-use Rattle.redo_serial.specs.Runs.{IsOwed, IsRunFrom, MayRun, PlaysInTurn, StopsAt, code_of}
-use Rattle.redo_store.specs.Part as data_part
-use Rattle.redo_lab.specs.Answer.{IsInTurn}
-use Rattle.redo_lab.specs.Playing.{IsWithoutMemory, Plays, course_of, fault_of_unfit, played_of, room_end}
+use Rattle.redo_lab.specs.Playing.{AreRun, AreSpentOn, IsWithoutMemory, MakeCalls, Plays, course_done, course_of, ended_by, fault_of_unfit, played_of}
 use Rattle.redo_lab.specs.declared.playing.Course.TheVariants as course
 
--- each answered line has its entry
-same-more : (b : Bool) (entry : Entry) (entries : List Entry) (line : ScriptLine) (lines : List ScriptLine) → length entries ≡ length lines
-    → length (cond b (entry ∷ entries) entries) ≡ length (cond b (line ∷ lines) lines)
-same-more true entry entries line lines same = omega (arith, same)
-same-more false entry entries line lines same = same
+-- calls of which none failed, as those that want of memory may have ended
+may-lack : {D : Type 0} {gives : D → Call → D → Type 0} {old new : D} (error : Option DevError) → (error ≡ None) ⊎ (error ≡ Some NoMemory)
+    → MakesCalls gives old new (MayEndWith error) → MakesCalls gives old new (MayEndWith (Some NoMemory))
+may-lack {gives = gives} {old = old} {new = new} error which made =
+    let Made : Option DevError → Type 0 = λ e. MakesCalls gives old new (MayEndWith e) in
+    ⊎_elim (λ none. out_of_memory (subst Made none made)) (λ lack. subst Made lack made) which
 
-counts-turn : (user : ℕ) (marks : Marks) (space start : ℕ) (done lines : List ScriptLine)
-    → length (entries_of_user user (entries_in_turn marks space done start lines)) ≡ length (lines_of_user user lines)
-counts-turn user marks space start done [] = refl
-counts-turn user marks space start done (line ∷ lines) =
-    same-more (line.user == user) _ _ line _ (counts-turn user marks space (end_from space start line) (done ++ line ∷ []) lines)
+-- WANT OF MEMORY: where a device failed, that of the other doesn't count
+pub some-failed : {L D : Type 0} (closed : Closed L D) (log_error data_error : Option DevError) → closed.log.failed ≡ log_error → closed.store.failed ≡ data_error
+    → 0 < failures log_error + failures data_error → HasMemory closed
+some-failed closed log_error data_error log_is data_is some lacks =
+    let log_same = ap failures log_is in let data_same = ap failures data_is in omega arith
 
--- so where all lines were answered none is left
-none-left : (script : List ScriptLine) (entries : List Entry) (left : List (ℕ × ℕ)) → ((user : ℕ) → length (entries_of_user user entries) ≡ length (lines_of_user user script))
-    → IsLeft script entries left → left ≡ []
-none-left script entries [] counts is = refl
-none-left script entries (pair ∷ left) counts is =
-    let more = is.counts 0 pair refl in
-    let some : 0 < pair.1 = is.some 0 pair refl in
-    absurd (omega (arith, counts pair.0, more))
+pub none-lacks : {L D : Type 0} (closed : Closed L D) → closed.log.failed ≡ None → closed.store.failed ≡ None → HasMemory closed
+none-lacks closed log_is data_is lacks = ⊎_elim (λ log. let e = sym log_is ∙ log in absurd (cc)) (λ store. let e = sym data_is ∙ store in absurd (cc)) lacks
 
--- and none of them is lost
-none-lost : (marks : Marks) (space start i : ℕ) (done lines : List ScriptLine) (entry : Entry)
-    → slice_get (entries_in_turn marks space done start lines) i ≡ Some entry → entry.state ≡ Lost → ⊥
-none-lost marks space start i done [] entry at lost = cc
-none-lost marks space start zero done (line ∷ lines) entry at lost =
-    let end : ℕ = end_from space start line in
-    let same : record { user = line.user; k = length (lines_of_user line.user done); start = start; end = end; state = state_by marks end } ≡ entry = cc in
-    not-lost (nat_le end marks.flushed) (nat_le end marks.write) (ap (λ (e : Entry). e.state) same ∙ lost)
-none-lost marks space start (suc i) done (line ∷ lines) entry at lost =
-    none-lost marks space (end_from space start line) i (done ++ line ∷ []) lines entry at lost
+-- a run that was driven so: what the drive promises of it
+record IsDriven {L D : Type 0} (log_seen : L → Seen) (log_gives : L → Call → L → Type 0) (data_seen : D → Seen) (data_gives : D → Call → D → Type 0)
+    (opened : Opened L D) (turns : Turns) (script : List ScriptLine) (driven : Driven L D) : Type 0 where
+  pub fits : ScriptFits opened.shape opened.start (room_from turns.log_only opened.shape opened.start) script
+  pub comes_to : ComesToRun log_gives data_gives opened script driven
+  pub owed : IsOwed log_seen data_seen opened script driven
 
--- the history of a run in which every line was answered
-whole-history : (script : List ScriptLine) (marks : Marks) (space start : ℕ) (turns : Turns) → AreTurnsOf script turns → turns.lost ≡ None → turns.rest ≡ []
-    → played marks space start turns.answered turns.lost ≡ entries_in_turn marks space [] start script
-whole-history script marks space start turns are lost rest =
-    let all : turns.answered ≡ script =
-    sym (are ∙ ap (λ o. turns.answered ++ (lines_lost o ++ turns.rest)) lost ∙ ap (λ ls. turns.answered ++ ls) rest ∙ append-nil turns.answered) in
-    ap (λ o. entries_in_turn marks space [] start turns.answered ++ entries_lost space turns.answered (end_in_turn space start turns.answered) o) lost
-    ∙ append-nil (entries_in_turn marks space [] start turns.answered) ∙ ap (entries_in_turn marks space [] start) all
+module _ {L D : Type 0} (log_seen : L → Seen) (log_gives : L → Call → L → Type 0) (data_seen : D → Seen) (data_gives : D → Call → D → Type 0)
+    (opened : Opened L D) (turns : Turns) (script : List ScriptLine) (driven : Driven L D) (is : IsDriven log_seen log_gives data_seen data_gives opened turns script driven) where
+  calls-by : (log_error data_error : Option DevError) → driven.closed.log.failed ≡ log_error → driven.closed.store.failed ≡ data_error
+      → MakeCalls log_gives data_gives opened log_error data_error driven.closed.log.dev driven.closed.store.dev
+  calls-by log_error data_error log_is data_is = record {
+    log = subst (λ (e : Option DevError). MakesCalls log_gives opened.log.dev driven.closed.log.dev (MayEndWith e)) log_is (may_end (is.comes_to.log_calls.live refl));
+    data_part = subst (λ (e : Option DevError). MakesCalls data_gives opened.store.dev driven.closed.store.dev (MayEndWith e)) data_is (may_end (is.comes_to.data_calls.live refl));
+  }
 
-loses-none : (script : List ScriptLine) (run : Ran) (marks : Marks) (space start : ℕ) (left : List (ℕ × ℕ)) → run.entries ≡ entries_in_turn marks space [] start script
-    → IsLeft script run.entries left → LosesOnlyByFailure 0 (Some run) left
-loses-none script run marks space start left whole is = record {
-  lost = λ i entry at lost.
-      absurd (none-lost marks space start i [] script entry (ap (λ (es : List Entry). slice_get es i) (sym whole) ∙ at) lost);
-  left = λ some. absurd (some (none-left script run.entries left
-      (λ user. ap (λ (es : List Entry). length (entries_of_user user es)) whole ∙ counts-turn user marks space start [] script) is));
-  stopped = λ none. absurd (cc);
-}
+  -- all users ended, and no device was without memory, or one failed
+  run-by : (log_error data_error : Option DevError) → driven.closed.log.failed ≡ log_error → driven.closed.store.failed ≡ data_error
+      → driven.ended ≡ ended.Done → HasMemory driven.closed
+      → AreRun log_seen log_gives data_seen data_gives opened turns script (played_of opened.start driven.closed) log_error data_error driven.closed.log.dev driven.closed.store.dev
+  run-by log_error data_error log_is data_is done memory =
+      let both : failures driven.closed.log.failed + failures driven.closed.store.failed ≡ failures log_error + failures data_error =
+      ap (λ (e : Option DevError). failures e + failures driven.closed.store.failed) log_is ∙ ap (λ (e : Option DevError). failures log_error + failures e) data_is in
+      record {
+        fits = is.fits;
+        is_run = is.comes_to.is_run;
+        loses = λ left left_is. subst (λ (n : ℕ). LosesOnlyByFailure n (Some (ran_of opened.start driven.closed)) left) both (is.comes_to.loses left done memory left_is);
+        owed = λ reading left opens left_is.
+            (let Owed : ℕ → Type 0 = λ n. IfSome (log_seen opened.log.dev).tells (λ log_disk. IfSome (data_seen opened.store.dev).tells (λ data_disk.
+            IsStart reading script log_disk data_disk
+            → IfSome (log_seen driven.closed.log.dev).tells (λ log_now. IfSome (data_seen driven.closed.store.dev).tells (λ data_now.
+            IsClosed n (record {
+              script = script;
+              opened = opened_as reading;
+              number = reading.number + 1;
+              run = ran_of opened.start driven.closed;
+              left = left;
+              log_disk = log_now;
+              data_disk = data_now;
+            }))))) in
+            subst Owed both (is.owed reading left done memory opens left_is));
+        calls = calls-by log_error data_error log_is data_is;
+      }
 
-loses-some : (run : Ran) (left : List (ℕ × ℕ)) → LosesOnlyByFailure 1 (Some run) left
-loses-some run left = record { lost = λ i entry at lost. omega arith; left = λ some. omega arith; stopped = λ none. absurd (cc) }
+  -- a device was without memory, and none failed
+  out-of-memory : (log_error data_error : Option DevError) → driven.closed.log.failed ≡ log_error → driven.closed.store.failed ≡ data_error
+      → (log_error ≡ None) ⊎ (log_error ≡ Some NoMemory) → (data_error ≡ None) ⊎ (data_error ≡ Some NoMemory)
+      → IsWithoutMemory log_gives data_gives opened driven.closed.log.dev driven.closed.store.dev
+  out-of-memory log_error data_error log_is data_is log_which data_which =
+      let calls = calls-by log_error data_error log_is data_is in record {
+        log = may-lack log_error log_which calls.log;
+        data_part = may-lack data_error data_which calls.data_part;
+      }
 
--- the calls of the log device
-log-calls : {L D : Type 0} {log_seen : L → Seen} {log_gives : L → Call → L → Type 0} {opened : Opened L D} {script : List ScriptLine} {closed : Closed L D} (failed : Option DevError)
-    → closed.log.failed ≡ failed → PlaysInTurn log_seen log_gives opened script closed → MakesCalls log_gives opened.log.dev closed.log.dev (MayEndWith failed)
-log-calls {log_gives = log_gives} {opened = opened} {closed = closed} failed is plays =
-    subst (λ (f : Option DevError). MakesCalls log_gives opened.log.dev closed.log.dev (MayEndWith f)) is
-    (weaker_calls (λ calls serve. MayEndWith-ends closed.log.failed calls serve.ends) plays.calls.calls)
+  lacks-log : {data_error : Option DevError}
+      → AreRun log_seen log_gives data_seen data_gives opened turns script (played_of opened.start driven.closed) None data_error driven.closed.log.dev driven.closed.store.dev
+      → AreRun log_seen log_gives data_seen data_gives opened turns script (played_of opened.start driven.closed) (Some NoMemory) data_error driven.closed.log.dev driven.closed.store.dev
+  lacks-log run = record {
+    fits = run.fits;
+    is_run = run.is_run;
+    loses = run.loses;
+    owed = run.owed;
+    calls = record { log = out_of_memory run.calls.log; data_part = run.calls.data_part };
+  }
 
--- each commit is flushed or lost, and no checkpoint was taken
-in-turn : {L D : Type 0} {log_seen : L → Seen} {log_gives : L → Call → L → Type 0} {opened : Opened L D} {script : List ScriptLine} {closed : Closed L D}
-    → IsRunnable opened → PlaysInTurn log_seen log_gives opened script closed → IsInTurn (serial.ran_of opened.start closed)
-in-turn {opened = opened} {closed = closed} runnable plays = record {
-  states = plays.states;
-  ckpt = ap (λ (run : Ran). run.marks.ckpt) plays.ran ∙ plays.ckpt ∙ ap (λ (marks : LogMarks). marks.ckpt) runnable.log_marks;
-}
+  -- ALL USERS ENDED, by what a call of each device answered that failed.
+  done-by : (log_error data_error : Option DevError) → driven.closed.log.failed ≡ log_error → driven.closed.store.failed ≡ data_error → driven.ended ≡ ended.Done
+      → Plays log_seen log_gives data_seen data_gives opened turns script (course_done (played_of opened.start driven.closed) (ended_by log_error data_error))
+      driven.closed.log.dev driven.closed.store.dev
+  done-by None None log_is data_is done = run-by None None log_is data_is done (none-lacks driven.closed log_is data_is)
+  done-by (Some Failed) data_error log_is data_is done =
+      record { data_error = data_error; are = run-by (Some Failed) data_error log_is data_is done (some-failed driven.closed (Some Failed) data_error log_is data_is (omega arith)) }
+  done-by None (Some Failed) log_is data_is done =
+      lacks-log (run-by None (Some Failed) log_is data_is done (some-failed driven.closed None (Some Failed) log_is data_is (omega arith)))
+  done-by (Some NoMemory) (Some Failed) log_is data_is done =
+      run-by (Some NoMemory) (Some Failed) log_is data_is done (some-failed driven.closed (Some NoMemory) (Some Failed) log_is data_is (omega arith))
+  done-by (Some NoMemory) None log_is data_is done = out-of-memory (Some NoMemory) None log_is data_is (inr refl) (inl refl)
+  done-by (Some NoMemory) (Some NoMemory) log_is data_is done = out-of-memory (Some NoMemory) (Some NoMemory) log_is data_is (inr refl) (inr refl)
+  done-by None (Some NoMemory) log_is data_is done = out-of-memory None (Some NoMemory) log_is data_is (inl refl) (inr refl)
 
--- LINES THAT WERE RUN, by what the call of the log device answered that failed.
-run-by : {L D : Type 0} (log_seen : L → Seen) (log_gives : L → Call → L → Type 0) (data_seen : D → Seen) (opened : Opened L D) (script : List ScriptLine) (closed : Closed L D)
-    (failed : Option DevError) → closed.log.failed ≡ failed → MayRun opened script → PlaysInTurn log_seen log_gives opened script closed
-    → IsRunFrom opened script closed → IsOwed log_seen data_seen opened script closed
-    → Plays log_seen log_gives data_seen opened script (course_of (played_of opened.start closed) failed) closed.log.dev closed.store.dev
-run-by log_seen log_gives data_seen opened script closed None is may plays is_run owed =
-    let stops : StopsAt None plays.turns = subst (λ (f : Option DevError). StopsAt f plays.turns) is plays.stops in
-    let space : ℕ = opened.shape.space in
-    let run : Ran = run_in_turn space opened.start closed.log.marks plays.turns in
-    let code : closed.code ≡ 0 = plays.code ∙ ap code_of is in
-    record {
-      fits = may.fits;
-      is_run = is_run;
-      in_turn = in-turn may.runnable plays;
-      loses = λ left left_is. loses-none script (serial.ran_of opened.start closed) run.marks space opened.start left
-          (ap (λ (run : Ran). run.entries) plays.ran ∙ whole-history script run.marks space opened.start plays.turns plays.turns_are stops.0 stops.1) left_is;
-      owed = λ reading left opens left_is. owed 0 reading left (λ other. absurd (omega (arith, code, other))) (λ one. absurd (omega (arith, code, one))) opens left_is;
-      log_calls = log-calls None is plays;
-      data_same = ap (λ (store : data_part.Part _). store.dev) plays.store;
-    }
-run-by log_seen log_gives data_seen opened script closed (Some Failed) is may plays is_run owed =
-    let code : closed.code ≡ 1 = plays.code ∙ ap code_of is in
-    record {
-      fits = may.fits;
-      is_run = is_run;
-      in_turn = in-turn may.runnable plays;
-      loses = λ left left_is. loses-some _ left;
-      owed = λ reading left opens left_is. owed 1 reading left (λ other. absurd (omega (arith, code, other))) (λ one. omega arith) opens left_is;
-      log_calls = log-calls (Some Failed) is plays;
-      data_same = ap (λ (store : data_part.Part _). store.dev) plays.store;
-    }
-run-by log_seen log_gives data_seen opened script closed (Some NoMemory) is may plays is_run owed = record {
-  log_calls = log-calls (Some NoMemory) is plays;
-  data_same = ap (λ (store : data_part.Part _). store.dev) plays.store;
-}
+  -- THE TURNS WERE SPENT.
+  spent-by : (user : ℕ) → driven.ended ≡ ended.Spent user
+      → AreSpentOn log_gives data_gives opened turns script turns.max user driven.closed.log.dev driven.closed.store.dev
+  spent-by user spent = record {
+    count_is = refl;
+    fits = is.fits;
+    played = played_of opened.start driven.closed;
+    is_run = is.comes_to.is_run;
+    log_error = driven.closed.log.failed;
+    data_error = driven.closed.store.failed;
+    leaves = is.comes_to.spent user spent;
+    calls = calls-by driven.closed.log.failed driven.closed.store.failed refl refl;
+  }
 
-pub lines-run : {L D : Type 0} (log_seen : L → Seen) (log_gives : L → Call → L → Type 0) (data_seen : D → Seen) (opened : Opened L D) (script : List ScriptLine) (closed : Closed L D)
-    → MayRun opened script → PlaysInTurn log_seen log_gives opened script closed
-    → IsRunFrom opened script closed → IsOwed log_seen data_seen opened script closed
-    → Plays log_seen log_gives data_seen opened script (course_of (played_of opened.start closed) closed.log.failed) closed.log.dev closed.store.dev
-lines-run log_seen log_gives data_seen opened script closed may plays is_run owed =
-    run-by log_seen log_gives data_seen opened script closed closed.log.failed refl may plays is_run owed
+  ended-by : (how : Ran) → driven.ended ≡ how
+      → Plays log_seen log_gives data_seen data_gives opened turns script
+      (course_of turns.max how (played_of opened.start driven.closed) (ended_by driven.closed.log.failed driven.closed.store.failed))
+      driven.closed.log.dev driven.closed.store.dev
+  ended-by ended.Done how = done-by driven.closed.log.failed driven.closed.store.failed refl refl how
+  ended-by (ended.Spent user) how = spent-by user how
+
+-- LINES THAT WERE RUN.
+pub lines-run : {L D : Type 0} (log_seen : L → Seen) (log_gives : L → Call → L → Type 0) (data_seen : D → Seen) (data_gives : D → Call → D → Type 0)
+    (opened : Opened L D) (turns : Turns) (script : List ScriptLine) (driven : Driven L D)
+    → ScriptFits opened.shape opened.start (room_from turns.log_only opened.shape opened.start) script
+    → ComesToRun log_gives data_gives opened script driven → IsOwed log_seen data_seen opened script driven
+    → Plays log_seen log_gives data_seen data_gives opened turns script
+    (course_of turns.max driven.ended (played_of opened.start driven.closed) (ended_by driven.closed.log.failed driven.closed.store.failed))
+    driven.closed.log.dev driven.closed.store.dev
+lines-run log_seen log_gives data_seen data_gives opened turns script driven fits comes_to owed =
+    ended-by log_seen log_gives data_seen data_gives opened turns script driven (record { fits = fits; comes_to = comes_to; owed = owed }) driven.ended refl
 
 -- LINES THAT WEREN'T RUN: the script doesn't fit, or memory ran out.
-without-memory : {L D : Type 0} (log_gives : L → Call → L → Type 0) (opened : Opened L D) (log_now : L) (data_now : D)
-    → log_now ≡ opened.log.dev → data_now ≡ opened.store.dev → IsWithoutMemory log_gives opened log_now data_now
-without-memory log_gives opened log_now data_now log_same data_same = record {
-  log_calls = subst (λ (one : _). MakesCalls log_gives opened.log.dev one (MayEndWith (Some NoMemory))) (sym log_same)
+without-memory : {L D : Type 0} (log_gives : L → Call → L → Type 0) (data_gives : D → Call → D → Type 0) (opened : Opened L D) (log_now : L) (data_now : D)
+    → log_now ≡ opened.log.dev → data_now ≡ opened.store.dev → IsWithoutMemory log_gives data_gives opened log_now data_now
+without-memory log_gives data_gives opened log_now data_now log_same data_same = record {
+  log = subst (λ (one : _). MakesCalls log_gives opened.log.dev one (MayEndWith (Some NoMemory))) (sym log_same)
       (out_of_memory (none_may_end log_gives opened.log.dev));
-  data_same = data_same;
+  data_part = subst (λ (one : _). MakesCalls data_gives opened.store.dev one (MayEndWith (Some NoMemory))) (sym data_same)
+      (out_of_memory (none_may_end data_gives opened.store.dev));
 }
 
-pub memory-ended : {L D : Type 0} (log_seen : L → Seen) (log_gives : L → Call → L → Type 0) (data_seen : D → Seen) (opened : Opened L D) (script : List ScriptLine) (log_now : L) (data_now : D)
-    → log_now ≡ opened.log.dev → data_now ≡ opened.store.dev → Plays log_seen log_gives data_seen opened script (course.Ended fault.Memory) log_now data_now
-memory-ended log_seen log_gives data_seen opened script log_now data_now log_same data_same = without-memory log_gives opened log_now data_now log_same data_same
+pub memory-ended : {L D : Type 0} (log_seen : L → Seen) (log_gives : L → Call → L → Type 0) (data_seen : D → Seen) (data_gives : D → Call → D → Type 0)
+    (opened : Opened L D) (turns : Turns) (script : List ScriptLine) (log_now : L) (data_now : D)
+    → log_now ≡ opened.log.dev → data_now ≡ opened.store.dev
+    → Plays log_seen log_gives data_seen data_gives opened turns script (course.Ended fault.Memory) log_now data_now
+memory-ended log_seen log_gives data_seen data_gives opened turns script log_now data_now log_same data_same =
+    without-memory log_gives data_gives opened log_now data_now log_same data_same
 
-pub unfit-ended : {L D : Type 0} (log_seen : L → Seen) (log_gives : L → Call → L → Type 0) (data_seen : D → Seen) (opened : Opened L D) (script : List ScriptLine) (u : Unfit) (log_now : L) (data_now : D)
-    → IsUnfitScript opened.shape opened.start (Some (room_end opened.shape opened.start)) script u → log_now ≡ opened.log.dev → data_now ≡ opened.store.dev
-    → Plays log_seen log_gives data_seen opened script (course.Ended (fault_of_unfit u)) log_now data_now
-unfit-ended log_seen log_gives data_seen opened script (unfit.Misfit misfit) log_now data_now is log_same data_same =
+pub unfit-ended : {L D : Type 0} (log_seen : L → Seen) (log_gives : L → Call → L → Type 0) (data_seen : D → Seen) (data_gives : D → Call → D → Type 0)
+    (opened : Opened L D) (turns : Turns) (script : List ScriptLine) (u : Unfit) (log_now : L) (data_now : D)
+    → IsUnfitScript opened.shape opened.start (room_from turns.log_only opened.shape opened.start) script u → log_now ≡ opened.log.dev → data_now ≡ opened.store.dev
+    → Plays log_seen log_gives data_seen data_gives opened turns script (course.Ended (fault_of_unfit u)) log_now data_now
+unfit-ended log_seen log_gives data_seen data_gives opened turns script (unfit.Misfit misfit) log_now data_now is log_same data_same =
     record { first = is; log_same = log_same; data_same = data_same }
-unfit-ended log_seen log_gives data_seen opened script unfit.NoMemory log_now data_now is log_same data_same =
-    without-memory log_gives opened log_now data_now log_same data_same
+unfit-ended log_seen log_gives data_seen data_gives opened turns script unfit.NoMemory log_now data_now is log_same data_same =
+    without-memory log_gives data_gives opened log_now data_now log_same data_same

@@ -1,5 +1,5 @@
 -- A store that was opened on two devices whose fuses are armed, and the run of a script on it.
-use Rattle.std.proofs.Common.{ℕ, ◌≡◌, ◌+◌, cond, List, Option, Some, None, IfSome, sym, ap, subst, ◌∙◌, inl, inr, ⊎_elim}
+use Rattle.std.proofs.Common.{ℕ, ◌≡◌, ◌≤◌, ◌+◌, cond, List, Option, Some, None, IfSome, sym, ap, subst, ◌∙◌, inl, inr, ⊎_elim, arith}
 use Rattle.std.specs.List.{AllByRecursion}
 use Rattle.std.proofs.lemmas.Bool.{eq-eqb}
 use Rattle.model_base.specs.Limits.{default_shape}
@@ -33,10 +33,14 @@ use Rattle.redo_pageactors.specs.Opened.{IsRunnable}
 use Rattle.redo_pageactors.specs.declared.opened.Opened.{Opened}
 use Rattle.redo_recover.specs.Devices.{OnContents}
 use Rattle.redo_lab.specs.Call.{Guarded, guarded}
-use Rattle.redo_lab.specs.Course.{AreMisfitted, ArePlayed, ComesTo, ran_of}
-use Rattle.redo_lab.specs.Playing.{AreArmed, AreRun, Plays, room_end}
+use Rattle.redo_machine.specs.Beginning.{room_from}
+use Rattle.redo_machine.specs.declared.drive.Driven.{Driven}
+use Rattle.redo_machine.specs.declared.drive.Turns.{Turns}
+use Rattle.redo_lab.specs.Course.{AreMisfitted, ArePlayed, AreSpent, ComesTo, ran_of}
+use Rattle.redo_lab.specs.Playing.{AreArmed, AreRun, AreSpentOn, Plays}
 use Rattle.redo_lab.specs.Prepared.{ArePrepared, WhereTold}
 use Rattle.redo_lab.specs.Store.{IsOpenedAs}
+use Rattle.redo_lab.specs.Turned.{AreCountedFailures, ComesByTurnsTo, IsDrivenTo, IsOpenedOn, MakePartCalls, opened_at}
 use Rattle.redo_lab.specs.declared.playing.Course.{Course}
 use Rattle.redo_lab.specs.declared.playing.Course.TheVariants as course
 use Rattle.redo_lab.specs.declared.playing.Played.{Played}
@@ -44,10 +48,6 @@ use Rattle.redo_lab.specs.declared.playing.Stops.{Stops}
 use Rattle.redo_lab.proofs.Told.{both-told, on-contents}
 use Rattle.redo_lab.proofs.Telling.{calls-go_on}
 use Rattle.redo_lab.proofs.UnderWay.{AreCounted, ReadingLaws, counted-more, counted-opening, formatted-read, goes-on, keeps-found, same-both, told-some, way-of}
-
--- THE OPENED STORE, as the theorem has it: its log ends there.
-abbrev pub opened_at : {L D : Type 0} → Opened L D → ℕ → values.Opened
-opened_at store end = record { shape = store.shape; pages = store.pages; end = end }
 
 -- what was read of these bytes is that
 pub record IsReadOff {L D : Type 0} (store : Opened L D) (end : ℕ) (log_bytes data_bytes : List ℕ) : Type 0 where
@@ -133,21 +133,27 @@ pub record IsOpened {L D : Type 0} (log_seen : L → Seen) (log_gives : L → Ca
   pub log_calls : MakesCalls (CallsThrough log_seen log_gives) log store.log.dev (OpensLog (log_seen log.inner).size None)
   pub data_calls : MakesCalls (CallsThrough data_seen data_gives) data_device store.store.dev (MayEndWith None)
 
+-- one failure at the most is counted
+pub one-failure : (error : Option DevError) → failures error ≤ 1
+one-failure None = omega arith
+one-failure (Some device.Failed) = omega arith
+one-failure (Some device.NoMemory) = omega arith
+
 -- on a store that could be opened when the fuses were armed the run is a closed one
 closed-told : {L D : Type 0} {log_seen : L → Seen} {log_gives : L → Call → L → Type 0} {data_seen : D → Seen} {data_gives : D → Call → D → Type 0}
-    (laws : ReadingLaws) (log : Fused L) (data_device : Fused D) (store : Opened (Fused L) (Fused D)) (end : ℕ) (script : List ScriptLine) (played : Played)
-    (error : Option DevError) (log_now : Fused L) (data_now : Fused D) (reading : Reading) (left : List (ℕ × ℕ)) (log_told data_told : Option Disk)
+    (laws : ReadingLaws) (log : Fused L) (data_device : Fused D) (store : Opened (Fused L) (Fused D)) (end : ℕ) (turns : Turns) (script : List ScriptLine) (played : Played)
+    (log_error data_error : Option DevError) (log_now : Fused L) (data_now : Fused D) (reading : Reading) (left : List (ℕ × ℕ)) (log_told data_told : Option Disk)
     → IsOpened log_seen log_gives data_seen data_gives log data_device store
-    → AreRun (seen_through log_seen) (CallsThrough log_seen log_gives) (seen_through data_seen) store script played error log_now data_now
+    → AreRun (seen_through log_seen) (CallsThrough log_seen log_gives) (seen_through data_seen) (CallsThrough data_seen data_gives) store turns script played log_error data_error log_now data_now
     → IsLeft script played.history left → (log_seen log.inner).tells ≡ log_told → (data_seen data_device.inner).tells ≡ data_told
     → OnContents log_told data_told (IsReadOff store end)
     → WhereBothTell log_told data_told (λ log_disk data_disk. IsOpenable reading log_disk data_disk → IsOpenedReady (seen_through log_seen) (seen_through data_seen) reading store)
     → WhereBothTell log_told data_told (λ log_disk data_disk. IsOpenable reading log_disk data_disk
     → (opened_at store end ≡ opened_as reading) × WhereBothTell (log_seen log_now.inner).tells (data_seen data_now.inner).tells (λ log_after data_after.
-    IsClosed (failures error) (record { script = script; opened = opened_at store end; run = ran_of played; left = left; log_disk = log_after; data_disk = data_after })))
-closed-told laws log data_device store end script played error log_now data_now reading left None data_told opened run left_is log_is data_is read ready = tt
-closed-told laws log data_device store end script played error log_now data_now reading left (Some log_disk) None opened run left_is log_is data_is read ready = tt
-closed-told {log_seen = log_seen} {log_gives = log_gives} {data_seen = data_seen} {data_gives = data_gives} laws log data_device store end script played error log_now data_now reading left (Some log_disk) (Some data_disk) opened run left_is log_is data_is read ready = λ openable.
+    IsClosed (failures log_error + failures data_error) (record { script = script; opened = opened_at store end; number = reading.number + 1; run = ran_of played; left = left; log_disk = log_after; data_disk = data_after })))
+closed-told laws log data_device store end turns script played log_error data_error log_now data_now reading left None data_told opened run left_is log_is data_is read ready = tt
+closed-told laws log data_device store end turns script played log_error data_error log_now data_now reading left (Some log_disk) None opened run left_is log_is data_is read ready = tt
+closed-told {log_seen = log_seen} {log_gives = log_gives} {data_seen = data_seen} {data_gives = data_gives} laws log data_device store end turns script played log_error data_error log_now data_now reading left (Some log_disk) (Some data_disk) opened run left_is log_is data_is read ready = λ openable.
     let is : IsOpenedReady (seen_through log_seen) (seen_through data_seen) reading store = ready openable in
     let same : opened_at store end ≡ opened_as reading =
     read.same ∙ ap opened_as (laws.one_reading log_disk.reads data_disk.reads read.reading reading read.is_read openable.orderly.reads) in
@@ -163,7 +169,7 @@ closed-told {log_seen = log_seen} {log_gives = log_gives} {data_seen = data_seen
       fits = subst (λ (shape : Shape). AllByRecursion (LineFits shape) script) is.opened.shape run.fits.lines;
     } in
     let After : values.Opened → Type 0 = λ opened. WhereBothTell (log_seen log_now.inner).tells (data_seen data_now.inner).tells (λ log_after data_after.
-    IsClosed (failures error) (record { script = script; opened = opened; run = ran_of played; left = left; log_disk = log_after; data_disk = data_after })) in
+    IsClosed (failures log_error + failures data_error) (record { script = script; opened = opened; number = reading.number + 1; run = ran_of played; left = left; log_disk = log_after; data_disk = data_after })) in
     let closed : After (opened_as reading) = both-told (log_seen store.log.dev.inner).tells (data_seen store.store.dev.inner).tells
     (λ log_disk data_disk. IsStart reading script log_disk data_disk → After (opened_as reading))
     (run.owed reading left (record { shape = is.opened.shape; pages = is.opened.pages; start = is.opened.start; number = is.number }) left_is)
@@ -197,25 +203,24 @@ end-found {log_seen = log_seen} {data_seen = data_seen} {log_found = log_found} 
 
 played-on : {L D : Type 0} {log_seen : L → Seen} {log_gives : L → Call → L → Type 0} {data_seen : D → Seen} {data_gives : D → Call → D → Type 0}
     {log_entry data_entry : Seen} {stops : Stops} {log_found data_found : Guarded} {log : Fused L} {data_device : Fused D} {store : Opened (Fused L) (Fused D)}
-    {script : List ScriptLine} {played : Played} (error : Option DevError) {log_now : Fused L} {data_now : Fused D}
+    {turns : Turns} {script : List ScriptLine} {played : Played} (log_error data_error : Option DevError) {log_now : Fused L} {data_now : Fused D}
     → IsOpenedUnderWay log_seen log_gives data_seen data_gives log_entry data_entry stops log_found data_found log data_device store
-    → AreRun (seen_through log_seen) (CallsThrough log_seen log_gives) (seen_through data_seen) store script played error log_now data_now
-    → ArePlayed log_entry data_entry stops script played (failures error) (guarded log_seen log_now) (guarded data_seen data_now)
-played-on {log_seen = log_seen} {log_gives = log_gives} {data_seen = data_seen} {data_gives = data_gives} {log_entry = log_entry} {data_entry = data_entry} {log_found = log_found} {data_found = data_found} {log = log} {data_device = data_device} {store = store} {script = script} {played = played} error {log_now = log_now} {data_now = data_now} is run =
+    → AreRun (seen_through log_seen) (CallsThrough log_seen log_gives) (seen_through data_seen) (CallsThrough data_seen data_gives) store turns script played log_error data_error log_now data_now
+    → ArePlayed log_entry data_entry stops turns.log_only script played (failures log_error) (failures data_error) (guarded log_seen log_now) (guarded data_seen data_now)
+played-on {log_seen = log_seen} {log_gives = log_gives} {data_seen = data_seen} {data_gives = data_gives} {log_entry = log_entry} {data_entry = data_entry} {log_found = log_found} {data_found = data_found} {log = log} {data_device = data_device} {store = store} {turns = turns} {script = script} {played = played} log_error data_error {log_now = log_now} {data_now = data_now} is run =
     let ends : HasEnd log_found.seen.tells data_found.seen.tells store = end-found is in
     let log_tells : (log_seen log.inner).tells ≡ log_found.seen.tells = ap (λ (seen : Seen). seen.tells) is.armed.log_same in
     let data_tells : (data_seen data_device.inner).tells ≡ data_found.seen.tells = ap (λ (seen : Seen). seen.tells) is.armed.data_same in
     record {
-      way = way-of log_found data_found is.armed.prepared (counted-more data_seen (counted-opened is) run.log_calls run.data_same);
+      way = way-of log_found data_found is.armed.prepared (counted-more (counted-opened is) run.calls.log run.calls.data_part);
       opened = opened_at store ends.end;
       opens = opens-as is.laws log_entry data_entry log_found data_found store ends.end is.armed.prepared ends.read;
       limits = is.opened.runnable.limits;
-      fits = subst (λ start. ScriptFits store.shape start (Some (room_end store.shape start)) script) ends.start run.fits;
+      fits = subst (λ start. ScriptFits store.shape start (room_from turns.log_only store.shape start) script) ends.start run.fits;
       is_run = run.is_run ends.end ends.start;
-      in_turn = run.in_turn;
       loses = run.loses;
       closed = λ reading left left_is.
-          closed-told is.laws log data_device store ends.end script played error log_now data_now reading left log_found.seen.tells data_found.seen.tells
+          closed-told is.laws log data_device store ends.end turns script played log_error data_error log_now data_now reading left log_found.seen.tells data_found.seen.tells
           is.opened run left_is log_tells data_tells ends.read
           (same-both (λ log_disk data_disk. IsOpenable reading log_disk data_disk → IsOpenedReady (seen_through log_seen) (seen_through data_seen) reading store)
           log_found.seen.tells data_found.seen.tells (log_seen log.inner).tells (data_seen data_device.inner).tells log_tells data_tells (is.opened.ready reading));
@@ -224,54 +229,128 @@ played-on {log_seen = log_seen} {log_gives = log_gives} {data_seen = data_seen} 
 -- a script that doesn't fit
 misfitted : {L D : Type 0} {log_seen : L → Seen} {log_gives : L → Call → L → Type 0} {data_seen : D → Seen} {data_gives : D → Call → D → Type 0}
     {log_entry data_entry : Seen} {stops : Stops} {log_found data_found : Guarded} {log : Fused L} {data_device : Fused D} {store : Opened (Fused L) (Fused D)}
-    {script : List ScriptLine} {misfit : Misfit}
+    {script : List ScriptLine} {misfit : Misfit} (turns : Turns)
     → IsOpenedUnderWay log_seen log_gives data_seen data_gives log_entry data_entry stops log_found data_found log data_device store
-    → first_misfit store.shape store.start (Some (room_end store.shape store.start)) script ≡ Some misfit
-    → AreMisfitted log_entry data_entry stops script misfit (guarded log_seen store.log.dev) (guarded data_seen store.store.dev)
-misfitted {log_seen = log_seen} {data_seen = data_seen} {log_entry = log_entry} {data_entry = data_entry} {log_found = log_found} {data_found = data_found} {log = log} {data_device = data_device} {store = store} {script = script} {misfit = misfit} is first =
+    → first_misfit store.shape store.start (room_from turns.log_only store.shape store.start) script ≡ Some misfit
+    → AreMisfitted log_entry data_entry stops turns.log_only script misfit (guarded log_seen store.log.dev) (guarded data_seen store.store.dev)
+misfitted {log_seen = log_seen} {data_seen = data_seen} {log_entry = log_entry} {data_entry = data_entry} {log_found = log_found} {data_found = data_found} {log = log} {data_device = data_device} {store = store} {script = script} {misfit = misfit} turns is first =
     let ends : HasEnd log_found.seen.tells data_found.seen.tells store = end-found is in
     record {
-      stopped = record {
-        way = way-of log_found data_found is.armed.prepared (counted-opened is);
-        keeps = keeps-found log_found data_found (guarded log_seen log) (guarded data_seen data_device) (guarded log_seen store.log.dev) (guarded data_seen store.store.dev)
-            is.armed.log_same is.armed.data_same is.opened.keeps;
-      };
+      way = way-of log_found data_found is.armed.prepared (counted-opened is);
+      keeps = keeps-found log_found data_found (guarded log_seen log) (guarded data_seen data_device) (guarded log_seen store.log.dev) (guarded data_seen store.store.dev)
+          is.armed.log_same is.armed.data_same is.opened.keeps;
       opened = opened_at store ends.end;
       opens = opens-as is.laws log_entry data_entry log_found data_found store ends.end is.armed.prepared ends.read;
       limits = is.opened.runnable.limits;
-      first = subst (λ start. first_misfit store.shape start (Some (room_end store.shape start)) script ≡ Some misfit) ends.start first;
+      first = subst (λ start. first_misfit store.shape start (room_from turns.log_only store.shape start) script ≡ Some misfit) ends.start first;
+    }
+
+-- turns that were spent
+spent-on : {L D : Type 0} {log_seen : L → Seen} {log_gives : L → Call → L → Type 0} {data_seen : D → Seen} {data_gives : D → Call → D → Type 0}
+    {log_entry data_entry : Seen} {stops : Stops} {log_found data_found : Guarded} {log : Fused L} {data_device : Fused D} {store : Opened (Fused L) (Fused D)}
+    {turns : Turns} {script : List ScriptLine} {count user : ℕ} {log_now : Fused L} {data_now : Fused D}
+    → IsOpenedUnderWay log_seen log_gives data_seen data_gives log_entry data_entry stops log_found data_found log data_device store
+    → AreSpentOn (CallsThrough log_seen log_gives) (CallsThrough data_seen data_gives) store turns script count user log_now data_now
+    → AreSpent log_entry data_entry stops turns script count user (guarded log_seen log_now) (guarded data_seen data_now)
+spent-on {log_entry = log_entry} {data_entry = data_entry} {log_found = log_found} {data_found = data_found} {store = store} {turns = turns} {script = script} is spent =
+    let ends : HasEnd log_found.seen.tells data_found.seen.tells store = end-found is in
+    record {
+      log_error = spent.log_error;
+      data_error = spent.data_error;
+      way = way-of log_found data_found is.armed.prepared (counted-more (counted-opened is) spent.calls.log spent.calls.data_part);
+      count_is = spent.count_is;
+      opened = opened_at store ends.end;
+      opens = opens-as is.laws log_entry data_entry log_found data_found store ends.end is.armed.prepared ends.read;
+      limits = is.opened.runnable.limits;
+      fits = subst (λ start. ScriptFits store.shape start (room_from turns.log_only store.shape start) script) ends.start spent.fits;
+      run = ran_of spent.played;
+      is_run = spent.is_run ends.end ends.start;
+      leaves = spent.leaves;
     }
 
 -- WHAT A RUN COMES TO whose store was opened.
 pub opened-comes : {L D : Type 0} {log_seen : L → Seen} {log_gives : L → Call → L → Type 0} {data_seen : D → Seen} {data_gives : D → Call → D → Type 0}
     {log_entry data_entry : Seen} {stops : Stops} {log_found data_found : Guarded} {log : Fused L} {data_device : Fused D} {store : Opened (Fused L) (Fused D)}
-    (script : List ScriptLine) (c : Course) (log_now : Fused L) (data_now : Fused D)
+    (turns : Turns) (script : List ScriptLine) (c : Course) (log_now : Fused L) (data_now : Fused D)
     → IsOpenedUnderWay log_seen log_gives data_seen data_gives log_entry data_entry stops log_found data_found log data_device store
-    → Plays (seen_through log_seen) (CallsThrough log_seen log_gives) (seen_through data_seen) store script c log_now data_now
-    → ComesTo log_entry data_entry stops script c (guarded log_seen log_now) (guarded data_seen data_now)
-opened-comes {data_seen = data_seen} {log_found = log_found} {data_found = data_found} script (course.Ended fault.Memory) log_now data_now is plays =
-    inr (way-of log_found data_found is.armed.prepared (counted-more data_seen (counted-opened is) plays.log_calls plays.data_same))
-opened-comes {L} {D} {log_seen = log_seen} {data_seen = data_seen} {log_entry = log_entry} {data_entry = data_entry} {stops = stops} {store = store} script (course.Ended (fault.Fit misfit)) log_now data_now is plays =
-    subst (λ (one : Fused L). AreMisfitted log_entry data_entry stops script misfit (guarded log_seen one) (guarded data_seen data_now)) (sym plays.log_same)
-    (subst (λ (one : Fused D). AreMisfitted log_entry data_entry stops script misfit (guarded log_seen store.log.dev) (guarded data_seen one)) (sym plays.data_same)
-    (misfitted is plays.first))
-opened-comes script (course.Ended fault.Words) log_now data_now is plays = absurd plays
-opened-comes script (course.Ended (fault.Script n)) log_now data_now is plays = absurd plays
-opened-comes script (course.Ended fault.Source) log_now data_now is plays = absurd plays
-opened-comes script (course.Ended fault.Sink) log_now data_now is plays = absurd plays
-opened-comes script (course.Ended fault.LogDevice) log_now data_now is plays = absurd plays
-opened-comes script (course.Ended fault.DataDevice) log_now data_now is plays = absurd plays
-opened-comes script (course.Ended (fault.Store cause)) log_now data_now is plays = absurd plays
-opened-comes script (course.Ended (fault.Turns turns user)) log_now data_now is plays = absurd plays
-opened-comes script (course.Stopped f) log_now data_now is plays = absurd plays
-opened-comes script (course.Played played None) log_now data_now is plays = played-on None is plays
-opened-comes script (course.Played played (Some fault.LogDevice)) log_now data_now is plays = played-on (Some device.Failed) is plays
-opened-comes script (course.Played played (Some fault.Memory)) log_now data_now is plays = absurd plays
-opened-comes script (course.Played played (Some fault.Words)) log_now data_now is plays = absurd plays
-opened-comes script (course.Played played (Some (fault.Script n))) log_now data_now is plays = absurd plays
-opened-comes script (course.Played played (Some fault.Source)) log_now data_now is plays = absurd plays
-opened-comes script (course.Played played (Some fault.Sink)) log_now data_now is plays = absurd plays
-opened-comes script (course.Played played (Some fault.DataDevice)) log_now data_now is plays = absurd plays
-opened-comes script (course.Played played (Some (fault.Store cause))) log_now data_now is plays = absurd plays
-opened-comes script (course.Played played (Some (fault.Fit misfit))) log_now data_now is plays = absurd plays
-opened-comes script (course.Played played (Some (fault.Turns turns user))) log_now data_now is plays = absurd plays
+    → Plays (seen_through log_seen) (CallsThrough log_seen log_gives) (seen_through data_seen) (CallsThrough data_seen data_gives) store turns script c log_now data_now
+    → ComesTo log_entry data_entry stops turns script c (guarded log_seen log_now) (guarded data_seen data_now)
+opened-comes {log_found = log_found} {data_found = data_found} turns script (course.Ended fault.Memory) log_now data_now is plays =
+    inr (way-of log_found data_found is.armed.prepared (counted-more (counted-opened is) plays.log plays.data_part))
+opened-comes {L} {D} {log_seen = log_seen} {data_seen = data_seen} {log_entry = log_entry} {data_entry = data_entry} {stops = stops} {store = store} turns script (course.Ended (fault.Fit misfit)) log_now data_now is plays =
+    subst (λ (one : Fused L). AreMisfitted log_entry data_entry stops turns.log_only script misfit (guarded log_seen one) (guarded data_seen data_now)) (sym plays.log_same)
+    (subst (λ (one : Fused D). AreMisfitted log_entry data_entry stops turns.log_only script misfit (guarded log_seen store.log.dev) (guarded data_seen one)) (sym plays.data_same)
+    (misfitted turns is plays.first))
+opened-comes turns script (course.Ended (fault.Turns count user)) log_now data_now is plays = spent-on is plays
+opened-comes turns script (course.Ended fault.Words) log_now data_now is plays = absurd plays
+opened-comes turns script (course.Ended (fault.Script n)) log_now data_now is plays = absurd plays
+opened-comes turns script (course.Ended fault.Source) log_now data_now is plays = absurd plays
+opened-comes turns script (course.Ended fault.Sink) log_now data_now is plays = absurd plays
+opened-comes turns script (course.Ended fault.LogDevice) log_now data_now is plays = absurd plays
+opened-comes turns script (course.Ended fault.DataDevice) log_now data_now is plays = absurd plays
+opened-comes turns script (course.Ended (fault.Store cause)) log_now data_now is plays = absurd plays
+opened-comes turns script (course.Stopped f) log_now data_now is plays = absurd plays
+opened-comes turns script (course.Played played None) log_now data_now is plays = played-on None None is plays
+opened-comes turns script (course.Played played (Some fault.LogDevice)) log_now data_now is plays = record {
+  data_failed = failures plays.data_error;
+  once = one-failure plays.data_error;
+  are = played-on (Some device.Failed) plays.data_error is plays.are;
+}
+opened-comes turns script (course.Played played (Some fault.DataDevice)) log_now data_now is plays = played-on (Some device.NoMemory) (Some device.Failed) is plays
+opened-comes turns script (course.Played played (Some fault.Memory)) log_now data_now is plays = absurd plays
+opened-comes turns script (course.Played played (Some fault.Words)) log_now data_now is plays = absurd plays
+opened-comes turns script (course.Played played (Some (fault.Script n))) log_now data_now is plays = absurd plays
+opened-comes turns script (course.Played played (Some fault.Source)) log_now data_now is plays = absurd plays
+opened-comes turns script (course.Played played (Some fault.Sink)) log_now data_now is plays = absurd plays
+opened-comes turns script (course.Played played (Some (fault.Store cause))) log_now data_now is plays = absurd plays
+opened-comes turns script (course.Played played (Some (fault.Fit misfit))) log_now data_now is plays = absurd plays
+opened-comes turns script (course.Played played (Some (fault.Turns count user))) log_now data_now is plays = absurd plays
+
+-- BY TURNS
+opened-on : {L D : Type 0} {log_seen : L → Seen} {log_gives : L → Call → L → Type 0} {data_seen : D → Seen} {data_gives : D → Call → D → Type 0}
+    {log_entry data_entry : Seen} {stops : Stops} {log_found data_found : Guarded} {log : Fused L} {data_device : Fused D} {store : Opened (Fused L) (Fused D)}
+    → IsOpenedUnderWay log_seen log_gives data_seen data_gives log_entry data_entry stops log_found data_found log data_device store
+    → IsOpenedOn log_seen data_seen log_entry data_entry stops store
+opened-on {log_seen = log_seen} {data_seen = data_seen} {log_entry = log_entry} {data_entry = data_entry} {log_found = log_found} {data_found = data_found} {log = log} {data_device = data_device} {store = store} is =
+    let ends : HasEnd log_found.seen.tells data_found.seen.tells store = end-found is in
+    record {
+      way = way-of log_found data_found is.armed.prepared (counted-opened is);
+      end = ends.end;
+      start = ends.start;
+      opens = opens-as is.laws log_entry data_entry log_found data_found store ends.end is.armed.prepared ends.read;
+      ready = λ reading. same-both (λ log_disk data_disk. IsOpenable reading log_disk data_disk → IsOpenedReady (seen_through log_seen) (seen_through data_seen) reading store)
+          log_found.seen.tells data_found.seen.tells (log_seen log.inner).tells (data_seen data_device.inner).tells
+          (ap (λ (seen : Seen). seen.tells) is.armed.log_same) (ap (λ (seen : Seen). seen.tells) is.armed.data_same) (is.opened.ready reading);
+    }
+
+-- the calls of the parts, as the fuses counted them
+counted-failures : {L D : Type 0} {log_seen : L → Seen} {log_gives : L → Call → L → Type 0} {data_seen : D → Seen} {data_gives : D → Call → D → Type 0}
+    {log_entry data_entry : Seen} {stops : Stops} {log_found data_found : Guarded} {log : Fused L} {data_device : Fused D} {store : Opened (Fused L) (Fused D)}
+    (driven : Driven (Fused L) (Fused D)) (log_now : Fused L) (data_now : Fused D)
+    → IsOpenedUnderWay log_seen log_gives data_seen data_gives log_entry data_entry stops log_found data_found log data_device store
+    → MakePartCalls (CallsThrough log_seen log_gives) (CallsThrough data_seen data_gives) store driven log_now data_now
+    → AreCountedFailures driven log_now data_now
+counted-failures driven log_now data_now is calls =
+    let counted = counted-more (counted-opened is) calls.log calls.data_part in
+    record { log_device = counted.log_device.mid; data_device = counted.data_device.mid }
+
+pub driven-comes : {L D : Type 0} {log_seen : L → Seen} {log_gives : L → Call → L → Type 0} {data_seen : D → Seen} {data_gives : D → Call → D → Type 0}
+    {log_entry data_entry : Seen} {stops : Stops} {log_found data_found : Guarded} {log : Fused L} {data_device : Fused D} {store : Opened (Fused L) (Fused D)}
+    (turns : Turns) (script : List ScriptLine) (c : Course) (log_now : Fused L) (data_now : Fused D)
+    → IsOpenedUnderWay log_seen log_gives data_seen data_gives log_entry data_entry stops log_found data_found log data_device store
+    → IsDrivenTo (seen_through log_seen) (CallsThrough log_seen log_gives) (seen_through data_seen) (CallsThrough data_seen data_gives) store turns script c log_now data_now
+    → ComesByTurnsTo log_seen data_seen log_entry data_entry stops turns script c log_now data_now
+driven-comes {store = store} turns script (course.Played played f) log_now data_now is driven = record {
+  opened = store;
+  is_opened = opened-on is;
+  done = driven.0;
+  counted = counted-failures driven.0.is_driven.driven log_now data_now is driven.1;
+}
+driven-comes {store = store} turns script (course.Ended (fault.Turns count user)) log_now data_now is driven = record {
+  opened = store;
+  is_opened = opened-on is;
+  spent = driven.0;
+  counted = counted-failures driven.0.is_driven.driven log_now data_now is driven.1;
+}
+driven-comes turns script (course.Ended f) log_now data_now is driven = tt
+driven-comes turns script (course.Stopped f) log_now data_now is driven = tt

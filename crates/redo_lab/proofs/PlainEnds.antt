@@ -22,7 +22,7 @@ use Rattle.redo_lab.specs.Call.{AreKept, AreLeftAlone, Call, Guarded, IsUnread}
 use Rattle.redo_lab.specs.Complete.{AreUnfailedFor, CanRead, IsPossible}
 use Rattle.redo_lab.specs.Devices.{HasFailed, IsToldAtMost, IsUnfailed, WhereToldAtEntry}
 use Rattle.redo_lab.specs.Faults.{fault_of}
-use Rattle.redo_lab.specs.Outcome.{EndsCommand, IsDoneOrMemory, IsOutcome, IsSafeOutcome, outcome_of}
+use Rattle.redo_lab.specs.Outcome.{EndsCommand, IsDoneOrKeptFrom, IsOutcome, IsSafeOutcome, outcome_of}
 use Rattle.redo_lab.specs.Stages.{IsUnarmed}
 use Rattle.redo_lab.specs.Store.{AreRefused, IsShorter}
 use Rattle.redo_lab.specs.declared.outcome.Outcome.{Outcome}
@@ -53,7 +53,7 @@ unfailed-alone call alone = record {
 
 -- what a command says beside its outcome that leaves both devices alone
 alone-end : (call : Call) (command : Command) (out : Outcome) → AreLeftAlone call → IsUnread call → IsOutcome call command out
-    → (IsPossible call command → (HasRisen call.source.faults call.source_now.faults → ⊥) → AreUnfailedFor command call → IsDoneOrMemory out)
+    → (IsPossible call command → (HasRisen call.source.faults call.source_now.faults → ⊥) → AreUnfailedFor command call → IsDoneOrKeptFrom command out)
     → IsSafeOutcome call command out → EndsCommand call command out
 alone-end call command out alone unread means complete safe = record {
   means = means;
@@ -73,7 +73,7 @@ gen-ends call seed users groups run max (Ok text) alone unread is =
     alone-end call (Gen seed users groups run max) (outcome.Text text) alone unread
     (unfailed-alone call alone, record { unread = unread; alone = alone; text_is = is }) (λ possible source unfailed. tt) tt
 gen-ends call seed users groups run max (Err e) alone unread is =
-    alone-end call (Gen seed users groups run max) (outcome.Fault fault.Memory) alone unread (tt, tt) (λ possible source unfailed. refl) tt
+    alone-end call (Gen seed users groups run max) (outcome.Fault fault.Memory) alone unread (tt, tt) (λ possible source unfailed. tt) tt
 
 -- what the stage before the arming says of a fuse
 pub told-unarmed : (entry : Seen) (failed : ℕ) (now : Guarded) (limit pick : Option ℕ) → IsUnarmed entry failed now → IsToldAtMost limit pick now.fuse
@@ -103,7 +103,7 @@ pub record ReadsDevices (call : Call) (log_failed data_failed : ℕ) : Type 0 wh
 
 -- what a command says beside its outcome that only reads the devices
 reads-end : (call : Call) (command : Command) (out : Outcome) (log_failed data_failed : ℕ) → ReadsDevices call log_failed data_failed → IsOutcome call command out
-    → (IsPossible call command → (HasRisen call.source.faults call.source_now.faults → ⊥) → AreUnfailedFor command call → IsDoneOrMemory out)
+    → (IsPossible call command → (HasRisen call.source.faults call.source_now.faults → ⊥) → AreUnfailedFor command call → IsDoneOrKeptFrom command out)
     → IsSafeOutcome call command out → EndsCommand call command out
 reads-end call command out log_failed data_failed reads means complete safe = record {
   means = means;
@@ -149,7 +149,7 @@ pub recover-ends : {E : Type 0} (call : Call) (reading : Reading) (r : Result (L
 recover-ends call reading (Ok text) reads is_read is =
     reads-end call Recover (outcome.Text text) 0 0 reads (read-off call reading recover_text text reads is_read is) (λ possible source unfailed. tt) tt
 recover-ends call reading (Err e) reads is_read is =
-    reads-end call Recover (outcome.Fault fault.Memory) 0 0 reads (tt, tt) (λ possible source unfailed. refl) tt
+    reads-end call Recover (outcome.Fault fault.Memory) 0 0 reads (tt, tt) (λ possible source unfailed. tt) tt
 
 recover-refused : (call : Call) (refusal : Refusal) → ReadsDevices call 0 0 → RefusesAtEntry call refusal
     → IsShorter call.log_device.size call.data_device.size refusal → OneAnswer → EndsCommand call Recover (outcome.Fault (fault.Store refusal))
@@ -176,7 +176,7 @@ recover-fails call DataDev reads refused short one =
     reads-end call Recover (outcome.Fault fault.DataDevice) 0 1 reads ((refl, inr (refl, reads.unread), unfailed-unarmed _ _ reads.log_device, failed-unarmed _ _ reads.data_device), tt)
     (λ possible source unfailed. absurd (omega (arith, reads.data_device.early, unfailed.data_device.early))) tt
 recover-fails call NoMemory reads refused short one =
-    reads-end call Recover (outcome.Fault fault.Memory) 0 0 reads (tt, tt) (λ possible source unfailed. refl) tt
+    reads-end call Recover (outcome.Fault fault.Memory) 0 0 reads (tt, tt) (λ possible source unfailed. tt) tt
 
 -- DUMP.
 pub dump-ends : {E : Type 0} (call : Call) (reading : Reading) (r : Result (List ℕ) E) → ReadsDevices call 0 0
@@ -185,7 +185,7 @@ pub dump-ends : {E : Type 0} (call : Call) (reading : Reading) (r : Result (List
 dump-ends call reading (Ok text) reads is_read is =
     reads-end call Dump (outcome.Text text) 0 0 reads (read-off call reading dump_text text reads is_read is) (λ possible source unfailed. tt) tt
 dump-ends call reading (Err e) reads is_read is =
-    reads-end call Dump (outcome.Fault fault.Memory) 0 0 reads (tt, tt) (λ possible source unfailed. refl) tt
+    reads-end call Dump (outcome.Fault fault.Memory) 0 0 reads (tt, tt) (λ possible source unfailed. tt) tt
 
 dump-refused : (call : Call) (refusal : Refusal) → ReadsDevices call 0 0 → RefusesAtEntry call refusal
     → IsShorter call.log_device.size call.data_device.size refusal → OneAnswer → EndsCommand call Dump (outcome.Fault (fault.Store refusal))
@@ -212,4 +212,4 @@ dump-fails call DataDev reads refused short one =
     reads-end call Dump (outcome.Fault fault.DataDevice) 0 1 reads ((refl, inr (refl, reads.unread), unfailed-unarmed _ _ reads.log_device, failed-unarmed _ _ reads.data_device), tt)
     (λ possible source unfailed. absurd (omega (arith, reads.data_device.early, unfailed.data_device.early))) tt
 dump-fails call NoMemory reads refused short one =
-    reads-end call Dump (outcome.Fault fault.Memory) 0 0 reads (tt, tt) (λ possible source unfailed. refl) tt
+    reads-end call Dump (outcome.Fault fault.Memory) 0 0 reads (tt, tt) (λ possible source unfailed. tt) tt

@@ -1,5 +1,6 @@
--- A run that ended before its first line.
-use Rattle.std.proofs.Common.{ℕ, ◌≢◌, ◌≤◌, ◌⊎◌, List, Option, None, IfSome, refl, sym, subst, inl, inr, ⊎_elim}
+-- A run that ended before its first line, or whose turns were spent.
+use Rattle.std.proofs.Common.{ℕ, ◌≡◌, ◌≢◌, ◌≤◌, ◌⊎◌, List, Option, Some, None, IfSome, refl, sym, subst, inl, inr, ⊎_elim}
+use Rattle.model_command.specs.declared.asked.Command.{Command}
 use Rattle.model_command.specs.declared.asked.Command.TheVariants.{Run}
 use Rattle.model_command.specs.declared.asked.Drive.{Drive}
 use Rattle.model_report.specs.declared.fault.Fault.{Fault}
@@ -7,17 +8,20 @@ use Rattle.model_report.specs.declared.fault.Fault.TheVariants as fault
 use Rattle.model_script.specs.declared.misfit.Misfit.{Misfit}
 use Rattle.model_script.specs.declared.script.ScriptLine.{ScriptLine}
 use Rattle.model_store.specs.declared.refusal.Refusal.{Refusal}
+use Rattle.redo_disk.specs.Calls.{failures}
 use Rattle.redo_disk.specs.Seen.{Seen}
+use Rattle.redo_machine.specs.declared.drive.Turns.{Turns}
 use Rattle.redo_lab.specs.Answer.{AreUnfailed, AreUnfailedAside}
+use Rattle.redo_lab.specs.Asked.{drive_of, turns_of}
 use Rattle.redo_lab.specs.Call.{Call, Guarded}
-use Rattle.redo_lab.specs.Cause.{IsCauseOf, IsOpeningRefused, IsPastSource, IsScriptMisfit, LeavesBehind}
-use Rattle.redo_lab.specs.Course.{AreMisfitted, AreRefusedOpened, AreUnderWay, IsEndedBy}
+use Rattle.redo_lab.specs.Cause.{AreTurnsSpent, IsCauseOf, IsOpeningRefused, IsPastSource, IsScriptMisfit, LeavesBehind}
+use Rattle.redo_lab.specs.Course.{AreMisfitted, AreRefusedOpened, AreSpent, AreUnderWay, IsEndedBy}
 use Rattle.redo_lab.specs.Devices.{IsToldAtMost, IsUnfailed}
 use Rattle.redo_lab.specs.Prepared.{AreTooShort, EndUnprepared}
 use Rattle.redo_lab.specs.Script.{IsScriptRead}
 use Rattle.redo_lab.specs.Stages.{IsArmed}
 use Rattle.redo_lab.specs.declared.playing.Stops.{Stops}
-use Rattle.redo_lab.proofs.Found.{leaves-refused, leaves-short, leaves-stopped, leaves-unprepared}
+use Rattle.redo_lab.proofs.Found.{leaves-refused, leaves-short, leaves-unprepared, leaves-unstarted}
 use Rattle.redo_lab.proofs.Keeping.{OpenableLaw, kept-both}
 use Rattle.redo_lab.proofs.PlainEnds.{failed-unarmed, told-unarmed, unfailed-unarmed}
 use Rattle.redo_lab.proofs.RunPlayed.{FormattedLaw}
@@ -57,19 +61,20 @@ steady-way call stops pick log_failed data_failed way = record {
   data_tells = way.data_device.same.tells;
 }
 
-pub steady-ended : (call : Call) (stops : Stops) (pick : Option ℕ) (script : List ScriptLine) (f : Fault)
-    → IsEndedBy call.log_device call.data_device stops script f call.log_device_now call.data_device_now → AreSteady call stops pick
-steady-ended call stops pick script fault.Memory ended = ⊎_elim (steady-unprepared call stops pick 0 0) (steady-way call stops pick 0 0) ended
-steady-ended call stops pick script fault.LogDevice ended = steady-unprepared call stops pick 1 0 ended
-steady-ended call stops pick script fault.DataDevice ended = steady-unprepared call stops pick 0 1 ended
-steady-ended call stops pick script (fault.Store cause) ended =
+pub steady-ended : (call : Call) (stops : Stops) (pick : Option ℕ) (turns : Turns) (script : List ScriptLine) (f : Fault)
+    → IsEndedBy call.log_device call.data_device stops turns script f call.log_device_now call.data_device_now → AreSteady call stops pick
+steady-ended call stops pick turns script fault.Memory ended = ⊎_elim (steady-unprepared call stops pick 0 0) (steady-way call stops pick 0 0) ended
+steady-ended call stops pick turns script fault.LogDevice ended = steady-unprepared call stops pick 1 0 ended
+steady-ended call stops pick turns script fault.DataDevice ended = steady-unprepared call stops pick 0 1 ended
+steady-ended call stops pick turns script (fault.Store cause) ended =
     ⊎_elim (λ short. steady-unprepared call stops pick 0 0 short.ends) (λ refused. steady-way call stops pick 0 0 refused.way) ended
-steady-ended call stops pick script (fault.Fit misfit) ended = steady-way call stops pick 0 0 ended.stopped.way
-steady-ended call stops pick script fault.Words ended = absurd ended
-steady-ended call stops pick script (fault.Script n) ended = absurd ended
-steady-ended call stops pick script fault.Source ended = absurd ended
-steady-ended call stops pick script fault.Sink ended = absurd ended
-steady-ended call stops pick script (fault.Turns turns user) ended = absurd ended
+steady-ended call stops pick turns script (fault.Fit misfit) ended = steady-way call stops pick 0 0 ended.way
+steady-ended call stops pick turns script fault.Words ended = absurd ended
+steady-ended call stops pick turns script (fault.Script n) ended = absurd ended
+steady-ended call stops pick turns script fault.Source ended = absurd ended
+steady-ended call stops pick turns script fault.Sink ended = absurd ended
+steady-ended call stops pick turns script (fault.Turns count user) ended =
+    steady-way call stops pick (failures ended.log_error) (failures ended.data_error) ended.way
 
 pub unfailed-armed : (limit : Option ℕ) (entry : Seen) (found now : Guarded) → IsArmed limit entry found 0 now → IsUnfailed now.fuse
 unfailed-armed limit entry found now was = record { early = was.early; mid = was.mid; late = was.late }
@@ -90,17 +95,47 @@ aside-way call stops log_failed data_failed way = record {
 }
 
 -- a script that doesn't fit
-pub misfit-cause : (call : Call) (stops : Stops) (script : List ScriptLine) (misfit : Misfit) → IsScriptRead call.source call.source_now script
-    → AreMisfitted call.log_device call.data_device stops script misfit call.log_device_now call.data_device_now → IsScriptMisfit call misfit
-misfit-cause call stops script misfit read ended = record {
+pub misfit-cause : (call : Call) (command : Command) (drive : Drive) (stops : Stops) (script : List ScriptLine) (misfit : Misfit) → drive_of command ≡ Some drive
+    → IsScriptRead call.source call.source_now script
+    → AreMisfitted call.log_device call.data_device stops drive.log_only script misfit call.log_device_now call.data_device_now → IsScriptMisfit call command misfit
+misfit-cause call command drive stops script misfit asked read ended = record {
+  drive = drive;
+  asked = asked;
   text = read.text;
   script = script;
   opened = ended.opened;
   source = read.of_text;
   opens = ended.opens;
   limits = ended.limits;
-  unfailed = unfailed-way call stops ended.stopped.way;
+  unfailed = unfailed-way call stops ended.way;
   first = ended.first;
+}
+
+-- turns that were spent
+pub spent-cause : (call : Call) (command : Command) (drive : Drive) (stops : Stops) (script : List ScriptLine) (count user : ℕ) → drive_of command ≡ Some drive
+    → IsScriptRead call.source call.source_now script
+    → AreSpent call.log_device call.data_device stops (turns_of drive) script count user call.log_device_now call.data_device_now → AreTurnsSpent call command count user
+spent-cause call command drive stops script count user asked read ended = record {
+  drive = drive;
+  asked = asked;
+  turns_are = ended.count_is;
+  text = read.text;
+  script = script;
+  opened = ended.opened;
+  run = ended.run;
+  source = read.of_text;
+  opens = ended.opens;
+  limits = ended.limits;
+  fits = ended.fits;
+  in_lsn_order = ended.is_run;
+  log_error = ended.log_error;
+  data_error = ended.data_error;
+  leaves = ended.leaves;
+  log_failures = ended.way.log_device.mid;
+  data_failures = ended.way.data_device.mid;
+  unfailed_aside = aside-way call stops (failures ended.log_error) (failures ended.data_error) ended.way;
+  log_uncrashed = ended.way.log_device.pick;
+  data_uncrashed = ended.way.data_device.pick;
 }
 
 -- a store that is refused
@@ -138,7 +173,7 @@ past-read call script drive read = inl (refl, read.text, script, read.of_text)
 
 -- WHY RUN ENDS so, and what it leaves
 pub run-ended : (call : Call) (stops : Stops) (drive : Drive) (script : List ScriptLine) (f : Fault) → IsScriptRead call.source call.source_now script
-    → OneAnswer → OpenableLaw → FormattedLaw → IsEndedBy call.log_device call.data_device stops script f call.log_device_now call.data_device_now
+    → OneAnswer → OpenableLaw → FormattedLaw → IsEndedBy call.log_device call.data_device stops (turns_of drive) script f call.log_device_now call.data_device_now
     → IsCauseOf call (Run drive) f × LeavesBehind call (Run drive) f
 run-ended call stops drive script fault.Memory read one law formatted ended = (tt, tt)
 run-ended call stops drive script fault.LogDevice read one law formatted ended =
@@ -150,9 +185,10 @@ run-ended call stops drive script (fault.Store cause) read one law formatted end
   ⊎_elim (leaves-short call cause law) (leaves-refused call stops cause one formatted) ended,
 )
 run-ended call stops drive script (fault.Fit misfit) read one law formatted ended =
-    ((refl, inr (misfit-cause call stops script misfit read ended)), leaves-stopped call stops 0 0 one formatted ended.stopped)
+    ((refl, inr (misfit-cause call (Run drive) drive stops script misfit refl read ended)), leaves-unstarted call stops 0 0 one formatted ended.way ended.keeps)
 run-ended call stops drive script fault.Words read one law formatted ended = absurd ended
 run-ended call stops drive script (fault.Script n) read one law formatted ended = absurd ended
 run-ended call stops drive script fault.Source read one law formatted ended = absurd ended
 run-ended call stops drive script fault.Sink read one law formatted ended = absurd ended
-run-ended call stops drive script (fault.Turns turns user) read one law formatted ended = absurd ended
+run-ended call stops drive script (fault.Turns count user) read one law formatted ended =
+    (spent-cause call (Run drive) drive stops script count user refl read ended, tt)

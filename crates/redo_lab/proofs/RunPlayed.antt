@@ -1,7 +1,8 @@
 -- A run whose lines were played: what its report is owed.
-use Rattle.std.proofs.Common.{ℕ, ◌≡◌, ◌≢◌, ◌≤◌, ◌+◌, true, false, List, [], Option, Some, None, IfSome, refl, sym, ap, subst, ◌∙◌, ⊎_elim, arith}
+use Rattle.std.proofs.Common.{ℕ, ◌≡◌, ◌≢◌, ◌≤◌, ◌+◌, Bool, List, [], Option, Some, None, IfSome, refl, sym, ap, subst, ◌∙◌, ⊎_elim, arith}
 use Rattle.model_base.specs.Limits.{IsWithinLimits, default_shape}
 use Rattle.model_base.specs.declared.shape.Shape.{Shape}
+use Rattle.model_command.specs.declared.asked.Drive.{Drive}
 use Rattle.model_device.specs.Disk.{Disk}
 use Rattle.model_history.specs.Legal.{IsLeft}
 use Rattle.model_opening.specs.Formatted.{IsFormatted, formatted_store}
@@ -12,21 +13,24 @@ use Rattle.model_run.specs.Start.{opened_as}
 use Rattle.model_script.specs.declared.script.ScriptLine.{ScriptLine}
 use Rattle.model_store.specs.Opening.{Opens, OpensOrderly, OpensUnused}
 use Rattle.model_store.specs.Reading.{Reading}
+use Rattle.model_theorem.specs.Opening.{AreUnopened, HeldOlder, IsOpenedBefore}
 use Rattle.model_theorem.specs.Premises.{IsFresh}
 use Rattle.model_theorem.specs.Run.{LosesOnlyByFailure, RunSafe}
 use Rattle.model_theorem.specs.Script.{FitsOpened, IsWholeScript}
 use Rattle.model_theorem.specs.Values.{Opened}
 use Rattle.redo_disk.specs.Seen.{Seen}
-use Rattle.redo_open.specs.Devices.{WhereBothTell}
+use Rattle.redo_open.specs.Devices.{HasSameCheckpoint, WhereBothTell}
 use Rattle.redo_lab.specs.Answer.{IsRunSafe, IsRunText}
 use Rattle.redo_lab.specs.Call.{Call, Guarded}
-use Rattle.redo_lab.specs.Course.{ArePlayed, ran_of}
+use Rattle.redo_lab.specs.Course.{ArePlayed, KeepsCheckpoint, ran_of}
+use Rattle.redo_lab.specs.Devices.{AreFound, IsOpenedFirst, WhereToldAtEntry}
 use Rattle.redo_lab.specs.Prepared.{ArePrepared}
 use Rattle.redo_lab.specs.Reported.{IsReportOf}
 use Rattle.redo_lab.specs.Script.{IsScriptRead}
 use Rattle.redo_lab.specs.declared.playing.Played.{Played}
 use Rattle.redo_lab.specs.declared.playing.Stops.{Stops}
 use Rattle.redo_lab.proofs.Keeping.{openable-fresh, unused-unread}
+use Rattle.redo_lab.proofs.OpenedFirst.{OpenedLaw, held-older, stopped-before}
 use Rattle.redo_lab.proofs.Told.{OneAnswer, both-told}
 
 -- a store that was just formatted may be opened
@@ -38,6 +42,11 @@ FormattedLaw = (shape : Shape) (log_disk data_disk : Disk) → IsWithinLimits sh
 abbrev pub SafeLaw : Type 0
 SafeLaw = (failures : ℕ) (closed : Closed) → IsClosed failures closed → RunSafe failures (result_of closed)
 
+-- and its log device tells that opening came to its end
+pub record ClosedLaws : Type 0 where
+  pub safe : SafeLaw
+  pub opened : OpenedLaw
+
 pub default-within : IsWithinLimits default_shape
 default-within = record {
   page_size = refl;
@@ -47,6 +56,31 @@ default-within = record {
   many_blocks = omega arith;
   few_blocks = omega arith;
   slots = refl;
+}
+
+-- BEFORE OPENING both devices were as they were handed in, or as formatting leaves them.
+pub same-disk : (found entry : Option Disk) (armed_from at_entry : Disk) → found ≡ entry → found ≡ Some armed_from → entry ≡ Some at_entry → armed_from ≡ at_entry
+same-disk found entry armed_from at_entry same found_is entry_is = cc
+
+pub unopened-as : (log_entry data_entry : Seen) (log_found data_found : Guarded) (log data_disk log_armed data_armed : Disk) → FormattedLaw
+    → ArePrepared log_entry data_entry log_found data_found → log_entry.tells ≡ Some log → data_entry.tells ≡ Some data_disk
+    → log_found.seen.tells ≡ Some log_armed → data_found.seen.tells ≡ Some data_armed → AreUnopened log data_disk log_armed data_armed
+unopened-as log_entry data_entry log_found data_found log data_disk log_armed data_armed law prepared log_is data_is log_armed_is data_armed_is = record {
+  unused = λ unused. ⊎_elim
+      (λ formatted.
+      let openable = law default_shape log_armed data_armed default-within
+      (both-told log_found.seen.tells data_found.seen.tells (IsFormatted default_shape) formatted.formatted log_armed data_armed log_armed_is data_armed_is) in
+      record { log_rests = openable.log_rests.one_image; data_rests = openable.data_rests.one_image; orderly = openable.orderly })
+      (λ in_use. absurd (in_use.used log data_disk log_is data_is unused))
+      prepared.which;
+  log_in_use = λ used. ⊎_elim
+      (λ formatted. absurd (used (formatted.unused log data_disk log_is data_is)))
+      (λ in_use. same-disk _ _ log_armed log in_use.kept.log_device.tells log_armed_is log_is)
+      prepared.which;
+  data_in_use = λ used. ⊎_elim
+      (λ formatted. absurd (used (formatted.unused log data_disk log_is data_is)))
+      (λ in_use. same-disk _ _ data_armed data_disk in_use.kept.data_device.tells data_armed_is data_is)
+      prepared.which;
 }
 
 -- stores that are opened with the same values are one
@@ -120,26 +154,56 @@ was-found log_entry data_entry log_found data_found log data_disk log_faults dat
     prepared.which)
     opens
 
+-- WHAT BOTH DEVICES WERE when their fuses were armed
+pub are-found : (call : Call) (log_found data_found : Guarded) → FormattedLaw → ArePrepared call.log_device call.data_device log_found data_found
+    → call.log_device_now.armed_from ≡ log_found.seen.tells → call.data_device_now.armed_from ≡ data_found.seen.tells
+    → WhereToldAtEntry call (AreFound call)
+are-found call log_found data_found law prepared log_armed data_armed log data_disk log_is data_is =
+    let log_told = told-still call.log_device.tells log_found.seen.tells log prepared.log_device.same.tells log_is in
+    let data_told = told-still call.data_device.tells data_found.seen.tells data_disk prepared.data_device.same.tells data_is in
+    record {
+      log_found = log_told.0;
+      data_found = data_told.0;
+      log_is = log_armed ∙ log_told.1;
+      data_is = data_armed ∙ data_told.1;
+      unused = λ unused. ⊎_elim
+          (λ formatted. law default_shape log_told.0 data_told.0 default-within
+          (both-told log_found.seen.tells data_found.seen.tells (IsFormatted default_shape) formatted.formatted
+          log_told.0 data_told.0 log_told.1 data_told.1))
+          (λ in_use. absurd (in_use.used log data_disk log_is data_is unused))
+          prepared.which;
+      log_in_use = λ used. ⊎_elim
+          (λ formatted. absurd (used (formatted.unused log data_disk log_is data_is)))
+          (λ in_use. same-disk _ _ log_told.0 log in_use.kept.log_device.tells log_told.1 log_is)
+          prepared.which;
+      data_in_use = λ used. ⊎_elim
+          (λ formatted. absurd (used (formatted.unused log data_disk log_is data_is)))
+          (λ in_use. same-disk _ _ data_told.0 data_disk in_use.kept.data_device.tells data_told.1 data_is)
+          prepared.which;
+    }
+
 -- A CLOSED RUN, on a store that was found so.
-pub record IsClosedAs (script : List ScriptLine) (opened : Opened) (played : Played) (left : List (ℕ × ℕ)) (failed : ℕ) (log_left data_left : Disk) : Type 0 where
+pub record IsClosedAs (script : List ScriptLine) (opened : Opened) (number : ℕ) (played : Played) (left : List (ℕ × ℕ)) (failed : ℕ) (log_left data_left : Disk) : Type 0 where
   pub closed : IsClosed failed (record {
     script = script;
     opened = opened;
+    number = number;
     run = ran_of played;
     left = left;
     log_disk = log_left;
     data_disk = data_left;
   })
 
-pub closed-as : (log_entry data_entry : Seen) (stops : Stops) (script : List ScriptLine) (played : Played) (failed : ℕ) (log_now data_now : Guarded)
-    → (was : ArePlayed log_entry data_entry stops script played failed log_now data_now) (opened : Opened)
-    → WasFound was.way.log_found was.way.data_found opened → (left : List (ℕ × ℕ)) → IsLeft script played.history left
+pub closed-as : (log_entry data_entry : Seen) (stops : Stops) (log_only : Bool) (script : List ScriptLine) (played : Played) (log_failed data_failed : ℕ) (log_now data_now : Guarded)
+    → (was : ArePlayed log_entry data_entry stops log_only script played log_failed data_failed log_now data_now) (opened : Opened)
+    → (found : WasFound was.way.log_found was.way.data_found opened) → (left : List (ℕ × ℕ)) → IsLeft script played.history left
     → (log_left data_left : Disk) → log_now.seen.tells ≡ Some log_left → data_now.seen.tells ≡ Some data_left
-    → (was.opened ≡ opened) × IsClosedAs script was.opened played left failed log_left data_left
-closed-as log_entry data_entry stops script played failed log_now data_now was opened found left left_is log_left data_left log_is data_is =
-    let Closes : Disk → Disk → Type 0 = λ log_disk data_disk. IsClosed failed (record {
+    → (was.opened ≡ opened) × IsClosedAs script was.opened (found.reading.number + 1) played left (log_failed + data_failed) log_left data_left
+closed-as log_entry data_entry stops log_only script played log_failed data_failed log_now data_now was opened found left left_is log_left data_left log_is data_is =
+    let Closes : Disk → Disk → Type 0 = λ log_disk data_disk. IsClosed (log_failed + data_failed) (record {
       script = script;
       opened = was.opened;
+      number = found.reading.number + 1;
       run = ran_of played;
       left = left;
       log_disk = log_disk;
@@ -152,10 +216,6 @@ closed-as log_entry data_entry stops script played failed log_now data_now was o
     let now = both-told log_now.seen.tells data_now.seen.tells Closes closed.1 log_left data_left log_is data_is in
     (closed.0 ∙ sym found.same, record { closed = now })
 
--- a script that fits one round of the log fits a log that checkpoints free
-pub fits-freed : (opened : Opened) (script : List ScriptLine) → FitsOpened true opened script → FitsOpened false opened script
-fits-freed opened script fits = record { lines = fits.lines; end = fits.end; room = tt }
-
 pub whole-script : (call : Call) (script : List ScriptLine) (source source_left : Option (List ℕ)) → source ≡ call.source.left → source_left ≡ call.source_now.left
     → (read : IsScriptRead call.source call.source_now script) → IsWholeScript source source_left read.text script
 whole-script call script source source_left is left_is read =
@@ -166,44 +226,89 @@ whole-script call script source source_left is left_is read =
       is_script = read.of_text.is_script;
     }
 
-pub safe-as : (script : List ScriptLine) (played : Played) (left : List (ℕ × ℕ)) (failed failures : ℕ) (found opened : Opened) (log_left data_left : Disk)
-    → SafeLaw → failed ≡ failures → found ≡ opened → IsClosedAs script found played left failed log_left data_left
+pub safe-as : (script : List ScriptLine) (number : ℕ) (played : Played) (left : List (ℕ × ℕ)) (failed failures : ℕ) (found opened : Opened) (log_left data_left : Disk)
+    → SafeLaw → failed ≡ failures → found ≡ opened → IsClosedAs script found number played left failed log_left data_left
     → RunSafe failures (record { script = script; opened = opened; run = Some (ran_of played); left = left; log_disk = log_left; data_disk = data_left })
-safe-as script played left failed failures found opened log_left data_left safe counted same closed =
+safe-as script number played left failed failures found opened log_left data_left safe counted same closed =
     let Safe : ℕ → Opened → Type 0 = λ failures opened.
     RunSafe failures (record { script = script; opened = opened; run = Some (ran_of played); left = left; log_disk = log_left; data_disk = data_left }) in
     subst (λ (o : Opened). Safe failures o) same (subst (λ (n : ℕ). Safe n found) counted (safe failed _ closed.closed))
 
+-- OPENING CAME TO ITS END before a run.
+pub opened-before : (script : List ScriptLine) (played : Played) (left : List (ℕ × ℕ)) (failed : ℕ) (log_found data_found : Guarded) (was opened : Opened) (log_left data_left : Disk)
+    → OpenedLaw → was ≡ opened → (found : WasFound log_found data_found opened)
+    → IsClosedAs script was (found.reading.number + 1) played left failed log_left data_left → IsOpenedBefore opened.shape found.log log_left (Some (ran_of played))
+opened-before script played left failed log_found data_found was opened log_left data_left law same found closed =
+    let older : HeldOlder found.reading.shape (found.reading.number + 1) found.log = held-older found.reading found.log found.data_disk found.openable in
+    let shape : found.reading.shape ≡ was.shape = sym (ap (λ (opened : Opened). opened.shape) (same ∙ found.same)) in
+    let on : IsOpenedBefore was.shape found.log log_left (Some (ran_of played)) =
+    law failed _ found.log closed.closed (subst (λ (shape : Shape). HeldOlder shape (found.reading.number + 1) found.log) shape older) in
+    subst (λ (one : Opened). IsOpenedBefore one.shape found.log log_left (Some (ran_of played))) same on
+
+-- OPENING WAS STOPPED on it.
+pub stopped-on : (log_found data_found log_now : Guarded) (opened : Opened) → (found : WasFound log_found data_found opened)
+    → KeepsCheckpoint log_found data_found log_now → (disk : Disk) → log_now.seen.tells ≡ Some disk → IsOpenedBefore opened.shape found.log disk None
+stopped-on log_found data_found log_now opened found unmoved disk now_is =
+    let Keeps : Disk → Disk → Type 0 = λ log data_disk. IsOpenable found.reading log data_disk → IfSome log_now.seen.tells (HasSameCheckpoint found.reading) in
+    let kept = both-told log_found.seen.tells data_found.seen.tells Keeps (unmoved found.reading) found.log found.data_disk found.log_is found.data_is found.openable in
+    let now : HasSameCheckpoint found.reading disk = subst (λ (told : Option Disk). IfSome told (HasSameCheckpoint found.reading)) now_is kept in
+    subst (λ (one : Opened). IsOpenedBefore one.shape found.log disk None) (sym found.same)
+    (stopped-before found.reading found.log found.data_disk disk found.openable now)
+
+-- the device that was found is the one that is told to have been armed
+pub armed-same : (armed found : Option Disk) (log_found armed_from : Disk) → armed ≡ found → found ≡ Some log_found → armed ≡ Some armed_from → log_found ≡ armed_from
+armed-same armed found log_found armed_from same found_is armed_is = cc
+
 -- THE PROMISE OF RUN.
-pub played-safe : (call : Call) (stops : Stops) (script : List ScriptLine) (played : Played) (failed : ℕ) (text : List ℕ)
-    → OneAnswer → FormattedLaw → SafeLaw → IsScriptRead call.source call.source_now script
-    → ArePlayed call.log_device call.data_device stops script played failed call.log_device_now call.data_device_now
-    → IsReportOf script (Some (ran_of played)) None text → IsRunSafe call text
-played-safe call stops script played failed text one law safe read was report run is_call opened premises =
+pub played-safe : (call : Call) (stops : Stops) (log_only : Bool) (script : List ScriptLine) (played : Played) (log_failed data_failed : ℕ) (text : List ℕ)
+    → OneAnswer → FormattedLaw → ClosedLaws → IsScriptRead call.source call.source_now script
+    → ArePlayed call.log_device call.data_device stops log_only script played log_failed data_failed call.log_device_now call.data_device_now
+    → IsReportOf script (Some (ran_of played)) None text → IsRunSafe call log_only text
+played-safe call stops log_only script played log_failed data_failed text one law laws read was report run is_call opened premises =
     let found = was-found call.log_device call.data_device was.way.log_found was.way.data_found run.log_device.at_entry run.data_device.at_entry
     run.log_device.faults_at_entry run.data_device.faults_at_entry opened one law was.way.prepared is_call.log_device.at_entry is_call.data_device.at_entry
     premises.log_fresh premises.data_fresh premises.opens in
-    let closed = closed-as call.log_device call.data_device stops script played failed call.log_device_now call.data_device_now was opened found
+    let closed = closed-as call.log_device call.data_device stops log_only script played log_failed data_failed call.log_device_now call.data_device_now was opened found
     report.left report.left_is run.log_device.left run.data_device.left is_call.log_device.left is_call.data_device.left in
-    let failures : failed ≡ run.log_device.failures + run.data_device.failures =
+    let failures : log_failed + data_failed ≡ run.log_device.failures + run.data_device.failures =
     omega (arith, is_call.log_device.failures, is_call.data_device.failures, was.way.log_device.mid, was.way.data_device.mid) in (
       record { text = read.text; script = script; run = ran_of played; left = report.left },
       record {
         every_script = whole-script call script run.source run.source_left is_call.source is_call.source_left read;
-        fits = subst (λ log_only. FitsOpened log_only opened script) (sym is_call.log_only)
-            (fits-freed opened script (subst (λ (o : Opened). FitsOpened true o script) closed.0 was.fits));
+        fits = subst (λ log_only. FitsOpened log_only opened script) (sym is_call.log_only_is)
+            (subst (λ (o : Opened). FitsOpened log_only o script) closed.0 was.fits);
         prints = is_call.report ∙ report.text_is;
-        safe = safe-as script played report.left failed _ was.opened opened run.log_device.left run.data_device.left safe failures closed.0 closed.1;
+        unopened = unopened-as call.log_device call.data_device was.way.log_found was.way.data_found run.log_device.at_entry run.data_device.at_entry
+            run.log_device.armed_from run.data_device.armed_from law was.way.prepared is_call.log_device.at_entry is_call.data_device.at_entry
+            (sym was.way.log_device.armed_from ∙ is_call.log_device.armed_from) (sym was.way.data_device.armed_from ∙ is_call.data_device.armed_from);
+        opened_first = subst (λ (armed_from : Disk). IsOpenedBefore opened.shape armed_from run.log_device.left (Some (ran_of played)))
+            (armed-same _ _ found.log run.log_device.armed_from was.way.log_device.armed_from found.log_is is_call.log_device.armed_from)
+            (opened-before script played report.left (log_failed + data_failed) was.way.log_found was.way.data_found was.opened opened run.log_device.left run.data_device.left laws.opened closed.0 found closed.1);
+        safe = safe-as script (found.reading.number + 1) played report.left (log_failed + data_failed) _ was.opened opened run.log_device.left run.data_device.left laws.safe failures closed.0 closed.1;
       },
     )
 
+-- on the log device that is left
+played-first : (call : Call) (stops : Stops) (log_only : Bool) (script : List ScriptLine) (played : Played) (log_failed data_failed : ℕ) (left : List (ℕ × ℕ)) → OneAnswer → FormattedLaw → OpenedLaw
+    → ArePlayed call.log_device call.data_device stops log_only script played log_failed data_failed call.log_device_now call.data_device_now → IsLeft script played.history left
+    → IsOpenedFirst call call.log_device_now.seen.tells (Some (ran_of played))
+played-first call stops log_only script played log_failed data_failed left one law opened_law was left_is log data_disk opened log_is data_is log_fresh data_fresh opens armed_from disk armed_is now_is =
+    let found = was-found call.log_device call.data_device was.way.log_found was.way.data_found log data_disk call.log_device.faults call.data_device.faults
+    opened one law was.way.prepared log_is data_is log_fresh data_fresh opens in
+    let data_now = told-still call.data_device.tells call.data_device_now.seen.tells data_disk was.way.data_device.same.tells data_is in
+    let closed = closed-as call.log_device call.data_device stops log_only script played log_failed data_failed call.log_device_now call.data_device_now was opened found
+    left left_is disk data_now.0 now_is data_now.1 in
+    subst (λ (armed_from : Disk). IsOpenedBefore opened.shape armed_from disk (Some (ran_of played)))
+    (armed-same _ _ found.log armed_from was.way.log_device.armed_from found.log_is armed_is)
+    (opened-before script played left (log_failed + data_failed) was.way.log_found was.way.data_found was.opened opened disk data_now.0 opened_law closed.0 found closed.1)
+
 -- THE REPORT OF RUN.
-pub played-text : (call : Call) (stops : Stops) (script : List ScriptLine) (played : Played) (failed : ℕ) (text : List ℕ) → failed ≤ 1
-    → OneAnswer → FormattedLaw → SafeLaw → IsScriptRead call.source call.source_now script
-    → ArePlayed call.log_device call.data_device stops script played failed call.log_device_now call.data_device_now
-    → IsReportOf script (Some (ran_of played)) None text → IsRunText call text
-played-text call stops script played failed text once one law safe read was report =
-    let failures : failed ≡ call.log_device_now.fuse.mid + call.data_device_now.fuse.mid = omega (arith, was.way.log_device.mid, was.way.data_device.mid) in
+pub played-text : (call : Call) (stops : Stops) (drive : Drive) (script : List ScriptLine) (played : Played) (log_failed data_failed : ℕ) (text : List ℕ) → log_failed ≤ 1 → data_failed ≤ 1
+    → OneAnswer → FormattedLaw → ClosedLaws → IsScriptRead call.source call.source_now script
+    → ArePlayed call.log_device call.data_device stops drive.log_only script played log_failed data_failed call.log_device_now call.data_device_now
+    → IsReportOf script (Some (ran_of played)) None text → IsRunText call drive text
+played-text call stops drive script played log_failed data_failed text log_once data_once one law laws read was report =
+    let failures : log_failed + data_failed ≡ call.log_device_now.fuse.mid + call.data_device_now.fuse.mid = omega (arith, was.way.log_device.mid, was.way.data_device.mid) in
     record {
       opened = was.opened;
       run = ran_of played;
@@ -212,11 +317,13 @@ played-text call stops script played failed text once one law safe read was repo
         script = script;
         left = report.left;
         source = read.of_text;
-        ran = record { opens = was.opens; limits = was.limits; fits = was.fits; in_lsn_order = was.is_run; in_turn = was.in_turn };
+        ran = record { opens = was.opens; limits = was.limits; fits = was.fits; in_lsn_order = was.is_run };
         left_is = report.left_is;
         loses = subst (λ (n : ℕ). LosesOnlyByFailure n (Some (ran_of played)) report.left) failures (was.loses report.left report.left_is);
         once = record { log_device = omega (arith, was.way.log_device.mid); data_device = omega (arith, was.way.data_device.mid) };
+        found = are-found call was.way.log_found was.way.data_found law was.way.prepared was.way.log_device.armed_from was.way.data_device.armed_from;
         text_is = report.text_is;
       };
-      safe = played-safe call stops script played failed text one law safe read was report;
+      opened_first = played-first call stops drive.log_only script played log_failed data_failed report.left one law laws.opened was report.left_is;
+      safe = played-safe call stops drive.log_only script played log_failed data_failed text one law laws read was report;
     }

@@ -1,7 +1,8 @@
--- A run that can be done isn't ended before its first line, but by want of memory.
-use Rattle.std.proofs.Common.{ℕ, ◌≡◌, ◌≤◌, ◌<◌, true, List, Option, Some, None, IfSome, refl, sym, ap, subst, ◌∙◌, ⊎_elim, arith}
+-- A run that can be done isn't ended but by want of memory, or by its turns.
+use Rattle.std.proofs.Common.{ℕ, ◌≡◌, ◌≤◌, ◌<◌, Bool, true, List, Option, Some, None, IfSome, sym, ap, subst, ◌∙◌, ⊎_elim, arith}
 use Rattle.model_base.specs.Limits.{default_shape}
 use Rattle.model_base.specs.declared.shape.Shape.{Shape}
+use Rattle.model_command.specs.declared.asked.Command.{Command}
 use Rattle.model_device.specs.Disk.{Disk}
 use Rattle.model_log.specs.Lsn.{start_after}
 use Rattle.model_log.specs.declared.layout.TheConstants.{HEADER_BYTES}
@@ -18,8 +19,10 @@ use Rattle.model_store.specs.declared.refusal.Refusal.TheVariants as refusal
 use Rattle.model_theorem.specs.Script.{FitsOpened, room_of}
 use Rattle.model_theorem.specs.Values.{Opened}
 use Rattle.redo_disk.specs.Seen.{HasSize}
+use Rattle.redo_machine.specs.declared.drive.Turns.{Turns}
+use Rattle.redo_lab.specs.Asked.{reads_script}
 use Rattle.redo_lab.specs.Call.{Call}
-use Rattle.redo_lab.specs.Complete.{AreLongEnough, CanRun}
+use Rattle.redo_lab.specs.Complete.{AreLongEnough, CanRun, MayKeepFrom}
 use Rattle.redo_lab.specs.Course.{AreMisfitted, AreRefusedOpened, IsEndedBy}
 use Rattle.redo_lab.specs.Prepared.{AreTooShort}
 use Rattle.redo_lab.specs.Script.{IsScriptRead}
@@ -54,8 +57,8 @@ long-not-short log_size data_size (refusal.SmallLog n) long short = absurd (omeg
 long-not-short log_size data_size (refusal.SmallData n) long short = absurd (omega (arith, long.data_long, short.1))
 long-not-short log_size data_size cause long short = absurd short
 
-has-header : (call : Call) → CanRun call → IfSome call.log_device.tells (HasSize call.log_device.size) → HEADER_BYTES ≤ call.log_device.size
-has-header call can sized = ⊎_elim
+has-header : (call : Call) (log_only : Bool) → CanRun call log_only → IfSome call.log_device.tells (HasSize call.log_device.size) → HEADER_BYTES ≤ call.log_device.size
+has-header call log_only can sized = ⊎_elim
     (λ unused. let long = (can.long unused.unused).log_long in omega (arith, long))
     (λ orderly.
     let size = at-some call.log_device.tells (HasSize call.log_device.size) can.log sized can.log_fresh.tells in
@@ -63,21 +66,21 @@ has-header call can sized = ⊎_elim
     omega (arith, size.reads, header))
     can.opens
 
-possible-not-short : (call : Call) (cause : Refusal) → OneAnswer → CanRun call
+possible-not-short : (call : Call) (log_only : Bool) (cause : Refusal) → OneAnswer → CanRun call log_only
     → AreTooShort call.log_device call.data_device cause call.log_device_now call.data_device_now → ⊥
-possible-not-short call cause one can short = ⊎_elim
+possible-not-short call log_only cause one can short = ⊎_elim
     (λ none.
     let no_room = no-header-short call.log_device.size cause none in
-    let room = has-header call can short.sized in
+    let room = has-header call log_only can short.sized in
     absurd (omega (arith, no_room, room)))
     (λ unused.
     let is_unused = unused.2 can.log can.data_disk can.log_fresh.tells can.data_fresh.tells in
     long-not-short call.log_device.size call.data_device.size cause (can.long is_unused) unused.1)
     short.short
 
-possible-not-refused : (call : Call) (stops : Stops) (cause : Refusal) → OneAnswer → CanRun call
+possible-not-refused : (call : Call) (log_only : Bool) (stops : Stops) (cause : Refusal) → OneAnswer → CanRun call log_only
     → AreRefusedOpened call.log_device call.data_device stops cause call.log_device_now call.data_device_now → ⊥
-possible-not-refused call stops cause one can ended =
+possible-not-refused call log_only stops cause one can ended =
     let refused = ended.refused can.log can.data_disk can.log_fresh.tells can.data_fresh.tells in ⊎_elim
     (λ unused. refused.0 unused.unused)
     (λ orderly. one can.log.reads can.data_disk.reads orderly.reading cause orderly.orderly.reads refused.1)
@@ -103,33 +106,35 @@ one-opened log data_disk a b one same opens_a opens_b = ⊎_elim
     opens_a
 
 -- the script that was read is the one that can be run
-one-script : (call : Call) (script : List ScriptLine) → IsScriptRead call.source call.source_now script → (can : CanRun call) → script ≡ can.script
-one-script call script read can =
+one-script : (call : Call) (script : List ScriptLine) → IsScriptRead call.source call.source_now script → (log_only : Bool) (can : CanRun call log_only) → script ≡ can.script
+one-script call script read log_only can =
     let left = at-some call.source.left (λ left. (read.text ≡ left) × (call.source_now.left ≡ Some _)) can.text read.of_text.read.all_read can.source in
     let is = sym read.of_text.is_script ∙ (ap script_of left.0 ∙ can.is_script) in
     cc
 
-possible-no-misfit : (call : Call) (stops : Stops) (script : List ScriptLine) (misfit : Misfit) → IsScriptRead call.source call.source_now script
-    → OneAnswer → OneReading → UnfitLaw → CanRun call
-    → AreMisfitted call.log_device call.data_device stops script misfit call.log_device_now call.data_device_now → ⊥
-possible-no-misfit call stops script misfit read one same unfit can ended =
+possible-no-misfit : (call : Call) (log_only : Bool) (stops : Stops) (script : List ScriptLine) (misfit : Misfit) → IsScriptRead call.source call.source_now script
+    → OneAnswer → OneReading → UnfitLaw → CanRun call log_only
+    → AreMisfitted call.log_device call.data_device stops log_only script misfit call.log_device_now call.data_device_now → ⊥
+possible-no-misfit call log_only stops script misfit read one same unfit can ended =
     let opened : ended.opened ≡ can.opened =
     one-opened can.log can.data_disk ended.opened can.opened one same (ended.opens can.log can.data_disk can.log_fresh.tells can.data_fresh.tells) can.opens in
-    let fits : FitsOpened true ended.opened script =
-    subst (λ (o : Opened). FitsOpened true o script) (sym opened)
-    (subst (λ (lines : List ScriptLine). FitsOpened true can.opened lines) (sym (one-script call script read can)) can.fits) in
-    let none = sym ended.first ∙ unfit ended.opened.shape (start_after ended.opened.end) (room_of true ended.opened) script fits in
+    let fits : FitsOpened log_only ended.opened script =
+    subst (λ (o : Opened). FitsOpened log_only o script) (sym opened)
+    (subst (λ (lines : List ScriptLine). FitsOpened log_only can.opened lines) (sym (one-script call script read log_only can)) can.fits) in
+    let none = sym ended.first ∙ unfit ended.opened.shape (start_after ended.opened.end) (room_of log_only ended.opened) script fits in
     cc
 
--- SO A RUN THAT CAN BE DONE is ended by want of memory alone, where no call of a device failed.
-pub ended-by-memory : (call : Call) (stops : Stops) (script : List ScriptLine) (f : Fault) → IsScriptRead call.source call.source_now script
-    → OneAnswer → OneReading → UnfitLaw → CanRun call → call.log_device_now.fuse.early ≡ 0 → call.data_device_now.fuse.early ≡ 0
-    → IsEndedBy call.log_device call.data_device stops script f call.log_device_now call.data_device_now → f ≡ fault.Memory
-ended-by-memory call stops script fault.Memory read one same unfit can log_good data_good ended = refl
-ended-by-memory call stops script fault.LogDevice read one same unfit can log_good data_good ended = absurd (omega (arith, ended.log_device.early))
-ended-by-memory call stops script fault.DataDevice read one same unfit can log_good data_good ended = absurd (omega (arith, ended.data_device.early))
-ended-by-memory call stops script (fault.Store cause) read one same unfit can log_good data_good ended =
-    absurd (⊎_elim (possible-not-short call cause one can) (possible-not-refused call stops cause one can) ended)
-ended-by-memory call stops script (fault.Fit misfit) read one same unfit can log_good data_good ended =
-    absurd (possible-no-misfit call stops script misfit read one same unfit can ended)
-ended-by-memory call stops script f read one same unfit can log_good data_good ended = absurd ended
+-- SO A RUN THAT CAN BE DONE is ended by want of memory or its turns alone, where no call of a device failed.
+pub ended-kept : (call : Call) (command : Command) (stops : Stops) (turns : Turns) (script : List ScriptLine) (f : Fault) → reads_script command ≡ true
+    → IsScriptRead call.source call.source_now script → OneAnswer → OneReading → UnfitLaw → CanRun call turns.log_only
+    → call.log_device_now.fuse.early ≡ 0 → call.data_device_now.fuse.early ≡ 0
+    → IsEndedBy call.log_device call.data_device stops turns script f call.log_device_now call.data_device_now → MayKeepFrom command f
+ended-kept call command stops turns script fault.Memory runs read one same unfit can log_good data_good ended = tt
+ended-kept call command stops turns script fault.LogDevice runs read one same unfit can log_good data_good ended = absurd (omega (arith, ended.log_device.early))
+ended-kept call command stops turns script fault.DataDevice runs read one same unfit can log_good data_good ended = absurd (omega (arith, ended.data_device.early))
+ended-kept call command stops turns script (fault.Store cause) runs read one same unfit can log_good data_good ended =
+    absurd (⊎_elim (possible-not-short call turns.log_only cause one can) (possible-not-refused call turns.log_only stops cause one can) ended)
+ended-kept call command stops turns script (fault.Turns count user) runs read one same unfit can log_good data_good ended = runs
+ended-kept call command stops turns script (fault.Fit misfit) runs read one same unfit can log_good data_good ended =
+    absurd (possible-no-misfit call turns.log_only stops script misfit read one same unfit can ended)
+ended-kept call command stops turns script f runs read one same unfit can log_good data_good ended = absurd ended

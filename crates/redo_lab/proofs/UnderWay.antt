@@ -19,14 +19,15 @@ use Rattle.redo_memdisk.specs.Counted.{while_stopping}
 use Rattle.redo_memdisk.specs.Fused.{CallsThrough, seen_through}
 use Rattle.redo_memdisk.specs.declared.fused.Fused.{Fused}
 use Rattle.redo_memdisk.proofs.Behind.{counts-calls}
-use Rattle.redo_open.specs.Devices.{WhereBothTell}
+use Rattle.redo_open.specs.Devices.{HasSameCheckpoint, WhereBothTell}
 use Rattle.redo_open.specs.Opening.{HasFaultCause, OpensLog}
 use Rattle.redo_recover.specs.Calls.{BeginWithHeader, data_error, log_error}
 use Rattle.redo_recover.specs.Devices.{OnContents, refusal_of}
 use Rattle.redo_recover.specs.declared.fault.RecFault.{RecFault}
 use Rattle.redo_recover.specs.declared.fault.RecFault.TheVariants.{SmallLog, NotFormatted, BadFormat, SmallData, NoCheckpoint, BadRecord, PageLost, PageAhead, LogDev, DataDev, NoMemory}
+use Rattle.redo_machine.specs.declared.drive.Turns.{Turns}
 use Rattle.redo_lab.specs.Call.{Guarded, guarded}
-use Rattle.redo_lab.specs.Course.{AreRefusedOpened, AreStopped, AreUnderWay, ComesTo, KeepsFound}
+use Rattle.redo_lab.specs.Course.{AreRefusedOpened, AreStopped, AreUnderWay, ComesTo, KeepsCheckpoint, KeepsFound}
 use Rattle.redo_lab.specs.Playing.{AreArmed, unopened}
 use Rattle.redo_lab.specs.Prepared.{ArePrepared, BothKept, WhereTold}
 use Rattle.redo_lab.specs.Stages.{IsArmed}
@@ -77,19 +78,19 @@ counted-opening {log_seen = log_seen} {log_gives = log_gives} {log_old = log_old
       counted = counts.some (subst (λ stage. 0 < while_stopping stage (length log_made.calls)) (sym armed.log_device.stage) some);
     }
 
--- and those of the log device behind it
-pub counted-more : {L D : Type 0} {log_seen : L → Seen} {log_gives : L → Call → L → Type 0}
-    {log_entry data_entry : Seen} {stops : Stops} {log_found data_found : Guarded} {log_old log_new : Fused L} {data_old data_new : Fused D} {error : Option DevError} (data_seen : D → Seen)
+-- and those of both devices behind it
+pub counted-more : {L D : Type 0} {log_seen : L → Seen} {log_gives : L → Call → L → Type 0} {data_seen : D → Seen} {data_gives : D → Call → D → Type 0}
+    {log_entry data_entry : Seen} {stops : Stops} {log_found data_found : Guarded} {log_old log_new : Fused L} {data_old data_new : Fused D} {log_error data_error : Option DevError}
     → AreCounted log_entry data_entry stops log_found data_found 0 0 (guarded log_seen log_old) (guarded data_seen data_old)
-    → MakesCalls (CallsThrough log_seen log_gives) log_old log_new (MayEndWith error) → data_new ≡ data_old
-    → AreCounted log_entry data_entry stops log_found data_found (failures error) 0 (guarded log_seen log_new) (guarded data_seen data_new)
-counted-more {D = D} {log_seen = log_seen} {log_gives = log_gives} {data_entry = data_entry} {stops = stops} {data_found = data_found} {log_old = log_old} {log_new = log_new} data_seen was made same =
-    let counts = counts-calls log_seen log_gives log_old log_new made.calls made.made in
+    → MakesCalls (CallsThrough log_seen log_gives) log_old log_new (MayEndWith log_error) → MakesCalls (CallsThrough data_seen data_gives) data_old data_new (MayEndWith data_error)
+    → AreCounted log_entry data_entry stops log_found data_found (failures log_error) (failures data_error) (guarded log_seen log_new) (guarded data_seen data_new)
+counted-more {log_seen = log_seen} {log_gives = log_gives} {log_old = log_old} {log_new = log_new} was log_made data_made =
+    let counts = counts-calls log_seen log_gives log_old log_new log_made.calls log_made.made in
     let old : 0 < log_old.fuse.passed = omega (arith, was.counted, was.log_device.mid) in
     let new : 0 < log_new.fuse.passed = counts.passed old in
     record {
-      log_device = armed-calls was.log_device made;
-      data_device = subst (λ (one : Fused D). IsArmed stops.store data_entry data_found 0 (guarded data_seen one)) (sym same) was.data_device;
+      log_device = armed-calls was.log_device log_made;
+      data_device = armed-calls was.data_device data_made;
       counted = omega arith;
     }
 
@@ -99,11 +100,12 @@ pub same-both : (R : Disk → Disk → Type 0) (log data_told log_same data_same
 same-both R log data_told log_same data_same log_is data_is holds =
     subst (λ (o : Option Disk). WhereBothTell log o R) data_is (subst (λ (o : Option Disk). WhereBothTell o data_same R) log_is holds)
 
--- what is so of no disk in particular, told in a weaker way
-weaker-both : {P Q : Type 0} (log data_told : Option Disk) → (P → Q) → WhereBothTell log data_told (λ _ _. P) → WhereBothTell log data_told (λ _ _. Q)
+-- and what is so, told in a weaker way
+weaker-both : {P Q : Disk → Disk → Type 0} (log data_told : Option Disk) → ((log data_disk : Disk) → P log data_disk → Q log data_disk)
+    → WhereBothTell log data_told P → WhereBothTell log data_told Q
 weaker-both None data_told weaker holds = tt
 weaker-both (Some log) None weaker holds = tt
-weaker-both (Some log) (Some data_told) weaker holds = weaker holds
+weaker-both (Some log) (Some data_told) weaker holds = weaker log data_told holds
 
 same-shorter : (cause : Refusal) (log_size data_size log_entry data_entry : ℕ) → log_size ≡ log_entry → data_size ≡ data_entry
     → IsShorter log_size data_size cause → IsShorter log_entry data_entry cause
@@ -119,6 +121,16 @@ keeps-found log_found data_found log_old data_old log_now data_now log_same data
     same-both (λ log data_disk. IsOpenable reading log data_disk → WhereBothTell log_now.seen.tells data_now.seen.tells (KeepsOpened reading))
     log_found.seen.tells data_found.seen.tells log_old.seen.tells data_old.seen.tells
     (ap (λ (seen : Seen). seen.tells) log_same) (ap (λ (seen : Seen). seen.tells) data_same) (keeps reading)
+
+-- the checkpoint of such a store
+keeps-checkpoint : (log_found data_found log_old data_old log_now : Guarded) → log_old.seen ≡ log_found.seen → data_old.seen ≡ data_found.seen
+    → ((reading : Reading) → WhereBothTell log_old.seen.tells data_old.seen.tells (λ log data_disk. IsOpenable reading log data_disk
+    → IfSome log_now.seen.tells (HasSameCheckpoint reading)))
+    → KeepsCheckpoint log_found data_found log_now
+keeps-checkpoint log_found data_found log_old data_old log_now log_same data_same unmoved = λ reading.
+    same-both (λ log data_disk. IsOpenable reading log data_disk → IfSome log_now.seen.tells (HasSameCheckpoint reading))
+    log_found.seen.tells data_found.seen.tells log_old.seen.tells data_old.seen.tells
+    (ap (λ (seen : Seen). seen.tells) log_same) (ap (λ (seen : Seen). seen.tells) data_same) (unmoved reading)
 
 -- WHAT WAS FORMATTED is read as the new store
 pub default-limits : IsWithinLimits default_shape
@@ -210,6 +222,8 @@ pub record IsUnopened {L D : Type 0} (log_seen : L → Seen) (log_gives : L → 
   pub armed : AreArmed log_entry data_entry stops log_found data_found (guarded log_seen log) (guarded data_seen data_device)
   pub keeps : (reading : Reading) → WhereBothTell (log_seen log.inner).tells (data_seen data_device.inner).tells (λ log_disk data_disk.
       IsOpenable reading log_disk data_disk → WhereBothTell (log_seen log_now.inner).tells (data_seen data_now.inner).tells (KeepsOpened reading))
+  pub unmoved : (reading : Reading) → WhereBothTell (log_seen log.inner).tells (data_seen data_device.inner).tells (λ log_disk data_disk.
+      IsOpenable reading log_disk data_disk → f ≢ NoMemory → IfSome (log_seen log_now.inner).tells (HasSameCheckpoint reading))
   pub cause : HasFaultCause (seen_through log_seen log) (seen_through data_seen data_device) (seen_through log_seen log_now) (seen_through data_seen data_now) f
   pub log_calls : MakesCalls (CallsThrough log_seen log_gives) log log_now (OpensLog (log_seen log.inner).size (log_error f))
   pub data_calls : MakesCalls (CallsThrough data_seen data_gives) data_device data_now (MayEndWith (data_error f))
@@ -218,11 +232,15 @@ pub record IsUnopened {L D : Type 0} (log_seen : L → Seen) (log_gives : L → 
 stopped : {L D : Type 0} {log_seen : L → Seen} {log_gives : L → Call → L → Type 0} {data_seen : D → Seen} {data_gives : D → Call → D → Type 0}
     {log_entry data_entry : Seen} {stops : Stops} {log_found data_found : Guarded} {log : Fused L} {data_device : Fused D} {f : RecFault} {log_now : Fused L} {data_now : Fused D}
     → IsUnopened log_seen log_gives data_seen data_gives log_entry data_entry stops log_found data_found log data_device f log_now data_now
-    → AreStopped log_entry data_entry stops (failures (log_error f)) (failures (data_error f)) (guarded log_seen log_now) (guarded data_seen data_now)
-stopped {log_seen = log_seen} {data_seen = data_seen} {log_found = log_found} {data_found = data_found} {log = log} {data_device = data_device} {log_now = log_now} {data_now = data_now} is = record {
+    → f ≢ NoMemory → AreStopped log_entry data_entry stops (failures (log_error f)) (failures (data_error f)) (guarded log_seen log_now) (guarded data_seen data_now)
+stopped {log_seen = log_seen} {data_seen = data_seen} {log_found = log_found} {data_found = data_found} {log = log} {data_device = data_device} {log_now = log_now} {data_now = data_now} is failed = record {
   way = way-of log_found data_found is.armed.prepared (counted-opening is.armed is.log_calls is.data_calls);
   keeps = keeps-found log_found data_found (guarded log_seen log) (guarded data_seen data_device) (guarded log_seen log_now) (guarded data_seen data_now)
       is.armed.log_same is.armed.data_same is.keeps;
+  unmoved = keeps-checkpoint log_found data_found (guarded log_seen log) (guarded data_seen data_device) (guarded log_seen log_now)
+      is.armed.log_same is.armed.data_same
+      (λ reading. weaker-both {Q = λ log_disk data_disk. IsOpenable reading log_disk data_disk → IfSome (log_seen log_now.inner).tells (HasSameCheckpoint reading)} _ _
+      (λ log_disk data_disk unmoved openable. unmoved openable failed) (is.unmoved reading));
 }
 
 -- the store was refused
@@ -255,7 +273,7 @@ refused-opened {log_seen = log_seen} {data_seen = data_seen} {log_entry = log_en
       tells = same-both (λ l d. ((log_seen log_now.inner).tells ≡ Some l) × ((data_seen data_now.inner).tells ≡ Some d))
           log_found.seen.tells data_found.seen.tells (log_seen log.inner).tells (data_seen data_device.inner).tells log_tells data_tells tells;
       crashed = weaker-both log_found.seen.tells data_found.seen.tells
-          (λ both. (both.0 ∙ log_crashed, both.1 ∙ data_crashed))
+          (λ _ _ both. (both.0 ∙ log_crashed, both.1 ∙ data_crashed))
           (same-both (λ l d. ((log_seen log_now.inner).crashed_from ≡ (log_seen log.inner).crashed_from) × ((data_seen data_now.inner).crashed_from ≡ (data_seen data_device.inner).crashed_from))
           log_found.seen.tells data_found.seen.tells (log_seen log.inner).tells (data_seen data_device.inner).tells log_tells data_tells crashed);
     } in
@@ -274,17 +292,18 @@ refused-opened {log_seen = log_seen} {data_seen = data_seen} {log_entry = log_en
 
 pub unopened-comes : {L D : Type 0} {log_seen : L → Seen} {log_gives : L → Call → L → Type 0} {data_seen : D → Seen} {data_gives : D → Call → D → Type 0}
     {log_entry data_entry : Seen} {stops : Stops} {log_found data_found : Guarded} {log : Fused L} {data_device : Fused D}
-    (script : List ScriptLine) (f : RecFault) (log_now : Fused L) (data_now : Fused D)
+    (turns : Turns) (script : List ScriptLine) (f : RecFault) (log_now : Fused L) (data_now : Fused D)
     → IsUnopened log_seen log_gives data_seen data_gives log_entry data_entry stops log_found data_found log data_device f log_now data_now
-    → ComesTo log_entry data_entry stops script (unopened f) (guarded log_seen log_now) (guarded data_seen data_now)
-unopened-comes script LogDev log_now data_now is = stopped is
-unopened-comes script DataDev log_now data_now is = stopped is
-unopened-comes script NoMemory log_now data_now is = inr (stopped is).way
-unopened-comes script (SmallLog n) log_now data_now is = inr (refused-opened (refusal.SmallLog n) refl refl refl is.cause.lengths is)
-unopened-comes script NotFormatted log_now data_now is = inr (refused-opened refusal.NotFormatted refl refl refl tt is)
-unopened-comes script (BadFormat n) log_now data_now is = inr (refused-opened (refusal.BadFormat n) refl refl refl tt is)
-unopened-comes script (SmallData n) log_now data_now is = inr (refused-opened (refusal.SmallData n) refl refl refl is.cause.lengths is)
-unopened-comes script NoCheckpoint log_now data_now is = inr (refused-opened refusal.NoCheckpoint refl refl refl tt is)
-unopened-comes script (BadRecord lsn) log_now data_now is = inr (refused-opened (refusal.BadRecord lsn) refl refl refl tt is)
-unopened-comes script (PageLost p) log_now data_now is = inr (refused-opened (refusal.PageLost p) refl refl refl tt is)
-unopened-comes script (PageAhead p lsn) log_now data_now is = inr (refused-opened (refusal.PageAhead p lsn) refl refl refl tt is)
+    → ComesTo log_entry data_entry stops turns script (unopened f) (guarded log_seen log_now) (guarded data_seen data_now)
+unopened-comes turns script LogDev log_now data_now is = stopped is (λ same. cc)
+unopened-comes turns script DataDev log_now data_now is = stopped is (λ same. cc)
+unopened-comes {log_found = log_found} {data_found = data_found} turns script NoMemory log_now data_now is =
+    inr (way-of log_found data_found is.armed.prepared (counted-opening is.armed is.log_calls is.data_calls))
+unopened-comes turns script (SmallLog n) log_now data_now is = inr (refused-opened (refusal.SmallLog n) refl refl refl is.cause.lengths is)
+unopened-comes turns script NotFormatted log_now data_now is = inr (refused-opened refusal.NotFormatted refl refl refl tt is)
+unopened-comes turns script (BadFormat n) log_now data_now is = inr (refused-opened (refusal.BadFormat n) refl refl refl tt is)
+unopened-comes turns script (SmallData n) log_now data_now is = inr (refused-opened (refusal.SmallData n) refl refl refl is.cause.lengths is)
+unopened-comes turns script NoCheckpoint log_now data_now is = inr (refused-opened refusal.NoCheckpoint refl refl refl tt is)
+unopened-comes turns script (BadRecord lsn) log_now data_now is = inr (refused-opened (refusal.BadRecord lsn) refl refl refl tt is)
+unopened-comes turns script (PageLost p) log_now data_now is = inr (refused-opened (refusal.PageLost p) refl refl refl tt is)
+unopened-comes turns script (PageAhead p lsn) log_now data_now is = inr (refused-opened (refusal.PageAhead p lsn) refl refl refl tt is)

@@ -1,5 +1,5 @@
 -- A command whose script wasn't read.
-use Rattle.std.proofs.Common.{ℕ, ◌≡◌, ◌<◌, List, length, Option, Some, None, IfSome, refl, sym, ap, subst, ◌∙◌, inl, arith}
+use Rattle.std.proofs.Common.{ℕ, ◌≡◌, ◌<◌, Bool, List, length, Option, Some, None, IfSome, refl, sym, ap, subst, ◌∙◌, inl, arith}
 use Rattle.std.proofs.lemmas.Bool.{false≢true}
 use Rattle.model_base.specs.declared.limits.TheConstants.{MAX_SCRIPT}
 use Rattle.model_command.specs.declared.asked.Command.TheVariants.{Run, Crash}
@@ -22,15 +22,15 @@ if-left : (o : Option (List ℕ)) (P : List ℕ → Type 0) (text : List ℕ) �
 if-left None P text holds is = cc
 if-left (Some left) P text holds is = let same : left ≡ text = cc in subst P same holds
 
-no-bad-line : (call : Call) (n : ℕ) → CanRun call → IsBadLine call.source call.source_now n → ⊥
-no-bad-line call n can bad =
+no-bad-line : (call : Call) (log_only : Bool) (n : ℕ) → CanRun call log_only → IsBadLine call.source call.source_now n → ⊥
+no-bad-line call log_only n can bad =
     let left = if-left call.source.left (λ left. (bad.text ≡ left) × (call.source_now.left ≡ Some _)) can.text bad.read.all_read can.source in
     let is_script = can.is_script in
     let is_bad = sym (ap script_of left.0) ∙ bad.is_bad in
     cc
 
-no-long-script : (call : Call) (misfit : Misfit) → CanRun call → IsLongScript call.source misfit → ⊥
-no-long-script call misfit can long =
+no-long-script : (call : Call) (log_only : Bool) (misfit : Misfit) → CanRun call log_only → IsLongScript call.source misfit → ⊥
+no-long-script call log_only misfit can long =
     let more = if-left call.source.left (λ left. MAX_SCRIPT < length left) can.text long.long can.source in
     omega (arith, can.short)
 
@@ -43,7 +43,7 @@ run-unscripted call drive fault.Memory alone cause law = record {
   told = record { log_device = told-fresh _ _ _ alone.log_device.fuse; data_device = told-fresh _ _ _ alone.data_device.fuse };
   log_tells = still-tells _ _ alone.log_device.seen;
   data_tells = still-tells _ _ alone.data_device.seen;
-  complete = λ possible source unfailed. refl;
+  complete = λ possible source unfailed. tt;
   safe = tt;
 }
 run-unscripted call drive (fault.Script n) alone cause law = record {
@@ -53,7 +53,7 @@ run-unscripted call drive (fault.Script n) alone cause law = record {
   told = record { log_device = told-fresh _ _ _ alone.log_device.fuse; data_device = told-fresh _ _ _ alone.data_device.fuse };
   log_tells = still-tells _ _ alone.log_device.seen;
   data_tells = still-tells _ _ alone.data_device.seen;
-  complete = λ possible source unfailed. absurd (no-bad-line call n possible cause);
+  complete = λ possible source unfailed. absurd (no-bad-line call drive.log_only n possible cause);
   safe = tt;
 }
 run-unscripted call drive fault.Source alone cause law = record {
@@ -73,7 +73,7 @@ run-unscripted call drive (fault.Fit misfit) alone cause law = record {
   told = record { log_device = told-fresh _ _ _ alone.log_device.fuse; data_device = told-fresh _ _ _ alone.data_device.fuse };
   log_tells = still-tells _ _ alone.log_device.seen;
   data_tells = still-tells _ _ alone.data_device.seen;
-  complete = λ possible source unfailed. absurd (no-long-script call misfit possible cause);
+  complete = λ possible source unfailed. absurd (no-long-script call drive.log_only misfit possible cause);
   safe = tt;
 }
 run-unscripted call drive fault.Words alone cause law = absurd cause
@@ -92,7 +92,7 @@ crash-unscripted call drive stop_log stop_data pick fault.Memory alone cause law
   told = record { log_device = told-fresh _ _ _ alone.log_device.fuse; data_device = told-fresh _ _ _ alone.data_device.fuse };
   log_tells = still-tells _ _ alone.log_device.seen;
   data_tells = still-tells _ _ alone.data_device.seen;
-  complete = λ possible source unfailed. refl;
+  complete = λ possible source unfailed. tt;
   safe = tt;
 }
 crash-unscripted call drive stop_log stop_data pick (fault.Script n) alone cause law = record {
@@ -102,7 +102,7 @@ crash-unscripted call drive stop_log stop_data pick (fault.Script n) alone cause
   told = record { log_device = told-fresh _ _ _ alone.log_device.fuse; data_device = told-fresh _ _ _ alone.data_device.fuse };
   log_tells = still-tells _ _ alone.log_device.seen;
   data_tells = still-tells _ _ alone.data_device.seen;
-  complete = λ possible source unfailed. absurd (no-bad-line call n possible.can cause);
+  complete = λ possible source unfailed. absurd (no-bad-line call drive.log_only n possible.can cause);
   safe = tt;
 }
 crash-unscripted call drive stop_log stop_data pick fault.Source alone cause law = record {
@@ -122,7 +122,7 @@ crash-unscripted call drive stop_log stop_data pick (fault.Fit misfit) alone cau
   told = record { log_device = told-fresh _ _ _ alone.log_device.fuse; data_device = told-fresh _ _ _ alone.data_device.fuse };
   log_tells = still-tells _ _ alone.log_device.seen;
   data_tells = still-tells _ _ alone.data_device.seen;
-  complete = λ possible source unfailed. absurd (no-long-script call misfit possible.can cause);
+  complete = λ possible source unfailed. absurd (no-long-script call drive.log_only misfit possible.can cause);
   safe = tt;
 }
 crash-unscripted call drive stop_log stop_data pick fault.Words alone cause law = absurd cause

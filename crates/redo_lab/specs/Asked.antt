@@ -1,23 +1,27 @@
--- What the words of a call ask for. Runs by turns of a seed, by a number of turns, in threads or of the log alone aren't
--- served yet: their words ask for nothing.
-use Rattle.std.specs.Prelude.{ℕ, ◌≤◌, ◌==◌, ◌&&◌, if◌then◌else◌, Bool, true, false, not, List, Option, Some, None, option_and_then}
+-- What the words of a call ask for. Runs in threads, and the run of a script that is generated, aren't served yet: their words
+-- ask for nothing.
+use Rattle.std.specs.Prelude.{ℕ, ◌≤◌, if◌then◌else◌, Bool, true, false, not, List, Option, Some, None, option_and_then}
 use Rattle.model_base.specs.declared.limits.TheConstants.{MAX_LOG_BLOCKS, MAX_PAGES, MIN_LOG_BLOCKS}
 use Rattle.model_command.specs.Commands.{asked_of}
 use Rattle.model_command.specs.declared.asked.Asked.{Asked}
 use Rattle.model_command.specs.declared.asked.Command.{Command}
 use Rattle.model_command.specs.declared.asked.Command.TheVariants.{Format, Run, Crash, Recover, Dump, Gen}
 use Rattle.model_command.specs.declared.asked.Drive.{Drive}
-use Rattle.model_command.specs.declared.words.TheConstants.{DEFAULT_TURNS}
 use Rattle.model_script.specs.declared.misfit.TheConstants.{MAX_USERS}
+use Rattle.redo_machine.specs.declared.drive.Turns.{Turns}
 
--- the lines are run one after another, as where nothing is asked of the run
-abbrev pub is_plain : Drive → Bool
-is_plain drive = drive.seed == 0 && (drive.max == DEFAULT_TURNS && (not drive.threads && not drive.log_only))
+-- the lines are run by turns
+abbrev pub is_by_turns : Drive → Bool
+is_by_turns drive = not drive.threads
+
+-- the turns of a drive
+abbrev pub turns_of : Drive → Turns
+turns_of drive = record { seed = drive.seed; max = drive.max; log_only = drive.log_only }
 
 abbrev pub is_served : Command → Bool
 is_served (Format pages space log_blocks) = true
-is_served (Run drive) = is_plain drive
-is_served (Crash drive stop_log stop_data pick) = is_plain drive
+is_served (Run drive) = is_by_turns drive
+is_served (Crash drive stop_log stop_data pick) = is_by_turns drive
 is_served Recover = true
 is_served Dump = true
 is_served (Gen seed users groups run max) = not run
@@ -28,6 +32,12 @@ where_served asked = if is_served asked.command then Some asked.command else Non
 -- the command that the words ask for, if they ask for one that is served
 abbrev pub command_of : List (List ℕ) → Option Command
 command_of words = option_and_then where_served (asked_of words)
+
+-- how the command runs a script, if it runs one
+abbrev pub drive_of : Command → Option Drive
+drive_of (Run drive) = Some drive
+drive_of (Crash drive stop_log stop_data pick) = Some drive
+drive_of command = None
 
 -- the command reads its script off the source
 abbrev pub reads_script : Command → Bool

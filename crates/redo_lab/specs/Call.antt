@@ -8,6 +8,7 @@ use Rattle.redo_memdisk.specs.Fuse.{fresh}
 use Rattle.redo_memdisk.specs.Fused.{armed_from, fuse_of, inner_of}
 use Rattle.redo_memdisk.specs.declared.fuse.Fuse.{Fuse}
 use Rattle.redo_memdisk.specs.declared.fused.Fused.{Fused}
+use Rattle.redo_lab.specs.declared.ended.Ended.{Ended}
 
 -- a device and the fuse in front of it
 pub record Guarded : Type 0 where
@@ -61,3 +62,21 @@ IsUnread call = call.source_now ≡ call.source
 -- a device behind its fuse, as it is seen from outside; what is seen of the device doesn't have in it what the fuse did
 abbrev pub guarded : {D : Type 0} → (D → Seen) → Fused D → Guarded
 guarded seen fused = record { seen = seen (inner_of fused); fuse = fuse_of fused; armed_from = armed_from seen fused }
+
+-- the call that was handed these words, this source, sink and devices, and ended so
+abbrev pub lab_call_of : {L D : Type 0} → (L → Seen) → (D → Seen) → (words : List (List ℕ)) → (source source_now : SourceSeen)
+    → (sink sink_now : SinkSeen) → (log : L) → (store : D) → Ended L D → LabCall
+lab_call_of log_seen data_seen words source source_now sink sink_now log store ended = record {
+  call = record {
+    words = words;
+    source = source;
+    source_now = source_now;
+    log_device = log_seen log;
+    log_device_now = guarded log_seen ended.log;
+    data_device = data_seen store;
+    data_device_now = guarded data_seen ended.store;
+  };
+  sink = sink;
+  sink_now = sink_now;
+  status = ended.status;
+}

@@ -1,18 +1,20 @@
 -- Why a call ends without the text that it was asked for. The first cause that holds decides: the words, the source and its
 -- script, formatting or opening, the fit, the run, the crash and the reading behind it. Want of memory decides where it is
 -- met.
-use Rattle.std.specs.Prelude.{ℕ, ◌≡◌, ◌≤◌, ◌<◌, ◌⊎◌, true, false, List, Option, Some, None, ⊤}
+use Rattle.std.specs.Prelude.{ℕ, ◌≡◌, ◌≢◌, ◌≤◌, ◌<◌, ◌⊎◌, true, false, List, Option, Some, None, ⊤}
 use Rattle.model_base.specs.Count.{HasRisen}
 use Rattle.model_base.specs.Limits.{default_shape, IsWithinLimits}
 use Rattle.model_command.specs.declared.asked.Command.{Command}
 use Rattle.model_command.specs.declared.asked.Command.TheVariants.{Format, Run, Crash, Recover, Dump, Gen}
+use Rattle.model_command.specs.declared.asked.Drive.{Drive}
 use Rattle.model_device.specs.Disk.{Disk}
+use Rattle.model_finish.specs.OpenLines.{LeavesOpen}
 use Rattle.model_log.specs.Lsn.{start_after}
 use Rattle.model_log.specs.declared.layout.TheConstants.{HEADER_BYTES}
-use Rattle.model_opening.specs.Formatted.{KeepsNoStore, formatted_store}
+use Rattle.model_opening.specs.Formatted.{KeepsNoStore}
 use Rattle.model_opening.specs.Opened.{IsOpenable, KeepsOpened}
 use Rattle.model_report.specs.declared.fault.Fault.{Fault}
-use Rattle.model_report.specs.declared.fault.Fault.TheVariants.{Memory, Words, Script, Source, LogDevice, DataDevice, Store, Fit}
+use Rattle.model_report.specs.declared.fault.Fault.TheVariants.{Memory, Words, Script, Source, LogDevice, DataDevice, Store, Turns, Fit}
 use Rattle.model_script.specs.Fit.{first_misfit}
 use Rattle.model_script.specs.declared.misfit.Misfit.{Misfit}
 use Rattle.model_script.specs.declared.script.ScriptLine.{ScriptLine}
@@ -20,15 +22,18 @@ use Rattle.model_store.specs.Opening.{IsUnused, OpensOrderly}
 use Rattle.model_store.specs.Reading.{Reading}
 use Rattle.model_store.specs.declared.refusal.Refusal.{Refusal}
 use Rattle.model_theorem.specs.Premises.{IsFresh}
-use Rattle.model_theorem.specs.Script.{room_of}
-use Rattle.model_theorem.specs.Values.{Opened}
+use Rattle.model_theorem.specs.Run.{IsRun}
+use Rattle.model_theorem.specs.Script.{FitsOpened, room_of}
+use Rattle.model_theorem.specs.Values.{Opened, Ran}
+use Rattle.redo_disk.specs.Calls.{failures}
 use Rattle.redo_disk.specs.Seen.{Seen}
+use Rattle.redo_disk.specs.declared.error.DevError.{DevError}
 use Rattle.redo_memdisk.specs.declared.fuse.Fuse.{Fuse}
 use Rattle.redo_memdisk.specs.declared.fuse.Stage.TheVariants.{Before}
 use Rattle.redo_lab.specs.Answer.{AreUnfailed, AreUnfailedAside, shape_of}
-use Rattle.redo_lab.specs.Asked.{calls_devices, command_of, leaves_devices, reads_script, stops_of}
+use Rattle.redo_lab.specs.Asked.{calls_devices, command_of, drive_of, leaves_devices, reads_script, stops_of}
 use Rattle.redo_lab.specs.Call.{AreKept, AreLeftAlone, Call, Guarded, IsUnread}
-use Rattle.redo_lab.specs.Devices.{HasFailed, IsCrashedAs, IsUnfailed, WhereToldAtEntry, WhereToldNow}
+use Rattle.redo_lab.specs.Devices.{AreFound, HasFailed, IsCrashedAs, IsOpenedFirst, IsUnfailed, WhereToldAtEntry, WhereToldNow}
 use Rattle.redo_lab.specs.Script.{IsBadLine, IsLongScript, IsScriptOf}
 use Rattle.redo_lab.specs.Store.{AreReadAsOpened, AreRefused, HasNoHeader, IsOpenedAs, IsShorter, IsTooShort}
 
@@ -111,9 +116,11 @@ IsRefused call Recover refusal = IsReadingRefused call refusal
 IsRefused call Dump refusal = IsReadingRefused call refusal
 IsRefused call (Gen seed users groups run max) refusal = ⊥
 
--- A quantity of the script is the first that doesn't fit the store that was opened, without a failure of a device. No
--- checkpoint frees the log yet, so it has room for one round from the opened checkpoint on.
-pub record IsScriptMisfit (call : Call) (misfit : Misfit) : Type 0 where
+-- A quantity of the script is the first that doesn't fit the store that was opened, without a failure of a device. Where the
+-- log runs alone it has room for one round from the opened checkpoint on.
+pub record IsScriptMisfit (call : Call) (command : Command) (misfit : Misfit) : Type 0 where
+  pub drive : Drive
+  pub asked : drive_of command ≡ Some drive
   pub text : List ℕ
   pub script : List ScriptLine
   pub opened : Opened
@@ -121,11 +128,37 @@ pub record IsScriptMisfit (call : Call) (misfit : Misfit) : Type 0 where
   pub opens : WhereToldAtEntry call (IsOpenedAs opened)
   pub limits : IsWithinLimits opened.shape
   pub unfailed : AreUnfailed call
-  pub first : first_misfit opened.shape (start_after opened.end) (room_of true opened) script ≡ Some misfit
+  pub first : first_misfit opened.shape (start_after opened.end) (room_of drive.log_only opened) script ≡ Some misfit
 
 -- a quantity doesn't fit
-abbrev pub IsMisfit : Call → Misfit → Type 0
-IsMisfit call misfit = (IsLongScript call.source misfit × AreLeftAlone call) ⊎ IsScriptMisfit call misfit
+abbrev pub IsMisfit : Call → Command → Misfit → Type 0
+IsMisfit call command misfit = (IsLongScript call.source misfit × AreLeftAlone call) ⊎ IsScriptMisfit call command misfit
+
+-- The turns were spent: so many were allowed; a run of the script on the store that was opened, which it fits, leaves a line
+-- of this user that isn't answered, and it is the least user of those that met no error. No call failed before the fuses were
+-- armed, and nothing was crashed.
+pub record AreTurnsSpent (call : Call) (command : Command) (turns user : ℕ) : Type 0 where
+  pub drive : Drive
+  pub asked : drive_of command ≡ Some drive
+  pub turns_are : turns ≡ drive.max
+  pub text : List ℕ
+  pub script : List ScriptLine
+  pub opened : Opened
+  pub run : Ran
+  pub source : IsScriptOf call.source call.source_now text script
+  pub opens : WhereToldAtEntry call (IsOpenedAs opened)
+  pub limits : IsWithinLimits opened.shape
+  pub fits : FitsOpened drive.log_only opened script
+  pub in_lsn_order : IsRun script opened run
+  -- which error a call of each device answered, if one did; of these want of memory isn't seen from outside
+  pub log_error : Option DevError
+  pub data_error : Option DevError
+  pub leaves : LeavesOpen script run.entries ((log_error ≢ None) ⊎ (data_error ≢ None)) user
+  pub log_failures : call.log_device_now.fuse.mid ≡ failures log_error
+  pub data_failures : call.data_device_now.fuse.mid ≡ failures data_error
+  pub unfailed_aside : AreUnfailedAside call
+  pub log_uncrashed : call.log_device_now.fuse.pick ≡ None
+  pub data_uncrashed : call.data_device_now.fuse.pick ≡ None
 
 -- why the command isn't done
 abbrev pub IsCauseOf : Call → Command → Fault → Type 0
@@ -139,7 +172,8 @@ IsCauseOf call command DataDevice =
     (calls_devices command ≡ true) × IsPastSource call command × IsLogUnfailed call command
     × IsDeviceFault call command (stops_of command).1 call.data_device call.data_device_now
 IsCauseOf call command (Store refusal) = IsPastSource call command × IsRefused call command refusal
-IsCauseOf call command (Fit misfit) = (reads_script command ≡ true) × IsMisfit call misfit
+IsCauseOf call command (Turns turns user) = AreTurnsSpent call command turns user
+IsCauseOf call command (Fit misfit) = (reads_script command ≡ true) × IsMisfit call command misfit
 IsCauseOf call command _ = ⊥
 
 -- What is left of a store in use, on fresh devices, where a run ended before its first line: it is read with the pages that
@@ -150,17 +184,6 @@ KeepsStore call =
     → IsFresh log call.log_device.faults → IsFresh data_disk call.data_device.faults
     → OpensOrderly log.reads data_disk.reads opened.shape opened.pages opened.end
     → WhereToldNow call (AreReadAsOpened opened)
-
--- What both devices meant when their fuses were armed, before opening: a store that was just formatted, where the log device
--- was unused when it was handed in; else what they meant then.
-pub record AreFound (call : Call) (log data_disk : Disk) : Type 0 where
-  pub log_found : Disk
-  pub data_found : Disk
-  pub log_is : call.log_device_now.armed_from ≡ Some log_found
-  pub data_is : call.data_device_now.armed_from ≡ Some data_found
-  pub unused : IsUnused log.reads → IsOpenable (formatted_store default_shape) log_found data_found
-  pub log_in_use : (IsUnused log.reads → ⊥) → log_found ≡ log
-  pub data_in_use : (IsUnused log.reads → ⊥) → data_found ≡ data_disk
 
 -- The store that was found when the fuses were armed is kept, also a new one: what could be opened then is read with its
 -- pages, whatever a crash would leave.
@@ -179,9 +202,17 @@ pub record AreNotArmed (call : Call) : Type 0 where
 abbrev pub LeavesStore : Call → Type 0
 LeavesStore call = KeepsStore call × (AreNotArmed call ⊎ IsFoundKept call)
 
--- what a fault leaves beside its cause: want of memory may come behind the run
+-- and where a device ended it: opening didn't come to its end
+abbrev pub LeavesStopped : Call → Type 0
+LeavesStopped call =
+    KeepsStore call × (AreNotArmed call ⊎ (IsFoundKept call × IsOpenedFirst call call.log_device_now.seen.tells None))
+
+-- what a fault leaves beside its cause: spent turns come behind a run, and want of memory may
 abbrev pub LeavesBehind : Call → Command → Fault → Type 0
 LeavesBehind call (Run drive) Memory = ⊤
+LeavesBehind call (Run drive) (Turns turns user) = ⊤
+LeavesBehind call (Run drive) LogDevice = LeavesStopped call
+LeavesBehind call (Run drive) DataDevice = LeavesStopped call
 LeavesBehind call (Run drive) fault = LeavesStore call
 LeavesBehind call (Crash drive stop_log stop_data pick) (Fit misfit) = LeavesStore call
 LeavesBehind call command fault = ⊤

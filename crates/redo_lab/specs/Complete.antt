@@ -1,5 +1,5 @@
--- What is owed of a call on devices that don't fail: it does what it is asked, or memory ran out.
-use Rattle.std.specs.Prelude.{ℕ, ◌≡◌, ◌≤◌, ◌⊎◌, true, List, length, Some, Ok, IfSome}
+-- What is owed of a call on devices that don't fail: it does what it is asked, or memory ran out, or turns were spent.
+use Rattle.std.specs.Prelude.{ℕ, ◌≡◌, ◌≤◌, ◌⊎◌, Bool, true, List, ⊤, length, Some, Ok, IfSome}
 use Rattle.model_base.specs.Count.{HasRisen}
 use Rattle.model_base.specs.Limits.{default_shape}
 use Rattle.model_base.specs.declared.limits.TheConstants.{MAX_SCRIPT}
@@ -10,7 +10,8 @@ use Rattle.model_device.specs.Disk.{Disk}
 use Rattle.model_log.specs.Device.{log_device_length}
 use Rattle.model_page.specs.Copies.{data_device_length}
 use Rattle.model_report.specs.FaultLine.{status_of}
-use Rattle.model_report.specs.declared.fault.Fault.TheVariants.{Memory}
+use Rattle.model_report.specs.declared.fault.Fault.{Fault}
+use Rattle.model_report.specs.declared.fault.Fault.TheVariants.{Memory, Turns}
 use Rattle.model_script.specs.Grammar.{script_of}
 use Rattle.model_script.specs.declared.script.ScriptLine.{ScriptLine}
 use Rattle.model_store.specs.Fair.{IsFair}
@@ -21,7 +22,7 @@ use Rattle.model_theorem.specs.Script.{FitsOpened}
 use Rattle.model_theorem.specs.Values.{Opened}
 use Rattle.redo_disk.specs.Seen.{Seen}
 use Rattle.redo_lab.specs.Answer.{AreUnfailed, AreUnfailedAside, shape_of}
-use Rattle.redo_lab.specs.Asked.{command_of}
+use Rattle.redo_lab.specs.Asked.{command_of, reads_script}
 use Rattle.redo_lab.specs.Call.{Call, Guarded, LabCall}
 use Rattle.redo_lab.specs.Ending.{success}
 
@@ -41,7 +42,7 @@ IsLeftFair device opened =
     IfSome device.seen.crashed_from (λ from. IfSome device.seen.tells (λ left. IsFair opened.shape from left.reads))
 
 -- The source holds a script, which fits the store that fresh devices open.
-pub record CanRun (call : Call) : Type 0 where
+pub record CanRun (call : Call) (log_only : Bool) : Type 0 where
   pub text : List ℕ
   pub script : List ScriptLine
   pub log : Disk
@@ -54,11 +55,11 @@ pub record CanRun (call : Call) : Type 0 where
   pub data_fresh : IsFreshAs call.data_device data_disk
   pub opens : Opens log.reads data_disk.reads opened.shape opened.pages opened.end
   pub long : IsUnused log.reads → AreLongEnough default_shape call.log_device.size call.data_device.size
-  pub fits : FitsOpened true opened script
+  pub fits : FitsOpened log_only opened script
 
 -- It can be run, and what the crash left can be read.
-pub record CanCrash (call : Call) : Type 0 where
-  pub can : CanRun call
+pub record CanCrash (call : Call) (log_only : Bool) : Type 0 where
+  pub can : CanRun call log_only
   pub fair : IsLeftFair call.data_device_now can.opened
 
 -- the devices hold a store that can be read
@@ -74,8 +75,8 @@ pub record CanRead (call : Call) : Type 0 where
 abbrev pub IsPossible : Call → Command → Type 0
 IsPossible call (Format pages space log_blocks) =
     AreLongEnough (shape_of pages space log_blocks) call.log_device.size call.data_device.size
-IsPossible call (Run drive) = CanRun call
-IsPossible call (Crash drive stop_log stop_data pick) = CanCrash call
+IsPossible call (Run drive) = CanRun call drive.log_only
+IsPossible call (Crash drive stop_log stop_data pick) = CanCrash call drive.log_only
 IsPossible call Recover = CanRead call
 IsPossible call Dump = CanRead call
 IsPossible call (Gen seed users groups run max) = Unit {0}
@@ -92,8 +93,14 @@ pub record IsUnfailedCall (lab : LabCall) (command : Command) : Type 0 where
   pub sink : HasRisen lab.sink.faults lab.sink_now.faults → ⊥
   pub devices : AreUnfailedFor command lab.call
 
--- A command that can be done is done, where nothing failed, or memory ran out.
+-- what may keep a command from being done where nothing failed: want of memory, or, where it runs a script, spent turns
+abbrev pub MayKeepFrom : Command → Fault → Type 0
+MayKeepFrom command Memory = ⊤
+MayKeepFrom command (Turns turns user) = reads_script command ≡ true
+MayKeepFrom command _ = ⊥
+
+-- A command that can be done is done, where nothing failed, or one of these kept it from that.
 abbrev pub IsComplete : LabCall → Type 0
 IsComplete lab =
     (command : Command) → command_of lab.call.words ≡ Some command → IsPossible lab.call command → IsUnfailedCall lab command
-    → (lab.status ≡ success) ⊎ (lab.status ≡ status_of Memory)
+    → (lab.status ≡ success) ⊎ ((fault : Fault) × MayKeepFrom command fault × (lab.status ≡ status_of fault))

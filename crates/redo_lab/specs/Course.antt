@@ -1,6 +1,7 @@
 -- How far a run came, and what it leaves of the two devices.
-use Rattle.std.specs.Prelude.{ℕ, ◌≡◌, ◌<◌, ◌+◌, ◌⊎◌, true, List, Option, Some, None}
+use Rattle.std.specs.Prelude.{ℕ, ◌≡◌, ◌≢◌, ◌≤◌, ◌<◌, ◌+◌, ◌⊎◌, Bool, List, Option, Some, None, IfSome}
 use Rattle.model_base.specs.Limits.{IsWithinLimits}
+use Rattle.model_finish.specs.OpenLines.{LeavesOpen}
 use Rattle.model_history.specs.Legal.{IsLeft}
 use Rattle.model_log.specs.Lsn.{start_after}
 use Rattle.model_opening.specs.Opened.{IsOpenable, KeepsOpened}
@@ -16,9 +17,11 @@ use Rattle.model_store.specs.declared.refusal.Refusal.{Refusal}
 use Rattle.model_theorem.specs.Run.{IsRun, LosesOnlyByFailure}
 use Rattle.model_theorem.specs.Script.{FitsOpened, room_of}
 use Rattle.model_theorem.specs.Values.{Opened, Ran}
+use Rattle.redo_disk.specs.Calls.{failures}
 use Rattle.redo_disk.specs.Seen.{Seen}
-use Rattle.redo_open.specs.Devices.{WhereBothTell}
-use Rattle.redo_lab.specs.Answer.{IsInTurn}
+use Rattle.redo_disk.specs.declared.error.DevError.{DevError}
+use Rattle.redo_machine.specs.declared.drive.Turns.{Turns}
+use Rattle.redo_open.specs.Devices.{HasSameCheckpoint, WhereBothTell}
 use Rattle.redo_lab.specs.Call.{Guarded}
 use Rattle.redo_lab.specs.Prepared.{ArePrepared, AreTooShort, BothKept, EndUnprepared, WhereTold}
 use Rattle.redo_lab.specs.Stages.{IsArmed}
@@ -44,10 +47,17 @@ KeepsFound log_found data_found log_now data_now =
     (reading : Reading) → WhereBothTell log_found.seen.tells data_found.seen.tells (λ log data_disk. IsOpenable reading log data_disk
     → WhereBothTell log_now.seen.tells data_now.seen.tells (KeepsOpened reading))
 
+-- and at its last good sync the newest checkpoint of the log device was still the one that was found
+abbrev pub KeepsCheckpoint : (log_found data_found log_now : Guarded) → Type 0
+KeepsCheckpoint log_found data_found log_now =
+    (reading : Reading) → WhereBothTell log_found.seen.tells data_found.seen.tells (λ log data_disk. IsOpenable reading log data_disk
+    → IfSome log_now.seen.tells (HasSameCheckpoint reading))
+
 -- OPENING WAS STOPPED by a device.
 pub record AreStopped (log_entry data_entry : Seen) (stops : Stops) (log_failed data_failed : ℕ) (log_now data_now : Guarded) : Type 0 where
   pub way : AreUnderWay log_entry data_entry stops log_failed data_failed log_now data_now
   pub keeps : KeepsFound way.log_found way.data_found log_now data_now
+  pub unmoved : KeepsCheckpoint way.log_found way.data_found log_now
 
 abbrev pub IsStoppedBy : Seen → Seen → Stops → Fault → Guarded → Guarded → Type 0
 IsStoppedBy log_entry data_entry stops fault.LogDevice log_now data_now = AreStopped log_entry data_entry stops 1 0 log_now data_now
@@ -63,66 +73,103 @@ pub record AreRefusedOpened (log_entry data_entry : Seen) (stops : Stops) (cause
   pub kept : WhereTold log_entry data_entry (λ log data_disk. BothKept log_entry data_entry log_now data_now)
 
 -- THE SCRIPT DOESN'T FIT the store that was opened.
-pub record AreMisfitted (log_entry data_entry : Seen) (stops : Stops) (script : List ScriptLine) (misfit : Misfit) (log_now data_now : Guarded) : Type 0 where
-  pub stopped : AreStopped log_entry data_entry stops 0 0 log_now data_now
+pub record AreMisfitted (log_entry data_entry : Seen) (stops : Stops) (log_only : Bool) (script : List ScriptLine) (misfit : Misfit)
+    (log_now data_now : Guarded) : Type 0 where
+  pub way : AreUnderWay log_entry data_entry stops 0 0 log_now data_now
+  pub keeps : KeepsFound way.log_found way.data_found log_now data_now
   pub opened : Opened
   pub opens : WhereTold log_entry data_entry (IsOpenedAs opened)
   pub limits : IsWithinLimits opened.shape
-  pub first : first_misfit opened.shape (start_after opened.end) (room_of true opened) script ≡ Some misfit
+  pub first : first_misfit opened.shape (start_after opened.end) (room_of log_only opened) script ≡ Some misfit
+
+-- THE TURNS WERE SPENT: a run of the script on the opened store leaves this user with a line that isn't answered. A call of
+-- each device may have answered an error.
+pub record AreSpent (log_entry data_entry : Seen) (stops : Stops) (turns : Turns) (script : List ScriptLine) (count user : ℕ)
+    (log_now data_now : Guarded) : Type 0 where
+  pub log_error : Option DevError
+  pub data_error : Option DevError
+  pub way : AreUnderWay log_entry data_entry stops (failures log_error) (failures data_error) log_now data_now
+  pub count_is : count ≡ turns.max
+  pub opened : Opened
+  pub opens : WhereTold log_entry data_entry (IsOpenedAs opened)
+  pub limits : IsWithinLimits opened.shape
+  pub fits : FitsOpened turns.log_only opened script
+  pub run : Ran
+  pub is_run : IsRun script opened run
+  pub leaves : LeavesOpen script run.entries ((log_error ≢ None) ⊎ (data_error ≢ None)) user
 
 -- memory ran out, where no call of a device had failed
 abbrev pub AreWithoutMemory : Seen → Seen → Stops → Guarded → Guarded → Type 0
 AreWithoutMemory log_entry data_entry stops log_now data_now =
     EndUnprepared log_entry data_entry 0 0 log_now data_now ⊎ AreUnderWay log_entry data_entry stops 0 0 log_now data_now
 
--- THE RUN ENDED before its first line, or a device had no memory.
-abbrev pub IsEndedBy : Seen → Seen → Stops → List ScriptLine → Fault → Guarded → Guarded → Type 0
-IsEndedBy log_entry data_entry stops script fault.Memory log_now data_now = AreWithoutMemory log_entry data_entry stops log_now data_now
-IsEndedBy log_entry data_entry stops script fault.LogDevice log_now data_now = EndUnprepared log_entry data_entry 1 0 log_now data_now
-IsEndedBy log_entry data_entry stops script fault.DataDevice log_now data_now = EndUnprepared log_entry data_entry 0 1 log_now data_now
-IsEndedBy log_entry data_entry stops script (fault.Store cause) log_now data_now =
+-- THE RUN ENDED before its first line, or its turns were spent, or a device had no memory.
+abbrev pub IsEndedBy : Seen → Seen → Stops → Turns → List ScriptLine → Fault → Guarded → Guarded → Type 0
+IsEndedBy log_entry data_entry stops turns script fault.Memory log_now data_now =
+    AreWithoutMemory log_entry data_entry stops log_now data_now
+IsEndedBy log_entry data_entry stops turns script fault.LogDevice log_now data_now =
+    EndUnprepared log_entry data_entry 1 0 log_now data_now
+IsEndedBy log_entry data_entry stops turns script fault.DataDevice log_now data_now =
+    EndUnprepared log_entry data_entry 0 1 log_now data_now
+IsEndedBy log_entry data_entry stops turns script (fault.Store cause) log_now data_now =
     AreTooShort log_entry data_entry cause log_now data_now ⊎ AreRefusedOpened log_entry data_entry stops cause log_now data_now
-IsEndedBy log_entry data_entry stops script (fault.Fit misfit) log_now data_now =
-    AreMisfitted log_entry data_entry stops script misfit log_now data_now
-IsEndedBy log_entry data_entry stops script _ log_now data_now = ⊥
+IsEndedBy log_entry data_entry stops turns script (fault.Turns count user) log_now data_now =
+    AreSpent log_entry data_entry stops turns script count user log_now data_now
+IsEndedBy log_entry data_entry stops turns script (fault.Fit misfit) log_now data_now =
+    AreMisfitted log_entry data_entry stops turns.log_only script misfit log_now data_now
+IsEndedBy log_entry data_entry stops turns script _ log_now data_now = ⊥
 
 -- the run, as the theorem has it
 abbrev pub ran_of : Played → Ran
 ran_of played = record { start = played.start; entries = played.history; marks = played.marks }
 
--- THE LINES WERE RUN, and so many calls of the log device failed.
-pub record ArePlayed (log_entry data_entry : Seen) (stops : Stops) (script : List ScriptLine) (played : Played) (log_failed : ℕ) (log_now data_now : Guarded) : Type 0 where
-  pub way : AreUnderWay log_entry data_entry stops log_failed 0 log_now data_now
+-- THE LINES WERE RUN, and so many calls of the two devices failed.
+pub record ArePlayed (log_entry data_entry : Seen) (stops : Stops) (log_only : Bool) (script : List ScriptLine) (played : Played)
+    (log_failed data_failed : ℕ) (log_now data_now : Guarded) : Type 0 where
+  pub way : AreUnderWay log_entry data_entry stops log_failed data_failed log_now data_now
   pub opened : Opened
   pub opens : WhereTold log_entry data_entry (IsOpenedAs opened)
   pub limits : IsWithinLimits opened.shape
-  pub fits : FitsOpened true opened script
+  pub fits : FitsOpened log_only opened script
   pub is_run : IsRun script opened (ran_of played)
-  pub in_turn : IsInTurn (ran_of played)
-  pub loses : (left : List (ℕ × ℕ)) → IsLeft script played.history left → LosesOnlyByFailure log_failed (Some (ran_of played)) left
+  pub loses : (left : List (ℕ × ℕ)) → IsLeft script played.history left
+      → LosesOnlyByFailure (log_failed + data_failed) (Some (ran_of played)) left
   -- on a store that could be opened when the fuses were armed it is a closed run
   pub closed : (reading : Reading) (left : List (ℕ × ℕ)) → IsLeft script played.history left
       → WhereBothTell way.log_found.seen.tells way.data_found.seen.tells (λ log data_disk. IsOpenable reading log data_disk
       → (opened ≡ opened_as reading) × WhereBothTell log_now.seen.tells data_now.seen.tells (λ log_disk data_disk.
-      IsClosed log_failed (record {
+      IsClosed (log_failed + data_failed) (record {
         script = script;
         opened = opened;
+        number = reading.number + 1;
         run = ran_of played;
         left = left;
         log_disk = log_disk;
         data_disk = data_disk;
       })))
 
-abbrev pub IsPlayedBy : Seen → Seen → Stops → List ScriptLine → Played → Option Fault → Guarded → Guarded → Type 0
-IsPlayedBy log_entry data_entry stops script played None log_now data_now = ArePlayed log_entry data_entry stops script played 0 log_now data_now
-IsPlayedBy log_entry data_entry stops script played (Some fault.LogDevice) log_now data_now =
-    ArePlayed log_entry data_entry stops script played 1 log_now data_now
-IsPlayedBy log_entry data_entry stops script played (Some _) log_now data_now = ⊥
+-- The log device failed, and the data device may have failed too.
+pub record ArePlayedToFault (log_entry data_entry : Seen) (stops : Stops) (log_only : Bool) (script : List ScriptLine)
+    (played : Played) (log_now data_now : Guarded) : Type 0 where
+  pub data_failed : ℕ
+  pub once : data_failed ≤ 1
+  pub are : ArePlayed log_entry data_entry stops log_only script played 1 data_failed log_now data_now
 
--- WHAT A RUN COMES TO, of a script with these stops, on these two devices.
-abbrev pub ComesTo : Seen → Seen → Stops → List ScriptLine → Course → Guarded → Guarded → Type 0
-ComesTo log_entry data_entry stops script (course.Ended fault) log_now data_now =
-    IsEndedBy log_entry data_entry stops script fault log_now data_now
-ComesTo log_entry data_entry stops script (course.Stopped fault) log_now data_now = IsStoppedBy log_entry data_entry stops fault log_now data_now
-ComesTo log_entry data_entry stops script (course.Played played fault) log_now data_now =
-    IsPlayedBy log_entry data_entry stops script played fault log_now data_now
+-- the lines were run, and this fault ended the run, if one did: that of the log device where both failed
+abbrev pub IsPlayedBy : Seen → Seen → Stops → Bool → List ScriptLine → Played → Option Fault → Guarded → Guarded → Type 0
+IsPlayedBy log_entry data_entry stops log_only script played None log_now data_now =
+    ArePlayed log_entry data_entry stops log_only script played 0 0 log_now data_now
+IsPlayedBy log_entry data_entry stops log_only script played (Some fault.LogDevice) log_now data_now =
+    ArePlayedToFault log_entry data_entry stops log_only script played log_now data_now
+IsPlayedBy log_entry data_entry stops log_only script played (Some fault.DataDevice) log_now data_now =
+    ArePlayed log_entry data_entry stops log_only script played 0 1 log_now data_now
+IsPlayedBy log_entry data_entry stops log_only script played (Some _) log_now data_now = ⊥
+
+-- WHAT A RUN COMES TO, of a script with these stops by these turns, on these two devices.
+abbrev pub ComesTo : Seen → Seen → Stops → Turns → List ScriptLine → Course → Guarded → Guarded → Type 0
+ComesTo log_entry data_entry stops turns script (course.Ended fault) log_now data_now =
+    IsEndedBy log_entry data_entry stops turns script fault log_now data_now
+ComesTo log_entry data_entry stops turns script (course.Stopped fault) log_now data_now =
+    IsStoppedBy log_entry data_entry stops fault log_now data_now
+ComesTo log_entry data_entry stops turns script (course.Played played fault) log_now data_now =
+    IsPlayedBy log_entry data_entry stops turns.log_only script played fault log_now data_now

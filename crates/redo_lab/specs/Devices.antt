@@ -1,7 +1,13 @@
 -- What a call says of its two devices, where both told what they mean when they were handed in.
 use Rattle.std.specs.Prelude.{ℕ, ◌≡◌, ◌≤◌, ◌<◌, ◌+◌, ◌⊎◌, Option, Some, None, IfSome}
+use Rattle.model_base.specs.Limits.{default_shape}
 use Rattle.model_device.specs.Disk.{Disk}
-use Rattle.model_theorem.specs.Values.{RunDevice}
+use Rattle.model_opening.specs.Formatted.{formatted_store}
+use Rattle.model_opening.specs.Opened.{IsOpenable}
+use Rattle.model_store.specs.Opening.{IsUnused, Opens}
+use Rattle.model_theorem.specs.Opening.{IsOpenedBefore}
+use Rattle.model_theorem.specs.Premises.{IsFresh}
+use Rattle.model_theorem.specs.Values.{Opened, Ran, RunDevice}
 use Rattle.redo_disk.specs.Seen.{Seen}
 use Rattle.redo_memdisk.specs.declared.fuse.Fuse.{Fuse}
 use Rattle.redo_lab.specs.Call.{Call, Guarded}
@@ -44,5 +50,27 @@ pub record IsCrashedAs (limit : Option ℕ) (pick : ℕ) (fuse : Fuse) : Type 0 
 pub record IsRunDevice (old : Seen) (new : Guarded) (device : RunDevice) : Type 0 where
   pub at_entry : old.tells ≡ Some device.at_entry
   pub faults_at_entry : device.faults_at_entry ≡ old.faults
+  pub armed_from : new.armed_from ≡ Some device.armed_from
   pub left : new.seen.tells ≡ Some device.left
   pub failures : device.failures ≡ new.fuse.mid
+
+-- What both devices meant when their fuses were armed, before opening: a store that was just formatted, where the log device
+-- was unused when it was handed in; else what they meant then.
+pub record AreFound (call : Call) (log data_disk : Disk) : Type 0 where
+  pub log_found : Disk
+  pub data_found : Disk
+  pub log_is : call.log_device_now.armed_from ≡ Some log_found
+  pub data_is : call.data_device_now.armed_from ≡ Some data_found
+  pub unused : IsUnused log.reads → IsOpenable (formatted_store default_shape) log_found data_found
+  pub log_in_use : (IsUnused log.reads → ⊥) → log_found ≡ log
+  pub data_in_use : (IsUnused log.reads → ⊥) → data_found ≡ data_disk
+
+-- Opening came to its end just where this run took place, which left the log device so: it is seen there, on fresh devices that
+-- told what they mean when they were handed in, and that open a store.
+abbrev pub IsOpenedFirst : Call → Option Disk → Option Ran → Type 0
+IsOpenedFirst call left run =
+    (log data_disk : Disk) (opened : Opened) → call.log_device.tells ≡ Some log → call.data_device.tells ≡ Some data_disk
+    → IsFresh log call.log_device.faults → IsFresh data_disk call.data_device.faults
+    → Opens log.reads data_disk.reads opened.shape opened.pages opened.end
+    → (armed_from disk : Disk) → call.log_device_now.armed_from ≡ Some armed_from → left ≡ Some disk
+    → IsOpenedBefore opened.shape armed_from disk run

@@ -61,7 +61,7 @@ pub record HasReport (lab : LabCall) : Type 0 where
   pub text : List ℕ
   pub fault : Fault
   pub asked : command_of lab.call.words ≡ Some (Run drive)
-  pub report : IsRunText lab.call text
+  pub report : IsRunText lab.call drive text
   pub ended_by : EndsRun lab.call fault
   pub unfailed_aside : AreUnfailedAside lab.call
   pub printed : IsFaultPrinted text fault lab.status lab.sink lab.sink_now

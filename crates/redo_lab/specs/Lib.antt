@@ -17,3 +17,4 @@ pub mod Script
 pub mod Stages
 pub mod Store
 pub mod Reported
+pub mod Turned

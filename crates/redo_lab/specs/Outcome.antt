@@ -3,6 +3,7 @@ use Rattle.std.specs.Prelude.{ℕ, ◌≡◌, ◌≢◌, true, false, List, [], 
 use Rattle.model_base.specs.Count.{HasRisen}
 use Rattle.model_command.specs.declared.asked.Command.{Command}
 use Rattle.model_command.specs.declared.asked.Command.TheVariants.{Run, Crash}
+use Rattle.model_command.specs.declared.asked.Drive.{Drive}
 use Rattle.model_report.specs.declared.fault.Fault.{Fault}
 use Rattle.model_report.specs.declared.fault.Fault.TheVariants.{Memory}
 use Rattle.model_theorem.specs.Crash.{CrashSafe}
@@ -18,7 +19,7 @@ use Rattle.redo_lab.specs.Answer.{AreUnfailedAside, IsAnswer, IsRunText}
 use Rattle.redo_lab.specs.Asked.{leaves_devices, reads_script}
 use Rattle.redo_lab.specs.Call.{AreKept, Call, IsUnread, guarded}
 use Rattle.redo_lab.specs.Cause.{IsCauseOf, LeavesBehind}
-use Rattle.redo_lab.specs.Complete.{AreUnfailedFor, IsPossible}
+use Rattle.redo_lab.specs.Complete.{AreUnfailedFor, IsPossible, MayKeepFrom}
 use Rattle.redo_lab.specs.Ending.{EndsRun, IsFaultPrinted, IsTextPrinted, IsToldAsAsked}
 use Rattle.redo_lab.specs.Promise.{IsCrashAsAsked, IsDevice}
 use Rattle.redo_lab.specs.declared.outcome.Done.{Done}
@@ -44,7 +45,7 @@ outcome_of (Err error) = outcome.Fault Memory
 
 -- a device ended the run, which is reported before the fault's line
 abbrev pub IsReported : Call → Command → List ℕ → Fault → Type 0
-IsReported call (Run drive) text fault = IsRunText call text × EndsRun call fault × AreUnfailedAside call
+IsReported call (Run drive) text fault = IsRunText call drive text × EndsRun call fault × AreUnfailedAside call
 IsReported call command text fault = ⊥
 
 -- what is to be printed is the text of the command, or a report and then a fault's line, or that line alone
@@ -53,11 +54,11 @@ IsOutcome call command (outcome.Text text) = IsAnswer call command text
 IsOutcome call command (outcome.Report text fault) = IsReported call command text fault
 IsOutcome call command (outcome.Fault fault) = IsCauseOf call command fault × LeavesBehind call command fault
 
--- the command was done, or memory ran out
-abbrev pub IsDoneOrMemory : Outcome → Type 0
-IsDoneOrMemory (outcome.Text text) = Unit {0}
-IsDoneOrMemory (outcome.Report text fault) = ⊥
-IsDoneOrMemory (outcome.Fault fault) = fault ≡ Memory
+-- the command was done, or this may keep it from that
+abbrev pub IsDoneOrKeptFrom : Command → Outcome → Type 0
+IsDoneOrKeptFrom command (outcome.Text text) = Unit {0}
+IsDoneOrKeptFrom command (outcome.Report text fault) = ⊥
+IsDoneOrKeptFrom command (outcome.Fault fault) = MayKeepFrom command fault
 
 -- the call of the crash theorem, for a sink that took this before and takes that now
 abbrev pub crash_of : Call → CrashOptions → (taken taken_now : Option (List ℕ)) → (log_device data_device : Device) → values.Crash
@@ -83,15 +84,16 @@ pub record IsCrashWith (call : Call) (options : CrashOptions) (taken taken_now :
       → (account : Account) × CrashSafe (crash_of call options taken taken_now log_device data_device) opened account
 
 -- the crash theorem, where the sink takes this text
-abbrev pub IsSafeCrash : Call → (stop_log stop_data : Option ℕ) → (pick : ℕ) → List ℕ → Type 0
-IsSafeCrash call stop_log stop_data pick text =
-    (options : CrashOptions) (taken taken_now : Option (List ℕ)) → options.stop_log ≡ stop_log → options.stop_data ≡ stop_data
-    → options.pick ≡ pick → IfSome taken (λ before. taken_now ≡ Some (before ++ text))
+abbrev pub IsSafeCrash : Call → Drive → (stop_log stop_data : Option ℕ) → (pick : ℕ) → List ℕ → Type 0
+IsSafeCrash call drive stop_log stop_data pick text =
+    (options : CrashOptions) (taken taken_now : Option (List ℕ)) → options.log_only ≡ drive.log_only
+    → options.stop_log ≡ stop_log → options.stop_data ≡ stop_data → options.pick ≡ pick
+    → IfSome taken (λ before. taken_now ≡ Some (before ++ text))
     → call.log_device.tells ≢ None → call.data_device.tells ≢ None → IsCrashWith call options taken taken_now
 
 -- a text of `crash` is that of a safe call
 abbrev pub IsSafeOutcome : Call → Command → Outcome → Type 0
-IsSafeOutcome call (Crash drive stop_log stop_data pick) (outcome.Text text) = IsSafeCrash call stop_log stop_data pick text
+IsSafeOutcome call (Crash drive stop_log stop_data pick) (outcome.Text text) = IsSafeCrash call drive stop_log stop_data pick text
 IsSafeOutcome call command outcome = Unit {0}
 
 -- What the outcome of a command says of its call.
@@ -103,7 +105,7 @@ pub record EndsCommand (call : Call) (command : Command) (outcome : Outcome) : T
   pub log_tells : call.log_device.tells ≢ None → call.log_device_now.seen.tells ≢ None
   pub data_tells : call.data_device.tells ≢ None → call.data_device_now.seen.tells ≢ None
   pub complete : IsPossible call command → (HasRisen call.source.faults call.source_now.faults → ⊥) → AreUnfailedFor command call
-      → IsDoneOrMemory outcome
+      → IsDoneOrKeptFrom command outcome
   pub safe : IsSafeOutcome call command outcome
 
 -- what was printed of an outcome, and the status

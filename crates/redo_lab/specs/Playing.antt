@@ -1,15 +1,14 @@
 -- What the inner functions of a run come to: both devices once their fuses are armed, and the lines of a script on the store
 -- that was opened.
-use Rattle.std.specs.Prelude.{ℕ, ◌≡◌, ◌-◌, List, Option, Some, None}
-use Rattle.model_base.specs.declared.shape.Shape.{Shape}
+use Rattle.std.specs.Prelude.{ℕ, ◌≡◌, ◌≢◌, ◌+◌, ◌⊎◌, List, Option, Some, None}
+use Rattle.model_finish.specs.OpenLines.{LeavesOpen}
 use Rattle.model_history.specs.Legal.{IsLeft}
 use Rattle.model_log.specs.Lsn.{start_after}
-use Rattle.model_log.specs.declared.layout.TheConstants.{BLOCK_HEADER}
 use Rattle.model_report.specs.declared.fault.Fault.{Fault}
 use Rattle.model_report.specs.declared.fault.Fault.TheVariants as fault
 use Rattle.model_run.specs.Closed.{IsClosed}
 use Rattle.model_run.specs.Start.{IsStart, opened_as}
-use Rattle.model_script.specs.Fit.{ScriptFits, first_misfit, round_end}
+use Rattle.model_script.specs.Fit.{ScriptFits, first_misfit}
 use Rattle.model_script.specs.declared.misfit.Misfit.{Misfit}
 use Rattle.model_script.specs.declared.script.ScriptLine.{ScriptLine}
 use Rattle.model_store.specs.Reading.{Reading}
@@ -19,6 +18,10 @@ use Rattle.redo_disk.specs.Made.{MakesCalls}
 use Rattle.redo_disk.specs.Seen.{Seen}
 use Rattle.redo_disk.specs.declared.error.DevError.{DevError}
 use Rattle.redo_disk.specs.declared.error.DevError.TheVariants as device
+use Rattle.redo_machine.specs.Beginning.{IsOpenedAs, room_from}
+use Rattle.redo_machine.specs.declared.drive.Turns.{Turns}
+use Rattle.redo_machine.specs.declared.running.Ran.{Ran}
+use Rattle.redo_machine.specs.declared.running.Ran.TheVariants as ended
 use Rattle.redo_open.specs.Devices.{WhereBothTell}
 use Rattle.redo_pageactors.specs.declared.closed.Closed.{Closed}
 use Rattle.redo_pageactors.specs.declared.opened.Opened.{Opened}
@@ -26,8 +29,6 @@ use Rattle.redo_recover.specs.declared.fault.RecFault.{RecFault}
 use Rattle.redo_recover.specs.declared.fault.RecFault.TheVariants.{LogDev, DataDev}
 use Rattle.redo_script.specs.declared.unfit.Unfit.{Unfit}
 use Rattle.redo_script.specs.declared.unfit.Unfit.TheVariants as unfit
-use Rattle.redo_serial.specs.Runs.{IsOpenedAs}
-use Rattle.redo_lab.specs.Answer.{IsInTurn}
 use Rattle.redo_lab.specs.Call.{Guarded}
 use Rattle.redo_lab.specs.Course.{ran_of}
 use Rattle.redo_lab.specs.Faults.{fault_of}
@@ -46,10 +47,6 @@ pub record AreArmed (log_entry data_entry : Seen) (stops : Stops) (log_found dat
   pub log_same : log_now.seen ≡ log_found.seen
   pub data_same : data_now.seen ≡ data_found.seen
 
--- how far the log has room: one round from the checkpoint on, which stands where a run begins
-abbrev pub room_end : Shape → ℕ → ℕ
-room_end shape start = round_end shape (start - BLOCK_HEADER)
-
 -- why a script isn't run on a store
 abbrev pub fault_of_unfit : Unfit → Fault
 fault_of_unfit (unfit.Misfit misfit) = fault.Fit misfit
@@ -65,55 +62,112 @@ unopened other = course.Ended (fault_of other)
 abbrev pub played_of : {L D : Type 0} → ℕ → Closed L D → Played
 played_of start closed = record { start = start; history = closed.history; marks = closed.marks }
 
--- what they come to, by what the call of the log device answered that failed
-abbrev pub course_of : Played → Option DevError → Course
-course_of played None = course.Played played None
-course_of played (Some device.Failed) = course.Played played (Some fault.LogDevice)
-course_of played (Some device.NoMemory) = course.Ended fault.Memory
+-- why a run that all users ended comes to no text, or with a fault behind it, by what a call of each device answered that
+-- failed: a log fault goes before a data fault, and both before want of memory
+abbrev pub ended_by : (log_error data_error : Option DevError) → Option Fault
+ended_by (Some device.Failed) data_error = Some fault.LogDevice
+ended_by None (Some device.Failed) = Some fault.DataDevice
+ended_by (Some device.NoMemory) (Some device.Failed) = Some fault.DataDevice
+ended_by (Some device.NoMemory) None = Some fault.Memory
+ended_by (Some device.NoMemory) (Some device.NoMemory) = Some fault.Memory
+ended_by None (Some device.NoMemory) = Some fault.Memory
+ended_by None None = None
+
+-- what a run comes to that all users ended
+abbrev pub course_done : Played → Option Fault → Course
+course_done played (Some fault.Memory) = course.Ended fault.Memory
+course_done played ended = course.Played played ended
+
+-- what a run comes to that was driven for so many turns at the most
+abbrev pub course_of : ℕ → Ran → Played → Option Fault → Course
+course_of max (ended.Spent user) played cause = course.Ended (fault.Turns max user)
+course_of max ended.Done played cause = course_done played cause
 
 -- The script doesn't fit the opened store; no call of its devices was made.
-pub record IsUnfit {L D : Type 0} (opened : Opened L D) (script : List ScriptLine) (misfit : Misfit) (log_now : L) (data_now : D) : Type 0 where
-  pub first : first_misfit opened.shape opened.start (Some (room_end opened.shape opened.start)) script ≡ Some misfit
+pub record IsUnfit {L D : Type 0} (opened : Opened L D) (turns : Turns) (script : List ScriptLine) (misfit : Misfit)
+    (log_now : L) (data_now : D) : Type 0 where
+  pub first : first_misfit opened.shape opened.start (room_from turns.log_only opened.shape opened.start) script ≡ Some misfit
   pub log_same : log_now ≡ opened.log.dev
   pub data_same : data_now ≡ opened.store.dev
 
--- Memory ran out, or the log device had none; no call failed for another reason.
-pub record IsWithoutMemory {L D : Type 0} (log_gives : L → Call → L → Type 0) (opened : Opened L D) (log_now : L) (data_now : D) : Type 0 where
-  pub log_calls : MakesCalls log_gives opened.log.dev log_now (MayEndWith (Some device.NoMemory))
-  pub data_same : data_now ≡ opened.store.dev
+-- The two devices went from the opened store to here by calls of which the last one of each alone may have answered an error,
+-- this one.
+pub record MakeCalls {L D : Type 0} (log_gives : L → Call → L → Type 0) (data_gives : D → Call → D → Type 0)
+    (opened : Opened L D) (log_error data_error : Option DevError) (log_now : L) (data_now : D) : Type 0 where
+  pub log : MakesCalls log_gives opened.log.dev log_now (MayEndWith log_error)
+  pub data_part : MakesCalls data_gives opened.store.dev data_now (MayEndWith data_error)
 
--- The lines were run in turn on the opened store, which the script fits: all of them, or up to the one for which the log
--- device answered this.
-pub record AreRun {L D : Type 0} (log_seen : L → Seen) (log_gives : L → Call → L → Type 0) (data_seen : D → Seen)
-    (opened : Opened L D) (script : List ScriptLine) (played : Played) (error : Option DevError) (log_now : L) (data_now : D) : Type 0 where
-  pub fits : ScriptFits opened.shape opened.start (Some (room_end opened.shape opened.start)) script
+-- The lines were run on the opened store, which the script fits, until all users had ended; a call of each device may have
+-- answered an error.
+pub record AreRun {L D : Type 0} (log_seen : L → Seen) (log_gives : L → Call → L → Type 0)
+    (data_seen : D → Seen) (data_gives : D → Call → D → Type 0)
+    (opened : Opened L D) (turns : Turns) (script : List ScriptLine) (played : Played)
+    (log_error data_error : Option DevError) (log_now : L) (data_now : D) : Type 0 where
+  pub fits : ScriptFits opened.shape opened.start (room_from turns.log_only opened.shape opened.start) script
   -- the run is one, for any end behind which it starts
   pub is_run : (end : ℕ) → opened.start ≡ start_after end
       → IsRun script (record { shape = opened.shape; pages = opened.pages; end = end }) (ran_of played)
-  pub in_turn : IsInTurn (ran_of played)
-  pub loses : (left : List (ℕ × ℕ)) → IsLeft script played.history left → LosesOnlyByFailure (failures error) (Some (ran_of played)) left
+  pub loses : (left : List (ℕ × ℕ)) → IsLeft script played.history left
+      → LosesOnlyByFailure (failures log_error + failures data_error) (Some (ran_of played)) left
   -- where the devices tell, and the store was ready, it is a closed one
   pub owed : (reading : Reading) (left : List (ℕ × ℕ)) → IsOpenedAs reading opened → IsLeft script played.history left
-      → WhereBothTell (log_seen opened.log.dev).tells (data_seen opened.store.dev).tells (λ log data_disk. IsStart reading script log data_disk
-      → WhereBothTell (log_seen log_now).tells (data_seen data_now).tells (λ log_disk data_disk. IsClosed (failures error) (record {
+      → WhereBothTell (log_seen opened.log.dev).tells (data_seen opened.store.dev).tells (λ log data_disk.
+      IsStart reading script log data_disk
+      → WhereBothTell (log_seen log_now).tells (data_seen data_now).tells (λ log_disk data_disk.
+      IsClosed (failures log_error + failures data_error) (record {
         script = script;
         opened = opened_as reading;
+        number = reading.number + 1;
         run = ran_of played;
         left = left;
         log_disk = log_disk;
         data_disk = data_disk;
       })))
-  pub log_calls : MakesCalls log_gives opened.log.dev log_now (MayEndWith error)
-  pub data_same : data_now ≡ opened.store.dev
+  pub calls : MakeCalls log_gives data_gives opened log_error data_error log_now data_now
 
--- WHAT THE LINES OF A SCRIPT COME TO on an opened store.
-abbrev pub Plays : {L D : Type 0} → (L → Seen) → (L → Call → L → Type 0) → (D → Seen) → Opened L D → List ScriptLine → Course → L → D → Type 0
-Plays log_seen log_gives data_seen opened script (course.Ended fault.Memory) log_now data_now = IsWithoutMemory log_gives opened log_now data_now
-Plays log_seen log_gives data_seen opened script (course.Ended (fault.Fit misfit)) log_now data_now = IsUnfit opened script misfit log_now data_now
-Plays log_seen log_gives data_seen opened script (course.Ended _) log_now data_now = ⊥
-Plays log_seen log_gives data_seen opened script (course.Stopped _) log_now data_now = ⊥
-Plays log_seen log_gives data_seen opened script (course.Played played None) log_now data_now =
-    AreRun log_seen log_gives data_seen opened script played None log_now data_now
-Plays log_seen log_gives data_seen opened script (course.Played played (Some fault.LogDevice)) log_now data_now =
-    AreRun log_seen log_gives data_seen opened script played (Some device.Failed) log_now data_now
-Plays log_seen log_gives data_seen opened script (course.Played played (Some _)) log_now data_now = ⊥
+-- The turns were spent, so many, before each user had ended; this is the least of those that hadn't.
+pub record AreSpentOn {L D : Type 0} (log_gives : L → Call → L → Type 0) (data_gives : D → Call → D → Type 0)
+    (opened : Opened L D) (turns : Turns) (script : List ScriptLine) (count user : ℕ) (log_now : L) (data_now : D) : Type 0 where
+  pub count_is : count ≡ turns.max
+  pub fits : ScriptFits opened.shape opened.start (room_from turns.log_only opened.shape opened.start) script
+  pub played : Played
+  pub is_run : (end : ℕ) → opened.start ≡ start_after end
+      → IsRun script (record { shape = opened.shape; pages = opened.pages; end = end }) (ran_of played)
+  pub log_error : Option DevError
+  pub data_error : Option DevError
+  pub leaves : LeavesOpen script played.history ((log_error ≢ None) ⊎ (data_error ≢ None)) user
+  pub calls : MakeCalls log_gives data_gives opened log_error data_error log_now data_now
+
+-- Memory ran out, of the program or of a device; no call failed for another reason.
+abbrev pub IsWithoutMemory : {L D : Type 0} → (L → Call → L → Type 0) → (D → Call → D → Type 0) → Opened L D → L → D → Type 0
+IsWithoutMemory log_gives data_gives opened log_now data_now =
+    MakeCalls log_gives data_gives opened (Some device.NoMemory) (Some device.NoMemory) log_now data_now
+
+-- the log device failed, and the data device may have met an error too
+pub record AreRunToFault {L D : Type 0} (log_seen : L → Seen) (log_gives : L → Call → L → Type 0)
+    (data_seen : D → Seen) (data_gives : D → Call → D → Type 0)
+    (opened : Opened L D) (turns : Turns) (script : List ScriptLine) (played : Played) (log_now : L) (data_now : D) : Type 0 where
+  pub data_error : Option DevError
+  pub are : AreRun log_seen log_gives data_seen data_gives opened turns script played
+      (Some device.Failed) data_error log_now data_now
+
+-- WHAT THE LINES OF A SCRIPT COME TO on an opened store. Where only the data device failed, the log device may have been without
+-- memory.
+module _ {L D : Type 0} (log_seen : L → Seen) (log_gives : L → Call → L → Type 0)
+    (data_seen : D → Seen) (data_gives : D → Call → D → Type 0)
+    (opened : Opened L D) (turns : Turns) (script : List ScriptLine) where
+  abbrev pub Plays : Course → L → D → Type 0
+  Plays (course.Ended fault.Memory) log_now data_now = IsWithoutMemory log_gives data_gives opened log_now data_now
+  Plays (course.Ended (fault.Fit misfit)) log_now data_now = IsUnfit opened turns script misfit log_now data_now
+  Plays (course.Ended (fault.Turns count user)) log_now data_now =
+      AreSpentOn log_gives data_gives opened turns script count user log_now data_now
+  Plays (course.Ended _) log_now data_now = ⊥
+  Plays (course.Stopped _) log_now data_now = ⊥
+  Plays (course.Played played None) log_now data_now =
+      AreRun log_seen log_gives data_seen data_gives opened turns script played None None log_now data_now
+  Plays (course.Played played (Some fault.LogDevice)) log_now data_now =
+      AreRunToFault log_seen log_gives data_seen data_gives opened turns script played log_now data_now
+  Plays (course.Played played (Some fault.DataDevice)) log_now data_now =
+      AreRun log_seen log_gives data_seen data_gives opened turns script played
+      (Some device.NoMemory) (Some device.Failed) log_now data_now
+  Plays (course.Played played (Some _)) log_now data_now = ⊥

@@ -3,18 +3,30 @@ ghost use Rattle.std.specs.Prelude.{◌≡◌, ◌⊎◌, Some, None, IfOk, IfEr
 ghost use Rattle.std.specs.String.{string_bytes};
 ghost use Rattle.model_report.specs.declared.fault.Fault.{Fault};
 ghost use Rattle.model_report.specs.declared.fault.Fault.TheVariants.{Memory, Words};
-ghost use Rattle.redo_lab.specs.Asked.{command_of, is_plain, is_served};
+ghost use Rattle.redo_lab.specs.Asked.{command_of, is_by_turns, is_served, turns_of};
 
-use model_command::{Command, DEFAULT_TURNS, Drive};
+use model_command::{Command, Drive};
 use model_report::Fault;
 use redo_command::{WordsFault, read_words};
+use redo_machine::Turns;
 use std::alloc::Global;
 
-/// Whether the lines are run one after another, as where nothing is asked of the run.
-fn is_plain(drive: &Drive) -> bool
-    ensures { result ≡ is_plain drive.now }
+/// Whether the lines are run by turns.
+fn is_by_turns(drive: &Drive) -> bool
+    ensures { result ≡ is_by_turns drive.now }
 {
-    drive.seed == 0 && drive.max == DEFAULT_TURNS && !drive.threads && !drive.log_only
+    !drive.threads
+}
+
+/// The turns of a drive.
+pub(crate) fn turns_of(drive: &Drive) -> Turns
+    ensures { result ≡ turns_of drive.now }
+{
+    Turns {
+        seed: drive.seed,
+        max: drive.max,
+        log_only: drive.log_only,
+    }
 }
 
 /// Whether a command is served.
@@ -22,8 +34,8 @@ fn is_served(command: &Command) -> bool
     ensures { result ≡ is_served command.now }
 {
     match command {
-        Command::Run { drive } => is_plain(drive),
-        Command::Crash { drive, .. } => is_plain(drive),
+        Command::Run { drive } => is_by_turns(drive),
+        Command::Crash { drive, .. } => is_by_turns(drive),
         Command::Gen { run, .. } => !*run,
         Command::Format { .. } | Command::Recover | Command::Dump => true,
     }

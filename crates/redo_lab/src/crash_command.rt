@@ -3,7 +3,6 @@ ghost use Rattle.std.specs.Prelude.{ℕ, ◌≤◌, List, Some, IfOk, length};
 ghost use Rattle.std.specs.List.{AllByRecursion};
 ghost use Rattle.model_base.specs.declared.limits.TheConstants.{MAX_PAGES};
 ghost use Rattle.model_command.specs.declared.asked.Command.TheVariants.{Crash};
-ghost use Rattle.model_command.specs.declared.asked.Drive.{Drive};
 ghost use Rattle.model_script.specs.Ranges.{IsScriptLine};
 ghost use Rattle.redo_io.specs.Source.{SourceSeen};
 ghost use Rattle.redo_lab.specs.Call.{guarded};
@@ -11,14 +10,17 @@ ghost use Rattle.redo_lab.specs.Crashed.{ReadsBack};
 ghost use Rattle.redo_lab.specs.Outcome.{EndsCommand, call_of};
 ghost use Rattle.redo_lab.specs.Reported.{IsReportOf, run_of};
 ghost use Rattle.redo_lab.specs.Script.{IsScriptRead};
+ghost use Rattle.redo_lab.specs.Turned.{TellsByTurns};
 
+use crate::asked::turns_of;
 use crate::faults::fault_of;
 use crate::outcome::{Done, Outcome};
 use crate::playing::{Course, Played, Ran, Stops, run_lines};
 use crate::reading::contents;
 use crate::reporting::report_of;
+use model_command::Drive;
 use model_opening::formatted_is_openable;
-use model_run::{closed_run_is_safe, crash_of_safe_run};
+use model_run::{closed_run_is_opened, closed_run_is_safe, crash_of_safe_run};
 use model_script::{Script, unfit_is_misfit};
 use model_store::{one_answer, one_reading};
 use redo_disk::Sectors;
@@ -75,27 +77,31 @@ fn crash_and_read<L: Sectors, D: Sectors>(
     }
 }
 
-/// Runs the script with these stops, crashes both devices with this pick, reads the store, and reports it all. A device
-/// that fails before the crash ends the run and not the command.
+/// Runs the script as the drive asks with these stops, crashes both devices with this pick, reads the store, and reports it
+/// all. A device that fails before the crash ends the run and not the command.
 pub(crate) fn crash_command<L: Sectors, D: Sectors>(
     alloc: Global,
     script: &Script,
+    drive: &Drive,
     stops: Stops,
     pick: u64,
     log: L,
     store: D,
 ) -> Done<L, D>
     requires { AllByRecursion IsScriptLine script.now }
-    ensures { (words : List (List ℕ)) (source source_now : SourceSeen) (drive : Drive) → IsScriptRead source source_now script.now
-        → EndsCommand (call_of L.seen D.seen words source source_now log store result) (Crash drive stops.log stops.store pick) result.outcome }
+    ensures ends { (words : List (List ℕ)) (source source_now : SourceSeen) → IsScriptRead source source_now script.now
+        → EndsCommand (call_of L.seen D.seen words source source_now log store result) (Crash drive.now stops.log stops.store pick) result.outcome }
+    ensures turns { (source source_now : SourceSeen) → IsScriptRead source source_now script.now
+        → TellsByTurns L.seen D.seen source source_now (L.seen log) (D.seen store) (Crash drive.now stops.log stops.store pick) result.outcome result.log result.store }
 {
     one_answer();
     one_reading();
     formatted_is_openable();
+    closed_run_is_opened();
     closed_run_is_safe();
     crash_of_safe_run();
     unfit_is_misfit();
-    let Ran { course, log, store } = run_lines(alloc, script, stops, log, store);
+    let Ran { course, log, store } = run_lines(alloc, script, &turns_of(drive), stops, log, store);
     match course {
         Course::Ended(fault) => Done {
             outcome: Outcome::Fault(fault),

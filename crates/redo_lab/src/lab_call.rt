@@ -5,11 +5,11 @@ ghost use Rattle.model_base.specs.declared.limits.TheConstants.{MAX_SCRIPT};
 ghost use Rattle.redo_io.specs.Source.{SourceSeen, TakesAtMost};
 ghost use Rattle.redo_io.specs.declared.read.TheConstants.{PIECE};
 ghost use Rattle.model_command.specs.declared.asked.Command.TheVariants.{Crash, Run};
-ghost use Rattle.model_command.specs.declared.asked.Drive.{Drive};
 ghost use Rattle.redo_lab.specs.Asked.{IsWithin};
-ghost use Rattle.redo_lab.specs.Call.{guarded};
+ghost use Rattle.redo_lab.specs.Call.{lab_call_of};
 ghost use Rattle.redo_lab.specs.Outcome.{EndsCommand, IsOutcomePrinted, IsUnasked, call_of};
 ghost use Rattle.redo_lab.specs.Promised.{IsCallOf};
+ghost use Rattle.redo_lab.specs.Turned.{IsByTurns, TellsByTurns};
 
 use crate::asked::read_command;
 use crate::crash_command::crash_command;
@@ -20,7 +20,7 @@ use crate::printing::{print_fault, print_report, print_text};
 use crate::run_command::run_command;
 use crate::script::read_script;
 use crate::simple::{format_devices, print_pages, print_script, print_store};
-use model_command::Command;
+use model_command::{Command, Drive};
 use model_opening::openable_reads;
 use model_report::Fault;
 use model_script::read_lines_are_ranged;
@@ -44,17 +44,20 @@ fn unasked<L, D>(fault: Fault, log: L, store: D) -> Done<L, D>
 fn run_source<S: Source, L: Sectors, D: Sectors>(
     alloc: Global,
     src: &mut S,
+    drive: &Drive,
     log: L,
     store: D,
 ) -> Done<L, D>
-    ensures ends { (words : List (List ℕ)) (drive : Drive)
-        → EndsCommand (call_of L.seen D.seen words (S.seen src.old) (S.seen src.new) log store result) (Run drive) result.outcome }
+    ensures ends { (words : List (List ℕ))
+        → EndsCommand (call_of L.seen D.seen words (S.seen src.old) (S.seen src.new) log store result) (Run drive.now) result.outcome }
+    ensures turns { TellsByTurns L.seen D.seen (S.seen src.old) (S.seen src.new) (L.seen log) (D.seen store)
+        (Run drive.now) result.outcome result.log result.store }
     ensures taken { TakesAtMost (MAX_SCRIPT + PIECE) (S.seen src.old).left (S.seen src.new).left }
 {
     openable_reads();
     read_lines_are_ranged();
     match read_script(alloc, src) {
-        Ok(script) => run_command(alloc, &script, log, store),
+        Ok(script) => run_command(alloc, &script, drive, log, store),
         Err(fault) => unasked(fault, log, store),
     }
 }
@@ -63,20 +66,23 @@ fn run_source<S: Source, L: Sectors, D: Sectors>(
 fn crash_source<S: Source, L: Sectors, D: Sectors>(
     alloc: Global,
     src: &mut S,
+    drive: &Drive,
     stops: Stops,
     pick: u64,
     log: L,
     store: D,
 ) -> Done<L, D>
-    ensures ends { (words : List (List ℕ)) (drive : Drive)
+    ensures ends { (words : List (List ℕ))
         → EndsCommand (call_of L.seen D.seen words (S.seen src.old) (S.seen src.new) log store result)
-        (Crash drive stops.log stops.store pick) result.outcome }
+        (Crash drive.now stops.log stops.store pick) result.outcome }
+    ensures turns { TellsByTurns L.seen D.seen (S.seen src.old) (S.seen src.new) (L.seen log) (D.seen store)
+        (Crash drive.now stops.log stops.store pick) result.outcome result.log result.store }
     ensures taken { TakesAtMost (MAX_SCRIPT + PIECE) (S.seen src.old).left (S.seen src.new).left }
 {
     openable_reads();
     read_lines_are_ranged();
     match read_script(alloc, src) {
-        Ok(script) => crash_command(alloc, &script, stops, pick, log, store),
+        Ok(script) => crash_command(alloc, &script, drive, stops, pick, log, store),
         Err(fault) => unasked(fault, log, store),
     }
 }
@@ -92,6 +98,8 @@ fn done<S: Source, L: Sectors, D: Sectors>(
     requires { IsWithin command }
     ensures ends { (words : List (List ℕ))
         → EndsCommand (call_of L.seen D.seen words (S.seen src.old) (S.seen src.new) log store result) command result.outcome }
+    ensures turns { TellsByTurns L.seen D.seen (S.seen src.old) (S.seen src.new) (L.seen log) (D.seen store)
+        command result.outcome result.log result.store }
     ensures taken { TakesAtMost (MAX_SCRIPT + PIECE) (S.seen src.old).left (S.seen src.new).left }
 {
     match command {
@@ -100,18 +108,18 @@ fn done<S: Source, L: Sectors, D: Sectors>(
             space,
             log_blocks,
         } => format_devices(alloc, pages, space, log_blocks, log, store),
-        Command::Run { .. } => run_source(alloc, src, log, store),
+        Command::Run { drive } => run_source(alloc, src, &drive, log, store),
         Command::Crash {
+            drive,
             stop_log,
             stop_data,
             pick,
-            ..
         } => {
             let stops = Stops {
                 log: stop_log,
                 store: stop_data,
             };
-            crash_source(alloc, src, stops, pick, log, store)
+            crash_source(alloc, src, &drive, stops, pick, log, store)
         }
         Command::Recover => print_pages(alloc, log, store),
         Command::Dump => print_store(alloc, log, store),
@@ -146,20 +154,11 @@ pub fn lab<S: Source, O: Sink, L: Sectors, D: Sectors>(
     log: L,
     store: D,
 ) -> Ended<L, D>
-    ensures { IsCallOf (record {
-      call = record {
-        words = map (λ word. string_bytes word) words.now;
-        source = S.seen src.old;
-        source_now = S.seen src.new;
-        log_device = L.seen log;
-        log_device_now = guarded L.seen result.log;
-        data_device = D.seen store;
-        data_device_now = guarded D.seen result.store;
-      };
-      sink = O.seen out.old;
-      sink_now = O.seen out.new;
-      status = result.status;
-    }) }
+    ensures call { IsCallOf (lab_call_of L.seen D.seen (map (λ word. string_bytes word) words.now) (S.seen src.old) (S.seen src.new)
+        (O.seen out.old) (O.seen out.new) log store result) }
+    ensures turns { IsByTurns L.seen D.seen
+        (lab_call_of L.seen D.seen (map (λ word. string_bytes word) words.now) (S.seen src.old) (S.seen src.new)
+        (O.seen out.old) (O.seen out.new) log store result) result.log result.store }
 {
     let Done {
         outcome,

@@ -1,5 +1,5 @@
 //! The top call: it does one of the six commands on a source, a sink and two devices. `lab`'s contract says what each ending
-//! means, and carries the crash theorem.
+//! means, carries the crash theorem, and says that a run that is told is the run by the turns of its drive.
 #![tactic(auto)]
 
 mod asked;

@@ -6,12 +6,13 @@ ghost use Rattle.model_log.specs.declared.layout.TheConstants.{BLOCK_HEADER};
 ghost use Rattle.model_script.specs.Ranges.{IsScriptLine};
 ghost use Rattle.redo_disk.specs.Seen.{Seen};
 ghost use Rattle.redo_memdisk.specs.Fused.{CallsThrough, seen_through};
+ghost use Rattle.redo_machine.specs.Beginning.{room_from};
 ghost use Rattle.redo_pageactors.specs.Opened.{IsRunnable};
-ghost use Rattle.redo_serial.specs.Runs.{code_of};
 ghost use Rattle.redo_lab.specs.Call.{Guarded, guarded};
 ghost use Rattle.redo_lab.specs.Course.{ComesTo};
 ghost use Rattle.redo_lab.specs.declared.playing.Stops.{Stops};
-ghost use Rattle.redo_lab.specs.Playing.{AreArmed, Plays, course_of, fault_of_unfit, played_of, room_end, unopened};
+ghost use Rattle.redo_lab.specs.Turned.{ComesByTurnsTo, IsDrivenTo};
+ghost use Rattle.redo_lab.specs.Playing.{AreArmed, Plays, course_done, course_of, ended_by, fault_of_unfit, played_of, unopened};
 
 use crate::faults::fault_of;
 use crate::prepare::prepare;
@@ -22,13 +23,13 @@ use model_opening::formatted_is_openable;
 use model_report::Fault;
 use model_script::{Script, fitting_script};
 use model_store::{one_answer, one_reading};
-use redo_disk::Sectors;
+use redo_disk::{DevError, Sectors};
+use redo_machine::{Driven, Turns, run_by_turns};
 use redo_memdisk::Fused;
 use redo_open::open_store;
-use redo_pageactors::{Closed, Opened};
+use redo_pageactors::Opened;
 use redo_recover::RecFault;
 use redo_script::{Unfit, judge};
-use redo_serial::run_script;
 use std::alloc::Global;
 
 /// After how many calls each device stops, if it is to stop.
@@ -49,11 +50,12 @@ pub struct Played {
 /// How far a run came.
 #[derive(Drop)]
 pub enum Course {
-    /// It ended before its first line, and not by a device that failed in opening; or a device had no memory.
+    /// It ended before its first line, and not by a device that failed in opening; or its turns were spent, or a device had
+    /// no memory.
     Ended(Fault),
     /// A device failed in opening.
     Stopped(Fault),
-    /// Its lines were run: all of them, or up to the one for which a device failed.
+    /// Its lines were run: all of them, or up to those at which the users met a device's failure.
     Played(Played, Option<Fault>),
 }
 
@@ -65,14 +67,18 @@ pub struct Ran<L, D> {
     pub store: Fused<D>,
 }
 
-/// How far the log has room: one round from the checkpoint on, which stands where a run begins.
-fn room_end(shape: &Shape, start: u64) -> u64
+/// How far the log has room where it runs alone: one round from the checkpoint on, which stands where a run begins.
+fn room_from(log_only: bool, shape: &Shape, start: u64) -> Option<u64>
     requires limits { IsWithinLimits shape.now }
     requires header { BLOCK_HEADER ≤ start }
     requires small { start < 2 ^ 61 }
-    ensures { result ≡ room_end shape.now start }
+    ensures { result ≡ room_from log_only shape.now start }
 {
-    start - BLOCK_HEADER + BLOCK_SIZE * u64::from(shape.log_blocks)
+    if log_only {
+        Some(start - BLOCK_HEADER + BLOCK_SIZE * u64::from(shape.log_blocks))
+    } else {
+        None
+    }
 }
 
 /// Why a script isn't run on a store.
@@ -85,53 +91,76 @@ fn fault_of_unfit(unfit: Unfit) -> Fault
     }
 }
 
-/// What a run comes to that was closed.
-fn close<L: Sectors, D: Sectors>(start: u64, closed: Closed<Fused<L>, Fused<D>>) -> Ran<L, D>
-    requires { closed.code ≡ code_of closed.log.failed }
-    ensures course { result.course ≡ course_of (played_of start closed) closed.log.failed }
-    ensures log { result.log ≡ closed.log.dev }
-    ensures store { result.store ≡ closed.store.dev }
+/// Why a run that all users ended comes to no text, or with a fault behind it, by what a call of each device answered that
+/// failed: a log fault goes before a data fault, and both before want of memory.
+fn ended_by(log: Option<DevError>, store: Option<DevError>) -> Option<Fault>
+    ensures { result ≡ ended_by log store }
 {
-    let Closed {
-        history,
-        marks,
-        log,
-        store,
-        code,
-    } = closed;
-    let played = Played {
-        start,
-        history,
-        marks,
-    };
-    let course = match code {
-        0 => Course::Played(played, None),
-        1 => Course::Played(played, Some(Fault::LogDevice)),
-        2 => Course::Played(played, Some(Fault::DataDevice)),
-        _ => Course::Ended(Fault::Memory),
-    };
-    Ran {
-        course,
-        log: log.into_dev(),
-        store: store.into_dev(),
+    match (log, store) {
+        (Some(DevError::Failed), _) => Some(Fault::LogDevice),
+        (_, Some(DevError::Failed)) => Some(Fault::DataDevice),
+        (None, None) => None,
+        _ => Some(Fault::Memory),
     }
 }
 
-/// Runs the lines of a script on an opened store, if it fits that.
+/// What a run comes to that all users ended.
+fn course_done(played: Played, fault: Option<Fault>) -> Course
+    ensures { result ≡ course_done played fault }
+{
+    match fault {
+        Some(Fault::Memory) => Course::Ended(Fault::Memory),
+        fault => Course::Played(played, fault),
+    }
+}
+
+/// What a run comes to that was driven for so many turns at the most.
+fn close<L: Sectors, D: Sectors>(
+    max: u64,
+    start: u64,
+    driven: Driven<Fused<L>, Fused<D>>,
+) -> Ran<L, D>
+    ensures course { result.course ≡ course_of max driven.ended (played_of start driven.closed)
+        (ended_by driven.closed.log.failed driven.closed.store.failed) }
+    ensures log { result.log ≡ driven.closed.log.dev }
+    ensures store { result.store ≡ driven.closed.store.dev }
+{
+    let Driven { ended, closed } = driven;
+    let fault = ended_by(closed.log.failed(), closed.store.failed());
+    let played = Played {
+        start,
+        history: closed.history,
+        marks: closed.marks,
+    };
+    let course = match ended {
+        redo_machine::Ran::Spent(user) => Course::Ended(Fault::Turns(max, user)),
+        redo_machine::Ran::Done => course_done(played, fault),
+    };
+    Ran {
+        course,
+        log: closed.log.into_dev(),
+        store: closed.store.into_dev(),
+    }
+}
+
+/// Runs the lines of a script on an opened store by turns, if it fits that.
 fn play<L: Sectors, D: Sectors>(
     alloc: Global,
     script: &Script,
+    turns: &Turns,
     opened: Opened<Fused<L>, Fused<D>>,
 ) -> Ran<L, D>
     requires runnable { IsRunnable opened }
     requires lines { AllByRecursion IsScriptLine script.now }
-    ensures { Plays (seen_through L.seen) (CallsThrough L.seen L.gives) (seen_through D.seen) opened script.now
+    ensures plays { Plays (seen_through L.seen) (CallsThrough L.seen L.gives) (seen_through D.seen) (CallsThrough D.seen D.gives) opened turns.now script.now
+        result.course result.log result.store }
+    ensures turns { IsDrivenTo (seen_through L.seen) (CallsThrough L.seen L.gives) (seen_through D.seen) (CallsThrough D.seen D.gives) opened turns.now script.now
         result.course result.log result.store }
 {
     fitting_script();
     let start = opened.start;
-    let room_end = room_end(&opened.shape, start);
-    match judge(alloc, &opened.shape, start, Some(room_end), script) {
+    let room_end = room_from(turns.log_only, &opened.shape, start);
+    match judge(alloc, &opened.shape, start, room_end, script) {
         Ok(()) => {}
         Err(unfit) => {
             return Ran {
@@ -141,8 +170,8 @@ fn play<L: Sectors, D: Sectors>(
             };
         }
     }
-    match run_script(alloc, opened, script) {
-        Ok(closed) => close(start, closed),
+    match run_by_turns(alloc, opened, script, turns) {
+        Ok(driven) => close(turns.max, start, driven),
         Err((_, log, store)) => Ran {
             course: Course::Ended(Fault::Memory),
             log,
@@ -161,23 +190,27 @@ fn unopened(fault: RecFault) -> Course
     }
 }
 
-/// Opens the store on both devices, whose fuses are armed, and runs the script.
+/// Opens the store on both devices, whose fuses are armed, and runs the script by turns.
 fn open_and_play<L: Sectors, D: Sectors>(
     alloc: Global,
     script: &Script,
+    turns: &Turns,
     log: Fused<L>,
     store: Fused<D>,
 ) -> Ran<L, D>
     requires { AllByRecursion IsScriptLine script.now }
-    ensures { (log_entry data_entry : Seen) (stops : Stops) (log_found data_found : Guarded)
+    ensures comes_to { (log_entry data_entry : Seen) (stops : Stops) (log_found data_found : Guarded)
         → AreArmed log_entry data_entry stops log_found data_found (guarded L.seen log) (guarded D.seen store)
-        → ComesTo log_entry data_entry stops script.now result.course (guarded L.seen result.log) (guarded D.seen result.store) }
+        → ComesTo log_entry data_entry stops turns.now script.now result.course (guarded L.seen result.log) (guarded D.seen result.store) }
+    ensures turns { (log_entry data_entry : Seen) (stops : Stops) (log_found data_found : Guarded)
+        → AreArmed log_entry data_entry stops log_found data_found (guarded L.seen log) (guarded D.seen store)
+        → ComesByTurnsTo L.seen D.seen log_entry data_entry stops turns.now script.now result.course result.log result.store }
 {
     one_reading();
     one_answer();
     formatted_is_openable();
     match open_store(alloc, log, store) {
-        Ok(opened) => play(alloc, script, opened),
+        Ok(opened) => play(alloc, script, turns, opened),
         Err((fault, log, store)) => Ran {
             course: unopened(fault),
             log,
@@ -186,16 +219,18 @@ fn open_and_play<L: Sectors, D: Sectors>(
     }
 }
 
-/// Prepares both devices, arms their fuses, opens the store and runs the script.
+/// Prepares both devices, arms their fuses, opens the store and runs the script by turns.
 pub(crate) fn run_lines<L: Sectors, D: Sectors>(
     alloc: Global,
     script: &Script,
+    turns: &Turns,
     stops: Stops,
     log: L,
     store: D,
 ) -> Ran<L, D>
     requires { AllByRecursion IsScriptLine script.now }
-    ensures { ComesTo (L.seen log) (D.seen store) stops script.now result.course (guarded L.seen result.log) (guarded D.seen result.store) }
+    ensures comes_to { ComesTo (L.seen log) (D.seen store) stops turns.now script.now result.course (guarded L.seen result.log) (guarded D.seen result.store) }
+    ensures turns { ComesByTurnsTo L.seen D.seen (L.seen log) (D.seen store) stops turns.now script.now result.course result.log result.store }
 {
     let mut log = Fused::plain(log);
     let mut store = Fused::plain(store);
@@ -211,5 +246,5 @@ pub(crate) fn run_lines<L: Sectors, D: Sectors>(
     }
     log.arm(stops.log);
     store.arm(stops.store);
-    open_and_play(alloc, script, log, store)
+    open_and_play(alloc, script, turns, log, store)
 }

@@ -2,20 +2,22 @@
 ghost use Rattle.std.specs.Prelude.{ℕ, List};
 ghost use Rattle.std.specs.List.{AllByRecursion};
 ghost use Rattle.model_command.specs.declared.asked.Command.TheVariants.{Run};
-ghost use Rattle.model_command.specs.declared.asked.Drive.{Drive};
 ghost use Rattle.model_script.specs.Ranges.{IsScriptLine};
 ghost use Rattle.redo_io.specs.Source.{SourceSeen};
 ghost use Rattle.redo_lab.specs.Course.{ran_of};
 ghost use Rattle.redo_lab.specs.Outcome.{EndsCommand, call_of};
 ghost use Rattle.redo_lab.specs.Reported.{IsRunPrinted};
 ghost use Rattle.redo_lab.specs.Script.{IsScriptRead};
+ghost use Rattle.redo_lab.specs.Turned.{TellsByTurns};
 
+use crate::asked::turns_of;
 use crate::outcome::{Done, Outcome};
 use crate::playing::{Course, Played, Ran, Stops, run_lines};
 use crate::reporting::report_of;
+use model_command::Drive;
 use model_opening::{formatted_is_openable, openable_reads};
 use model_report::Fault;
-use model_run::closed_run_is_safe;
+use model_run::{closed_run_is_opened, closed_run_is_safe};
 use model_script::{Script, unfit_is_misfit};
 use model_store::{one_answer, one_reading};
 use redo_disk::Sectors;
@@ -32,28 +34,32 @@ fn print_run(alloc: Global, script: &Script, played: &Played, fault: Option<Faul
     }
 }
 
-/// Runs the script, and reports the run.
+/// Runs the script as the drive asks, and reports the run.
 pub(crate) fn run_command<L: Sectors, D: Sectors>(
     alloc: Global,
     script: &Script,
+    drive: &Drive,
     log: L,
     store: D,
 ) -> Done<L, D>
     requires { AllByRecursion IsScriptLine script.now }
-    ensures { (words : List (List ℕ)) (source source_now : SourceSeen) (drive : Drive) → IsScriptRead source source_now script.now
-        → EndsCommand (call_of L.seen D.seen words source source_now log store result) (Run drive) result.outcome }
+    ensures ends { (words : List (List ℕ)) (source source_now : SourceSeen) → IsScriptRead source source_now script.now
+        → EndsCommand (call_of L.seen D.seen words source source_now log store result) (Run drive.now) result.outcome }
+    ensures turns { (source source_now : SourceSeen) → IsScriptRead source source_now script.now
+        → TellsByTurns L.seen D.seen source source_now (L.seen log) (D.seen store) (Run drive.now) result.outcome result.log result.store }
 {
     one_answer();
     one_reading();
     openable_reads();
     formatted_is_openable();
+    closed_run_is_opened();
     closed_run_is_safe();
     unfit_is_misfit();
     let stops = Stops {
         log: None,
         store: None,
     };
-    let Ran { course, log, store } = run_lines(alloc, script, stops, log, store);
+    let Ran { course, log, store } = run_lines(alloc, script, &turns_of(drive), stops, log, store);
     match course {
         Course::Ended(fault) => Done {
             outcome: Outcome::Fault(fault),

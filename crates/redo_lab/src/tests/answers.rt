@@ -1,5 +1,5 @@
 // Calls on devices that hold zeros.
-use super::calls::{LINE, LINE_PAGE, LINE_RUN, expect, expect_on, repeated};
+use super::calls::{LINE, LINE_PAGE, LINE_RUN, call, expect, expect_on, repeated};
 use std::alloc::{AllocError, Global};
 use std::test::Fail;
 
@@ -13,12 +13,19 @@ fn answers_calls(rt: HostRuntime) -> Result<(), Fail> {
             "open 8204\nmarks 8204 8204 8204 8192\nrecovered 0 8204\n",
         ),
         (
+            "crash --max 0",
+            "",
+            0,
+            "open 8204\nmarks 8204 8204 8204 8192\nrecovered 0 8204\n",
+        ),
+        (
             "crash --stop-log 0",
             LINE,
             0,
             "open none\nleft 1 1\nrecovered 0 8204\n",
         ),
         ("run", LINE, 0, LINE_RUN),
+        ("run --log-only", LINE, 0, LINE_RUN),
         (
             "crash",
             "1 f i 3",
@@ -45,6 +52,7 @@ fn refuses_calls(rt: HostRuntime) -> Result<(), Fail> {
         ("dump", LINE, 8, "fault store unformatted\n"),
         ("", LINE, 2, "fault words\n"),
         ("crash --threads", LINE, 2, "fault words\n"),
+        ("gen 1 1 1 --run", LINE, 2, "fault words\n"),
         ("format --pages 9", LINE, 10, "fault fit store 69632\n"),
         ("format --pages 64", LINE, 10, "fault fit store 294912\n"),
         (
@@ -63,7 +71,12 @@ fn refuses_calls(rt: HostRuntime) -> Result<(), Fail> {
 #[test]
 fn reads_what_was_kept(rt: HostRuntime) -> Result<(), Fail> {
     let text = format!(in rt.alloc(); "{LINE_RUN}recovered 1 8210\n{LINE_PAGE}")?;
-    for words in ["crash", "crash --stop-log 18446744073709551615"] {
+    for words in [
+        "crash",
+        "crash --log-only",
+        "crash --turns 5 --max 1000000",
+        "crash --stop-log 18446744073709551615",
+    ] {
         let _devices = expect(&rt, words, LINE, 0, &text)?;
     }
     Ok(())
@@ -99,11 +112,55 @@ fn refuses_a_group_that_is_too_long(rt: HostRuntime) -> Result<(), Fail> {
     Ok(())
 }
 
+/// So many lines of 8,192 bytes are more than one round of the log.
+const MANY_LINES: u64 = 130;
+
 #[test]
-fn refuses_a_script_for_which_the_log_has_no_room(rt: HostRuntime) -> Result<(), Fail> {
-    let script = repeated(rt.alloc(), &long_line(rt.alloc(), 70)?, 130)?;
-    for words in ["run", "crash"] {
+fn refuses_a_script_for_which_the_log_alone_has_no_room(rt: HostRuntime) -> Result<(), Fail> {
+    let script = repeated(rt.alloc(), &long_line(rt.alloc(), 70)?, MANY_LINES)?;
+    for words in ["run --log-only", "crash --log-only"] {
         let _devices = expect(&rt, words, &script, 10, "fault fit total 1107516\n")?;
     }
+    Ok(())
+}
+
+/// Whether the text has this line.
+fn has_line(text: &[u8], wanted: &str) -> Result<bool, Fail> {
+    Ok(str::from_utf8(text)?.lines().any(|line| line == wanted))
+}
+
+#[test]
+fn frees_the_log_by_checkpoints(rt: HostRuntime) -> Result<(), Fail> {
+    let script = repeated(rt.alloc(), &long_line(rt.alloc(), 70)?, MANY_LINES)?;
+    let called = call(rt.alloc(), "crash", &script)?;
+    assert_eq!(rt; called.status, 0);
+    // the first group starts at sn 7936, and the last behind 129 of 8192 bytes
+    let last = "g 1099052 1107516 1 129 flushed";
+    assert!(rt; has_line(called.sink.bytes(), last)?);
+    assert!(rt; has_line(called.sink.bytes(), "recovered 130 1107516")?);
+    Ok(())
+}
+
+#[test]
+fn spends_its_turns(rt: HostRuntime) -> Result<(), Fail> {
+    let table = [
+        ("--turns 1 --max 6", "fault turns 6 user 1\n"),
+        ("--turns 7 --max 3", "fault turns 3 user 1\n"),
+        ("--max 0", "fault turns 0 user 1\n"),
+    ];
+    for (drive, text) in table {
+        for command in ["run", "crash"] {
+            let words = format!(in rt.alloc(); "{command} {drive}")?;
+            let _devices = expect(&rt, &words, LINE, 9, text)?;
+        }
+    }
+    Ok(())
+}
+
+/// Of two users the least that hasn't ended is named.
+#[test]
+fn names_the_least_user_that_has_not_ended(rt: HostRuntime) -> Result<(), Fail> {
+    let script = "5 n i 3\n2 n i 3\n";
+    let _devices = expect(&rt, "run --max 0", script, 9, "fault turns 0 user 2\n")?;
     Ok(())
 }

@@ -14,6 +14,9 @@ const LOST_RUN: &str = "open 8204\n\
     left 1 1\n\
     marks 8210 8210 8204 8192\n";
 
+/// Nothing asked of the run, and the log alone.
+const DRIVES: [&str; 2] = ["", "--log-only"];
+
 /// How many calls of the log device an opening makes, before it and in all.
 fn calls_of_opening(alloc: Global) -> Result<(u64, u64), AllocError> {
     let fuse = call(alloc, "run", "")?.log_fuse;
@@ -26,9 +29,11 @@ fn loses_a_line_whose_sync_is_stopped(rt: HostRuntime) -> Result<(), Fail> {
     let (_, opening) = calls_of_opening(alloc)?;
     // behind the opening comes the write of the first line's block, and then its sync
     let passed = opening.saturating_add(1);
-    let words = format!(in alloc; "crash --stop-log {passed}")?;
     let text = format!(in alloc; "{LOST_RUN}recovered 0 8204\n")?;
-    let _devices = expect(&rt, &words, TWO_LINES, 0, &text)?;
+    for drive in DRIVES {
+        let words = format!(in alloc; "crash {drive} --stop-log {passed}")?;
+        let _devices = expect(&rt, &words, TWO_LINES, 0, &text)?;
+    }
     Ok(())
 }
 
@@ -69,16 +74,14 @@ fn loses_a_line_whose_sync_fails(rt: HostRuntime) -> Result<(), Fail> {
     let (early, opening) = calls_of_opening(alloc)?;
     let sync = early.saturating_add(opening).saturating_add(1);
     let crashed = format!(in alloc; "{LOST_RUN}recovered 0 8204\n")?;
-    let _devices = expect_on(
-        &rt,
-        failing_log(alloc, sync)?,
-        "crash",
-        TWO_LINES,
-        0,
-        &crashed,
-    )?;
     let run = format!(in alloc; "{LOST_RUN}fault log device\n")?;
-    let _devices = expect_on(&rt, failing_log(alloc, sync)?, "run", TWO_LINES, 6, &run)?;
+    for drive in DRIVES {
+        for (command, status, text) in [("crash", 0, &crashed), ("run", 6, &run)] {
+            let words = format!(in alloc; "{command} {drive}")?;
+            let devices = failing_log(alloc, sync)?;
+            let _devices = expect_on(&rt, devices, &words, TWO_LINES, status, text)?;
+        }
+    }
     Ok(())
 }
 

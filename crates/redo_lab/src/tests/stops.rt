@@ -1,18 +1,17 @@
-// Crashes of a script of three lines under every stop, against what the first lines alone make of the pages.
+// Crashes of a script of three lines under every stop, against what the groups that are kept make of the pages.
 use super::calls::{Called, Devices, call_on};
 use redo_memdisk::MemDisk;
 use std::alloc::{AllocError, Global};
 use std::process::Abort;
 use std::test::Fail;
 
-/// A line that writes one byte, and the lsn at which its group ends.
+/// A line that writes one byte.
 #[derive(Clone, Copy)]
 struct Line {
     user: u32,
     page: u32,
     offset: usize,
     value: u8,
-    end: u64,
 }
 
 /// Three lines of two users. Each group is 6 bytes long, and the first starts at 8204.
@@ -22,23 +21,28 @@ const LINES: [Line; 3] = [
         page: 3,
         offset: 40,
         value: 7,
-        end: 8210,
     },
     Line {
         user: 2,
         page: 4,
         offset: 39,
         value: 8,
-        end: 8216,
     },
     Line {
         user: 1,
         page: 3,
         offset: 42,
         value: 9,
-        end: 8222,
     },
 ];
+
+/// A group that a report tells of: its line, where it ends, and whether it is flushed.
+#[derive(Clone, Copy)]
+struct Group {
+    line: Line,
+    end: u64,
+    is_flushed: bool,
+}
 
 /// The picks that keep no write, every other write, and all of them.
 const PICKS: [u64; 3] = [0, 6_148_914_691_236_517_205, 18_446_744_073_709_551_615];
@@ -61,7 +65,6 @@ fn script(alloc: Global) -> Result<String, AllocError> {
             page,
             offset,
             value,
-            ..
         } = line;
         let text = format!(in alloc; "{user} f b1 {page} {offset} {value}\n")?;
         script.push_str(&text)?;
@@ -69,19 +72,20 @@ fn script(alloc: Global) -> Result<String, AllocError> {
     Ok(script)
 }
 
-/// The line of a page to which these lines were applied, if any of them changes it. Its user bytes begin at offset 38.
-fn page_line(alloc: Global, lines: &[Line], page: u32) -> Result<String, AllocError> {
+/// The line of a page to which these groups were applied, if any of them changes it. Its user bytes begin at offset 38.
+fn page_line(alloc: Global, groups: &[Group], page: u32) -> Result<String, AllocError> {
     let mut bytes = [0; 10];
     let mut lsn = 0;
     let mut length = 0usize;
-    for line in lines {
+    for group in groups {
+        let Group { line, end, .. } = *group;
         if line.page == page {
             let at = line.offset.saturating_sub(38);
             if let Some(byte) = bytes.get_mut(at) {
                 *byte = line.value;
             }
             length = length.max(at.saturating_add(1));
-            lsn = line.end;
+            lsn = end;
         }
     }
     if lsn == 0 {
@@ -95,44 +99,79 @@ fn page_line(alloc: Global, lines: &[Line], page: u32) -> Result<String, AllocEr
     Ok(text)
 }
 
-/// What is read where the first `count` lines are kept.
-fn reading_of(alloc: Global, count: usize) -> Result<String, AllocError> {
-    let (kept, _) = LINES.split_at(count.min(3));
-    let end = kept.last().map_or(8204, |line| line.end);
+/// What is read where these groups are kept.
+fn reading_of(alloc: Global, kept: &[Group]) -> Result<String, AllocError> {
+    let count = kept.len();
+    let end = kept.last().map_or(8204, |group| group.end);
     let mut text = format!(in alloc; "recovered {count} {end}\n")?;
     text.push_str(&page_line(alloc, kept, 3)?)?;
     text.push_str(&page_line(alloc, kept, 4)?)?;
     Ok(text)
 }
 
-/// How many of the first lines the report says are kept, where the rest of it is what they make of the pages.
-fn kept_lines(alloc: Global, report: &[u8]) -> Result<Option<usize>, AllocError> {
-    for count in 0..4usize {
-        if report.ends_with(reading_of(alloc, count)?.as_bytes()) {
-            return Ok(Some(count));
+/// The line of this user that is the k-th of its own.
+fn line_of(user: &str, k: &str) -> Option<Line> {
+    let user = user.parse::<u32>().ok()?;
+    let k = k.parse::<usize>().ok()?;
+    LINES
+        .iter()
+        .copied()
+        .filter(|line| line.user == user)
+        .nth(k)
+}
+
+/// The group of a line of a report, if it tells of one: `g START END USER K STATE`.
+fn group_of(line: &str) -> Option<Group> {
+    let mut words = line.split_whitespace();
+    if words.next()? != "g" {
+        return None;
+    }
+    let _start = words.next()?;
+    let end = words.next()?.parse::<u64>().ok()?;
+    let line = line_of(words.next()?, words.next()?)?;
+    let is_flushed = words.next()? == "flushed";
+    Some(Group {
+        line,
+        end,
+        is_flushed,
+    })
+}
+
+/// The groups that a report tells of.
+fn groups_of(alloc: Global, report: &[u8]) -> Result<Vec<Group>, Fail> {
+    let mut groups = Vec::new(alloc);
+    for line in str::from_utf8(report)?.lines() {
+        if let Some(group) = group_of(line) {
+            groups.push(group)?;
         }
     }
-    Ok(None)
+    Ok(groups)
 }
 
-/// How many groups the report says are in this state.
-fn groups_in(state: &str, report: &[u8]) -> Result<usize, Fail> {
-    let text = str::from_utf8(report)?;
-    Ok(text.lines().filter(|line| line.ends_with(state)).count())
-}
-
-/// How many lines the report tells of: its groups, and those that it says are left.
-fn told_lines(report: &[u8]) -> Result<usize, Fail> {
-    let text = str::from_utf8(report)?;
+/// How many lines a report says are left.
+fn left_lines(report: &[u8]) -> Result<usize, Fail> {
     let mut count = 0usize;
-    for line in text.lines() {
-        if line.starts_with("g ") {
-            count = count.saturating_add(1);
-        } else if line.starts_with("left ") {
+    for line in str::from_utf8(report)?.lines() {
+        if line.starts_with("left ") {
             count = count.saturating_add(if line.ends_with(" 2") { 2 } else { 1 });
         }
     }
     Ok(count)
+}
+
+/// How many of the first groups the report says are kept, where the rest of it is what they make of the pages.
+fn kept_groups(
+    alloc: Global,
+    groups: &[Group],
+    report: &[u8],
+) -> Result<Option<usize>, AllocError> {
+    for count in 0..4usize {
+        let (kept, _) = groups.split_at(count.min(groups.len()));
+        if report.ends_with(reading_of(alloc, kept)?.as_bytes()) {
+            return Ok(Some(kept.len()));
+        }
+    }
+    Ok(None)
 }
 
 /// A crash of the three lines on a small store that was just formatted.
@@ -145,24 +184,42 @@ fn crash(alloc: Global, words: &str, script: &str) -> Result<Called, AllocError>
     call_on(alloc, words, script, made.devices)
 }
 
-/// Crashes under these stops with each pick: whether all lines are flushed each time. Of each crash, lines that are printed
-/// as flushed are kept, and what is read is what the kept lines make of the pages.
-fn crash_with_each_pick(rt: &(impl Abort + AllocGlobal), stops: &str) -> Result<bool, Fail> {
+/// Crashes under these options with each pick: whether all lines are flushed each time. Of each crash, groups that are printed
+/// as flushed are kept, and what is read is what the kept groups make of the pages.
+fn crash_with_each_pick(rt: &(impl Abort + AllocGlobal), options: &str) -> Result<bool, Fail> {
     let alloc = rt.alloc();
     let script = script(alloc)?;
     let mut all_flushed = true;
     for pick in PICKS {
-        let words = format!(in alloc; "crash {stops} --pick {pick}")?;
+        let words = format!(in alloc; "crash {options} --pick {pick}")?;
         let called = crash(alloc, &words, &script)?;
         assert_eq!(rt; called.status, 0, "at {words:?}");
-        let flushed = groups_in(" flushed", called.sink.bytes())?;
-        let kept = kept_lines(alloc, called.sink.bytes())?;
+        let groups = groups_of(alloc, called.sink.bytes())?;
+        let kept = kept_groups(alloc, &groups, called.sink.bytes())?;
         assert!(rt; kept.is_some(), "at {words:?}");
-        assert!(rt; flushed <= kept.unwrap_or(0), "at {words:?}");
-        assert_eq!(rt; told_lines(called.sink.bytes())?, 3, "at {words:?}");
+        let behind = groups.iter().skip(kept.unwrap_or(0));
+        assert!(rt;
+            !behind.copied().any(|group| group.is_flushed),
+            "at {words:?}"
+        );
+        let told = groups
+            .len()
+            .saturating_add(left_lines(called.sink.bytes())?);
+        assert_eq!(rt; told, 3, "at {words:?}");
+        let flushed = groups.iter().filter(|group| group.is_flushed).count();
         all_flushed = all_flushed && flushed == 3;
     }
     Ok(all_flushed)
+}
+
+#[test]
+fn keeps_flushed_lines_under_each_schedule(rt: HostRuntime) -> Result<(), Fail> {
+    for seed in 0..8u64 {
+        let options = format!(in rt.alloc(); "--turns {seed}")?;
+        assert!(rt; crash_with_each_pick(&rt, &options)?, "at {options:?}");
+    }
+    assert!(rt; crash_with_each_pick(&rt, "--log-only")?);
+    Ok(())
 }
 
 #[test]

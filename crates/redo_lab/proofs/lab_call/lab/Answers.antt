@@ -1,14 +1,15 @@
 use Rattle.std.proofs.Common.{ap}
 use Rattle.redo_lab.proofs.AskedLimits.{command-of-within}
 use Rattle.redo_lab.proofs.Called.{Printed, command-called, nothing-called}
+use Rattle.redo_lab.proofs.Turned.{command-by-turns, nothing-by-turns}
 use Rattle.redo_lab.proofs.lab_call.lab.Goals as goal
 use Rattle.redo_lab.proofs.lab_call.lab.Goals.{in-Ok, in-Err}
 
 pub done-requires : goal.done-requires
 done-requires g c = command-of-within _ c.in-Ok.command c.in-Ok.ensures.asked
 
-pub returns : goal.returns
-returns g c =
+pub returns-clause-call : goal.returns-clause-call
+returns-clause-call g c =
     let printed : Printed = record {
       sink = g.O.Sink.seen c.args.out.now;
       sink_now = g.O.Sink.seen c.print_outcome-status.new.out;
@@ -21,4 +22,20 @@ returns g c =
       | in-Err w ↦ nothing-called g.L.Sectors.seen g.D.Sectors.seen _ (g.S.Source.seen c.args.src.now)
           (g.S.Source.seen c.match-read_command.src) c.args.log c.args.store w.unasked.result c.match-read_command.outcome printed w.in-Err.fault
           (ap g.S.Source.seen w.src-is) w.outcome-is w.in-Err.ensures.fault w.unasked.ensures c.print_outcome-status.ensures
+    ]
+
+pub returns-clause-turns : goal.returns-clause-turns
+returns-clause-turns g c =
+    let printed : Printed = record {
+      sink = g.O.Sink.seen c.args.out.now;
+      sink_now = g.O.Sink.seen c.print_outcome-status.new.out;
+      status = c.print_outcome-status.result;
+    } in
+    elim c.match-read_command.branch [
+      | in-Ok w ↦ command-by-turns g.L.Sectors.seen g.D.Sectors.seen _ (g.S.Source.seen c.args.src.now) (g.S.Source.seen w.done.new.src)
+          (g.S.Source.seen c.match-read_command.src) c.args.log c.args.store w.done.result c.match-read_command.outcome printed w.in-Ok.command
+          (ap g.S.Source.seen w.src-is) w.outcome-is w.in-Ok.ensures.asked (w.done.ensures.ends _) w.done.ensures.turns c.print_outcome-status.ensures
+      | in-Err w ↦ nothing-by-turns g.L.Sectors.seen g.D.Sectors.seen _ (g.S.Source.seen c.args.src.now)
+          (g.S.Source.seen c.match-read_command.src) c.args.log c.args.store w.unasked.result c.match-read_command.outcome printed w.in-Err.fault
+          w.outcome-is w.in-Err.ensures.fault w.unasked.ensures c.print_outcome-status.ensures
     ]

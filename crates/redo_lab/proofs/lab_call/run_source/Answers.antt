@@ -1,4 +1,5 @@
 use Rattle.std.proofs.Common.{ap}
+use Rattle.redo_lab.proofs.Turned.{run-unscripted-told}
 use Rattle.redo_lab.proofs.Unscripted.{run-unscripted}
 use Rattle.redo_lab.proofs.lab_call.run_source.Goals as goal
 
@@ -7,14 +8,22 @@ run_command-requires g c =
     c.read_lines_are_ranged.ensures c.in-Ok.ensures.script.text c.in-Ok.script c.in-Ok.ensures.script.of_text.is_script
 
 pub returns-in-Ok-clause-ends : goal.returns-in-Ok-clause-ends
-returns-in-Ok-clause-ends g c = λ words drive. c.run_command.ensures words _ _ drive c.in-Ok.ensures.script
+returns-in-Ok-clause-ends g c = λ words. c.run_command.ensures.ends words _ _ c.in-Ok.ensures.script
 
 pub returns-in-Err-clause-ends : goal.returns-in-Err-clause-ends
-returns-in-Err-clause-ends g c = λ words drive.
+returns-in-Err-clause-ends g c = λ words.
     let unasked = c.unasked.ensures in
-    rw unasked.outcome_is (run-unscripted _ drive c.in-Err.fault
+    rw unasked.outcome_is (run-unscripted _ c.args.drive.now c.in-Err.fault
     (record {
       log_device = record { seen = ap g.L.Sectors.seen unasked.log_inner; fuse = unasked.log_fuse };
       data_device = record { seen = ap g.D.Sectors.seen unasked.data_inner; fuse = unasked.data_fuse };
     })
     c.in-Err.ensures.fault c.openable_reads.ensures)
+
+pub returns-in-Ok-clause-turns : goal.returns-in-Ok-clause-turns
+returns-in-Ok-clause-turns g c = c.run_command.ensures.turns _ _ c.in-Ok.ensures.script
+
+pub returns-in-Err-clause-turns : goal.returns-in-Err-clause-turns
+returns-in-Err-clause-turns g c =
+    rw c.unasked.ensures.outcome_is
+    (run-unscripted-told g.L.Sectors.seen g.D.Sectors.seen _ _ _ _ c.args.drive.now c.in-Err.fault _ _ c.in-Err.ensures.fault)

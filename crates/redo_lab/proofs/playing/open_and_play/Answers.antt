@@ -1,11 +1,12 @@
 -- A store is opened on armed fuses, and a script is run on it.
-use Rattle.redo_lab.proofs.OpenedRun.{opened-comes}
+use Rattle.redo_lab.proofs.OpenedRun.{driven-comes, opened-comes}
+use Rattle.redo_lab.proofs.Turned.{unopened-comes-not}
 use Rattle.redo_lab.proofs.UnderWay.{unopened-comes}
 use Rattle.redo_lab.proofs.playing.open_and_play.Goals as goal
 
-pub returns-in-Ok : goal.returns-in-Ok
-returns-in-Ok g c = λ log_entry data_entry stops log_found data_found armed.
-    opened-comes {log_gives = g.L.Sectors.gives} {data_gives = g.D.Sectors.gives} c.args.script.now c.play.result.course c.play.result.log c.play.result.store
+pub returns-in-Ok-clause-comes_to : goal.returns-in-Ok-clause-comes_to
+returns-in-Ok-clause-comes_to g c = λ log_entry data_entry stops log_found data_found armed.
+    opened-comes {log_gives = g.L.Sectors.gives} {data_gives = g.D.Sectors.gives} c.args.turns.now c.args.script.now c.play.result.course c.play.result.log c.play.result.store
     (record {
       laws = record { one_reading = c.one_reading.ensures; one_answer = c.one_answer.ensures.read; formatted = c.formatted_is_openable.ensures };
       armed = armed;
@@ -18,16 +19,39 @@ returns-in-Ok g c = λ log_entry data_entry stops log_found data_found armed.
         data_calls = c.in-Ok.ensures.data_calls;
       };
     })
-    c.play.ensures
+    c.play.ensures.plays
 
-pub returns-in-Err : goal.returns-in-Err
-returns-in-Err g c = λ log_entry data_entry stops log_found data_found armed.
+pub returns-in-Ok-clause-turns : goal.returns-in-Ok-clause-turns
+returns-in-Ok-clause-turns g c = λ log_entry data_entry stops log_found data_found armed.
+    driven-comes {log_gives = g.L.Sectors.gives} {data_gives = g.D.Sectors.gives} c.args.turns.now c.args.script.now c.play.result.course c.play.result.log c.play.result.store
+    (record {
+      laws = record { one_reading = c.one_reading.ensures; one_answer = c.one_answer.ensures.read; formatted = c.formatted_is_openable.ensures };
+      armed = armed;
+      opened = record {
+        keeps = c.in-Ok.ensures.keeps;
+        ready = c.in-Ok.ensures.ready;
+        read = c.in-Ok.ensures.read;
+        runnable = c.in-Ok.ensures.runnable;
+        log_calls = c.in-Ok.ensures.log_calls;
+        data_calls = c.in-Ok.ensures.data_calls;
+      };
+    })
+    c.play.ensures.turns
+
+pub returns-in-Err-clause-comes_to : goal.returns-in-Err-clause-comes_to
+returns-in-Err-clause-comes_to g c = λ log_entry data_entry stops log_found data_found armed.
     rw c.unopened.ensures
-    (unopened-comes {log_gives = g.L.Sectors.gives} {data_gives = g.D.Sectors.gives} c.args.script.now c.in-Err.fault c.in-Err.log c.in-Err.store (record {
+    (unopened-comes {log_gives = g.L.Sectors.gives} {data_gives = g.D.Sectors.gives} c.args.turns.now c.args.script.now c.in-Err.fault c.in-Err.log c.in-Err.store (record {
       laws = record { one_reading = c.one_reading.ensures; one_answer = c.one_answer.ensures.read; formatted = c.formatted_is_openable.ensures };
       armed = armed;
       keeps = c.in-Err.ensures.keeps;
+      unmoved = c.in-Err.ensures.unmoved;
       cause = c.in-Err.ensures.cause;
       log_calls = c.in-Err.ensures.log_calls;
       data_calls = c.in-Err.ensures.data_calls;
     }))
+
+pub returns-in-Err-clause-turns : goal.returns-in-Err-clause-turns
+returns-in-Err-clause-turns g c = λ log_entry data_entry stops log_found data_found armed.
+    rw c.unopened.ensures
+    (unopened-comes-not g.L.Sectors.seen g.D.Sectors.seen log_entry data_entry stops c.args.turns.now c.args.script.now c.in-Err.log c.in-Err.store c.in-Err.fault)

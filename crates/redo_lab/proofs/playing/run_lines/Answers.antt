@@ -7,14 +7,31 @@ use Rattle.redo_lab.proofs.Behind.{entered}
 use Rattle.redo_lab.proofs.Stages.{armed-now}
 use Rattle.redo_lab.proofs.playing.run_lines.Goals as goal
 
-pub returns : goal.returns
-returns g c =
+pub returns-clause-comes_to : goal.returns-clause-comes_to
+returns-clause-comes_to g c =
     let log_found : Guarded = guarded g.L.Sectors.seen c.prepare.new.log in
     let data_found : Guarded = guarded g.D.Sectors.seen c.prepare.new.store in
     let prepared : ArePrepared (g.L.Sectors.seen c.args.log) (g.D.Sectors.seen c.args.store) log_found data_found =
     entered g.L.Sectors.seen g.D.Sectors.seen c.args.log c.plain-log.result.inner c.args.store c.plain-store.result.inner c.plain-log.ensures.inner c.plain-store.ensures.inner
     (λ (log : Seen) (store : Seen). ArePrepared log store log_found data_found) c.in-Ok.ensures in
-    c.open_and_play.ensures (g.L.Sectors.seen c.args.log) (g.D.Sectors.seen c.args.store) c.args.stops log_found data_found (record {
+    c.open_and_play.ensures.comes_to (g.L.Sectors.seen c.args.log) (g.D.Sectors.seen c.args.store) c.args.stops log_found data_found (record {
+      prepared = prepared;
+      log_device = armed-now g.L.Sectors.seen (g.L.Sectors.seen c.args.log) c.args.stops.log c.prepare.new.log c.arm.new.self prepared.log_device
+          c.arm.ensures.inner c.arm.ensures.fuse c.arm.ensures.armed;
+      data_device = armed-now g.D.Sectors.seen (g.D.Sectors.seen c.args.store) c.args.stops.store c.prepare.new.store c.arm-2.new.self prepared.data_device
+          c.arm-2.ensures.inner c.arm-2.ensures.fuse c.arm-2.ensures.armed;
+      log_same = ap g.L.Sectors.seen c.arm.ensures.inner;
+      data_same = ap g.D.Sectors.seen c.arm-2.ensures.inner;
+    })
+
+pub returns-clause-turns : goal.returns-clause-turns
+returns-clause-turns g c =
+    let log_found : Guarded = guarded g.L.Sectors.seen c.prepare.new.log in
+    let data_found : Guarded = guarded g.D.Sectors.seen c.prepare.new.store in
+    let prepared : ArePrepared (g.L.Sectors.seen c.args.log) (g.D.Sectors.seen c.args.store) log_found data_found =
+    entered g.L.Sectors.seen g.D.Sectors.seen c.args.log c.plain-log.result.inner c.args.store c.plain-store.result.inner c.plain-log.ensures.inner c.plain-store.ensures.inner
+    (λ (log : Seen) (store : Seen). ArePrepared log store log_found data_found) c.in-Ok.ensures in
+    c.open_and_play.ensures.turns (g.L.Sectors.seen c.args.log) (g.D.Sectors.seen c.args.store) c.args.stops log_found data_found (record {
       prepared = prepared;
       log_device = armed-now g.L.Sectors.seen (g.L.Sectors.seen c.args.log) c.args.stops.log c.prepare.new.log c.arm.new.self prepared.log_device
           c.arm.ensures.inner c.arm.ensures.fuse c.arm.ensures.armed;

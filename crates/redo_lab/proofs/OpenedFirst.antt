@@ -1,0 +1,42 @@
+-- Whether opening came to its end, as the log device tells it: on a store that could be opened when the fuses were armed.
+use Rattle.std.proofs.Common.{ℕ, ◌+◌, Some, None, inl, refl, ap, ◌∙◌, arith}
+use Rattle.model_device.specs.Disk.{Disk, IsImage}
+use Rattle.model_log.specs.Device.{newest_checkpoint}
+use Rattle.model_opening.specs.Opened.{IsOpenable}
+use Rattle.model_run.specs.Closed.{Closed, IsClosed}
+use Rattle.model_store.specs.Reading.{Reading}
+use Rattle.model_theorem.specs.Opening.{HeldOlder, IsOpenedBefore}
+use Rattle.redo_open.specs.Devices.{HasSameCheckpoint}
+
+-- the log device of a closed run tells that opening came to its end
+abbrev pub OpenedLaw : Type 0
+OpenedLaw = (failures : ℕ) (closed : Closed) (armed_from : Disk) → IsClosed failures closed → HeldOlder closed.opened.shape closed.number armed_from
+    → IsOpenedBefore closed.opened.shape armed_from closed.log_disk (Some closed.run)
+
+-- what stood there at the last good sync is an image
+base-image : (disk : Disk) → IsImage disk disk.base
+base-image disk = record { same_length = refl; each = λ k below. inl refl }
+
+-- THE CHECKPOINT THAT WAS FOUND
+found-checkpoint : (reading : Reading) (log data_disk : Disk) → IsOpenable reading log data_disk → HasSameCheckpoint reading log
+found-checkpoint reading log data_disk openable =
+    ap (newest_checkpoint reading.shape) (openable.log_rests.one_image log.base (base-image log)) ∙ openable.orderly.reads.scan.checkpoint
+
+-- is older than the one that opening makes
+pub held-older : (reading : Reading) (log data_disk : Disk) → IsOpenable reading log data_disk → HeldOlder reading.shape (reading.number + 1) log
+held-older reading log data_disk openable = record {
+  found = reading.number;
+  ckpt = reading.ckpt;
+  newest = found-checkpoint reading log data_disk openable;
+  older = omega arith;
+}
+
+-- OPENING WAS STOPPED where it is still the newest.
+pub stopped-before : (reading : Reading) (log data_disk left : Disk) → IsOpenable reading log data_disk → HasSameCheckpoint reading left
+    → IsOpenedBefore reading.shape log left None
+stopped-before reading log data_disk left openable unmoved = record {
+  number = reading.number;
+  ckpt = reading.ckpt;
+  found = found-checkpoint reading log data_disk openable;
+  unmoved = unmoved;
+}

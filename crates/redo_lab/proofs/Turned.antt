@@ -1,0 +1,269 @@
+-- A run that is told is the run by the turns of its drive.
+use Rattle.std.proofs.Common.{ℕ, ◌≡◌, ◌⊎◌, List, Option, Some, None, refl, sym, ap, subst, ◌∙◌, inl, inr, ⊎_elim, arith}
+use Rattle.model_command.specs.declared.asked.Command.{Command}
+use Rattle.model_command.specs.declared.asked.Command.TheVariants.{Format, Run, Crash, Recover, Dump, Gen}
+use Rattle.model_command.specs.declared.asked.Drive.{Drive}
+use Rattle.model_report.specs.declared.fault.Fault.{Fault}
+use Rattle.model_report.specs.declared.fault.Fault.TheVariants as fault
+use Rattle.model_script.specs.declared.script.ScriptLine.{ScriptLine}
+use Rattle.redo_disk.specs.Calls.{Call}
+use Rattle.redo_disk.specs.Seen.{Seen}
+use Rattle.redo_disk.specs.declared.error.DevError.{DevError}
+use Rattle.redo_disk.specs.declared.error.DevError.TheVariants.{Failed, NoMemory}
+use Rattle.redo_disk.proofs.Made.{may_end}
+use Rattle.redo_io.specs.Source.{SourceSeen}
+use Rattle.redo_machine.specs.Drive.{ComesToRun, HasMemory, RunsByTurns}
+use Rattle.redo_machine.specs.declared.drive.Driven.{Driven}
+use Rattle.redo_machine.specs.declared.drive.Turns.{Turns}
+use Rattle.redo_machine.specs.declared.running.Ran as running
+use Rattle.redo_machine.specs.declared.running.Ran.TheVariants as ended
+use Rattle.redo_memdisk.specs.declared.fused.Fused.{Fused}
+use Rattle.redo_pageactors.specs.declared.opened.Opened.{Opened}
+use Rattle.redo_recover.specs.declared.fault.RecFault.{RecFault}
+use Rattle.redo_recover.specs.declared.fault.RecFault.TheVariants.{SmallLog, NotFormatted, BadFormat, SmallData, NoCheckpoint, BadRecord, PageLost, PageAhead, LogDev, DataDev}
+use Rattle.redo_recover.specs.declared.fault.RecFault.TheVariants as rec
+use Rattle.redo_script.specs.declared.unfit.Unfit.{Unfit}
+use Rattle.redo_script.specs.declared.unfit.Unfit.TheVariants as unfit
+use Rattle.redo_lab.specs.Asked.{command_of, turns_of}
+use Rattle.redo_lab.specs.Call as lab
+use Rattle.redo_lab.specs.Call.{Guarded, guarded}
+use Rattle.redo_lab.specs.Course.{IsStoppedBy, ran_of}
+use Rattle.redo_lab.specs.Crashed.{ReadsBack}
+use Rattle.redo_lab.specs.Faults.{fault_of}
+use Rattle.redo_lab.specs.Playing.{course_done, course_of, ended_by, fault_of_unfit, played_of, unopened}
+use Rattle.redo_lab.specs.Outcome.{EndsCommand, IsOutcome, IsOutcomePrinted, IsUnasked, call_of}
+use Rattle.redo_lab.specs.Reported.{IsReportOf, IsRunPrinted, report_outcome}
+use Rattle.redo_lab.specs.Script.{IsScriptFault, IsScriptRead}
+use Rattle.redo_lab.specs.Turned.{ComesByTurnsTo, IsByTurns, IsDriven, IsDrivenTo, MakePartCalls, TellsByTurns, no_stops}
+use Rattle.redo_lab.specs.declared.outcome.Done.{Done}
+use Rattle.redo_lab.specs.declared.outcome.Outcome.{Outcome}
+use Rattle.redo_lab.specs.declared.outcome.Outcome.TheVariants as outcome
+use Rattle.redo_lab.specs.declared.playing.Course.TheVariants as course
+use Rattle.redo_lab.specs.declared.playing.Played.{Played}
+use Rattle.redo_lab.specs.declared.playing.Stops.{Stops}
+use Rattle.redo_lab.proofs.Called.{Printed, lab_of}
+use Rattle.redo_lab.proofs.LinesRun.{none-lacks, some-failed}
+
+-- ON AN OPENED STORE
+module _ {L D : Type 0} (log_seen : L → Seen) (log_gives : L → Call → L → Type 0) (data_seen : D → Seen) (data_gives : D → Call → D → Type 0)
+    (opened : Opened L D) (turns : Turns) (script : List ScriptLine) (driven : Driven L D)
+    (runs : RunsByTurns log_seen data_seen opened script turns driven) (comes_to : ComesToRun log_gives data_gives opened script driven) where
+  abbrev is-driven : (how : running.Ran) → driven.ended ≡ how
+      → IsDriven log_seen data_seen opened turns script how (played_of opened.start driven.closed) driven.closed.log.dev driven.closed.store.dev
+  is-driven how is = record { driven = driven; runs = runs; how_is = is; played_is = refl; log_is = refl; data_is = refl }
+
+  calls-made : MakePartCalls log_gives data_gives opened driven driven.closed.log.dev driven.closed.store.dev
+  calls-made = record { log = may_end (comes_to.log_calls.live refl); data_part = may_end (comes_to.data_calls.live refl) }
+
+  -- all users ended, and no device was without memory, or one failed
+  all-ended : (log_error data_error : Option DevError) → driven.closed.log.failed ≡ log_error → driven.closed.store.failed ≡ data_error
+      → driven.ended ≡ ended.Done → HasMemory driven.closed
+      → IsDrivenTo log_seen log_gives data_seen data_gives opened turns script (course.Played (played_of opened.start driven.closed) (ended_by log_error data_error)) driven.closed.log.dev driven.closed.store.dev
+  all-ended log_error data_error log_is data_is done memory = (
+    record {
+      is_driven = is-driven ended.Done done;
+      fault_is = ap (λ (e : Option DevError). ended_by e data_error) (sym log_is) ∙ ap (λ (e : Option DevError). ended_by driven.closed.log.failed e) (sym data_is);
+      memory = memory;
+    },
+    calls-made,
+  )
+
+  driven-done : (log_error data_error : Option DevError) → driven.closed.log.failed ≡ log_error → driven.closed.store.failed ≡ data_error → driven.ended ≡ ended.Done
+      → IsDrivenTo log_seen log_gives data_seen data_gives opened turns script (course_done (played_of opened.start driven.closed) (ended_by log_error data_error)) driven.closed.log.dev driven.closed.store.dev
+  driven-done None None log_is data_is done = all-ended None None log_is data_is done (none-lacks driven.closed log_is data_is)
+  driven-done (Some Failed) data_error log_is data_is done =
+      all-ended (Some Failed) data_error log_is data_is done (some-failed driven.closed (Some Failed) data_error log_is data_is (omega arith))
+  driven-done None (Some Failed) log_is data_is done =
+      all-ended None (Some Failed) log_is data_is done (some-failed driven.closed None (Some Failed) log_is data_is (omega arith))
+  driven-done (Some NoMemory) (Some Failed) log_is data_is done =
+      all-ended (Some NoMemory) (Some Failed) log_is data_is done (some-failed driven.closed (Some NoMemory) (Some Failed) log_is data_is (omega arith))
+  driven-done (Some NoMemory) None log_is data_is done = tt
+  driven-done (Some NoMemory) (Some NoMemory) log_is data_is done = tt
+  driven-done None (Some NoMemory) log_is data_is done = tt
+
+  driven-by : (how : running.Ran) → driven.ended ≡ how
+      → IsDrivenTo log_seen log_gives data_seen data_gives opened turns script
+      (course_of turns.max how (played_of opened.start driven.closed) (ended_by driven.closed.log.failed driven.closed.store.failed))
+      driven.closed.log.dev driven.closed.store.dev
+  driven-by ended.Done is = driven-done driven.closed.log.failed driven.closed.store.failed refl refl is
+  driven-by (ended.Spent user) is =
+      (record { count_is = refl; played = played_of opened.start driven.closed; is_driven = is-driven (ended.Spent user) is }, calls-made)
+
+  pub driven-to : IsDrivenTo log_seen log_gives data_seen data_gives opened turns script
+      (course_of turns.max driven.ended (played_of opened.start driven.closed) (ended_by driven.closed.log.failed driven.closed.store.failed))
+      driven.closed.log.dev driven.closed.store.dev
+  driven-to = driven-by driven.ended refl
+
+-- no run was begun on a store that the script doesn't fit
+pub unfit-undriven : {L D : Type 0} (log_seen : L → Seen) (log_gives : L → Call → L → Type 0) (data_seen : D → Seen) (data_gives : D → Call → D → Type 0)
+    (opened : Opened L D) (turns : Turns) (script : List ScriptLine) (u : Unfit) (log_now : L) (data_now : D)
+    → IsDrivenTo log_seen log_gives data_seen data_gives opened turns script (course.Ended (fault_of_unfit u)) log_now data_now
+unfit-undriven log_seen log_gives data_seen data_gives opened turns script (unfit.Misfit misfit) log_now data_now = tt
+unfit-undriven log_seen log_gives data_seen data_gives opened turns script unfit.NoMemory log_now data_now = tt
+
+-- spent turns are no fault of a part
+not-spent : (log_error data_error : Option DevError) (count user : ℕ) → Some (fault.Turns count user) ≡ ended_by log_error data_error → ⊥
+not-spent None None count user is = cc
+not-spent (Some Failed) data_error count user is = cc
+not-spent None (Some Failed) count user is = cc
+not-spent (Some NoMemory) (Some Failed) count user is = cc
+not-spent (Some NoMemory) None count user is = cc
+not-spent (Some NoMemory) (Some NoMemory) count user is = cc
+not-spent None (Some NoMemory) count user is = cc
+
+-- ON THE TWO DEVICES: none was begun on a store that wasn't opened, or whose devices weren't prepared
+module _ {L D : Type 0} (log_seen : L → Seen) (data_seen : D → Seen) (log_entry data_entry : Seen) (stops : Stops) (turns : Turns) (script : List ScriptLine) (log_now : Fused L) (data_now : Fused D) where
+  pub unopened-comes-not : (f : RecFault) → ComesByTurnsTo log_seen data_seen log_entry data_entry stops turns script (unopened f) log_now data_now
+  unopened-comes-not (SmallLog n) = tt
+  unopened-comes-not NotFormatted = tt
+  unopened-comes-not (BadFormat n) = tt
+  unopened-comes-not (SmallData n) = tt
+  unopened-comes-not NoCheckpoint = tt
+  unopened-comes-not (BadRecord lsn) = tt
+  unopened-comes-not (PageLost p) = tt
+  unopened-comes-not (PageAhead p lsn) = tt
+  unopened-comes-not LogDev = tt
+  unopened-comes-not DataDev = tt
+  unopened-comes-not rec.NoMemory = tt
+
+  pub unprepared-comes-not : (f : RecFault) → ComesByTurnsTo log_seen data_seen log_entry data_entry stops turns script (course.Ended (fault_of f)) log_now data_now
+  unprepared-comes-not (SmallLog n) = tt
+  unprepared-comes-not NotFormatted = tt
+  unprepared-comes-not (BadFormat n) = tt
+  unprepared-comes-not (SmallData n) = tt
+  unprepared-comes-not NoCheckpoint = tt
+  unprepared-comes-not (BadRecord lsn) = tt
+  unprepared-comes-not (PageLost p) = tt
+  unprepared-comes-not (PageAhead p lsn) = tt
+  unprepared-comes-not LogDev = tt
+  unprepared-comes-not DataDev = tt
+  unprepared-comes-not rec.NoMemory = tt
+
+-- WHAT IS TOLD
+module _ {L D : Type 0} (log_seen : L → Seen) (data_seen : D → Seen) (source source_now : SourceSeen) (log_entry data_entry : Seen) where
+  -- of `run`
+  pub run-ended-told : (drive : Drive) (script : List ScriptLine) (f : Fault) (log_now : Fused L) (data_now : Fused D) → IsScriptRead source source_now script
+      → ComesByTurnsTo log_seen data_seen log_entry data_entry no_stops (turns_of drive) script (course.Ended f) log_now data_now
+      → TellsByTurns log_seen data_seen source source_now log_entry data_entry (Run drive) (outcome.Fault f) log_now data_now
+  run-ended-told drive script (fault.Turns count user) log_now data_now read comes = record { script = script; is_script = read; comes = comes }
+  run-ended-told drive script f log_now data_now read comes = tt
+
+  pub run-stopped-told : (drive : Drive) (f : Fault) (log_guarded data_guarded : Guarded) (log_now : Fused L) (data_now : Fused D)
+      → IsStoppedBy log_entry data_entry no_stops f log_guarded data_guarded
+      → TellsByTurns log_seen data_seen source source_now log_entry data_entry (Run drive) (outcome.Fault f) log_now data_now
+  run-stopped-told drive (fault.Turns count user) log_guarded data_guarded log_now data_now stopped = absurd stopped
+  run-stopped-told drive f log_guarded data_guarded log_now data_now stopped = tt
+
+  run-text-told : (drive : Drive) (script : List ScriptLine) (played : Played) (f : Option Fault) (text : List ℕ) (log_now : Fused L) (data_now : Fused D) → IsScriptRead source source_now script
+      → ComesByTurnsTo log_seen data_seen log_entry data_entry no_stops (turns_of drive) script (course.Played played f) log_now data_now
+      → IsReportOf script (Some (ran_of played)) None text
+      → TellsByTurns log_seen data_seen source source_now log_entry data_entry (Run drive) (report_outcome text f) log_now data_now
+  run-text-told drive script played None text log_now data_now read comes report = record { script = script; is_script = read; played = played; comes = comes; report = report }
+  run-text-told drive script played (Some (fault.Turns count user)) text log_now data_now read comes report = absurd (not-spent _ _ count user comes.done.fault_is)
+  run-text-told drive script played (Some f) text log_now data_now read comes report = record { script = script; is_script = read; played = played; comes = comes; report = report }
+
+  pub run-played-told : (drive : Drive) (script : List ScriptLine) (played : Played) (f : Option Fault) (o : Outcome) (log_now : Fused L) (data_now : Fused D) → IsScriptRead source source_now script
+      → ComesByTurnsTo log_seen data_seen log_entry data_entry no_stops (turns_of drive) script (course.Played played f) log_now data_now
+      → IsRunPrinted script (ran_of played) f o → TellsByTurns log_seen data_seen source source_now log_entry data_entry (Run drive) o log_now data_now
+  run-played-told drive script played f o log_now data_now read comes printed =
+      let Tells : Outcome → Type 0 = λ o. TellsByTurns log_seen data_seen source source_now log_entry data_entry (Run drive) o log_now data_now in ⊎_elim
+      (λ memory. subst Tells (sym memory) tt)
+      (λ told. subst Tells (sym told.2) (run-text-told drive script played f told.0 log_now data_now read comes told.1))
+      printed
+
+  -- of `crash`
+  pub crash-ended-told : (drive : Drive) (stops : Stops) (pick : ℕ) (script : List ScriptLine) (f : Fault) (log_now : Fused L) (data_now : Fused D) → IsScriptRead source source_now script
+      → ComesByTurnsTo log_seen data_seen log_entry data_entry stops (turns_of drive) script (course.Ended f) log_now data_now
+      → TellsByTurns log_seen data_seen source source_now log_entry data_entry (Crash drive stops.log stops.store pick) (outcome.Fault f) log_now data_now
+  crash-ended-told drive stops pick script (fault.Turns count user) log_now data_now read comes = record { script = script; is_script = read; comes = comes }
+  crash-ended-told drive stops pick script f log_now data_now read comes = tt
+
+  pub crash-stopped-told : (drive : Drive) (stops : Stops) (pick : ℕ) (script : List ScriptLine) (o : Outcome) (log_old data_old log_guarded data_guarded : Guarded) (log_now : Fused L) (data_now : Fused D)
+      → IsScriptRead source source_now script → ReadsBack pick script None o log_old data_old log_guarded data_guarded
+      → TellsByTurns log_seen data_seen source source_now log_entry data_entry (Crash drive stops.log stops.store pick) o log_now data_now
+  crash-stopped-told drive stops pick script (outcome.Text text) log_old data_old log_guarded data_guarded log_now data_now read back =
+      inl (record { script = script; is_script = read; read = (back.reading.end, back.reading.pages); report = back.report })
+  crash-stopped-told drive stops pick script (outcome.Report text f) log_old data_old log_guarded data_guarded log_now data_now read back = absurd back
+  crash-stopped-told drive stops pick script (outcome.Fault (fault.Turns count user)) log_old data_old log_guarded data_guarded log_now data_now read back = absurd back
+  crash-stopped-told drive stops pick script (outcome.Fault f) log_old data_old log_guarded data_guarded log_now data_now read back = tt
+
+  pub crash-played-told : (drive : Drive) (stops : Stops) (pick : ℕ) (script : List ScriptLine) (played : Played) (f : Option Fault) (o : Outcome) (log_then log_now : Fused L) (data_then data_now : Fused D)
+      → IsScriptRead source source_now script
+      → ComesByTurnsTo log_seen data_seen log_entry data_entry stops (turns_of drive) script (course.Played played f) log_then data_then
+      → ReadsBack pick script (Some (ran_of played)) o (guarded log_seen log_then) (guarded data_seen data_then) (guarded log_seen log_now) (guarded data_seen data_now)
+      → TellsByTurns log_seen data_seen source source_now log_entry data_entry (Crash drive stops.log stops.store pick) o log_now data_now
+  crash-played-told drive stops pick script played f (outcome.Text text) log_then log_now data_then data_now read comes back = inr (record {
+    log_then = log_then;
+    data_then = data_then;
+    crashed = back.crashed;
+    read = (back.reading.end, back.reading.pages);
+    fault = f;
+    run = record { script = script; is_script = read; played = played; comes = comes; report = back.report };
+  })
+  crash-played-told drive stops pick script played f (outcome.Report text g) log_then log_now data_then data_now read comes back = absurd back
+  crash-played-told drive stops pick script played f (outcome.Fault (fault.Turns count user)) log_then log_now data_then data_now read comes back = absurd back
+  crash-played-told drive stops pick script played f (outcome.Fault g) log_then log_now data_then data_now read comes back = tt
+
+  -- a command whose script wasn't read tells of no run
+  pub run-unscripted-told : (drive : Drive) (f : Fault) (log_now : Fused L) (data_now : Fused D) → IsScriptFault source source_now f
+      → TellsByTurns log_seen data_seen source source_now log_entry data_entry (Run drive) (outcome.Fault f) log_now data_now
+  run-unscripted-told drive (fault.Turns count user) log_now data_now cause = absurd cause
+  run-unscripted-told drive f log_now data_now cause = tt
+
+  pub crash-unscripted-told : (drive : Drive) (stops : Stops) (pick : ℕ) (f : Fault) (log_now : Fused L) (data_now : Fused D) → IsScriptFault source source_now f
+      → TellsByTurns log_seen data_seen source source_now log_entry data_entry (Crash drive stops.log stops.store pick) (outcome.Fault f) log_now data_now
+  crash-unscripted-told drive stops pick (fault.Turns count user) log_now data_now cause = absurd cause
+  crash-unscripted-told drive stops pick f log_now data_now cause = tt
+
+-- A WHOLE CALL
+-- a command that memory ran out for tells of no run
+memory-untold : {L D : Type 0} (log_seen : L → Seen) (data_seen : D → Seen) (source source_now : SourceSeen) (log_entry data_entry : Seen) (command : Command) (log_now : Fused L) (data_now : Fused D)
+    → TellsByTurns log_seen data_seen source source_now log_entry data_entry command (outcome.Fault fault.Memory) log_now data_now
+memory-untold log_seen data_seen source source_now log_entry data_entry (Format pages space log_blocks) log_now data_now = tt
+memory-untold log_seen data_seen source source_now log_entry data_entry (Run drive) log_now data_now = tt
+memory-untold log_seen data_seen source source_now log_entry data_entry (Crash drive stop_log stop_data pick) log_now data_now = tt
+memory-untold log_seen data_seen source source_now log_entry data_entry Recover log_now data_now = tt
+memory-untold log_seen data_seen source source_now log_entry data_entry Dump log_now data_now = tt
+memory-untold log_seen data_seen source source_now log_entry data_entry (Gen seed users groups run max) log_now data_now = tt
+
+-- and that is what it means, whatever was done
+memory-means : (call : lab.Call) (command : Command) → IsOutcome call command (outcome.Fault fault.Memory)
+memory-means call (Format pages space log_blocks) = (tt, tt)
+memory-means call (Run drive) = (tt, tt)
+memory-means call (Crash drive stop_log stop_data pick) = (tt, tt)
+memory-means call Recover = (tt, tt)
+memory-means call Dump = (tt, tt)
+memory-means call (Gen seed users groups run max) = (tt, tt)
+
+pub command-by-turns : {L D : Type 0} (log_seen : L → Seen) (data_seen : D → Seen) (words : List (List ℕ)) (source left source_now : SourceSeen)
+    (log : L) (store : D) (done given : Done L D) (printed : Printed) (command : Command) → source_now ≡ left → given ≡ done → command_of words ≡ Some command
+    → EndsCommand (call_of log_seen data_seen words source left log store done) command done.outcome
+    → TellsByTurns log_seen data_seen source left (log_seen log) (data_seen store) command done.outcome done.log done.store
+    → IsOutcomePrinted given.outcome printed.status printed.sink printed.sink_now
+    → IsByTurns log_seen data_seen (lab_of log_seen data_seen words source source_now log store given printed) given.log given.store
+command-by-turns {L} {D} log_seen data_seen words source left source_now log store done given printed command same_source same asked ends tells is_printed other asked_other =
+    let is : other ≡ command = cc (asked, asked_other) in
+    let Told : SourceSeen → Command → Done L D → Type 0 = λ now command found. IsOutcome (call_of log_seen data_seen words source now log store found) command found.outcome
+    × TellsByTurns log_seen data_seen source now (log_seen log) (data_seen store) command found.outcome found.log found.store in
+    let told : Told source_now other given = subst (λ (c : Command). Told source_now c given) (sym is)
+    (subst (λ (found : Done L D). Told source_now command found) (sym same)
+    (subst (λ (now : SourceSeen). Told now command done) (sym same_source) (ends.means, tells))) in
+    (given.outcome, is_printed, told.0, told.1)
+
+pub nothing-by-turns : {L D : Type 0} (log_seen : L → Seen) (data_seen : D → Seen) (words : List (List ℕ)) (source source_now : SourceSeen)
+    (log : L) (store : D) (done given : Done L D) (printed : Printed) (f : Fault) → given ≡ done
+    → ((command_of words ≡ None) × (f ≡ fault.Words)) ⊎ (f ≡ fault.Memory) → IsUnasked f log store done
+    → IsOutcomePrinted given.outcome printed.status printed.sink printed.sink_now
+    → IsByTurns log_seen data_seen (lab_of log_seen data_seen words source source_now log store given printed) given.log given.store
+nothing-by-turns {L} {D} log_seen data_seen words source source_now log store done given printed f same why unasked is_printed command asked = ⊎_elim
+    (λ other. let none = other.0 in absurd (cc))
+    (λ memory.
+    let is : given.outcome ≡ outcome.Fault fault.Memory = ap (λ (found : Done L D). found.outcome) same ∙ unasked.outcome_is ∙ ap (λ (f : Fault). outcome.Fault f) memory in (
+      given.outcome,
+      is_printed,
+      subst (λ (o : Outcome). IsOutcome (call_of log_seen data_seen words source source_now log store given) command o) (sym is)
+          (memory-means (call_of log_seen data_seen words source source_now log store given) command),
+      subst (λ (o : Outcome). TellsByTurns log_seen data_seen source source_now (log_seen log) (data_seen store) command o given.log given.store) (sym is)
+          (memory-untold log_seen data_seen source source_now (log_seen log) (data_seen store) command given.log given.store),
+    ))
+    why

@@ -1,0 +1,233 @@
+-- A run that is told is the run by the turns of its drive: those of its seed, as many as it allows, on the store that was
+-- opened on the two devices that were handed in.
+use Rattle.std.specs.Prelude.{ℕ, ◌≡◌, ◌⊎◌, List, Option, Some, None}
+use Rattle.model_command.specs.declared.asked.Command.{Command}
+use Rattle.model_command.specs.declared.asked.Command.TheVariants.{Run, Crash}
+use Rattle.model_command.specs.declared.asked.Drive.{Drive}
+use Rattle.model_log.specs.Lsn.{start_after}
+use Rattle.model_opening.specs.Opened.{IsOpenable}
+use Rattle.model_page.specs.declared.content.Content.{Content}
+use Rattle.model_report.specs.declared.fault.Fault.{Fault}
+use Rattle.model_report.specs.declared.fault.Fault.TheVariants.{Turns}
+use Rattle.model_script.specs.declared.script.ScriptLine.{ScriptLine}
+use Rattle.model_store.specs.Reading.{Reading}
+use Rattle.model_theorem.specs.Values as values
+use Rattle.redo_disk.specs.Calls.{Call, failures}
+use Rattle.redo_disk.specs.Seen.{Seen}
+use Rattle.redo_io.specs.Source.{SourceSeen}
+use Rattle.redo_machine.specs.Drive.{HasMemory, RunsByTurns}
+use Rattle.redo_machine.specs.declared.drive.Driven.{Driven}
+use Rattle.redo_machine.specs.declared.drive.Turns as drive
+use Rattle.redo_machine.specs.declared.running.Ran as running
+use Rattle.redo_machine.specs.declared.running.Ran.TheVariants as ended
+use Rattle.redo_memdisk.specs.Fused.{fuse_of, seen_through}
+use Rattle.redo_memdisk.specs.declared.fused.Fused.{Fused}
+use Rattle.redo_open.specs.Devices.{WhereBothTell}
+use Rattle.redo_open.specs.Opening.{IsOpenedReady}
+use Rattle.redo_pageactors.specs.declared.opened.Opened.{Opened}
+use Rattle.redo_lab.specs.Asked.{command_of, turns_of}
+use Rattle.redo_lab.specs.Call.{LabCall, guarded}
+use Rattle.redo_lab.specs.Course.{AreUnderWay, ran_of}
+use Rattle.redo_lab.specs.Crashed.{AreCrashedSince}
+use Rattle.redo_lab.specs.Outcome.{IsOutcome, IsOutcomePrinted}
+use Rattle.redo_lab.specs.Playing.{MakeCalls, ended_by, played_of}
+use Rattle.redo_lab.specs.Prepared.{WhereTold}
+use Rattle.redo_lab.specs.Reported.{IsReportOf}
+use Rattle.redo_lab.specs.Script.{IsScriptRead}
+use Rattle.redo_lab.specs.Store.{IsOpenedAs}
+use Rattle.redo_lab.specs.declared.outcome.Outcome.{Outcome}
+use Rattle.redo_lab.specs.declared.outcome.Outcome.TheVariants as outcome
+use Rattle.redo_lab.specs.declared.playing.Course.{Course}
+use Rattle.redo_lab.specs.declared.playing.Course.TheVariants as course
+use Rattle.redo_lab.specs.declared.playing.Played.{Played}
+use Rattle.redo_lab.specs.declared.playing.Stops.{Stops}
+
+-- ON AN OPENED STORE.
+
+-- The turns of the drive led from the opened store to here, and ended so; that came of the lines.
+pub record IsDriven {L D : Type 0} (log_seen : L → Seen) (data_seen : D → Seen)
+    (opened : Opened L D) (turns : drive.Turns) (script : List ScriptLine) (how : running.Ran) (played : Played)
+    (log_now : L) (data_now : D) : Type 0 where
+  pub driven : Driven L D
+  pub runs : RunsByTurns log_seen data_seen opened script turns driven
+  pub how_is : driven.ended ≡ how
+  pub played_is : played ≡ played_of opened.start driven.closed
+  pub log_is : log_now ≡ driven.closed.log.dev
+  pub data_is : data_now ≡ driven.closed.store.dev
+
+-- All users ended so, and this fault ended the run, if one did: that of the two parts, which isn't want of memory.
+pub record IsDrivenDone {L D : Type 0} (log_seen : L → Seen) (data_seen : D → Seen)
+    (opened : Opened L D) (turns : drive.Turns) (script : List ScriptLine) (played : Played) (fault : Option Fault)
+    (log_now : L) (data_now : D) : Type 0 where
+  pub is_driven : IsDriven log_seen data_seen opened turns script ended.Done played log_now data_now
+  pub fault_is : fault ≡ ended_by is_driven.driven.closed.log.failed is_driven.driven.closed.store.failed
+  pub memory : HasMemory is_driven.driven.closed
+
+-- So many turns, all that the drive allows, led to here, and this is the least user that hasn't ended.
+pub record IsDrivenOut {L D : Type 0} (log_seen : L → Seen) (data_seen : D → Seen)
+    (opened : Opened L D) (turns : drive.Turns) (script : List ScriptLine) (count user : ℕ)
+    (log_now : L) (data_now : D) : Type 0 where
+  pub count_is : count ≡ turns.max
+  pub played : Played
+  pub is_driven : IsDriven log_seen data_seen opened turns script (ended.Spent user) played log_now data_now
+
+-- The devices went from the opened store to here by calls of which the last one of each alone may have answered an error: the
+-- one that its part met.
+abbrev pub MakePartCalls : {L D : Type 0} → (L → Call → L → Type 0) → (D → Call → D → Type 0)
+    → Opened L D → Driven L D → L → D → Type 0
+MakePartCalls log_gives data_gives opened driven log_now data_now =
+    MakeCalls log_gives data_gives opened driven.closed.log.failed driven.closed.store.failed log_now data_now
+
+-- how far a run came that the turns of the drive led, if any was begun, and the calls that it made
+abbrev pub IsDrivenTo : {L D : Type 0} → (L → Seen) → (L → Call → L → Type 0) → (D → Seen) → (D → Call → D → Type 0)
+    → Opened L D → drive.Turns → List ScriptLine → Course → L → D → Type 0
+IsDrivenTo log_seen log_gives data_seen data_gives opened turns script (course.Played played fault) log_now data_now =
+    (done : IsDrivenDone log_seen data_seen opened turns script played fault log_now data_now)
+    × MakePartCalls log_gives data_gives opened done.is_driven.driven log_now data_now
+IsDrivenTo log_seen log_gives data_seen data_gives opened turns script (course.Ended (Turns count user)) log_now data_now =
+    (spent : IsDrivenOut log_seen data_seen opened turns script count user log_now data_now)
+    × MakePartCalls log_gives data_gives opened spent.is_driven.driven log_now data_now
+IsDrivenTo log_seen log_gives data_seen data_gives opened turns script (course.Ended _) log_now data_now = Unit {0}
+IsDrivenTo log_seen log_gives data_seen data_gives opened turns script (course.Stopped _) log_now data_now = Unit {0}
+
+-- ON THE TWO DEVICES THAT WERE HANDED IN.
+
+-- the opened store, as the theorem has it: its log ends there
+abbrev pub opened_at : {L D : Type 0} → Opened L D → ℕ → values.Opened
+opened_at opened end = record { shape = opened.shape; pages = opened.pages; end = end }
+
+-- The store was opened on the two devices, behind their fuses, which stop them so.
+pub record IsOpenedOn {L D : Type 0} (log_seen : L → Seen) (data_seen : D → Seen)
+    (log_entry data_entry : Seen) (stops : Stops) (opened : Opened (Fused L) (Fused D)) : Type 0 where
+  pub way : AreUnderWay log_entry data_entry stops 0 0 (guarded log_seen opened.log.dev) (guarded data_seen opened.store.dev)
+  pub end : ℕ
+  pub start : opened.start ≡ start_after end
+  pub opens : WhereTold log_entry data_entry (IsOpenedAs (opened_at opened end))
+  -- off devices that held a store in order when the fuses were armed, it was opened as that was read, and both are ready for it
+  pub ready : (reading : Reading) → WhereBothTell way.log_found.seen.tells way.data_found.seen.tells (λ log data_disk.
+      IsOpenable reading log data_disk → IsOpenedReady (seen_through log_seen) (seen_through data_seen) reading opened)
+
+-- since it was armed the fuse of each device has counted as many failures as its part met
+pub record AreCountedFailures {L D : Type 0} (driven : Driven (Fused L) (Fused D)) (log_now : Fused L) (data_now : Fused D)
+    : Type 0 where
+  pub log_device : (fuse_of log_now).mid ≡ failures driven.closed.log.failed
+  pub data_device : (fuse_of data_now).mid ≡ failures driven.closed.store.failed
+
+-- A store was opened on them, and the turns of the drive led from it to where all users had ended.
+pub record ComesToEnd {L D : Type 0} (log_seen : L → Seen) (data_seen : D → Seen) (log_entry data_entry : Seen) (stops : Stops)
+    (turns : drive.Turns) (script : List ScriptLine) (played : Played) (fault : Option Fault)
+    (log_now : Fused L) (data_now : Fused D) : Type 0 where
+  pub opened : Opened (Fused L) (Fused D)
+  pub is_opened : IsOpenedOn log_seen data_seen log_entry data_entry stops opened
+  pub done : IsDrivenDone (seen_through log_seen) (seen_through data_seen) opened turns script played fault log_now data_now
+  pub counted : AreCountedFailures done.is_driven.driven log_now data_now
+
+-- A store was opened on them, and the turns of the drive were spent on it.
+pub record ComesToSpent {L D : Type 0} (log_seen : L → Seen) (data_seen : D → Seen) (log_entry data_entry : Seen) (stops : Stops)
+    (turns : drive.Turns) (script : List ScriptLine) (count user : ℕ) (log_now : Fused L) (data_now : Fused D) : Type 0 where
+  pub opened : Opened (Fused L) (Fused D)
+  pub is_opened : IsOpenedOn log_seen data_seen log_entry data_entry stops opened
+  pub spent : IsDrivenOut (seen_through log_seen) (seen_through data_seen) opened turns script count user log_now data_now
+  pub counted : AreCountedFailures spent.is_driven.driven log_now data_now
+
+-- a store was opened on them, and a run came so far on it that the turns of the drive led
+abbrev pub ComesByTurnsTo : {L D : Type 0} → (L → Seen) → (D → Seen)
+    → (log_entry data_entry : Seen) → Stops → drive.Turns → List ScriptLine → Course → Fused L → Fused D → Type 0
+ComesByTurnsTo log_seen data_seen log_entry data_entry stops turns script (course.Played played fault) log_now data_now =
+    ComesToEnd log_seen data_seen log_entry data_entry stops turns script played fault log_now data_now
+ComesByTurnsTo log_seen data_seen log_entry data_entry stops turns script (course.Ended (Turns count user)) log_now data_now =
+    ComesToSpent log_seen data_seen log_entry data_entry stops turns script count user log_now data_now
+ComesByTurnsTo log_seen data_seen log_entry data_entry stops turns script (course.Ended _) log_now data_now = Unit {0}
+ComesByTurnsTo log_seen data_seen log_entry data_entry stops turns script (course.Stopped _) log_now data_now = Unit {0}
+
+-- WHAT IS TOLD OF IT.
+
+-- a call that reads its script off a source: the two devices as they were handed in, how they are stopped, and the turns
+pub record Handed : Type 0 where
+  pub source : SourceSeen
+  pub source_now : SourceSeen
+  pub log_entry : Seen
+  pub data_entry : Seen
+  pub stops : Stops
+  pub turns : drive.Turns
+
+-- The text is the report of a run by turns, which this fault ended, if one did, and at the end of which the devices were
+-- these; behind a crash it has what was read.
+pub record TellsRun {L D : Type 0} (log_seen : L → Seen) (data_seen : D → Seen) (handed : Handed)
+    (read : Option (ℕ × List Content)) (fault : Option Fault) (text : List ℕ) (log_then : Fused L) (data_then : Fused D) : Type 0 where
+  pub script : List ScriptLine
+  pub is_script : IsScriptRead handed.source handed.source_now script
+  pub played : Played
+  pub comes : ComesToEnd log_seen data_seen handed.log_entry handed.data_entry handed.stops handed.turns script
+      played fault log_then data_then
+  pub report : IsReportOf script (Some (ran_of played)) read text
+
+-- The same of a text of `crash`: the devices were crashed at the end of the run, whatever ended it, and then read.
+pub record TellsCrash {L D : Type 0} (log_seen : L → Seen) (data_seen : D → Seen)
+    (handed : Handed) (pick : ℕ) (text : List ℕ) (log_now : Fused L) (data_now : Fused D) : Type 0 where
+  pub log_then : Fused L
+  pub data_then : Fused D
+  pub crashed : AreCrashedSince pick 0 0 (guarded log_seen log_then) (guarded data_seen data_then)
+      (guarded log_seen log_now) (guarded data_seen data_now)
+  pub read : ℕ × List Content
+  pub fault : Option Fault
+  pub run : TellsRun log_seen data_seen handed (Some read) fault text log_then data_then
+
+-- the text tells that there was no run
+pub record TellsNone (handed : Handed) (text : List ℕ) : Type 0 where
+  pub script : List ScriptLine
+  pub is_script : IsScriptRead handed.source handed.source_now script
+  pub read : ℕ × List Content
+  pub report : IsReportOf script None (Some read) text
+
+-- the turns of a run were spent, so many, and this is the least user that hasn't ended
+pub record TellsSpent {L D : Type 0} (log_seen : L → Seen) (data_seen : D → Seen)
+    (handed : Handed) (count user : ℕ) (log_now : Fused L) (data_now : Fused D) : Type 0 where
+  pub script : List ScriptLine
+  pub is_script : IsScriptRead handed.source handed.source_now script
+  pub comes : ComesToSpent log_seen data_seen handed.log_entry handed.data_entry handed.stops handed.turns script
+      count user log_now data_now
+
+-- the devices of a command that isn't `crash` aren't stopped
+abbrev pub no_stops : Stops
+no_stops = record { log = None; store = None }
+
+module _ {L D : Type 0} (log_seen : L → Seen) (data_seen : D → Seen)
+    (source source_now : SourceSeen) (log_entry data_entry : Seen) where
+  -- the call of a command that runs a script so
+  abbrev pub handed_as : Stops → Drive → Handed
+  handed_as stops drive = record {
+    source = source;
+    source_now = source_now;
+    log_entry = log_entry;
+    data_entry = data_entry;
+    stops = stops;
+    turns = turns_of drive;
+  }
+
+  -- What a command's outcome tells of a run is so of one by its turns. Spent turns have no report, and no device's failure is
+  -- reported of a crash.
+  abbrev pub TellsByTurns : Command → Outcome → Fused L → Fused D → Type 0
+  TellsByTurns (Run drive) (outcome.Text text) log_now data_now =
+      TellsRun log_seen data_seen (handed_as no_stops drive) None None text log_now data_now
+  TellsByTurns (Run drive) (outcome.Report text (Turns count user)) log_now data_now = ⊥
+  TellsByTurns (Run drive) (outcome.Report text fault) log_now data_now =
+      TellsRun log_seen data_seen (handed_as no_stops drive) None (Some fault) text log_now data_now
+  TellsByTurns (Run drive) (outcome.Fault (Turns count user)) log_now data_now =
+      TellsSpent log_seen data_seen (handed_as no_stops drive) count user log_now data_now
+  TellsByTurns (Crash drive stop_log stop_data pick) (outcome.Text text) log_now data_now =
+      TellsNone (handed_as (record { log = stop_log; store = stop_data }) drive) text
+      ⊎ TellsCrash log_seen data_seen (handed_as (record { log = stop_log; store = stop_data }) drive) pick text log_now data_now
+  TellsByTurns (Crash drive stop_log stop_data pick) (outcome.Report text fault) log_now data_now = ⊥
+  TellsByTurns (Crash drive stop_log stop_data pick) (outcome.Fault (Turns count user)) log_now data_now =
+      TellsSpent log_seen data_seen (handed_as (record { log = stop_log; store = stop_data }) drive) count user log_now data_now
+  TellsByTurns command outcome log_now data_now = Unit {0}
+
+-- What the words' command came to was printed; it means what it says of the call, and a run that it tells of is one by its
+-- turns.
+abbrev pub IsByTurns : {L D : Type 0} → (L → Seen) → (D → Seen) → LabCall → Fused L → Fused D → Type 0
+IsByTurns log_seen data_seen lab log_now data_now =
+    (command : Command) → command_of lab.call.words ≡ Some command
+    → (outcome : Outcome) × IsOutcomePrinted outcome lab.status lab.sink lab.sink_now × IsOutcome lab.call command outcome
+    × TellsByTurns log_seen data_seen lab.call.source lab.call.source_now lab.call.log_device lab.call.data_device
+    command outcome log_now data_now

@@ -1,8 +1,0 @@
-mod Offsets
-mod NextGroup
-mod Playing
-mod Requested
-mod Planning
-mod Lines
-mod Outcome
-mod Owed
