@@ -39,10 +39,6 @@ FailsRound shape b bytes old new =
     FailsWrite (write_at (offset_of b shape.log_blocks) (front_of shape b bytes)) old new
     ⊎ FailsWrite (write_at HEADER_BYTES (back_of shape b bytes)) (written_if (offset_of b shape.log_blocks) (front_of shape b bytes) old) new
 
--- a write with a sync behind it, one of which failed: the write did, or it is pending
-abbrev pub IsPutOrNot : Write → Disk → Disk → Type 0
-IsPutOrNot write old new = FailsWrite write old new ⊎ (new ≡ written old write)
-
 -- the write of the checkpoint of this number at this lsn
 abbrev pub checkpoint_write : Shape → ℕ → ℕ → Write
 checkpoint_write shape number lsn = write_at (BLOCK_SIZE * place_of number) (checkpoint_text number lsn shape)

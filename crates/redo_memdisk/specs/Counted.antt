@@ -82,16 +82,3 @@ pub record Through {D : Type 0} (seen : D → Seen) (old new : Fused D) (Are : L
   pub are : Are calls
   pub counts : CountsCalls old.fuse (length calls) (failed_calls calls) (changing_calls calls) new.fuse
   pub behind : KeepsBehind seen old (failed_calls calls) new
-
--- the same of calls that ended with this error, or with none: no other call failed
-pub record EndsThrough {D : Type 0} (seen : D → Seen) (old : Fused D) (error : Option DevError) (new : Fused D) : Type 0 where
-  pub calls : ℕ
-  pub changing : ℕ
-  pub counts : CountsCalls old.fuse calls (failures error) changing new.fuse
-  pub behind : KeepsBehind seen old (failures error) new
-
--- the same of reads
-pub record ReadsEndThrough {D : Type 0} (seen : D → Seen) (old : Fused D) (error : Option DevError) (new : Fused D) : Type 0 where
-  pub calls : ℕ
-  pub counts : CountsCalls old.fuse calls (failures error) 0 new.fuse
-  pub behind : KeepsBehind seen old (failures error) new

@@ -31,13 +31,6 @@ openable-same opened log data_told log_new data_new log_same data_same =
     (subst (λ (o : Option Disk). WhereBothTell log data_told (λ l d. IsOpenable opened l d → WhereBothTell log o (KeepsOpened opened))) (sym data_same)
     (openable-both opened log data_told))
 
-pub unmoved-same : (opened : Reading) (log data_told log_new : Option Disk) → log_new ≡ log
-    → WhereBothTell log data_told (λ l d. IsOpenable opened l d → IfSome log_new (HasSameCheckpoint opened))
-unmoved-same opened None data_told log_new same = tt
-unmoved-same opened (Some l) None log_new same = tt
-unmoved-same opened (Some l) (Some d) log_new same =
-    λ is. subst (λ (o : Option Disk). IfSome o (HasSameCheckpoint opened)) (sym same) (unmoved-rests opened l d is)
-
 -- ONCE THE STORE IS READ, and its data device synced: what is promised of the reading is promised of the opened store.
 
 synced-from : (told mid : Option Disk) (d : Disk) → told ≡ Some d → OnTold told mid (λ old new. new ≡ synced old) → IfSome mid (λ disk. disk ≡ settled d.reads)

@@ -15,12 +15,11 @@ ghost use Rattle.redo_recover.specs.Devices.{OnContents};
 ghost use Rattle.redo_recover.specs.Reading.{IsOfDevices, reading_of};
 
 use crate::devices::open_devices;
-use crate::faults::data_fault;
 use redo_disk::Sectors;
 use redo_logdev::LogPart;
 use redo_lsn::start_after;
 use redo_pageactors::Opened;
-use redo_recover::{RecFault, Recovered, recover};
+use redo_recover::{RecFault, Recovered, data_fault, recover};
 use redo_store::DataPart;
 use std::alloc::Global;
 

@@ -58,24 +58,6 @@ all-kept shape data_bytes pages count a all = record {
 
 -- JUDGED
 
--- the first pages aren't ahead, and then comes one that is
-pub first-ahead : (pages : List Content) (end p lsn : ℕ) → ((q : ℕ) (other : Content) → q < p → slice_get pages q ≡ Some other → other.lsn ≤ end)
-    → p < length pages → IfSome (slice_get pages p) (λ content. lsn ≡ content.lsn) → end < lsn → IsFirstAhead pages end p lsn
-first-ahead pages end p lsn first below is ahead =
-    let page = has_place pages p below in
-    record { page = page.0; at = page.1; same = if_some-is (slice_get pages p) (λ content. lsn ≡ content.lsn) page.0 page.1 is; ahead = ahead; first = first }
-
-pub not-ahead : (pages : List Content) (end p lsn : ℕ) → ((q : ℕ) (other : Content) → q < p → slice_get pages q ≡ Some other → other.lsn ≤ end)
-    → IfSome (slice_get pages p) (λ content. lsn ≡ content.lsn) → lsn ≤ end
-    → (q : ℕ) (other : Content) → q < p + 1 → slice_get pages q ≡ Some other → other.lsn ≤ end
-not-ahead pages end p lsn first is low q other h at =
-    ⊎_elim (λ below. first q other below at)
-    (λ here. (let lsn_is : lsn ≡ other.lsn = if_some-is (slice_get pages p) (λ content. lsn ≡ content.lsn) other (ap (slice_get pages) (sym here) ∙ at) is in omega arith))
-    (cases q p h)
-  where
-    cases : (q p : ℕ) → q < p + 1 → (q < p) ⊎ (q ≡ p)
-    cases q p h = grind arith
-
 -- every page is kept, but one is ahead
 pub ahead-refused : (shape : Shape) (data_bytes : List ℕ) (pages : List Content) (end p lsn : ℕ) → AreKept shape data_bytes pages
     → IsFirstAhead pages end p lsn → RefusesPages shape data_bytes end (refusal.PageAhead p lsn)

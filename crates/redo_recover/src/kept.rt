@@ -4,7 +4,6 @@ ghost use Rattle.model_base.specs.Count.{HasRisen};
 ghost use Rattle.model_base.specs.Limits.{IsWithinLimits};
 ghost use Rattle.model_page.specs.Blank.{user_length};
 ghost use Rattle.model_page.specs.Copies.{IsKept, IsLost, data_device_length, place_bytes};
-ghost use Rattle.model_page.specs.Page.{frame_length, user_part};
 ghost use Rattle.redo_apply.specs.Fits.{ArePagesOf};
 ghost use Rattle.redo_disk.specs.Made.{MakesCalls};
 ghost use Rattle.redo_recover.specs.Calls.{ReadsPieces, data_error_of};
@@ -14,20 +13,11 @@ ghost use Rattle.redo_recover.specs.Pages.{AreKept, HoldsSlots, IsFirstLostFault
 use crate::RecFault;
 use crate::errors::data_fault;
 use crate::piece::read_part;
-use model_base::{Shape, USER_START};
-use model_page::TRAILER_LENGTH;
+use model_base::Shape;
 use redo_apply::Pages;
 use redo_disk::Sectors;
-use redo_page::{best_copy, place_lsn};
+use redo_page::{best_copy, place_lsn, user_part};
 use std::alloc::Global;
-
-/// The user bytes of a page.
-fn user_part(page: &[u8]) -> &[u8]
-    requires { frame_length ≤ length page.now }
-    ensures { result.now ≡ user_part page.now }
-{
-    &page[USER_START as usize..page.len() - TRAILER_LENGTH as usize]
-}
 
 /// The lsn of a page and its user bytes: what its place holds if that passes, else what the copy in the slots holds that
 /// counts.

@@ -4,11 +4,10 @@ use Rattle.std.proofs.lemmas.List.{take_at}
 use Rattle.model_base.specs.Limits.{IsWithinLimits}
 use Rattle.model_base.specs.declared.shape.Shape.{Shape}
 use Rattle.model_page.specs.declared.content.Content.{Content}
-use Rattle.model_device.specs.Calls.{written, synced}
 use Rattle.model_device.specs.Disk.{Disk}
 use Rattle.model_device.specs.declared.write.Write.{Write}
 use Rattle.model_datadev.specs.Batch.{Fresh, IsBatch, IsWritable, batch_of, batch_text, slots_write, place_writes}
-use Rattle.model_datadev.specs.Steps.{IsPutOrNot, after_both, FailsBoth}
+use Rattle.model_datadev.specs.Steps.{after_both, FailsBoth}
 use Rattle.model_datadev.specs.Stored.{Stored, IsUpTo}
 use Rattle.model_datadev.proofs.Joined.{batch-from}
 use Rattle.model_page.specs.Copies.{data_device_length}
@@ -61,12 +60,6 @@ back-stored shape top was batch failed disk live stored = subst (λ (b : Bool). 
 pub lent-texts : (shape : Shape) (batch : List Fresh) (out rest lent : List ℕ) (n count len : ℕ) → lent ≡ take len (out ++ drop count rest) → len ≡ length out → take n out ≡ batch_text shape batch → take n lent ≡ batch_text shape batch
 lent-texts shape batch out rest lent n count len lent_is long filled =
     ap (take n) (lent_is ∙ take_at out (drop count rest) len (sym long)) ∙ filled
-
-pub put-is : (shape : Shape) (pairs : List (ℕ × ℕ)) (users texts : List ℕ) (old new : Disk) → AreTexts shape pairs users texts → new ≡ synced (written old (write_at 0 texts)) → new ≡ synced (written old (slots_write shape (batch_of pairs users)))
-put-is shape pairs users texts old new are done = done ∙ ap (λ (w : Write). synced (written old w)) are.slots
-
-pub put_fails-is : (shape : Shape) (pairs : List (ℕ × ℕ)) (users texts : List ℕ) (old new : Disk) → AreTexts shape pairs users texts → IsPutOrNot (write_at 0 texts) old new → IsPutOrNot (slots_write shape (batch_of pairs users)) old new
-put_fails-is shape pairs users texts old new are fails = subst (λ (w : Write). IsPutOrNot w old new) are.slots fails
 
 -- the calls that are made of the texts are those of the batch
 pub both-asked : {D : Type 0} (gives : D → Call → D → Type 0) (old new : D) (shape : Shape) (pairs : List (ℕ × ℕ)) (users texts : List ℕ) (error : Option DevError) → AreTexts shape pairs users texts

@@ -1,14 +1,13 @@
 // The data part.
 ghost use Rattle.std.specs.Prelude.{◌≡◌, ◌≤◌, ◌<◌, ◌*◌, ℕ, ◌+◌, List, [], ◌∷◌, length, None, IfOk, MatchResult, MatchOption, IfSome, OnOk, vec_len};
 ghost use Rattle.model_base.specs.Limits.{IsWithinLimits};
-ghost use Rattle.model_datadev.specs.Batch.{Fresh, batch_of, after_batch, slots_write, IsWritable};
+ghost use Rattle.model_datadev.specs.Batch.{Fresh, batch_of, after_batch, IsWritable};
 ghost use Rattle.model_datadev.specs.Repair.{IsCopyPut, IsRepairable, KeepsAll, IsRepaired};
 ghost use Rattle.model_datadev.specs.Stored.{HasNothingPending, IsLater, IsOpened, IsBefore, IsSteady, KeepsPages};
-ghost use Rattle.model_device.specs.Calls.{written, synced};
 ghost use Rattle.model_page.specs.Copies.{data_device_length, place_bytes, IsBestCopy, HasNoCopy};
 ghost use Rattle.model_page.specs.declared.content.Content.{Content};
 ghost use Rattle.redo_dblwr.specs.Requests.{slots_read, stretch_read};
-ghost use Rattle.redo_disk.specs.Calls.{Serve, error_of, put_requests};
+ghost use Rattle.redo_disk.specs.Calls.{Serve, error_of};
 ghost use Rattle.redo_disk.specs.Made.{MakesCalls};
 ghost use Rattle.redo_disk.specs.Seen.{OnTold};
 ghost use Rattle.redo_store.specs.Part.{PartStep, PartStores, PartKeeps};
@@ -17,7 +16,7 @@ ghost use Rattle.redo_store.specs.Requests.{RepairCalls, batch_requests};
 use crate::mend::{find_copy, put_back};
 use crate::places::{PAGE, put_both};
 use model_base::Shape;
-use redo_dblwr::{fill_texts, put_bytes, read_stretch};
+use redo_dblwr::{fill_texts, read_stretch};
 use redo_disk::{DevError, Sectors};
 use redo_lsn::NoMemory;
 use std::alloc::{AllocError, Global};
@@ -72,29 +71,6 @@ impl<D: Sectors> DataPart<D> {
                 failed: None,
             }),
             Err(_) => Err((NoMemory, dev)),
-        }
-    }
-
-    /// Writes the pages of a batch into the slots, and makes them stay there. Their places are as they were.
-    pub fn put_batch(&mut self, batch: &[(u32, u64)], frames: &[u8]) -> Result<(), DevError>
-        requires live { self.old.failed ≡ None }
-        requires batch { IsWritable self.old.shape batch.now frames.now }
-        ensures stores { (top was : ℕ → Content) → PartStores D.seen top was [] self.old
-            → PartStores D.seen top was (batch_of batch.now frames.now) self.new }
-        ensures slots { OnOk result (OnTold (D.seen self.old.dev).tells (D.seen self.new.dev).tells
-            (λ old new. new ≡ synced (written old (slots_write self.old.shape (batch_of batch.now frames.now))))) }
-        ensures calls { MakesCalls D.gives self.old.dev self.new.dev
-            (Serve (put_requests (slots_write self.old.shape (batch_of batch.now frames.now))) (error_of result)) }
-        ensures step { PartStep D.seen self.old result self.new }
-    {
-        let len = PAGE * batch.len();
-        fill_texts(&mut self.buffer, &self.shape, batch, frames);
-        match put_bytes(&mut self.dev, 0, &self.buffer[..len]) {
-            Ok(()) => Ok(()),
-            Err(error) => {
-                self.failed = Some(error);
-                Err(error)
-            }
         }
     }
 

@@ -182,7 +182,7 @@ fn the_newer_copy_counts(rt: HostRuntime) -> Result<(), Fail> {
     assert_eq!(rt; check(&place), PageState::Broken);
     assert_eq!(rt; part.best_copy(5)?, Some((1, 9_000)));
     assert_eq!(rt; part.best_copy(4)?, None);
-    part.put_batch(&[(4, 9_200)], &[3; USER])?;
+    part.write_batch(&[(4, 9_200)], &[3; USER])?;
     assert_eq!(rt; part.best_copy(4)?, Some((0, 9_200)));
     Ok(())
 }

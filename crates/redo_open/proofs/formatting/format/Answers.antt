@@ -1,7 +1,19 @@
-use Rattle.std.proofs.Common.{ℕ, subst}
+use Rattle.std.proofs.Common.{◌∙◌, ℕ, arith, subst}
 use Rattle.redo_recover.specs.Start.{IsLengthFault}
-use Rattle.redo_open.proofs.Causes.{length-calls, length-cause}
+use Rattle.redo_open.specs.Formatting.{JudgesLengths}
+use Rattle.redo_open.proofs.Causes.{judges-fault, judges-long, length-calls, length-cause}
 use Rattle.redo_open.proofs.formatting.format.Goals as goal
+
+pub returns-clause-lengths : goal.returns-clause-lengths
+returns-clause-lengths g c =
+    judges-long c.args.shape.now (g.L.Sectors.seen c.args.log.now).size (g.D.Sectors.seen c.args.data_device.now).size c.format_devices.result
+    (omega (arith, c.in-Ok.ensures.fit.0, c.len.ensures.size)) (omega (arith, c.in-Ok.ensures.fit.1, c.len-2.ensures.size))
+
+pub returns-in-Err-clause-lengths : goal.returns-in-Err-clause-lengths
+returns-in-Err-clause-lengths g c =
+    judges-fault c.args.shape.now (g.L.Sectors.seen c.args.log.now).size (g.D.Sectors.seen c.args.data_device.now).size c.in-Err.fault
+    (subst (λ (n : ℕ). IsLengthFault c.args.shape.now n (g.D.Sectors.seen c.args.data_device.now).size c.in-Err.fault) c.len.ensures.size
+    (subst (λ (n : ℕ). IsLengthFault c.args.shape.now c.len.result n c.in-Err.fault) c.len-2.ensures.size c.in-Err.ensures.fault))
 
 pub returns-in-Err-clause-cause : goal.returns-in-Err-clause-cause
 returns-in-Err-clause-cause g c =
