@@ -6,15 +6,13 @@ use Rattle.std.proofs.lemmas.List.{get_or-drop, get_or-replicate, get_or-take, l
 use Rattle.std.specs.Int.{bytes_high_first}
 use Rattle.std.specs.List.{AllByRecursion}
 use native.Mathlib.Decide.{dec_le}
-use Rattle.model_base.specs.Limits.{IsWithinLimits}
-use Rattle.model_base.specs.Overwrite.{overwritten}
+use Rattle.model_base.specs.{IsWithinLimits, overwritten}
 use Rattle.model_base.specs.declared.shape.Shape.{Shape}
 use Rattle.model_changes.specs.Changes.{after_from, value_at, writes}
-use Rattle.model_record.specs.Fits.{GroupFits, RecordFits}
-use Rattle.model_record.specs.Record.{page_of}
+use Rattle.model_record.specs.{GroupFits, page_of, RecordFits}
 use Rattle.model_record.specs.declared.rec.Rec.{Rec}
 use Rattle.model_record.specs.declared.rec.Rec.TheVariants.{Init, Num, Text}
-use Rattle.model_store.specs.Apply.{user_after, user_after_own}
+use Rattle.model_store.specs.{user_after, user_after_own}
 
 abbrev byte : List ℕ → ℕ → ℕ
 byte l j = get_or l j 0

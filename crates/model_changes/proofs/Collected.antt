@@ -2,8 +2,7 @@
 use Rattle.std.proofs.Common.{List, [], ap, arith, length, length-append, refl, suc, zero, ℕ, ◌++◌, ◌+◌, ◌<◌, ◌∷◌, ◌≡◌}
 use Rattle.std.specs.List.{flat_map}
 use Rattle.model_changes.specs.Changes.{collected}
-use Rattle.model_record.specs.Group.{IsGroup, group_text}
-use Rattle.model_record.specs.Record.{record_text, single_text}
+use Rattle.model_record.specs.{group_text, IsGroup, record_text, single_text}
 use Rattle.model_record.specs.declared.rec.Rec.{Rec}
 
 pub collected_none : {A : Type 0} (f : ℕ → List A) → collected f 0 ≡ []

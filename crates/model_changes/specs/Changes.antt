@@ -2,11 +2,10 @@
 -- decides, ascending, each once.
 use Rattle.std.specs.Prelude.{Bool, List, [], cond, replicate, slice_index, suc, zero, ℕ, ◌++◌, ◌+◌, ◌==◌, ◌∷◌}
 use Rattle.model_base.specs.declared.limits.TheConstants.{USER_BYTES, USER_START}
-use Rattle.model_core.specs.Groups.{CellWrite, PageChange}
-use Rattle.model_core.specs.States.{Line}
-use Rattle.model_record.specs.Group.{group_text}
+use Rattle.model_core.specs.{CellWrite, Line, PageChange}
+use Rattle.model_record.specs.{group_text}
 use Rattle.model_record.specs.declared.rec.Rec.{Rec}
-use Rattle.model_store.specs.Apply.{touches, user_after}
+use Rattle.model_store.specs.{touches, user_after}
 
 -- what is collected for each number below n, ascending
 unfoldable pub collected : {A : Type 0} → (ℕ → List A) → ℕ → List A

@@ -1,12 +1,12 @@
 // The changed cells of a group are what applying it changes.
 ghost use Rattle.std.specs.Prelude.{ℕ, ◌≡◌, ◌<◌, List, length, slice_index, if◌then◌else◌};
-ghost use Rattle.model_base.specs.Limits.{IsWithinLimits};
+ghost use Rattle.model_base.specs.{IsWithinLimits};
 ghost use Rattle.model_base.specs.declared.limits.TheConstants.{USER_BYTES};
 ghost use Rattle.model_base.specs.declared.shape.Shape.{Shape};
 ghost use Rattle.model_changes.specs.Changes.{value_at, writes};
-ghost use Rattle.model_record.specs.Fits.{GroupFits};
+ghost use Rattle.model_record.specs.{GroupFits};
 ghost use Rattle.model_record.specs.declared.rec.Rec.{Rec};
-ghost use Rattle.model_store.specs.Apply.{user_after};
+ghost use Rattle.model_store.specs.{user_after};
 
 /// A user byte of a page after a group: where the group changes its cell the value of that, else what it was.
 pub fn cells_decide()

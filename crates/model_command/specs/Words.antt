@@ -3,7 +3,7 @@
 -- numbers alone.
 use Rattle.std.specs.Prelude.{ℕ, ◌==◌, ◌+◌, ◌^◌, if◌then◌else◌, Bool, true, false, List, [], ◌∷◌, take, drop, codes, find, position, Option, Some, None, option_map, option_and_then}
 use Rattle.std.specs.Str.{bytes_eq}
-use Rattle.model_script.specs.Grammar.{number_below}
+use Rattle.model_script.specs.{number_below}
 use Rattle.model_command.specs.declared.words.Expected.{Expected}
 use Rattle.model_command.specs.declared.words.Expected.TheVariants.{Any, Number, Numbers}
 use Rattle.model_command.specs.declared.words.Given.{Given}

@@ -4,9 +4,7 @@ use Rattle.std.specs.List.{slice_get}
 use Rattle.std.proofs.lemmas.List.{take_at, drop_at, drop-drop}
 use Rattle.std.proofs.lemmas.Bool.Decides.{nat_tests}
 use Rattle.model_base.specs.declared.shape.Shape.{Shape}
-use Rattle.model_page.specs.Fits.{FitsPage}
-use Rattle.model_page.specs.Page.{page_text, page_check, user_part}
-use Rattle.model_page.specs.Copies.{place_lsn_by, copy_lsn_by}
+use Rattle.model_page.specs.{copy_lsn_by, FitsPage, page_check, page_text, place_lsn_by, user_part}
 use Rattle.model_page.specs.declared.page.PageState.TheVariants.{Sound}
 use Rattle.model_page.proofs.NotBlank.{is_blank-page_text_whole}
 use Rattle.model_page.proofs.ReadBack.{page_check-page_text, user_part-page_text}

@@ -3,7 +3,7 @@ use Rattle.std.proofs.Common.{ℕ, List, subst, arith}
 use Rattle.model_base.specs.declared.shape.Shape.{Shape}
 use Rattle.model_page.specs.declared.content.Content.{Content}
 use Rattle.model_device.specs.Disk.{Disk}
-use Rattle.model_store.specs.Fair.{IsFair}
+use Rattle.model_store.specs.{IsFair}
 use Rattle.model_datadev.specs.Batch.{Fresh}
 use Rattle.model_datadev.specs.Stored.{IsOldOrNew, KeepsPage, ImageHolds, Keeps, IsUpTo, CrashKeeps}
 use Rattle.model_page.proofs.Kept.{same_kept, kept-not_lost}

@@ -4,21 +4,21 @@ use Rattle.std.proofs.lemmas.Bool.{cases_lt}
 use Rattle.std.proofs.lemmas.Option.{slice_get_within}
 use Rattle.std.specs.List.{slice_get}
 use Rattle.model_base.specs.declared.shape.Shape.{Shape}
-use Rattle.model_page.specs.Copies.{stretch_at, slot_bytes, place_bytes, copy_lsn, IsInPlace, data_device_length}
+use Rattle.model_page.specs.{copy_lsn, data_device_length, HasBestCopy, IsInPlace, place_bytes, slot_bytes, stretch_at}
 use Rattle.model_page.specs.declared.content.Content.{Content}
-use Rattle.model_device.specs.Disk.{Disk, after_write, after_writes, settled}
+use Rattle.model_device.specs.{after_write, after_writes, settled}
+use Rattle.model_device.specs.Disk.{Disk}
 use Rattle.model_device.specs.declared.write.Write.{Write}
-use Rattle.model_store.specs.Fair.{IsFair}
+use Rattle.model_store.specs.{IsFair}
 use Rattle.model_datadev.specs.Batch.{Fresh, IsNew, IsFreshPage, IsBatch, new_text, slots_write, place_writes, after_batch}
 use Rattle.model_datadev.specs.Stored.{IsKnown, copied, KeepsPage, ImageHolds, Keeps, Stored, AreNotNewer}
 use Rattle.model_datadev.proofs.Stretches.{AreApart, ArePut, fair-apart, fair-put, apart-put, take-apart, take-put, pieces-apart, pieces-has, length-after, stretch-piece}
 use Rattle.model_datadev.proofs.Writes.{HasSizes, sizes-from, slots-apart, slots-put, places-apart, places-put, places-has, in-or, after-none, after-some}
 use Rattle.model_datadev.proofs.Kept.{same-place, same-copy, same-copied, broken-place, broken-copy, place-new, copy-new, IsCopyOf, copy-is}
-use Rattle.model_page.specs.Copies.{HasBestCopy}
 use Rattle.model_page.proofs.BestCopy.{best-copy}
 use Rattle.model_page.proofs.Kept.{same_content}
 use Rattle.model_store.proofs.Fairness.{base-fair}
-use Rattle.model_base.specs.Limits.{IsWithinLimits}
+use Rattle.model_base.specs.{IsWithinLimits}
 
 -- the bytes of a device on which nothing is pending
 pub record IsReady (shape : Shape) (copies : ℕ → Content → Type 0) (was : ℕ → Content) (base : List ℕ) : Type 0 where

@@ -1,8 +1,7 @@
 -- The kept page of an image, as its stretches tell it.
 use Rattle.std.proofs.Common.{◌≡◌, ◌≤◌, ◌<◌, ◌^◌, ℕ, List, Some, None, refl, sym, ap, ◌∙◌}
 use Rattle.model_base.specs.declared.shape.Shape.{Shape}
-use Rattle.model_page.specs.Page.{page_check, user_part}
-use Rattle.model_page.specs.Copies.{slot_bytes, place_bytes, place_lsn, place_lsn_by, copy_lsn, copy_lsn_by, IsInPlace}
+use Rattle.model_page.specs.{copy_lsn, copy_lsn_by, IsInPlace, page_check, place_bytes, place_lsn, place_lsn_by, slot_bytes, user_part}
 use Rattle.model_page.specs.declared.content.Content.{Content}
 use Rattle.model_page.specs.declared.page.PageState.TheVariants.{Broken}
 use Rattle.model_page.proofs.Kept.{same_content}

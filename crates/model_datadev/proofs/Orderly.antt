@@ -3,11 +3,12 @@ use Rattle.std.proofs.Common.{◌≡◌, ◌<◌, ℕ, inl, inr, List, Some, ⊎
 use Rattle.std.specs.List.{slice_get}
 use Rattle.std.proofs.lemmas.Bool.{cases_lt}
 use Rattle.std.proofs.lemmas.Option.{slice_get-get_or}
-use Rattle.model_page.specs.Copies.{IsInPlace}
+use Rattle.model_page.specs.{blank_page, IsInPlace}
 use Rattle.model_page.specs.declared.content.Content.{Content}
-use Rattle.model_device.specs.Disk.{Disk, settled}
-use Rattle.model_page.specs.Blank.{blank_page}
-use Rattle.model_store.specs.Reading.{Reading, IsOrderly, IsNoNewerCopy}
+use Rattle.model_device.specs.{settled}
+use Rattle.model_device.specs.Disk.{Disk}
+use Rattle.model_store.specs.{IsNoNewerCopy, IsOrderly}
+use Rattle.model_store.specs.Reading.{Reading}
 use Rattle.model_datadev.specs.Stored.{IsOpened, copied, read_as}
 use Rattle.model_page.proofs.Kept.{same_content}
 

@@ -4,21 +4,21 @@ use Rattle.std.specs.Prelude.{◌↔◌}
 use Rattle.std.proofs.lemmas.Bool.{cases_lt}
 use Rattle.std.proofs.lemmas.List.{take_all}
 use Rattle.model_base.specs.declared.shape.Shape.{Shape}
-use Rattle.model_page.specs.Page.{page_check, user_part}
-use Rattle.model_page.specs.Copies.{stretch_at, slot_bytes, place_bytes, place_lsn, place_lsn_by, copy_lsn, copy_lsn_by, IsBestCopy, HasBestCopy, IsInSlot, IsKept, data_device_length}
+use Rattle.model_page.specs.{copy_lsn, copy_lsn_by, data_device_length, HasBestCopy, IsBestCopy, IsInSlot, IsKept, page_check, place_bytes, place_lsn, place_lsn_by, slot_bytes, stretch_at, user_part}
 use Rattle.model_page.specs.declared.content.Content.{Content}
 use Rattle.model_page.specs.declared.page.PageState.{PageState}
 use Rattle.model_page.specs.declared.page.PageState.TheVariants.{Blank, Sound, Broken}
-use Rattle.model_device.specs.Disk.{Disk, after_write, settled}
+use Rattle.model_device.specs.{after_write, settled}
+use Rattle.model_device.specs.Disk.{Disk}
 use Rattle.model_device.specs.declared.write.Write.{Write}
-use Rattle.model_store.specs.Fair.{IsFair}
+use Rattle.model_store.specs.{IsFair}
 use Rattle.model_datadev.specs.Batch.{place_at}
 use Rattle.model_datadev.specs.Repair.{SameSlots, IsCopyPut, IsPutBack, FailsPutBack, repair_write, KeepsSame, IsRepairable, KeepsAll, IsRepaired}
 use Rattle.model_datadev.specs.Stored.{HasNothingPending}
 use Rattle.model_page.proofs.BestCopy.{best-copy}
 use Rattle.model_datadev.proofs.Stretches.{IsApart, IsPut, AreApart, ArePut, fair-apart, fair-put, pieces-apart, pieces-has, length-after, stretch-piece}
 use Rattle.model_datadev.proofs.Writes.{HasSizes, sizes-from}
-use Rattle.model_base.specs.Limits.{IsWithinLimits}
+use Rattle.model_base.specs.{IsWithinLimits}
 use Rattle.model_page.proofs.Kept.{same_best}
 use Rattle.model_datadev.proofs.Kept.{same-place, same-place_lsn, same-copy, broken-place}
 

@@ -2,14 +2,14 @@
 use Rattle.std.proofs.Common.{◌≡◌, ◌≢◌, ◌≤◌, ◌<◌, ◌+◌, ◌-◌, ◌*◌, ◌/◌, ◌%◌, ◌⊎◌, ℕ, zero, suc, inl, inr, List, [], ◌∷◌, length, take, drop, get_or, refl, sym, ap, subst, ◌∙◌, ⊎_elim, length-take, length-drop, arith}
 use Rattle.std.proofs.lemmas.List.{same_lists, get_or-take, get_or-drop}
 use Rattle.model_base.specs.declared.shape.Shape.{Shape}
-use Rattle.model_page.specs.Page.{page_check}
-use Rattle.model_page.specs.Copies.{stretch_at}
+use Rattle.model_page.specs.{page_check, stretch_at}
 use Rattle.model_page.specs.declared.page.PageState.{PageState}
 use Rattle.model_page.specs.declared.page.PageState.TheVariants.{Blank, Sound, Broken}
-use Rattle.model_device.specs.Disk.{Disk, IsImage, IsWrittenBy, sector, after_write, after_writes}
+use Rattle.model_device.specs.{after_write, after_writes, IsImage, IsWrittenBy, sector}
+use Rattle.model_device.specs.Disk.{Disk}
 use Rattle.model_device.specs.declared.write.Write.{Write}
 use Rattle.model_device.proofs.Overwritten.{length-overwritten, part-overwritten_before, part-overwritten_behind, part-overwritten_inside}
-use Rattle.model_store.specs.Fair.{IsFair, IsWholeContent}
+use Rattle.model_store.specs.{IsFair, IsWholeContent}
 
 -- the page size of bytes from an offset on
 abbrev pub piece : ℕ → List ℕ → List ℕ

@@ -7,7 +7,7 @@ use Rattle.std.proofs.lemmas.Bool.Decides.{nat_tests}
 use Rattle.std.proofs.lemmas.Option.{slice_get_within}
 use Rattle.std.proofs.lemmas.List.{take_all}
 use Rattle.model_base.specs.declared.shape.Shape.{Shape}
-use Rattle.model_page.specs.Copies.{data_device_length}
+use Rattle.model_page.specs.{data_device_length}
 use Rattle.model_page.specs.declared.content.Content.{Content}
 use Rattle.model_datadev.specs.Batch.{Fresh, IsFreshPage, IsBatch, new_text, batch_text, slots_write, place_at, place_write, place_writes, after_batch}
 use Rattle.model_datadev.proofs.Stretches.{IsApart, IsPut, AreApart, ArePut, HasPut}

@@ -2,12 +2,10 @@
 use Rattle.std.proofs.Common.{◌≡◌, ◌≤◌, ◌<◌, ◌+◌, ◌-◌, ◌*◌, ℕ, zero, suc, true, List, length, take, drop, replicate, Option, Some, None, refl, sym, ap, subst, ◌∙◌, arith}
 use Rattle.std.proofs.lemmas.List.{take-replicate, drop-replicate, length-replicate}
 use Rattle.model_base.specs.declared.shape.Shape.{Shape}
-use Rattle.model_page.specs.Page.{page_check, is_blank, user_part}
-use Rattle.model_page.specs.Copies.{stretch_at, place_lsn_by, copy_lsn, copy_lsn_by, data_device_length}
+use Rattle.model_page.specs.{blank_page, copy_lsn, copy_lsn_by, data_device_length, is_blank, page_check, place_lsn_by, stretch_at, user_length, user_part}
 use Rattle.model_page.specs.declared.page.PageState.TheVariants.{Blank}
-use Rattle.model_device.specs.Disk.{settled}
-use Rattle.model_page.specs.Blank.{blank_page, user_length}
-use Rattle.model_base.specs.Limits.{IsWithinLimits}
+use Rattle.model_device.specs.{settled}
+use Rattle.model_base.specs.{IsWithinLimits}
 use Rattle.model_datadev.specs.Stored.{IsOpened}
 use Rattle.model_datadev.proofs.Stretches.{stretch-piece}
 

@@ -2,7 +2,7 @@
 use Rattle.std.specs.Prelude.{ℕ, ◌≡◌, ◌≤◌, ◌<◌, ◌+◌, ◌*◌, ◌^◌, ◌==◌, if◌then◌else◌, List, [], ◌∷◌, ◌++◌, length, take, drop, map, Some, slice_get, slice_index}
 use Rattle.model_base.specs.declared.shape.Shape.{Shape}
 use Rattle.model_base.specs.declared.limits.TheConstants.{USER_BYTES}
-use Rattle.model_page.specs.Page.{page_text}
+use Rattle.model_page.specs.{page_text}
 use Rattle.model_page.specs.declared.content.Content.{Content}
 use Rattle.model_device.specs.declared.write.Write.{Write}
 

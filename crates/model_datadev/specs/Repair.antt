@@ -1,14 +1,14 @@
 -- What the repair of a page does: the copy that counts is put into its place.
 use Rattle.std.specs.Prelude.{ℕ, ◌≡◌, ◌≢◌, ◌<◌, ◌⊎◌, ◌↔◌, List, length, Some, None}
 use Rattle.model_base.specs.declared.shape.Shape.{Shape}
-use Rattle.model_page.specs.Copies.{IsKept, IsBestCopy, HasNoCopy, place_lsn, copy_lsn, place_bytes, slot_bytes}
+use Rattle.model_page.specs.{copy_lsn, HasNoCopy, IsBestCopy, IsKept, place_bytes, place_lsn, slot_bytes}
 use Rattle.model_page.specs.declared.content.Content.{Content}
-use Rattle.model_device.specs.Disk.{Disk, settled}
-use Rattle.model_device.specs.Calls.{written, synced}
+use Rattle.model_device.specs.{settled, synced, written}
+use Rattle.model_device.specs.Disk.{Disk}
 use Rattle.model_device.specs.declared.write.Write.{Write}
 use Rattle.model_datadev.specs.Batch.{place_at}
 use Rattle.model_datadev.specs.Steps.{IsPutOrNot}
-use Rattle.model_store.specs.Fair.{IsFair}
+use Rattle.model_store.specs.{IsFair}
 
 -- the kept pages of the two images are the same
 abbrev pub KeepsSame : Shape → List ℕ → List ℕ → Type 0

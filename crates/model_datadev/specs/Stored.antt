@@ -1,14 +1,12 @@
 -- What the data device of a store holds, whatever a crash leaves of it that is fair.
 use Rattle.std.specs.Prelude.{ℕ, ◌≡◌, ◌≤◌, ◌<◌, ◌⊎◌, Bool, false, List, length, Some}
 use Rattle.model_base.specs.declared.shape.Shape.{Shape}
-use Rattle.model_page.specs.Page.{user_part}
-use Rattle.model_page.specs.Copies.{IsKept, IsLost, IsInPlace, copy_lsn, slot_bytes, data_device_length}
+use Rattle.model_page.specs.{blank_page, copy_lsn, data_device_length, IsInPlace, IsKept, IsLost, slot_bytes, user_part}
 use Rattle.model_page.specs.declared.content.Content.{Content}
-use Rattle.model_device.specs.Disk.{Disk, settled}
-use Rattle.model_device.specs.Calls.{Crashes}
+use Rattle.model_device.specs.{Crashes, settled}
+use Rattle.model_device.specs.Disk.{Disk}
 use Rattle.std.specs.List.{slice_index_or as get_or}
-use Rattle.model_page.specs.Blank.{blank_page}
-use Rattle.model_store.specs.Fair.{IsFair}
+use Rattle.model_store.specs.{IsFair}
 use Rattle.model_store.specs.Reading.{Reading}
 use Rattle.model_datadev.specs.Batch.{Fresh, IsNew}
 

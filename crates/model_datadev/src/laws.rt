@@ -1,15 +1,15 @@
 // What holds of every data device. Each law is the contract of a function that does nothing.
 ghost use Rattle.std.specs.Prelude.{ℕ, List, [], ◌≡◌, ◌≤◌, ◌<◌, replicate, false};
-ghost use Rattle.model_base.specs.Limits.{IsWithinLimits};
+ghost use Rattle.model_base.specs.{IsWithinLimits};
 ghost use Rattle.model_base.specs.declared.shape.Shape.{Shape};
 ghost use Rattle.model_datadev.specs.Batch.{Fresh};
 ghost use Rattle.model_datadev.specs.Stored.{Keeps, Stored, IsUpTo, IsOpened, CrashKeeps, read_as};
-ghost use Rattle.model_device.specs.Disk.{Disk, settled};
-ghost use Rattle.model_page.specs.Blank.{blank_page};
-ghost use Rattle.model_page.specs.Copies.{IsInPlace, data_device_length};
+ghost use Rattle.model_device.specs.{settled};
+ghost use Rattle.model_device.specs.Disk.{Disk};
+ghost use Rattle.model_page.specs.{blank_page, data_device_length, IsInPlace};
 ghost use Rattle.model_page.specs.declared.content.Content.{Content};
-ghost use Rattle.model_store.specs.Fair.{IsFair};
-ghost use Rattle.model_store.specs.Reading.{Reading, IsOrderly};
+ghost use Rattle.model_store.specs.{IsFair, IsOrderly};
+ghost use Rattle.model_store.specs.Reading.{Reading};
 
 /// Whatever a crash leaves that is fair, each page is kept, as it was or as the batch has it, and as nothing else.
 pub fn crash_keeps()

@@ -1,7 +1,7 @@
 -- What a part of a row of bytes is after a write into the row.
 use Rattle.std.proofs.Common.{◌≡◌, ℕ, ◌+◌, ◌-◌, ◌≤◌, List, length, take, drop, rules, arith}
 use Rattle.std.proofs.lemmas.List.{places, same_lists}
-use Rattle.model_base.specs.Overwrite.{overwritten}
+use Rattle.model_base.specs.{overwritten}
 
 pub length-overwritten : (at : ℕ) (new old : List ℕ) → at + length new ≤ length old → length (overwritten at new old) ≡ length old
 length-overwritten at new old fits = search (rules, places)

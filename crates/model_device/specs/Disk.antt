@@ -2,7 +2,7 @@
 -- writes since, and what reads give. An image is what a crash may leave: each sector on its own is as it stood at the
 -- sync, or as one of the writes since made it. So a sector is never torn, and writes may be kept in any choice.
 use Rattle.std.specs.Prelude.{ℕ, ◌≡◌, ◌≤◌, ◌<◌, ◌+◌, ◌-◌, ◌*◌, ◌⊎◌, List, [], ◌∷◌, length, take, drop, fold}
-use Rattle.model_base.specs.Overwrite.{overwritten}
+use Rattle.model_base.specs.{overwritten}
 use Rattle.model_base.specs.declared.limits.TheConstants.{BLOCK_SIZE}
 use Rattle.model_device.specs.declared.write.Write.{Write}
 

@@ -3,18 +3,18 @@ use Rattle.std.proofs.Common.{Bool, List, [], ap, arith, cond, drop, eq-eqb, eqb
 use Rattle.std.proofs.Common.{length-drop, length-take, ne_eqb}
 use Rattle.std.proofs.lemmas.List.{ext_get_or, get_or-drop, get_or-take, length-set}
 use native.Mathlib.Decide.{ℕ_discrete}
-use Rattle.model_base.specs.Limits.{IsWithinLimits}
+use Rattle.model_base.specs.{IsWithinLimits}
 use Rattle.model_base.specs.declared.shape.Shape.{Shape}
 use Rattle.model_changes.proofs.Bytewise.{decided, user_long}
 use Rattle.model_changes.proofs.Collected.{collected_none}
-use Rattle.model_changes.specs.Changes.{after_from, cell_where_same, cells_of, change_on, changes_of, collected, value_at, writes}
-use Rattle.model_core.specs.Groups.{CellWrite, PageChange}
-use Rattle.model_page.specs.Page.{user_part}
+use Rattle.model_changes.specs.{after_from, cell_where_same, cells_of, change_on, changes_of, collected, value_at, writes}
+use Rattle.model_core.specs.{CellWrite, PageChange}
+use Rattle.model_page.specs.{user_part}
 use Rattle.model_pagecore.proofs.PageHistory.{none_on}
-use Rattle.model_pagecore.specs.Pages.{cells_on, write_cells}
-use Rattle.model_record.specs.Fits.{GroupFits}
+use Rattle.model_pagecore.specs.{cells_on, write_cells}
+use Rattle.model_record.specs.{GroupFits}
 use Rattle.model_record.specs.declared.rec.Rec.{Rec}
-use Rattle.model_store.specs.Apply.{user_after}
+use Rattle.model_store.specs.{user_after}
 use Rattle.model_pagecore.specs.Pages as pages_of
 use Rattle.model_store.specs.Apply as apply
 

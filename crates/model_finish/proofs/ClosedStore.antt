@@ -3,9 +3,8 @@ use Rattle.std.proofs.Common.{List, arith, subst, sym, ℕ, ◌∙◌, ◌≡◌
 use Rattle.model_base.specs.declared.shape.Shape.{Shape}
 use Rattle.model_core.specs.DataSide.{DataSide}
 use Rattle.model_core.specs.LogSide.{LogSide}
-use Rattle.model_core.specs.Lsn.{lsn}
+use Rattle.model_core.specs.{Core, lsn}
 use Rattle.model_core.specs.Setup.{Setup}
-use Rattle.model_core.specs.Turn.{Core}
 use Rattle.model_device.specs.Disk.{Disk}
 use Rattle.model_finish.proofs.FinishedPages.{finished_pages}
 use Rattle.model_finish.proofs.FinishedStore.{finished_store, stands_for_run}
@@ -13,18 +12,14 @@ use Rattle.model_finish.specs.ClosedStore.{ClosedStore, DataTells, LogTells}
 use Rattle.model_finish.specs.Finished.{CausesAreFailures, FinishedStore}
 use Rattle.model_finish.specs.FinishedPages.{FinishedPages, HasItsPages}
 use Rattle.model_finish.specs.Script.{IsOfScript}
-use Rattle.model_history.specs.Legal.{IsLeft, wholes_of}
-use Rattle.model_log.specs.Lsn.{start_after}
-use Rattle.model_logdev.specs.Held.{LogHolds}
+use Rattle.model_history.specs.{IsLeft, wholes_of}
+use Rattle.model_log.specs.{start_after}
+use Rattle.model_logdev.specs.{LogHolds}
 use Rattle.model_record.specs.declared.group.Whole.{Whole}
-use Rattle.model_run.specs.Closed.{IsClosed}
-use Rattle.model_run.specs.Given.{AreGiven}
-use Rattle.model_run.specs.Kept.{DataHolds}
-use Rattle.model_running.specs.RunningStore.{IsRunning}
-use Rattle.model_running.specs.Schedule.{HaveEnded}
-use Rattle.model_running.specs.Seating.{AreSeated}
+use Rattle.model_run.specs.{AreGiven, DataHolds, IsClosed}
+use Rattle.model_running.specs.{AreSeated, HaveEnded, IsRunning}
 use Rattle.model_script.specs.declared.script.ScriptLine.{ScriptLine}
-use Rattle.model_theorem.specs.Values.{Opened}
+use Rattle.model_theorem.specs.{Opened}
 
 module _ (D : LogSide) (E : DataSide) (c : Setup) (script : List ScriptLine) (opened : Opened) (number failures : ℕ) (left : List (ℕ × ℕ)) (log_disk data_disk : Disk) (s : Core D E) (start : lsn c.base ≡ start_after opened.end) (given : AreGiven script opened)
     (log_tells : LogTells D c opened.shape number s.log_part log_disk) (data_tells : DataTells E opened s.data_part data_disk) where

@@ -2,11 +2,8 @@
 use Rattle.std.proofs.Common.{List, Some, ap, arith, subst, sym, ℕ, ◌<◌, ◌≡◌, ◌≤◌}
 use Rattle.model_base.specs.declared.limits.TheConstants.{LSN_LIMIT}
 use Rattle.model_core.proofs.Lsns.{lsn_le}
-use Rattle.model_core.specs.Actors.{Actor}
-use Rattle.model_core.specs.Groups.{IsBound}
-use Rattle.model_core.specs.Layout.{SharedWords, flat}
+use Rattle.model_core.specs.{Actor, flat, IsBound, lsn, SharedWords}
 use Rattle.model_core.specs.LogSide.{LogSide}
-use Rattle.model_core.specs.Lsn.{lsn}
 use Rattle.model_core.specs.Setup.{Setup}
 use Rattle.model_finish.proofs.Groups.{history_wholes}
 use Rattle.model_finish.proofs.Legality.{legal_log}
@@ -15,15 +12,13 @@ use Rattle.model_finish.proofs.Places.{bound_spans, history_spans}
 use Rattle.model_finish.specs.Ended.{IsAtEnd}
 use Rattle.model_finish.specs.History.{AreWholesOf, history_of, log_spans, marks_in, run_of, word_marks}
 use Rattle.model_finish.specs.Script.{HasSeats, IsOfScript}
-use Rattle.model_history.specs.Legal.{IsLeft, entry_spans, wholes_of}
-use Rattle.model_log.specs.Lsn.{start_after}
-use Rattle.model_log.specs.Run.{IsBoundary, Span}
+use Rattle.model_history.specs.{entry_spans, IsLeft, wholes_of}
+use Rattle.model_log.specs.{IsBoundary, Span, start_after}
 use Rattle.model_logcore.proofs.AnswersFit.{small_sn}
-use Rattle.model_logcore.specs.LogFacts.{LogGhost}
+use Rattle.model_logcore.specs.{LogGhost}
 use Rattle.model_logcore.specs.LogHalf.{LogHalf}
 use Rattle.model_script.specs.declared.script.ScriptLine.{ScriptLine}
-use Rattle.model_theorem.specs.Run.{IsRun, LosesOnlyByFailure}
-use Rattle.model_theorem.specs.Values.{Opened}
+use Rattle.model_theorem.specs.{IsRun, LosesOnlyByFailure, Opened}
 
 -- the marks by name are those in the list of words
 pub marks_same : (ws : List ℕ) (m : SharedWords) → ws ≡ flat m → marks_in ws ≡ word_marks m

@@ -3,20 +3,13 @@ use Rattle.std.proofs.Common.{Bool, List, Some, [], ap, arith, cond, eqb, eqb-tr
 use Rattle.std.specs.List.{slice_get}
 use lib.ListN.{get_elem?}
 use mathlib.Core.Option.{some}
-use Rattle.model_base.specs.Limits.{IsWithinLimits}
+use Rattle.model_base.specs.{IsWithinLimits}
 use Rattle.model_base.specs.declared.shape.Shape.{Shape}
-use Rattle.model_changes.specs.Changes.{changes_of}
-use Rattle.model_core.specs.Actors.{Actor}
+use Rattle.model_changes.specs.{changes_of}
+use Rattle.model_core.specs.{Actor, BatchPage, Core, Line, line_at, Listed, lsn, PageChange, SharedWords, Tiles}
 use Rattle.model_core.specs.DataSide.{DataSide}
-use Rattle.model_core.specs.FlushLists.{Listed}
-use Rattle.model_core.specs.Groups.{PageChange, Tiles}
-use Rattle.model_core.specs.Layout.{SharedWords}
 use Rattle.model_core.specs.LogSide.{LogSide}
-use Rattle.model_core.specs.Lsn.{lsn}
 use Rattle.model_core.specs.Setup.{Setup}
-use Rattle.model_core.specs.States.{BatchPage, Line}
-use Rattle.model_core.specs.Turn.{Core}
-use Rattle.model_core.specs.UserProgram.{line_at}
 use Rattle.model_finish.proofs.Finished.{finished_groups}
 use Rattle.model_finish.proofs.Groups.{line_below}
 use Rattle.model_finish.proofs.PagePrefixes.{ArePageGroups, applied_none, ends_above, lsn_upto, passed_by, passed_start, user_upto}
@@ -24,27 +17,24 @@ use Rattle.model_finish.specs.FinishedPages.{ArePrefixes, FinishedPages, HasItsP
 use Rattle.model_finish.specs.History.{AreWholesOf, history_of, run_of, word_marks}
 use Rattle.model_finish.specs.PageContents.{content_in, contents_of, new_content}
 use Rattle.model_finish.specs.Script.{IsOfScript}
-use Rattle.model_history.specs.Legal.{group_of_line, lines_of_user, wholes_of}
+use Rattle.model_history.specs.{group_of_line, lines_of_user, wholes_of}
 use Rattle.model_history.specs.declared.entry.Marks.{Marks}
-use Rattle.model_logcore.specs.LogFacts.{LogGhost}
-use Rattle.model_page.specs.Page.{user_part}
+use Rattle.model_logcore.specs.{LogGhost}
+use Rattle.model_page.specs.{user_part}
 use Rattle.model_page.specs.declared.content.Content.{Content}
-use Rattle.model_pagecore.specs.PageFacts.{PageGhost, UnfinishedPage}
+use Rattle.model_pagecore.specs.{applied_upto, EndsAt, PageGhost, touches, UnfinishedPage}
 use Rattle.model_pagecore.specs.PageHalf.{PageHalf}
-use Rattle.model_pagecore.specs.Pages.{EndsAt, applied_upto, touches}
-use Rattle.model_record.specs.Fits.{GroupFits}
+use Rattle.model_record.specs.{GroupFits}
 use Rattle.model_record.specs.declared.group.Whole.{Whole}
 use Rattle.model_record.specs.declared.rec.Rec.{Rec}
 use Rattle.model_run.proofs.Fitting.{line-fits}
 use Rattle.model_run.proofs.Pages.{upto-none}
-use Rattle.model_run.specs.Given.{AreGiven}
-use Rattle.model_run.specs.Kept.{HasPassed, IsKeptPrefix}
-use Rattle.model_run.specs.Stored.{IsBatchOf}
-use Rattle.model_running.specs.RunningStore.{BothHalves, IsRunning}
-use Rattle.model_script.specs.LineGroup.{group_of}
+use Rattle.model_run.specs.{AreGiven, HasPassed, IsBatchOf, IsKeptPrefix}
+use Rattle.model_running.specs.{BothHalves, IsRunning}
+use Rattle.model_script.specs.{group_of}
 use Rattle.model_script.specs.declared.script.ScriptLine.{ScriptLine}
-use Rattle.model_store.specs.Apply.{upto}
-use Rattle.model_theorem.specs.Values.{Opened}
+use Rattle.model_store.specs.{upto}
+use Rattle.model_theorem.specs.{Opened}
 use Rattle.model_core.specs.Groups as core
 
 -- each group of the history changes of the pages what its records say

@@ -2,11 +2,9 @@
 use Rattle.std.proofs.Common.{List, arith, inl, inr, length, subst, sym, ℕ, ⊎_elim, ◌<◌, ◌≡◌, ap}
 use Rattle.std.specs.Prelude.{slice_index}
 use Rattle.model_core.specs.DataSide.{DataSide}
-use Rattle.model_core.specs.Groups.{Tiles}
+use Rattle.model_core.specs.{Core, lsn, Tiles}
 use Rattle.model_core.specs.LogSide.{LogSide}
-use Rattle.model_core.specs.Lsn.{lsn}
 use Rattle.model_core.specs.Setup.{Setup}
-use Rattle.model_core.specs.Turn.{Core}
 use Rattle.model_finish.proofs.Finished.{finished_groups, finished_losses, finished_marks, finished_run, marks_same}
 use Rattle.model_finish.proofs.Seated.{seated_end, seated_seats}
 use Rattle.model_finish.proofs.Losses.{lost_entry_exactly, open_line}
@@ -14,15 +12,13 @@ use Rattle.model_finish.proofs.OpenLines.{leaves_open}
 use Rattle.model_finish.specs.Finished.{CausesAreFailures, FinishedStore, HasCause, SpentStore, StandsForRun}
 use Rattle.model_finish.specs.History.{run_of, word_marks, history_of}
 use Rattle.model_finish.specs.Script.{IsOfScript}
-use Rattle.model_history.specs.Legal.{lines_of_user}
+use Rattle.model_history.specs.{lines_of_user}
 use Rattle.model_history.specs.declared.entry.Marks.{Marks}
-use Rattle.model_log.specs.Lsn.{start_after}
-use Rattle.model_logcore.specs.LogFits.{UserFits}
-use Rattle.model_running.specs.RunningStore.{IsRunning}
-use Rattle.model_running.specs.Schedule.{HaveEnded, IsSpent}
-use Rattle.model_running.specs.Seating.{AreSeated}
+use Rattle.model_log.specs.{start_after}
+use Rattle.model_logcore.specs.{UserFits}
+use Rattle.model_running.specs.{AreSeated, HaveEnded, IsRunning, IsSpent}
 use Rattle.model_script.specs.declared.script.ScriptLine.{ScriptLine}
-use Rattle.model_theorem.specs.Values.{Opened}
+use Rattle.model_theorem.specs.{Opened}
 use Rattle.model_core.specs.Actors as actor
 
 -- at any moment the store stands for a run of the script

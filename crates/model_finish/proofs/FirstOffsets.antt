@@ -1,9 +1,8 @@
 -- The first offsets of the invariant are those of the log's definitions.
 use Rattle.std.proofs.Common.{◌≡◌, ℕ, Bool, true, false, cond, eqb, ltb, ◌+◌, ◌-◌, ◌*◌, ◌/◌, ◌%◌, ◌&&◌, List, [], ◌∷◌, Option, Some, None, sym, refl, ap, ◌∙◌, arith, eq-eqb, ne_eqb, lt-ltb, le-ltb}
 use native.Mathlib.Decide.{dec_le, ℕ_discrete}
-use Rattle.model_log.specs.Boundary.{ends_in, crossing_end, first_at}
-use Rattle.model_core.specs.Lsn.{lsn}
-use Rattle.model_core.specs.Groups.{end_of, crosses, crossing, first_of}
+use Rattle.model_log.specs.{crossing_end, ends_in, first_at}
+use Rattle.model_core.specs.{crosses, crossing, end_of, first_of, lsn}
 use Rattle.model_core.specs.Groups as core
 use Rattle.model_core.proofs.Lsns.{lsn_block, lsn_offset}
 use Rattle.model_core.proofs.Groups.{crosses_is}

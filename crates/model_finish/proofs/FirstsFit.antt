@@ -4,9 +4,9 @@ use Rattle.std.proofs.lemmas.Bool.Decides.{nat_tests}
 use lib.ListN.{get_elem?}
 use mathlib.Core.Option as maybe
 use native.Mathlib.Decide.{ℕ_discrete}
-use Rattle.model_log.specs.Block.{is_first, length_of}
+use Rattle.model_log.specs.{is_first, length_of}
 use Rattle.model_core.proofs.Groups.{crosses_is, first_base, first_from, tiles_at}
-use Rattle.model_core.specs.Groups.{IsBound, Tiles, end_of, first_of}
+use Rattle.model_core.specs.{end_of, first_of, IsBound, Tiles}
 use Rattle.model_core.specs.Groups as core
 
 -- a group that starts below a place between groups ends at or below it

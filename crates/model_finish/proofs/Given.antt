@@ -5,18 +5,14 @@ use Rattle.std.proofs.lemmas.Grind.{same_number_lists}
 use Rattle.std.proofs.lemmas.List.{get_or-drop, get_or-take, length-drop, length-take-le}
 use Rattle.model_core.proofs.Groups.{stream_long}
 use Rattle.model_core.proofs.Lsns.{lsn_block}
-use Rattle.model_core.specs.Groups.{IsBound, IsLent, Tiles, stream}
-use Rattle.model_core.specs.Lsn.{lsn}
-use Rattle.model_core.specs.Program.{lent}
+use Rattle.model_core.specs.{IsBound, IsLent, lent, lsn, stream, Tiles}
 use Rattle.model_finish.proofs.FirstOffsets.{first_same}
 use Rattle.model_finish.proofs.Groups.{places, streams}
 use Rattle.model_finish.proofs.Places.{bound_spans, sn_back}
 use Rattle.model_finish.specs.History.{AreWholesOf, log_spans}
 use Rattle.model_log.proofs.BoundaryLengths.{stream_between-is}
-use Rattle.model_log.specs.Boundary.{IsGivenTo, first_at}
-use Rattle.model_log.specs.Lsn.{block_of, sn_of}
-use Rattle.model_log.specs.Run.{IsBoundary, Span, spans_of}
-use Rattle.model_record.specs.Group.{groups_of, stream_of}
+use Rattle.model_log.specs.{block_of, first_at, IsBoundary, IsGivenTo, sn_of, Span, spans_of}
+use Rattle.model_record.specs.{groups_of, stream_of}
 use Rattle.model_record.specs.declared.group.Whole.{Whole}
 use Rattle.model_core.specs.Groups as core
 

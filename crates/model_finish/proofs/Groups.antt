@@ -2,19 +2,15 @@
 use Rattle.std.proofs.Common.{List, Some, [], ap, arith, length, refl, slice_get, subst, suc, sym, zero, ℕ, ◌++◌, ◌+◌, ◌<◌, ◌∙◌, ◌∷◌, ◌≡◌}
 use Rattle.std.specs.List.{AllByRecursion}
 use lib.ListN.{get_elem?}
-use Rattle.model_core.specs.Groups.{Tiles, end_of, stream}
-use Rattle.model_core.specs.Lsn.{lsn}
+use Rattle.model_core.specs.{answered, end_of, Line, line_at, lsn, stream, Tiles}
 use Rattle.model_core.specs.Setup.{Setup}
-use Rattle.model_core.specs.States.{Line}
-use Rattle.model_core.specs.UserProgram.{answered, line_at}
 use Rattle.model_finish.proofs.Places.{lsn_is, sn_back, tiled_spans}
 use Rattle.model_finish.specs.History.{AreWholesOf, IsWholeOf, history_of, log_span, log_spans}
 use Rattle.model_finish.specs.Script.{IsLineOf, IsOfScript}
-use Rattle.model_history.specs.Legal.{group_of_line, lines_of_user, wholes_of}
+use Rattle.model_history.specs.{group_of_line, lines_of_user, wholes_of}
 use Rattle.model_history.specs.declared.entry.Marks.{Marks}
-use Rattle.model_log.specs.Lsn.{lsn_of, sn_of}
-use Rattle.model_log.specs.Run.{HasItsLength, IsRunOf, IsTiled, Span, span_of, spans_of}
-use Rattle.model_record.specs.Group.{group_length, group_text, groups_of, stream_of}
+use Rattle.model_log.specs.{HasItsLength, IsRunOf, IsTiled, lsn_of, sn_of, Span, span_of, spans_of}
+use Rattle.model_record.specs.{group_length, group_text, groups_of, stream_of}
 use Rattle.model_record.specs.declared.group.Whole.{Whole}
 use Rattle.model_script.specs.declared.script.ScriptLine.{ScriptLine}
 use mathlib.Core.Option as maybe

@@ -3,27 +3,21 @@ use Rattle.std.proofs.Common.{Bool, List, Some, [], ap, arith, cond, eqb, false,
 use Rattle.std.proofs.lemmas.Bool.{eqb-true, le-ltb, ltb-false, ltb-true}
 use Rattle.std.specs.Prelude.{nat_le}
 use lib.ListN.{get_elem?}
-use Rattle.model_core.specs.Groups.{end_of}
-use Rattle.model_core.specs.Lsn.{lsn}
-use Rattle.model_core.specs.Program.{entry}
+use Rattle.model_core.specs.{answered, end_of, entry, Line, line_at, lsn, mode}
 use Rattle.model_core.specs.Setup.{Setup}
-use Rattle.model_core.specs.States.{Line}
-use Rattle.model_core.specs.UserProgram.{answered, line_at, mode}
 use Rattle.model_finish.proofs.Groups.{line_below}
 use Rattle.model_finish.proofs.Places.{history_spans, lsn_is, sn_back, tiled_spans}
 use Rattle.model_finish.specs.History.{entry_of, history_of, state_of}
 use Rattle.model_finish.specs.Script.{IsLineOf, IsOfScript}
 use Rattle.model_history.proofs.Growing.{state_by-allows, state_by-says}
-use Rattle.model_history.specs.Answered.{IsAnswered, state_by}
-use Rattle.model_history.specs.Legal.{FitsMarks, FitsMode, IsLegal, IsLegalEntry, entries_of_user, lines_of_user}
+use Rattle.model_history.specs.{entries_of_user, FitsMarks, FitsMode, IsAnswered, IsLegal, IsLegalEntry, lines_of_user, state_by}
 use Rattle.model_history.specs.declared.entry.Entry.{Entry}
 use Rattle.model_history.specs.declared.entry.Marks.{Marks}
 use Rattle.model_history.specs.declared.entry.State.TheVariants.{Copied, Flushed, Lost, Written}
-use Rattle.model_log.specs.Lsn.{lsn_of, sn_of}
-use Rattle.model_log.specs.Run.{IsTiled}
-use Rattle.model_logcore.specs.LogFacts.{Commits, Place, Tiled, count_of}
-use Rattle.model_record.specs.Group.{group_length}
-use Rattle.model_script.specs.LineGroup.{group_of}
+use Rattle.model_log.specs.{IsTiled, lsn_of, sn_of}
+use Rattle.model_logcore.specs.{Commits, count_of, Place, Tiled}
+use Rattle.model_record.specs.{group_length}
+use Rattle.model_script.specs.{group_of}
 use Rattle.model_script.specs.declared.script.ScriptLine.{ScriptLine}
 use mathlib.Core.Option as maybe
 use Rattle.model_core.specs.Groups as core

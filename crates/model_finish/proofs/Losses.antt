@@ -2,29 +2,22 @@
 use Rattle.std.proofs.Common.{List, Some, [], ap, arith, cond, inl, inr, length, refl, slice_get, subst, suc, sym, ℕ, ⊎_elim, ◌+◌, ◌<◌, ◌==◌, ◌↔◌, ◌∙◌, ◌∷◌, ◌≡◌, ◌≢◌, ◌≤◌}
 use lib.ListN.{get_elem?}
 use native.Mathlib.Decide.{dec_le, ℕ_discrete}
-use Rattle.model_core.specs.Actors.{Actor}
-use Rattle.model_core.specs.Groups.{sum_of}
-use Rattle.model_core.specs.Layout.{SharedWords}
+use Rattle.model_core.specs.{Actor, entries, entries_from, entry, found, Line, line_at, SharedWords, sum_of, UserState}
 use Rattle.model_core.specs.LogSide.{LogSide}
-use Rattle.model_core.specs.Program.{entries, entries_from, entry}
 use Rattle.model_core.specs.Setup.{Setup}
-use Rattle.model_core.specs.States.{Line, UserState}
-use Rattle.model_core.specs.UserProgram.{line_at}
-use Rattle.model_core.specs.WordTurn.{found}
 use Rattle.model_finish.proofs.Legality.{counts, from_log, lost_unanswered, unanswered_lost}
 use Rattle.model_finish.specs.Ended.{IsAtEnd, IsLostBy}
 use Rattle.model_finish.specs.History.{history_of, state_of}
 use Rattle.model_finish.specs.Script.{HasSeats, IsOfScript}
-use Rattle.model_history.specs.Legal.{IsLeft, entries_of_user, lines_of_user}
+use Rattle.model_history.specs.{entries_of_user, IsLeft, lines_of_user}
 use Rattle.model_history.specs.declared.entry.Entry.{Entry}
 use Rattle.model_history.specs.declared.entry.Marks.{Marks}
 use Rattle.model_history.specs.declared.entry.State.TheVariants.{Lost}
 use Rattle.model_logcore.proofs.UserGroups.{count_front, count_some, none_of}
 use Rattle.model_logcore.proofs.WriterSteps.{own}
-use Rattle.model_logcore.specs.LogFacts.{LogGhost, count_of, sum_over_actors}
-use Rattle.model_logcore.specs.LogFits.{UserAt, UserFits}
+use Rattle.model_logcore.specs.{count_of, LogGhost, sum_over_actors, UserAt, UserFits}
 use Rattle.model_logcore.specs.LogHalf.{LogHalf}
-use Rattle.model_running.specs.Schedule.{HasEnded}
+use Rattle.model_running.specs.{HasEnded}
 use Rattle.model_script.specs.declared.script.ScriptLine.{ScriptLine}
 use Rattle.model_core.specs.declared.steps.UserStep.{UserStep}
 use Rattle.model_core.specs.declared.steps.UserStep.TheVariants as user_step

@@ -3,25 +3,22 @@
 use Rattle.std.proofs.Common.{List, Some, [], ap, arith, inl, inr, length, refl, slice_get, subst, suc, sym, zero, ℕ, ⊎_elim, ◌<◌, ◌∙◌, ◌∷◌, ◌≡◌, ◌≤◌, ◌⊎◌}
 use lib.ListN.{get_elem?}
 use native.Mathlib.Decide.{dec_le, ℕ_discrete}
-use Rattle.model_core.specs.Actors.{Actor}
-use Rattle.model_core.specs.Layout.{SharedWords}
+use Rattle.model_core.specs.{Actor, SharedWords, UserState}
 use Rattle.model_core.specs.LogSide.{LogSide}
 use Rattle.model_core.specs.Setup.{Setup}
-use Rattle.model_core.specs.States.{UserState}
 use Rattle.model_finish.proofs.Legality.{counts, lost_unanswered, ranked, unanswered_lost}
 use Rattle.model_finish.proofs.Losses.{answered_is, open_line}
 use Rattle.model_finish.specs.History.{history_of}
 use Rattle.model_finish.specs.OpenLines.{IsAllAnswered, LeavesOpen}
 use Rattle.model_finish.specs.Script.{HasSeats, IsOfScript}
-use Rattle.model_history.specs.Legal.{entries_of_user, lines_of_user}
+use Rattle.model_history.specs.{entries_of_user, lines_of_user}
 use Rattle.model_history.specs.declared.entry.Entry.{Entry}
 use Rattle.model_history.specs.declared.entry.Marks.{Marks}
 use Rattle.model_history.specs.declared.entry.State.TheVariants.{Lost}
 use Rattle.model_logcore.proofs.UserGroups.{count_front, none_of}
-use Rattle.model_logcore.specs.LogFacts.{LogGhost, count_of}
-use Rattle.model_logcore.specs.LogFits.{UserAt, UserFits}
+use Rattle.model_logcore.specs.{count_of, LogGhost, UserAt, UserFits}
 use Rattle.model_logcore.specs.LogHalf.{LogHalf}
-use Rattle.model_running.specs.Schedule.{HasEnded}
+use Rattle.model_running.specs.{HasEnded}
 use Rattle.model_script.specs.declared.script.ScriptLine.{ScriptLine}
 use Rattle.model_core.specs.declared.steps.UserStep.TheVariants as user_step
 use Rattle.model_core.specs.Actors as actor

@@ -3,23 +3,22 @@ use Rattle.std.proofs.Common.{Bool, List, [], ap, arith, cond, false, length, re
 use Rattle.std.specs.List.{AllByRecursion}
 use Rattle.std.specs.Prelude.{nat_le}
 use lib.ListN.{get_elem?}
-use Rattle.model_base.specs.Limits.{IsWithinLimits}
+use Rattle.model_base.specs.{IsWithinLimits}
 use Rattle.model_base.specs.declared.shape.Shape.{Shape}
-use Rattle.model_changes.specs.Changes.{changes_of}
+use Rattle.model_changes.specs.{changes_of}
 use Rattle.model_core.proofs.Lsns.{lsn_less}
-use Rattle.model_core.specs.Groups.{PageChange, Tiles, end_of}
-use Rattle.model_core.specs.Lsn.{lsn}
+use Rattle.model_core.specs.{end_of, lsn, PageChange, Tiles}
 use Rattle.model_finish.proofs.CellsApply.{cells_apply, change_of_page, writes_long}
 use Rattle.model_finish.specs.History.{AreWholesOf}
-use Rattle.model_log.specs.Run.{Span}
-use Rattle.model_page.specs.Page.{user_part}
+use Rattle.model_log.specs.{Span}
+use Rattle.model_page.specs.{user_part}
 use Rattle.model_page.specs.declared.content.Content.{Content}
-use Rattle.model_pagecore.specs.Pages.{Passed, applied_upto, cells_on, end_lsn, start_lsn, write_cells}
-use Rattle.model_record.specs.Fits.{GroupFits}
+use Rattle.model_pagecore.specs.{applied_upto, cells_on, end_lsn, Passed, start_lsn, write_cells}
+use Rattle.model_record.specs.{GroupFits}
 use Rattle.model_record.specs.declared.group.Whole.{Whole}
 use Rattle.model_run.proofs.Pages.{left, taken, upto-none}
-use Rattle.model_run.specs.Kept.{HasPassed}
-use Rattle.model_store.specs.Apply.{page_after, upto, user_after}
+use Rattle.model_run.specs.{HasPassed}
+use Rattle.model_store.specs.{page_after, upto, user_after}
 use Rattle.model_core.specs.Groups as core
 use Rattle.model_pagecore.specs.Pages as pages_of
 use Rattle.model_store.specs.Apply as apply

@@ -1,14 +1,11 @@
 -- Where the groups of a log and the entries of its history stand.
 use Rattle.std.proofs.Common.{Bool, List, [], ap, arith, cond, false, inl, inr, length, ltb, refl, subst, sym, ℕ, ⊎_elim, ◌%◌, ◌*◌, ◌+◌, ◌-◌, ◌/◌, ◌∙◌, ◌∷◌, ◌≡◌}
 use Rattle.std.proofs.lemmas.Bool.{le-ltb}
-use Rattle.model_core.specs.Groups.{IsBound, Tiles}
-use Rattle.model_core.specs.Lsn.{lsn}
-use Rattle.model_core.specs.UserProgram.{answered}
+use Rattle.model_core.specs.{answered, IsBound, lsn, Tiles}
 use Rattle.model_finish.specs.History.{history_of, log_span, log_spans}
-use Rattle.model_history.specs.Legal.{entry_spans}
+use Rattle.model_history.specs.{entry_spans}
 use Rattle.model_history.specs.declared.entry.Marks.{Marks}
-use Rattle.model_log.specs.Lsn.{lsn_of, sn_of}
-use Rattle.model_log.specs.Run.{IsBoundary, IsTiled, Span}
+use Rattle.model_log.specs.{IsBoundary, IsTiled, lsn_of, sn_of, Span}
 use Rattle.model_core.specs.Groups as core
 
 -- an sn comes back from its lsn

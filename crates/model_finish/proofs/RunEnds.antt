@@ -2,9 +2,8 @@
 use Rattle.std.proofs.Common.{List, ℕ, ◌≡◌}
 use Rattle.model_core.specs.DataSide.{DataSide}
 use Rattle.model_core.specs.LogSide.{LogSide}
-use Rattle.model_core.specs.Lsn.{lsn}
+use Rattle.model_core.specs.{Core, lsn}
 use Rattle.model_core.specs.Setup.{Setup}
-use Rattle.model_core.specs.Turn.{Core}
 use Rattle.model_device.specs.Disk.{Disk}
 use Rattle.model_finish.proofs.ClosedStore.{closed_store}
 use Rattle.model_finish.proofs.FinishedStore.{finished_store, spent_store}
@@ -12,17 +11,15 @@ use Rattle.model_finish.specs.Finished.{CausesAreFailures, FinishedStore, SpentS
 use Rattle.model_finish.specs.ClosedStore.{ClosedStore, DataTells, LogTells}
 use Rattle.model_finish.specs.FinishedPages.{HasItsPages}
 use Rattle.model_finish.specs.Script.{IsOfScript}
-use Rattle.model_log.specs.Lsn.{start_after}
+use Rattle.model_log.specs.{start_after}
 use Rattle.model_logcore.specs.LogLaws.{LogLaws}
 use Rattle.model_pagecore.specs.DataLaws.{DataLaws}
-use Rattle.model_run.specs.Given.{AreGiven}
+use Rattle.model_run.specs.{AreGiven}
 use Rattle.model_running.proofs.EachTurn.{run_keeps}
 use Rattle.model_running.proofs.SeatsKeep.{run_keeps_seats}
-use Rattle.model_running.specs.RunningStore.{IsRunning}
-use Rattle.model_running.specs.Schedule.{IsDone, IsSpent}
-use Rattle.model_running.specs.Seating.{AreSeated}
+use Rattle.model_running.specs.{AreSeated, IsDone, IsRunning, IsSpent}
 use Rattle.model_script.specs.declared.script.ScriptLine.{ScriptLine}
-use Rattle.model_theorem.specs.Values.{Opened}
+use Rattle.model_theorem.specs.{Opened}
 
 module _ (D : LogSide) (L : LogLaws D) (E : DataSide) (EL : DataLaws E) (c : Setup) (spare seed max : ℕ) (script : List ScriptLine) (opened : Opened) (first last : Core D E) (running : IsRunning D E c spare first) (of_script : IsOfScript c script opened.shape.space) (start : lsn c.base ≡ start_after opened.end) where
   pub run_done : (failures : ℕ) (left : List (ℕ × ℕ)) → AreSeated c first.actors → CausesAreFailures D E failures last.log_part last.data_part → IsDone D E seed max first last → FinishedStore D E c script opened failures left last

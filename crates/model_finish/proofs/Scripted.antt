@@ -6,22 +6,18 @@ use Rattle.std.proofs.lemmas.List.{get_or_past}
 use Rattle.std.specs.Prelude.{slice_index}
 use native.Mathlib.Decide.{dec_le, ℕ_discrete}
 use Rattle.model_base.specs.declared.shape.Shape.{Shape}
-use Rattle.model_changes.specs.Changes.{after_from, cell_where_same, cells_of, change_on, changes_of, collected}
-use Rattle.model_core.specs.Groups.{CellWrite, PageChange}
-use Rattle.model_core.specs.Setup.{IsScripted, Setup}
-use Rattle.model_core.specs.States.{Line}
-use Rattle.model_core.specs.UserProgram.{change_at, line_at}
+use Rattle.model_changes.specs.{after_from, cell_where_same, cells_of, change_on, changes_of, collected}
+use Rattle.model_core.specs.{CellWrite, change_at, IsScripted, Line, line_at, PageChange}
+use Rattle.model_core.specs.Setup.{Setup}
 use Rattle.model_finish.proofs.Groups.{line_below}
 use Rattle.model_finish.specs.Script.{IsOfScript}
-use Rattle.model_history.specs.Legal.{lines_of_user}
-use Rattle.model_record.specs.Fits.{GroupFits, RecordFits}
-use Rattle.model_record.specs.Record.{page_of}
+use Rattle.model_history.specs.{lines_of_user}
+use Rattle.model_record.specs.{GroupFits, page_of, RecordFits}
 use Rattle.model_record.specs.declared.rec.Rec.{Rec}
 use Rattle.model_record.specs.declared.rec.Rec.TheVariants.{Init, Num, Text}
-use Rattle.model_script.specs.Fit.{LineFits}
-use Rattle.model_script.specs.LineGroup.{group_of}
+use Rattle.model_script.specs.{group_of, LineFits}
 use Rattle.model_script.specs.declared.script.ScriptLine.{ScriptLine}
-use Rattle.model_store.specs.Apply.{touches}
+use Rattle.model_store.specs.{touches}
 
 abbrev no_cell : CellWrite
 no_cell = record { at = 0; value = 0 }

@@ -2,14 +2,11 @@
 use Rattle.std.proofs.Common.{Bool, List, [], ap, arith, false, map, subst, suc, sym, true, zero, ℕ, ◌++◌, ◌∷◌, ◌≡◌}
 use lib.ListN.{get_elem?}
 use Rattle.model_core.proofs.Lists.{at_longer}
-use Rattle.model_core.specs.Actors.{Actor}
-use Rattle.model_core.specs.Groups.{Entry}
+use Rattle.model_core.specs.{Actor, Entry, UserState}
 use Rattle.model_core.specs.Setup.{Setup}
-use Rattle.model_core.specs.States.{UserState}
 use Rattle.model_finish.specs.Ended.{IsAtEnd}
 use Rattle.model_finish.specs.Script.{HasSeats, IsOfScript}
-use Rattle.model_running.specs.Schedule.{HaveEnded}
-use Rattle.model_running.specs.Seating.{ArePageActors, AreSeated}
+use Rattle.model_running.specs.{ArePageActors, AreSeated, HaveEnded}
 use Rattle.model_script.specs.declared.script.ScriptLine.{ScriptLine}
 use Rattle.model_core.specs.Actors as actor
 use mathlib.Core.Option as maybe

@@ -2,26 +2,22 @@
 use Rattle.std.specs.Prelude.{List, ℕ, ◌≡◌, ◌≤◌}
 use Rattle.model_base.specs.declared.shape.Shape.{Shape}
 use Rattle.model_core.specs.DataSide.{DataSide}
-use Rattle.model_core.specs.Groups.{Entry, KeptPage}
+use Rattle.model_core.specs.{BatchPage, Core, Entry, KeptPage, lsn}
 use Rattle.model_core.specs.LogSide.{LogSide}
-use Rattle.model_core.specs.Lsn.{lsn}
 use Rattle.model_core.specs.Setup.{Setup}
-use Rattle.model_core.specs.States.{BatchPage}
-use Rattle.model_core.specs.Turn.{Core}
 use Rattle.model_device.specs.Disk.{Disk}
 use Rattle.model_finish.specs.FinishedPages.{ArePrefixes}
 use Rattle.model_finish.specs.History.{AreWholesOf, marks_in}
 use Rattle.model_finish.specs.PageContents.{content_in, contents_of}
-use Rattle.model_history.specs.Legal.{IsLeft}
+use Rattle.model_history.specs.{IsLeft}
 use Rattle.model_history.specs.declared.entry.Marks.{Marks}
-use Rattle.model_logdev.specs.Held.{LogHolds}
+use Rattle.model_logdev.specs.{LogHolds}
 use Rattle.model_logdev.specs.declared.marks.LogMarks.{LogMarks}
-use Rattle.model_pagecore.specs.DataLaws.{AreApart}
+use Rattle.model_pagecore.specs.{AreApart}
 use Rattle.model_record.specs.declared.group.Whole.{Whole}
-use Rattle.model_run.specs.Closed.{IsClosed}
-use Rattle.model_run.specs.Kept.{DataHolds}
+use Rattle.model_run.specs.{DataHolds, IsClosed}
 use Rattle.model_script.specs.declared.script.ScriptLine.{ScriptLine}
-use Rattle.model_theorem.specs.Values.{Opened, Ran}
+use Rattle.model_theorem.specs.{Opened, Ran}
 
 -- What the log part holds of a run's groups its device does, by these marks of the part; and while it holds a run, the
 -- checkpoint's number isn't below this.

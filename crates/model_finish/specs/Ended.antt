@@ -1,11 +1,9 @@
 -- The end of a run: each user has ended, and its groups are in its own seat.
 use Rattle.std.specs.Prelude.{List, [], ℕ, ◌≡◌}
 use lib.ListN.{get_elem?}
-use Rattle.model_core.specs.Actors.{Actor}
-use Rattle.model_core.specs.Groups.{Entry}
-use Rattle.model_core.specs.States.{UserState}
+use Rattle.model_core.specs.{Actor, Entry, UserState}
 use Rattle.model_core.specs.declared.steps.UserStep.TheVariants as user_step
-use Rattle.model_running.specs.Schedule.{HaveEnded}
+use Rattle.model_running.specs.{HaveEnded}
 use Rattle.model_core.specs.Actors as actor
 use mathlib.Core.Option as maybe
 

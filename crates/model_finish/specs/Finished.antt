@@ -4,23 +4,19 @@ use lib.ListN.{get_elem?}
 use mathlib.Core.Option.{some}
 use Rattle.model_base.specs.declared.limits.TheConstants.{LSN_LIMIT}
 use Rattle.model_core.specs.DataSide.{DataSide}
-use Rattle.model_core.specs.Groups.{Entry, Tiles}
-use Rattle.model_core.specs.Layout.{index}
+use Rattle.model_core.specs.{Core, Entry, index, Tiles, UserState}
 use Rattle.model_core.specs.LogSide.{LogSide}
 use Rattle.model_core.specs.Setup.{Setup}
-use Rattle.model_core.specs.States.{UserState}
-use Rattle.model_core.specs.Turn.{Core}
 use Rattle.model_finish.specs.Ended.{IsLostBy}
 use Rattle.model_finish.specs.History.{AreWholesOf, marks_in, history_of}
 use Rattle.model_finish.specs.OpenLines.{LeavesOpen}
-use Rattle.model_history.specs.Legal.{IsLeft, lines_of_user, wholes_of}
+use Rattle.model_history.specs.{IsLeft, lines_of_user, wholes_of}
 use Rattle.model_history.specs.declared.entry.Marks.{Marks}
 use Rattle.model_history.specs.declared.entry.State.TheVariants.{Lost}
-use Rattle.model_logcore.specs.LogHalf.{Counted}
-use Rattle.model_running.specs.Schedule.{HasEnded}
+use Rattle.model_logcore.specs.{Counted}
+use Rattle.model_running.specs.{HasEnded}
 use Rattle.model_script.specs.declared.script.ScriptLine.{ScriptLine}
-use Rattle.model_theorem.specs.Run.{IsRun, LosesOnlyByFailure}
-use Rattle.model_theorem.specs.Values.{Opened, Ran}
+use Rattle.model_theorem.specs.{IsRun, LosesOnlyByFailure, Opened, Ran}
 use Rattle.model_core.specs.Actors as actor
 use Rattle.model_core.specs.declared.words.Word.TheVariants as word
 use Rattle.model_history.specs.declared.entry.Entry as history

@@ -1,21 +1,18 @@
 -- What a running store keeps of its pages, in the words of a closed run.
 use Rattle.std.specs.Prelude.{List, Option, Some, length, slice_get, ℕ, ◌<◌, ◌≡◌}
 use Rattle.model_core.specs.DataSide.{DataSide}
-use Rattle.model_core.specs.Groups.{KeptPage}
+use Rattle.model_core.specs.{BatchPage, Core, KeptPage}
 use Rattle.model_core.specs.LogSide.{LogSide}
 use Rattle.model_core.specs.Setup.{Setup}
-use Rattle.model_core.specs.States.{BatchPage}
-use Rattle.model_core.specs.Turn.{Core}
 use Rattle.model_core.specs.declared.limits.TheConstants.{FRAME_CELLS}
 use Rattle.model_finish.specs.PageContents.{content_in, content_of, contents_of}
-use Rattle.model_history.specs.Legal.{wholes_of}
+use Rattle.model_history.specs.{wholes_of}
 use Rattle.model_page.specs.declared.content.Content.{Content}
-use Rattle.model_pagecore.specs.DataLaws.{AreApart}
+use Rattle.model_pagecore.specs.{AreApart}
 use Rattle.model_record.specs.declared.group.Whole.{Whole}
-use Rattle.model_run.specs.Kept.{IsKeptPrefix}
-use Rattle.model_run.specs.Stored.{IsBatchOf}
+use Rattle.model_run.specs.{IsBatchOf, IsKeptPrefix}
 use Rattle.model_script.specs.declared.script.ScriptLine.{ScriptLine}
-use Rattle.model_theorem.specs.Values.{Opened, Ran}
+use Rattle.model_theorem.specs.{Opened, Ran}
 
 -- a page of the store that was opened, as the run began with it
 pub record IsOpenedPage (c : Setup) (p : ℕ) (page : Content) : Type 0 where

@@ -1,20 +1,17 @@
 -- The history of a run: each reserved group, and how its commit stands by the marks; and what the run comes to.
 use Rattle.std.specs.Prelude.{List, [], cond, map, nat_lt, slice_index, ℕ, ◌∷◌, ◌≡◌}
-use Rattle.model_core.specs.Groups.{end_of}
-use Rattle.model_core.specs.Layout.{SharedWords, index}
-use Rattle.model_core.specs.Lsn.{lsn}
+use Rattle.model_core.specs.{answered, end_of, index, lsn, SharedWords}
 use Rattle.model_core.specs.Setup.{Setup}
-use Rattle.model_core.specs.UserProgram.{answered}
-use Rattle.model_history.specs.Answered.{state_by}
+use Rattle.model_history.specs.{state_by}
 use Rattle.model_history.specs.declared.entry.Entry.{Entry}
 use Rattle.model_history.specs.declared.entry.Marks.{Marks}
 use Rattle.model_history.specs.declared.entry.State.{State}
 use Rattle.model_history.specs.declared.entry.State.TheVariants.{Lost}
-use Rattle.model_log.specs.Run.{Span, span_of}
-use Rattle.model_logcore.specs.LogFacts.{LogGhost}
-use Rattle.model_record.specs.Group.{group_text}
+use Rattle.model_log.specs.{Span, span_of}
+use Rattle.model_logcore.specs.{LogGhost}
+use Rattle.model_record.specs.{group_text}
 use Rattle.model_record.specs.declared.group.Whole.{Whole}
-use Rattle.model_theorem.specs.Values.{Ran}
+use Rattle.model_theorem.specs.{Ran}
 use Rattle.model_core.specs.declared.words.Word.TheVariants as word
 use Rattle.model_core.specs.Groups as core
 

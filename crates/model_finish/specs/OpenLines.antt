@@ -1,7 +1,6 @@
 -- Where the turns of a run are spent: which user hasn't ended, by the lines of the script and the history alone.
 use Rattle.std.specs.Prelude.{List, Some, length, slice_get, ℕ, ◌<◌, ◌≡◌, ◌⊎◌}
-use Rattle.model_history.specs.Answered.{HasNoLost}
-use Rattle.model_history.specs.Legal.{entries_of_user, lines_of_user}
+use Rattle.model_history.specs.{entries_of_user, HasNoLost, lines_of_user}
 use Rattle.model_history.specs.declared.entry.Entry.{Entry}
 use Rattle.model_history.specs.declared.entry.State.TheVariants.{Lost}
 use Rattle.model_script.specs.declared.script.ScriptLine.{ScriptLine}

@@ -1,8 +1,7 @@
 -- What a page of a running store is to its data device: an lsn and the user bytes.
 use Rattle.std.specs.Prelude.{List, None, Option, Some, [], if◌then◌else◌, ℕ, ◌==◌, ◌∷◌}
-use Rattle.model_core.specs.Groups.{KeptPage}
-use Rattle.model_core.specs.States.{BatchPage}
-use Rattle.model_page.specs.Page.{user_part}
+use Rattle.model_core.specs.{BatchPage, KeptPage}
+use Rattle.model_page.specs.{user_part}
 use Rattle.model_page.specs.declared.content.Content.{Content}
 
 abbrev pub content_of : KeptPage → Content

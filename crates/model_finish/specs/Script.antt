@@ -1,13 +1,11 @@
 -- The users of a run, as its script has them.
 use Rattle.std.specs.Prelude.{List, Some, length, slice_get, ℕ, ◌<◌, ◌≡◌}
 use lib.ListN.{get_elem?}
-use Rattle.model_changes.specs.Changes.{line_of}
-use Rattle.model_core.specs.Actors.{Actor}
+use Rattle.model_changes.specs.{line_of}
+use Rattle.model_core.specs.{Actor, Line, line_at, UserState}
 use Rattle.model_core.specs.Setup.{Setup}
-use Rattle.model_core.specs.States.{Line, UserState}
-use Rattle.model_core.specs.UserProgram.{line_at}
-use Rattle.model_history.specs.Legal.{lines_of_user}
-use Rattle.model_script.specs.LineGroup.{group_of}
+use Rattle.model_history.specs.{lines_of_user}
+use Rattle.model_script.specs.{group_of}
 use Rattle.model_script.specs.declared.script.ScriptLine.{ScriptLine}
 use Rattle.model_core.specs.Actors as actor
 use mathlib.Core.Option as maybe

@@ -7,10 +7,9 @@ use Rattle.std.proofs.lemmas.List.{take-append-le, take_all}
 use Rattle.std.proofs.lemmas.List.Sums.{length-filter}
 use Rattle.model_record.specs.declared.rec.Rec.{Rec}
 use Rattle.model_record.specs.declared.group.Whole.{Whole}
-use Rattle.model_record.specs.Group.{group_length}
-use Rattle.model_log.specs.Lsn.{lsn_of, sn_of}
-use Rattle.model_log.specs.Run.{Span, IsTiled, IsBoundary, IsRunOf, HasItsLength, spans_of}
-use Rattle.model_script.specs.LineGroup.{group_of}
+use Rattle.model_record.specs.{group_length}
+use Rattle.model_log.specs.{HasItsLength, IsBoundary, IsRunOf, IsTiled, lsn_of, sn_of, Span, spans_of}
+use Rattle.model_script.specs.{group_of}
 use Rattle.model_script.specs.declared.script.ScriptLine.{ScriptLine}
 use Rattle.model_history.specs.Legal.{IsLegal, IsLegalEntry, IsOfLine, entry_span, entry_spans, group_of_line, whole_of, wholes_of, count_up_to}
 use Rattle.model_history.specs.declared.entry.Entry.{Entry}

@@ -4,7 +4,7 @@ use Rattle.std.specs.Prelude.{nat_le}
 use Rattle.std.proofs.lemmas.Bool.{leb-true, leb-false, eqb-true}
 use Rattle.std.proofs.lemmas.List.{append-nil, length_push}
 use Rattle.std.proofs.lemmas.List.Elements.{filter-append}
-use Rattle.model_log.specs.Run.{IsTiled, end_of}
+use Rattle.model_log.specs.{end_of, IsTiled}
 use Rattle.model_script.specs.declared.script.ScriptLine.{ScriptLine}
 use Rattle.model_history.specs.Answered.{HasNoLost, IsAnswered, state_by}
 use Rattle.model_history.specs.Legal.{IsLegal, IsLegalEntry, FitsMarks, FitsMode, entries_of_user, entry_spans}

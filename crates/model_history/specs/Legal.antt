@@ -3,12 +3,11 @@
 -- each state is what the marks say.
 use Rattle.std.specs.Prelude.{ℕ, suc, ◌≡◌, ◌≢◌, ◌≤◌, ◌<◌, ◌+◌, ◌==◌, nat_le, List, [], ◌∷◌, length, filter, map, slice_get, Option, Some, None}
 use Rattle.std.specs.List.{count_by}
-use Rattle.model_record.specs.Group.{group_length}
+use Rattle.model_record.specs.{group_length}
 use Rattle.model_record.specs.declared.group.Whole.{Whole}
 use Rattle.model_record.specs.declared.rec.Rec.{Rec}
-use Rattle.model_log.specs.Lsn.{lsn_of, sn_of}
-use Rattle.model_log.specs.Run.{Span, IsTiled}
-use Rattle.model_script.specs.LineGroup.{group_of}
+use Rattle.model_log.specs.{IsTiled, lsn_of, sn_of, Span}
+use Rattle.model_script.specs.{group_of}
 use Rattle.model_script.specs.declared.script.ScriptLine.{ScriptLine}
 use Rattle.model_history.specs.declared.entry.Entry.{Entry}
 use Rattle.model_history.specs.declared.entry.Marks.{Marks}

@@ -2,7 +2,7 @@
 ghost use Rattle.std.specs.Prelude.{◌≡◌, ◌≤◌, ◌<◌, ℕ, List, [], ◌∷◌, ◌++◌, length, take, slice_get, Some};
 ghost use Rattle.std.specs.List.{AllByRecursion};
 ghost use Rattle.model_record.specs.declared.group.Whole.{Whole};
-ghost use Rattle.model_log.specs.Run.{IsBoundary, IsRunOf, end_of, spans_of};
+ghost use Rattle.model_log.specs.{end_of, IsBoundary, IsRunOf, spans_of};
 ghost use Rattle.model_script.specs.declared.script.ScriptLine.{ScriptLine};
 ghost use Rattle.model_history.specs.Answered.{HasNoLost, IsAnswered, state_by};
 ghost use Rattle.model_history.specs.Legal.{FitsMarks, FitsMode, IsLegal, IsLegalEntry, count_up_to, entries_of_user, entry_spans, wholes_of};

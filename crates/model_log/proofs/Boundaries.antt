@@ -3,7 +3,7 @@ use Rattle.std.proofs.Common.{◌≡◌, ℕ, zero, suc, ◌+◌, ◌-◌, ◌*�
 use Rattle.std.specs.List.{slice_get}
 use Rattle.std.proofs.lemmas.List.{at_drop_more, length-map, length_push, map_push}
 use Rattle.model_record.specs.declared.group.Whole.{Whole}
-use Rattle.model_record.specs.Group.{stream_of, groups_of}
+use Rattle.model_record.specs.{groups_of, stream_of}
 use Rattle.model_log.specs.Lsn.{sn_of, block_of}
 use Rattle.model_log.specs.Run.{span_of, spans_of}
 use Rattle.model_log.specs.Block.{block_text}

@@ -3,7 +3,7 @@ use Rattle.std.proofs.Common.{◌≡◌, ◌≤◌, ◌<◌, ◌+◌, ◌-◌, �
 use Rattle.std.proofs.lemmas.List.{take_all, take_at, take-take, drop-take, drop-drop}
 use Rattle.std.proofs.lemmas.Bool.{cases_lt}
 use Rattle.model_record.specs.declared.group.Whole.{Whole}
-use Rattle.model_record.specs.Group.{stream_of, groups_of}
+use Rattle.model_record.specs.{groups_of, stream_of}
 use Rattle.model_log.specs.Lsn.{sn_of, block_of, IsAtDataStart}
 use Rattle.model_log.specs.Block.{block_text}
 use Rattle.model_log.specs.Boundary.{stream_between, content_at, framed, blocks_between, IsBoundaryBlock, IsGivenTo}

@@ -3,7 +3,7 @@ use Rattle.std.proofs.Common.{◌≡◌, ◌≤◌, ◌+◌, ◌⊎◌, ℕ, inl
 use Rattle.std.specs.List.{AllByRecursion}
 use Rattle.std.proofs.lemmas.Bool.Decides.{nat_tests}
 use Rattle.model_record.specs.declared.group.Whole.{Whole}
-use Rattle.model_record.specs.Group.{group_text, group_length, stream_of, groups_of}
+use Rattle.model_record.specs.{group_length, group_text, groups_of, stream_of}
 use Rattle.model_log.specs.Lsn.{lsn_of, sn_of, IsDataLsn, IsAtDataStart}
 use Rattle.model_log.specs.Run.{Span, IsTiled, IsBoundary, end_of, span_of, spans_of, HasItsLength, IsRunOf}
 

@@ -1,8 +1,7 @@
 -- Checksums behind a row of bytes.
 use Rattle.std.proofs.Common.{◌≡◌, ◌≤◌, ◌-◌, ℕ, List, ◌++◌, length, take, replicate, ap, ◌∙◌, take_all}
 use Rattle.std.specs.Int.{bytes_high_first}
-use Rattle.model_number.specs.Crc32c.{crc_of}
-use Rattle.model_number.specs.Field.{padded_to}
+use Rattle.model_number.specs.{crc_of, padded_to}
 use Rattle.model_log.specs.Block.{with_checksum}
 
 -- the steps in which a row of bytes is filled up and gets its checksum

@@ -2,7 +2,7 @@
 ghost use Rattle.std.specs.Prelude.{◌≡◌, ◌≤◌, ◌<◌, ◌%◌, ◌^◌, ℕ, List, length, All, IsTrue};
 ghost use Rattle.model_base.specs.declared.shape.Shape.{Shape};
 ghost use Rattle.model_base.specs.declared.limits.TheConstants.{BLOCK_SIZE, START_LSN, LSN_LIMIT};
-ghost use Rattle.model_base.specs.Limits.{IsWithinLimits};
+ghost use Rattle.model_base.specs.{IsWithinLimits};
 ghost use Rattle.model_log.specs.Lsn.{lsn_of, sn_of, IsDataLsn};
 ghost use Rattle.model_log.specs.Block.{length_of, block_text, is_first, read_block, data_of};
 ghost use Rattle.model_log.specs.Checkpoint.{place_of, checkpoint_text, read_checkpoint};

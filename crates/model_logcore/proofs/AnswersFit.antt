@@ -7,24 +7,10 @@ use native.Mathlib.Decide.{dec_le, ℕ_discrete}
 use Rattle.model_base.specs.declared.limits.TheConstants.{LSN_LIMIT}
 use Rattle.model_core.proofs.Groups.{first_base, first_from, tiles_at}
 use Rattle.model_core.proofs.Lsns.{lsn_le, lsn_below, lsn_wide, sn_below}
-use Rattle.model_core.specs.Actors.{Actor}
-use Rattle.model_core.specs.Answers.{old_of}
-use Rattle.model_core.specs.CheckpointerProgram.{checkpointer_op}
-use Rattle.model_core.specs.CleanerProgram.{cleaner_op}
-use Rattle.model_core.specs.CloserProgram.{closer_op}
-use Rattle.model_core.specs.Fitting.{Fitting, answer_limit, user_fits, writer_fits}
-use Rattle.model_core.specs.FlushLists.{Listed}
-use Rattle.model_core.specs.FlusherProgram.{flusher_op}
-use Rattle.model_core.specs.Groups.{end_of, first_of}
-use Rattle.model_core.specs.Layout.{SharedWords}
+use Rattle.model_core.specs.{Actor, answer_limit, checkpointer_op, cleaner_op, closer_op, end_of, first_of, flusher_op, group_bytes, Listed, lsn, next, old_of, read_place, shared_answer, SharedWords, user_fits, user_op, UserState, writer_fits, writer_op, WriterState}
+use Rattle.model_core.specs.Fitting.{Fitting}
 use Rattle.model_core.specs.LogSide.{LogSide}
-use Rattle.model_core.specs.Lsn.{lsn}
-use Rattle.model_core.specs.Program.{next}
 use Rattle.model_core.specs.Setup.{Setup}
-use Rattle.model_core.specs.States.{UserState, WriterState}
-use Rattle.model_core.specs.UserProgram.{group_bytes, user_op}
-use Rattle.model_core.specs.WordTurn.{shared_answer}
-use Rattle.model_core.specs.WriterProgram.{read_place, writer_op}
 use Rattle.model_core.specs.declared.ops.Op.{Op}
 use Rattle.model_core.specs.declared.steps.UserStep.{UserStep}
 use Rattle.model_core.specs.declared.steps.WriterStep.{WriterStep}

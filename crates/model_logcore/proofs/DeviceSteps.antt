@@ -4,17 +4,9 @@ use Rattle.std.proofs.lemmas.Bool.{eqb-false}
 use lib.ListN.{get_elem?}
 use Rattle.model_base.specs.declared.limits.TheConstants.{LSN_LIMIT}
 use Rattle.model_core.proofs.Lsns.{lsn_le, lsn_below}
-use Rattle.model_core.specs.Actors.{Actor}
-use Rattle.model_core.specs.FlusherProgram.{flusher_took}
-use Rattle.model_core.specs.Groups.{Entry}
-use Rattle.model_core.specs.Holding.{holds, writer_holds, flusher_holds}
-use Rattle.model_core.specs.Layout.{IsSized, SharedWords}
+use Rattle.model_core.specs.{Actor, ceiling, entries, Entry, floor, flusher_holds, flusher_took, FlusherState, holds, IsSized, lsn, SharedWords, writer_holds, writer_took, WriterState}
 use Rattle.model_core.specs.LogSide.{LogSide}
-use Rattle.model_core.specs.Lsn.{ceiling, floor, lsn}
-use Rattle.model_core.specs.Program.{entries}
 use Rattle.model_core.specs.Setup.{Setup}
-use Rattle.model_core.specs.States.{WriterState, FlusherState}
-use Rattle.model_core.specs.WriterProgram.{writer_took}
 use Rattle.model_core.specs.declared.steps.WriterStep.{WriterStep}
 use Rattle.model_logcore.proofs.Frame.{Later, Still, budget_same, counted_same, moved, others_later, set_at, taken_same}
 use Rattle.model_logcore.proofs.WriterCells.{lends}

@@ -8,16 +8,9 @@ use Rattle.model_base.specs.declared.limits.TheConstants.{LSN_LIMIT}
 use Rattle.model_core.proofs.Lists.{at_set, set_else}
 use Rattle.model_core.proofs.Groups.{tiles_at}
 use Rattle.model_core.proofs.Lsns.{floor_grows, lsn_below}
-use Rattle.model_core.specs.Actors.{Actor}
-use Rattle.model_core.specs.Groups.{Entry, Tiles, byte_at, first_of, sum_of}
-use Rattle.model_core.specs.Holding.{holds, checkpointer_holds, writer_holds, flusher_holds}
-use Rattle.model_core.specs.Layout.{IsSized, SharedWords}
+use Rattle.model_core.specs.{Actor, byte_at, checkpointer_holds, CheckpointerState, CleanerState, entries, Entry, first_of, flusher_holds, FlusherState, group_bytes, holds, IsSized, LoadedMarks, lsn, SharedWords, sum_of, Tiles, UserState, writer_holds, WriterState}
 use Rattle.model_core.specs.LogSide.{LogSide}
-use Rattle.model_core.specs.Lsn.{lsn}
-use Rattle.model_core.specs.Program.{entries}
 use Rattle.model_core.specs.Setup.{Setup}
-use Rattle.model_core.specs.States.{CheckpointerState, CleanerState, FlusherState, LoadedMarks, UserState, WriterState}
-use Rattle.model_core.specs.UserProgram.{group_bytes}
 use Rattle.model_core.specs.declared.steps.UserStep.{UserStep}
 use Rattle.model_core.specs.declared.steps.CheckpointerStep.{CheckpointerStep}
 use Rattle.model_core.specs.declared.steps.WriterStep.{WriterStep}

@@ -3,13 +3,9 @@ use Rattle.std.proofs.Common.{List, ap, arith, length, subst, ℕ, ◌+◌, ◌/
 use native.Mathlib.Decide.{dec_le}
 use Rattle.model_core.proofs.Groups.{tiles_at}
 use Rattle.model_core.proofs.Lsns.{block_below, lsn_block, lsn_offset}
-use Rattle.model_core.specs.Groups.{Entry}
-use Rattle.model_core.specs.Layout.{SharedWords}
+use Rattle.model_core.specs.{Entry, floor, group_bytes, group_end, lsn, SharedWords, UserState}
 use Rattle.model_core.specs.LogSide.{LogSide}
-use Rattle.model_core.specs.Lsn.{floor, lsn}
 use Rattle.model_core.specs.Setup.{Setup}
-use Rattle.model_core.specs.States.{UserState}
-use Rattle.model_core.specs.UserProgram.{group_bytes, group_end}
 use Rattle.model_core.specs.declared.limits.TheConstants.{LOG_BUFFER}
 use Rattle.model_log.specs.declared.layout.TheConstants.{BLOCK_DATA}
 use Rattle.model_logcore.specs.LogFacts.{FirstOffsets, LogFacts, LogGhost}

@@ -5,12 +5,8 @@ use Rattle.model_base.specs.declared.limits.TheConstants.{LSN_LIMIT}
 use Rattle.model_core.proofs.Groups.{sum_of_append}
 use Rattle.model_core.proofs.Lists.{at_set, set_else}
 use Rattle.model_core.proofs.Lsns.{lsn_below}
-use Rattle.model_core.specs.Actors.{Actor}
-use Rattle.model_core.specs.Groups.{Entry, sum_of}
-use Rattle.model_core.specs.Holding.{holds}
-use Rattle.model_core.specs.Layout.{SharedWords}
+use Rattle.model_core.specs.{Actor, entries, Entry, holds, SharedWords, sum_of}
 use Rattle.model_core.specs.LogSide.{LogSide}
-use Rattle.model_core.specs.Program.{entries}
 use Rattle.model_core.specs.Setup.{Setup}
 use Rattle.model_logcore.proofs.Frame.{total_set}
 use Rattle.model_logcore.specs.LogFacts.{LogGhost, sum_over_actors}

@@ -11,15 +11,9 @@ use Rattle.model_base.specs.declared.limits.TheConstants.{LSN_LIMIT}
 use Rattle.model_core.proofs.Lists.{at_last, at_longer}
 use Rattle.model_core.proofs.Groups.{at_end, at_less, back, bound_snoc, byte_snoc, changed, changed_else, changed_here, crosses_is, first_from, first_snoc, ranged, ranged_below, ranged_in, ranged_out, stream_long, stream_snoc, tiles_at, tiles_snoc, sum_of_append}
 use Rattle.model_core.proofs.Lsns.{link_same, lsn_below, lsn_le, lsn_less, lsn_wide}
-use Rattle.model_core.specs.Actors.{Actor}
-use Rattle.model_core.specs.Groups.{Entry, PageChange, Tiles, byte_at, end_of, first_of, stream, sum_of}
-use Rattle.model_core.specs.Layout.{IsSized, SharedWords}
+use Rattle.model_core.specs.{Actor, answered, byte_at, changes, end_of, entries, Entry, entry, first_of, group_bytes, group_end, IsSized, Line, line, line_at, LoadedMarks, lsn, mode, PageChange, SharedWords, stream, sum_of, Tiles, user_took, UserState}
 use Rattle.model_core.specs.LogSide.{LogSide}
-use Rattle.model_core.specs.Lsn.{lsn}
-use Rattle.model_core.specs.Program.{entries, entry}
 use Rattle.model_core.specs.Setup.{Setup}
-use Rattle.model_core.specs.States.{Line, LoadedMarks, UserState}
-use Rattle.model_core.specs.UserProgram.{answered, changes, line, line_at, mode, group_end, group_bytes, user_took}
 use Rattle.model_logcore.proofs.UserGroups.{count_snoc, entries_snoc, lengths_step, none_of, one_of, rank_same}
 use Rattle.model_logcore.proofs.Frame.{Later, moved, others_later, taken_same, total_set}
 use Rattle.model_logcore.proofs.RingSteps.{above_tail, hand_lies, steps, still_words, commits_states}

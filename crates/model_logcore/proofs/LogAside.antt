@@ -4,15 +4,9 @@ use Rattle.std.proofs.lemmas.Bool.{eqb-false}
 use Rattle.std.specs.Prelude.{slice_set}
 use lib.ListN.{get_elem?}
 use native.Mathlib.Decide.{ℕ_discrete}
-use Rattle.model_core.specs.Actors.{Actor}
-use Rattle.model_core.specs.CheckpointerProgram.{checkpointer_took}
-use Rattle.model_core.specs.Groups.{Entry}
-use Rattle.model_core.specs.Holding.{holds, checkpointer_holds}
-use Rattle.model_core.specs.Layout.{IsSized, PageWords, SharedWords, blank_words, page_words_at, with_page_words}
+use Rattle.model_core.specs.{Actor, blank_words, checkpointer_holds, checkpointer_took, CheckpointerState, entries, Entry, holds, IsSized, page_words_at, PageWords, SharedWords, with_page_words}
 use Rattle.model_core.specs.LogSide.{LogSide}
-use Rattle.model_core.specs.Program.{entries}
 use Rattle.model_core.specs.Setup.{Setup}
-use Rattle.model_core.specs.States.{CheckpointerState}
 use Rattle.model_logcore.proofs.Frame.{budget_same, counted_same, moved, others_later, others_pointer, taken_same}
 use Rattle.model_logcore.specs.LogFacts.{LogGhost}
 use Rattle.model_logcore.specs.LogFits.{Fits, CheckpointerFits}

@@ -4,25 +4,9 @@ use Rattle.std.proofs.lemmas.Bool.{eqb-false}
 use Rattle.std.specs.Prelude.{None, min, slice_index, slice_set}
 use lib.ListN.{get_elem?}
 use Rattle.model_core.proofs.Lists.{set_again}
-use Rattle.model_core.specs.Actors.{Actor, Batch, Blocks, Nothing}
-use Rattle.model_core.specs.Answers.{heard, old_of}
-use Rattle.model_core.specs.CheckpointerProgram.{lowered, checkpointer_op, checkpointer_took}
-use Rattle.model_core.specs.CleanerProgram.{cleaner_op, cleaner_took, first_of_batch, next_in_round, page_loaded}
-use Rattle.model_core.specs.CloserProgram.{closer_op, closer_took}
-use Rattle.model_core.specs.FlushLists.{Listed, oldest_end}
-use Rattle.model_core.specs.FlusherProgram.{flusher_op, flusher_took}
-use Rattle.model_core.specs.Groups.{Entry}
-use Rattle.model_core.specs.Holding.{checkpointer_holds, writer_holds, flusher_holds}
-use Rattle.model_core.specs.Layout.{IsSized, PageWords, SharedWords, page_words_at, with_page_words}
+use Rattle.model_core.specs.{Actor, Batch, Blocks, checked, checkpointer_holds, checkpointer_op, checkpointer_took, CheckpointerState, cleaner_op, cleaner_took, CleanerState, closer_op, closer_took, CloserState, Entry, first_of_batch, floor, flusher_holds, flusher_op, flusher_took, FlusherState, heard, IsSized, lent, Listed, log_left, LogServed, lowered, next, next_in_round, Nothing, old_of, oldest_end, own_took, page_loaded, page_of, page_words_at, PageWords, phase_log, shared_answer, shared_left, SharedWords, took, user_op, user_took, UserState, with_page_words, writer_holds, writer_op, writer_took, WriterState}
 use Rattle.model_core.specs.LogSide.{LogSide}
-use Rattle.model_core.specs.Lsn.{floor}
-use Rattle.model_core.specs.Program.{lent, log_left, next, own_took, phase_log, checked, took}
 use Rattle.model_core.specs.Setup.{Setup}
-use Rattle.model_core.specs.States.{CleanerState, CloserState, CheckpointerState, WriterState, FlusherState, UserState}
-use Rattle.model_core.specs.Turn.{LogServed}
-use Rattle.model_core.specs.UserProgram.{page_of, user_op, user_took}
-use Rattle.model_core.specs.WordTurn.{shared_answer, shared_left}
-use Rattle.model_core.specs.WriterProgram.{writer_op, writer_took}
 use Rattle.model_core.specs.declared.ops.Answer.{Answer}
 use Rattle.model_core.specs.declared.ops.Op.{Op}
 use Rattle.model_core.specs.declared.steps.CleanerStep.{CleanerStep}

@@ -6,14 +6,9 @@ use Rattle.model_base.specs.declared.limits.TheConstants.{LSN_LIMIT}
 use Rattle.model_core.proofs.Lsns.{lsn_below}
 use Rattle.model_core.proofs.Groups.{at_end, changed, changed_else, changed_here}
 use Rattle.model_core.proofs.Lists.{at_longer}
-use Rattle.model_core.specs.Actors.{Actor}
-use Rattle.model_core.specs.Groups.{Entry, sum_of}
-use Rattle.model_core.specs.Holding.{holds}
-use Rattle.model_core.specs.Layout.{SharedWords}
+use Rattle.model_core.specs.{Actor, entries, entries_from, Entry, holds, LoadedMarks, SharedWords, sum_of, UserState}
 use Rattle.model_core.specs.LogSide.{LogSide}
-use Rattle.model_core.specs.Program.{entries, entries_from}
 use Rattle.model_core.specs.Setup.{Setup}
-use Rattle.model_core.specs.States.{LoadedMarks, UserState}
 use Rattle.model_logcore.proofs.UserGroups.{count_some}
 use Rattle.model_logcore.specs.LogFacts.{LogGhost, count_of, sum_over_actors}
 use Rattle.model_logcore.specs.LogFits.{AreBelow, Fits, UserAt, UserFits}

@@ -3,8 +3,7 @@ use Rattle.std.proofs.Common.{List, [], ap, arith, cond, eqb, false, length, ne_
 use Rattle.std.specs.Prelude.{slice_index}
 use Rattle.model_base.specs.declared.limits.TheConstants.{MAX_GROUP}
 use Rattle.model_core.specs.Setup.{Setup}
-use Rattle.model_core.specs.States.{Line, LoadedMarks, UserState, none_loaded}
-use Rattle.model_core.specs.UserProgram.{line_at}
+use Rattle.model_core.specs.{Line, line_at, LoadedMarks, none_loaded, UserState}
 use Rattle.model_core.specs.declared.steps.UserStep.{UserStep}
 use Rattle.model_logcore.specs.Start.{StartUser}
 use Rattle.model_core.specs.declared.steps.UserStep.TheVariants as user_step

@@ -1,19 +1,9 @@
 -- Who asks for the log part doesn't have it; who gives it back or calls it has it, and the call's conditions hold.
 use Rattle.std.proofs.Common.{Bool, List, ap, cond, false, refl, true, ℕ, ◌≡◌}
 use lib.ListN.{get_elem?}
-use Rattle.model_core.specs.Actors.{Actor}
-use Rattle.model_core.specs.CheckpointerProgram.{checkpointer_op}
-use Rattle.model_core.specs.CleanerProgram.{cleaner_op}
-use Rattle.model_core.specs.CloserProgram.{closer_op}
-use Rattle.model_core.specs.FlusherProgram.{flusher_op}
-use Rattle.model_core.specs.Holding.{checkpointer_holds, flusher_holds, writer_holds}
-use Rattle.model_core.specs.Layout.{SharedWords}
+use Rattle.model_core.specs.{Actor, checkpointer_holds, checkpointer_op, CheckpointerState, cleaner_op, CleanerState, closer_op, CloserState, flusher_holds, flusher_op, FlusherState, next, SharedWords, user_op, UserState, writer_holds, writer_op, WriterState}
 use Rattle.model_core.specs.LogSide.{LogSide}
-use Rattle.model_core.specs.Program.{next}
 use Rattle.model_core.specs.Setup.{Setup}
-use Rattle.model_core.specs.States.{CheckpointerState, CleanerState, CloserState, FlusherState, UserState, WriterState}
-use Rattle.model_core.specs.UserProgram.{user_op}
-use Rattle.model_core.specs.WriterProgram.{writer_op}
 use Rattle.model_core.specs.declared.ops.Op.{Op}
 use Rattle.model_core.specs.declared.steps.CheckpointerStep.{CheckpointerStep}
 use Rattle.model_core.specs.declared.steps.CleanerStep.{CleanerStep}

@@ -8,15 +8,9 @@ use native.Mathlib.Decide.{dec_le, ℕ_discrete}
 use Rattle.model_base.specs.declared.limits.TheConstants.{LSN_LIMIT}
 use Rattle.model_core.proofs.Groups.{changed, changed_else, changed_here, entry_byte, is_crosses, tiles_at}
 use Rattle.model_core.proofs.Lsns.{block_below, block_window, cell_same, lsn_block, lsn_less, lsn_offset, ring_same}
-use Rattle.model_core.specs.Actors.{Actor}
-use Rattle.model_core.specs.Groups.{Entry, byte_at, end_of, first_of}
-use Rattle.model_core.specs.Layout.{IsSized, SharedWords}
+use Rattle.model_core.specs.{Actor, byte_at, end_of, entries, Entry, entry, first_of, floor, group_bytes, group_end, IsSized, line, LoadedMarks, lsn, SharedWords, user_took, UserState}
 use Rattle.model_core.specs.LogSide.{LogSide}
-use Rattle.model_core.specs.Lsn.{floor, lsn}
-use Rattle.model_core.specs.Program.{entries, entry}
 use Rattle.model_core.specs.Setup.{Setup}
-use Rattle.model_core.specs.States.{LoadedMarks, UserState}
-use Rattle.model_core.specs.UserProgram.{line, group_end, group_bytes, user_took}
 use Rattle.model_core.specs.declared.steps.UserStep.{UserStep}
 use Rattle.model_logcore.proofs.UserGroups.{first_is}
 use Rattle.model_logcore.proofs.Frame.{Later, Still, budget_same, counted_same, moved, others_later, taken_same}

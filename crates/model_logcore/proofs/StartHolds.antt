@@ -5,15 +5,9 @@ use native.Mathlib.Decide.{ℕ_discrete}
 use Rattle.model_base.specs.declared.limits.TheConstants.{LSN_LIMIT}
 use Rattle.model_core.proofs.Groups.{first_base}
 use Rattle.model_core.proofs.Lsns.{floor_lsn, lsn_block}
-use Rattle.model_core.specs.Actors.{Actor}
-use Rattle.model_core.specs.Groups.{first_of, sum_of}
-use Rattle.model_core.specs.Holding.{holds}
-use Rattle.model_core.specs.Layout.{SharedWords}
+use Rattle.model_core.specs.{Actor, CheckpointerState, CleanerState, CloserState, entries, entries_from, first_of, floor, FlusherState, holds, LoadedMarks, lsn, SharedWords, sum_of, WriterState}
 use Rattle.model_core.specs.LogSide.{LogSide}
-use Rattle.model_core.specs.Lsn.{floor, lsn}
-use Rattle.model_core.specs.Program.{entries, entries_from}
 use Rattle.model_core.specs.Setup.{Setup}
-use Rattle.model_core.specs.States.{CheckpointerState, CleanerState, CloserState, FlusherState, LoadedMarks, WriterState}
 use Rattle.model_logcore.proofs.NewUsers.{new_user_is}
 use Rattle.model_logcore.specs.LogFacts.{LogFacts, LogGhost, sum_over_actors}
 use Rattle.model_logcore.specs.LogFits.{AreBelow, CheckpointerFits, Fits, FlusherFits, UserAt, WriterFits}

@@ -3,11 +3,8 @@ use Rattle.std.proofs.Common.{Bool, List, [], ap, arith, cond, drop, eq-eqb, eqb
 use lib.ListN.{get_elem?}
 use native.Mathlib.Decide.{dec_le, ℕ_discrete}
 use Rattle.model_core.proofs.Groups.{crosses_is, crossing_some, crossing_there, some_same, sum_of_append, tiles_at}
-use Rattle.model_core.specs.Groups.{Entry, crosses, crossing, end_of, first_of}
-use Rattle.model_core.specs.Program.{entries_from, entry}
+use Rattle.model_core.specs.{crosses, crossing, end_of, entries_from, Entry, entry, first_of, Line, line_at}
 use Rattle.model_core.specs.Setup.{Setup}
-use Rattle.model_core.specs.States.{Line}
-use Rattle.model_core.specs.UserProgram.{line_at}
 use Rattle.model_logcore.specs.LogFacts.{Place, Tiled, count_of}
 use Rattle.model_logcore.specs.LogHalf.{lengths}
 use mathlib.Core.Option as maybe

@@ -6,16 +6,9 @@ use lib.ListN.{get_elem?}
 use mathlib.Core.Option.{some}
 use native.Mathlib.Decide.{ℕ_discrete}
 use Rattle.model_core.proofs.Groups.{changed, changed_else, changed_here}
-use Rattle.model_core.specs.Actors.{Actor}
-use Rattle.model_core.specs.Groups.{Entry}
-use Rattle.model_core.specs.Layout.{IsSized, PageWords, SharedWords, blank_words, page_words_at, with_page_words}
+use Rattle.model_core.specs.{Actor, after, answered, blank_words, cells_of, change_at, changes, entries, Entry, floor, found, group_end, IsSized, LoadedMarks, lsn, mode, OnWord, page_of, page_words_at, PageWords, phase_log, put_of, SharedWords, to_next_page, user_op, user_took, UserState, with_mark, with_page_words}
 use Rattle.model_core.specs.LogSide.{LogSide}
-use Rattle.model_core.specs.Lsn.{floor, lsn}
-use Rattle.model_core.specs.Program.{entries, phase_log}
 use Rattle.model_core.specs.Setup.{Setup}
-use Rattle.model_core.specs.States.{LoadedMarks, UserState}
-use Rattle.model_core.specs.UserProgram.{answered, cells_of, change_at, changes, group_end, mode, page_of, put_of, to_next_page, user_op, user_took, with_mark}
-use Rattle.model_core.specs.WordTurn.{OnWord, after, found}
 use Rattle.model_core.specs.declared.ops.Op.{Op}
 use Rattle.model_core.specs.declared.steps.UserStep.{UserStep}
 use Rattle.model_logcore.proofs.Frame.{Later}

@@ -3,13 +3,9 @@ use Rattle.std.proofs.Common.{List, ap, arith, inl, inr, length, refl, subst, â„
 use lib.ListN.{get_elem?}
 use native.Mathlib.Decide.{dec_le}
 use Rattle.model_core.proofs.Groups.{tiles_at}
-use Rattle.model_core.specs.Actors.{Actor}
-use Rattle.model_core.specs.Groups.{Entry, end_of, first_of}
-use Rattle.model_core.specs.Layout.{SharedWords}
+use Rattle.model_core.specs.{Actor, end_of, Entry, first_of, floor, lsn, SharedWords, UserState}
 use Rattle.model_core.specs.LogSide.{LogSide}
-use Rattle.model_core.specs.Lsn.{floor, lsn}
 use Rattle.model_core.specs.Setup.{Setup}
-use Rattle.model_core.specs.States.{UserState}
 use Rattle.model_core.specs.declared.steps.UserStep.{UserStep}
 use Rattle.model_logcore.proofs.GroupEnds.{end_near, hand_end_near}
 use Rattle.model_logcore.specs.LogFacts.{LogGhost}

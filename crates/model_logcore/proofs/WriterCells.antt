@@ -7,15 +7,9 @@ use lib.ListN.{get_elem?}
 use native.Mathlib.Decide.{dec_le, ℕ_discrete}
 use Rattle.model_core.proofs.Groups.{back, crosses_is, first_from, front, tiles_at}
 use Rattle.model_core.proofs.Lsns.{floor_grows, floor_lsn, lsn_block, lsn_le, lsn_same, ring_same}
-use Rattle.model_core.specs.Actors.{Actor}
-use Rattle.model_core.specs.Groups.{Entry, IsLent, byte_at, end_of, first_of}
-use Rattle.model_core.specs.Holding.{writer_holds}
-use Rattle.model_core.specs.Layout.{SharedWords}
+use Rattle.model_core.specs.{Actor, byte_at, ceiling, end_of, Entry, first_of, floor, full_blocks, IsLent, lsn, read_place, SharedWords, stands_outside, writer_holds, writer_took, WriterState}
 use Rattle.model_core.specs.LogSide.{LogSide}
-use Rattle.model_core.specs.Lsn.{ceiling, floor, lsn}
 use Rattle.model_core.specs.Setup.{Setup}
-use Rattle.model_core.specs.States.{WriterState}
-use Rattle.model_core.specs.WriterProgram.{full_blocks, stands_outside, read_place, writer_took}
 use Rattle.model_core.specs.declared.steps.WriterStep.{WriterStep}
 use Rattle.model_logcore.proofs.WriterSteps.{WNow, own, ranks, tails, wlater, wquiet, wsteps}
 use Rattle.model_logcore.specs.LogFacts.{LogGhost}

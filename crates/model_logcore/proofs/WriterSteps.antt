@@ -7,15 +7,9 @@ use native.Mathlib.Decide.{dec_le, ℕ_discrete}
 use Rattle.model_base.specs.declared.limits.TheConstants.{LSN_LIMIT}
 use Rattle.model_core.proofs.Groups.{bound_end, tiles_at}
 use Rattle.model_core.proofs.Lsns.{link_same, lsn_le, lsn_near}
-use Rattle.model_core.specs.Actors.{Actor}
-use Rattle.model_core.specs.Groups.{Entry, end_of}
-use Rattle.model_core.specs.Holding.{holds, writer_holds}
-use Rattle.model_core.specs.Layout.{IsSized, SharedWords}
+use Rattle.model_core.specs.{Actor, end_of, Entry, holds, IsSized, lsn, SharedWords, writer_holds, writer_took, WriterState}
 use Rattle.model_core.specs.LogSide.{LogSide}
-use Rattle.model_core.specs.Lsn.{lsn}
 use Rattle.model_core.specs.Setup.{Setup}
-use Rattle.model_core.specs.States.{WriterState}
-use Rattle.model_core.specs.WriterProgram.{writer_took}
 use Rattle.model_core.specs.declared.steps.WriterStep.{WriterStep}
 use Rattle.model_logcore.proofs.Frame.{Later, budget_same, counted_same, moved, others_writer, taken_same}
 use Rattle.model_logcore.specs.LogFacts.{LogGhost, LogFacts, WrittenLink, Place, count_of, sum_over_actors}

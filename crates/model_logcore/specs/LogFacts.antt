@@ -2,14 +2,9 @@
 use Rattle.std.specs.Prelude.{List, [], cond, length, slice_index, take, ℕ, ◌%◌, ◌*◌, ◌+◌, ◌/◌, ◌<◌, ◌==◌, ◌∷◌, ◌≡◌, ◌≤◌}
 use lib.ListN.{get_elem?}
 use mathlib.Core.Option.{some}
-use Rattle.model_core.specs.Groups.{Entry, IsBound, PageChange, Tiles, byte_at, end_of, first_of, sum_of}
-use Rattle.model_core.specs.Layout.{SharedWords}
+use Rattle.model_core.specs.{byte_at, end_of, Entry, entry, first_of, floor, IsBound, Line, line_at, lsn, PageChange, SharedWords, sum_of, Tiles}
 use Rattle.model_core.specs.LogSide.{LogSide}
-use Rattle.model_core.specs.Lsn.{floor, lsn}
-use Rattle.model_core.specs.Program.{entry}
 use Rattle.model_core.specs.Setup.{Setup}
-use Rattle.model_core.specs.States.{Line}
-use Rattle.model_core.specs.UserProgram.{line_at}
 use Rattle.model_base.specs.declared.limits.TheConstants.{BLOCK_SIZE}
 use Rattle.model_log.specs.declared.layout.TheConstants.{BLOCK_DATA}
 use Rattle.model_core.specs.declared.limits.TheConstants.{LOG_BUFFER, BUFFER_BLOCKS, WRITTEN_LINKS}

@@ -2,16 +2,9 @@
 use Rattle.std.specs.Prelude.{false, length, slice_index, true, ℕ, ◌%◌, ◌*◌, ◌+◌, ◌/◌, ◌<◌, ◌≡◌, ◌≢◌, ◌≤◌, ◌⊎◌}
 use lib.ListN.{get_elem?}
 use mathlib.Core.Option.{some}
-use Rattle.model_core.specs.Actors.{Actor}
-use Rattle.model_core.specs.Groups.{byte_at, first_of}
-use Rattle.model_core.specs.Holding.{checkpointer_holds, writer_holds, flusher_holds}
-use Rattle.model_core.specs.Layout.{SharedWords}
+use Rattle.model_core.specs.{Actor, byte_at, ceiling, checkpointer_holds, CheckpointerState, CleanerState, entry, first_of, floor, flusher_holds, FlusherState, group_bytes, group_end, line, line_at, LoadedMarks, lsn, mode, SharedWords, UserState, writer_holds, WriterState}
 use Rattle.model_core.specs.LogSide.{LogSide}
-use Rattle.model_core.specs.Lsn.{ceiling, floor, lsn}
-use Rattle.model_core.specs.Program.{entry}
 use Rattle.model_core.specs.Setup.{Setup}
-use Rattle.model_core.specs.States.{CheckpointerState, CleanerState, FlusherState, LoadedMarks, UserState, WriterState}
-use Rattle.model_core.specs.UserProgram.{line, line_at, mode, group_end, group_bytes}
 use Rattle.model_core.specs.declared.steps.UserStep.{UserStep}
 use Rattle.model_core.specs.declared.steps.CheckpointerStep.{CheckpointerStep}
 use Rattle.model_core.specs.declared.steps.WriterStep.{WriterStep}

@@ -3,15 +3,9 @@ use Rattle.std.specs.Prelude.{List, [], drop, length, true, ℕ, ◌+◌, ◌<�
 use lib.ListN.{get_elem?}
 use mathlib.Core.Option.{some}
 use Rattle.model_base.specs.declared.limits.TheConstants.{LSN_LIMIT}
-use Rattle.model_core.specs.Actors.{Actor}
-use Rattle.model_core.specs.Groups.{Entry, sum_of}
-use Rattle.model_core.specs.Holding.{holds}
-use Rattle.model_core.specs.Layout.{IsSized, SharedWords, flat}
+use Rattle.model_core.specs.{Actor, entries, Entry, flat, holds, IsSized, Line, lsn, SharedWords, sum_of}
 use Rattle.model_core.specs.LogSide.{LogSide}
-use Rattle.model_core.specs.Lsn.{lsn}
-use Rattle.model_core.specs.Program.{entries}
 use Rattle.model_core.specs.Setup.{Setup}
-use Rattle.model_core.specs.States.{Line}
 use Rattle.model_logcore.specs.LogFacts.{LogGhost, LogFacts, sum_over_actors}
 use Rattle.model_logcore.specs.LogFits.{Fits}
 use Rattle.model_core.specs.Actors as actor

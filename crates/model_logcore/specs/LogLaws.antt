@@ -2,10 +2,8 @@
 use Rattle.std.specs.Prelude.{List, [], cond, false, length, true, ℕ, ◌%◌, ◌*◌, ◌++◌, ◌+◌, ◌<◌, ◌==◌, ◌∷◌, ◌≡◌, ◌≤◌}
 use lib.ListN.{get_elem?}
 use mathlib.Core.Option.{some}
-use Rattle.model_core.specs.FailureCodes.{IsLogCode}
-use Rattle.model_core.specs.Groups.{Entry, IsBound, IsLent, Tiles, end_of}
+use Rattle.model_core.specs.{ceiling, end_of, Entry, floor, IsBound, IsLent, IsLogCode, lsn, Tiles}
 use Rattle.model_core.specs.LogSide.{LogSide}
-use Rattle.model_core.specs.Lsn.{ceiling, floor, lsn}
 use Rattle.model_base.specs.declared.limits.TheConstants.{BLOCK_SIZE, LSN_LIMIT}
 use Rattle.model_core.specs.declared.limits.TheConstants.{LOG_BUFFER}
 use Rattle.model_log.specs.declared.layout.TheConstants.{BLOCK_DATA}

@@ -1,10 +1,7 @@
 -- The conditions under which an actor asks for an Op.
 use Rattle.std.specs.Prelude.{false, true, ℕ, ◌≡◌}
-use Rattle.model_core.specs.Actors.{Actor, Blocks, Lent}
-use Rattle.model_core.specs.Holding.{holds}
+use Rattle.model_core.specs.{Actor, Blocks, holds, Lent, lent, lsn}
 use Rattle.model_core.specs.LogSide.{LogSide}
-use Rattle.model_core.specs.Lsn.{lsn}
-use Rattle.model_core.specs.Program.{lent}
 use Rattle.model_core.specs.Setup.{Setup}
 use Rattle.model_core.specs.declared.ops.Op.{Op}
 use Rattle.model_logcore.specs.LogFacts.{LogGhost}

@@ -1,14 +1,9 @@
 -- What stands at the start of a run, from which the invariant holds.
 use Rattle.std.specs.Prelude.{[], cond, length, slice_index, ℕ, ◌%◌, ◌+◌, ◌-◌, ◌/◌, ◌<◌, ◌==◌, ◌≡◌, ◌≤◌}
 use Rattle.model_base.specs.declared.limits.TheConstants.{MAX_GROUP}
-use Rattle.model_core.specs.Actors.{Actor}
-use Rattle.model_core.specs.Layout.{IsSized, SharedWords}
+use Rattle.model_core.specs.{Actor, CheckpointerState, CleanerState, CloserState, FlusherState, IsSized, line_at, lsn, new_checkpointer, new_cleaner, new_closer, new_flusher, new_user, new_writer, SharedWords, UserState, WriterState}
 use Rattle.model_core.specs.LogSide.{LogSide}
-use Rattle.model_core.specs.Lsn.{lsn}
-use Rattle.model_core.specs.NewActors.{new_checkpointer, new_cleaner, new_closer, new_flusher, new_user, new_writer}
 use Rattle.model_core.specs.Setup.{Setup}
-use Rattle.model_core.specs.States.{CheckpointerState, CleanerState, CloserState, FlusherState, UserState, WriterState}
-use Rattle.model_core.specs.UserProgram.{line_at}
 use Rattle.model_core.specs.declared.limits.TheConstants.{BUFFER_BLOCKS}
 use Rattle.model_log.specs.declared.layout.TheConstants.{BLOCK_DATA, BLOCK_HEADER}
 use Rattle.model_core.specs.Actors as actor

@@ -4,15 +4,9 @@ use Rattle.std.specs.Prelude.{List, length, slice_index, take, ℕ, ◌%◌, ◌
 use lib.ListN.{get_elem?}
 use mathlib.Core.Option.{some}
 use Rattle.model_base.specs.declared.limits.TheConstants.{BLOCK_SIZE}
-use Rattle.model_core.specs.Actors.{Actor}
-use Rattle.model_core.specs.Groups.{Entry, IsBound, PageChange, Tiles, byte_at, end_of, first_of}
-use Rattle.model_core.specs.Layout.{SharedWords}
+use Rattle.model_core.specs.{Actor, byte_at, end_of, Entry, first_of, floor, group_end, IsBound, line_at, lsn, PageChange, read_place, SharedWords, Tiles, UserState, WriterState}
 use Rattle.model_core.specs.LogSide.{LogSide}
-use Rattle.model_core.specs.Lsn.{floor, lsn}
 use Rattle.model_core.specs.Setup.{Setup}
-use Rattle.model_core.specs.States.{UserState, WriterState}
-use Rattle.model_core.specs.UserProgram.{group_end, line_at}
-use Rattle.model_core.specs.WriterProgram.{read_place}
 use Rattle.model_core.specs.declared.limits.TheConstants.{BUFFER_BLOCKS, LOG_BUFFER, WRITTEN_LINKS}
 use Rattle.model_log.specs.declared.layout.TheConstants.{BLOCK_DATA}
 use Rattle.model_logcore.specs.LogFacts.{WrittenLink, count_of}

@@ -5,14 +5,13 @@ use Rattle.std.specs.List.{All, AllByRecursion, flat_map}
 use Rattle.std.specs.Int.{bytes_high_first}
 use Rattle.std.proofs.lemmas.List.Elements.{All-nil, All-cons, All-append}
 use Rattle.model_base.specs.declared.shape.Shape.{Shape}
-use Rattle.model_number.specs.Spelling.{spelling32, spelling64}
+use Rattle.model_number.specs.{spelling32, spelling64}
 use Rattle.model_record.specs.declared.rec.Rec.{Rec}
 use Rattle.model_record.specs.declared.rec.Rec.TheVariants.{Num, Text, Init}
 use Rattle.model_record.specs.declared.group.Whole.{Whole}
-use Rattle.model_record.specs.Record.{IsByte, HasText, IsWidth, type_of, value_text, after_type, record_text, single_text}
-use Rattle.model_record.specs.Group.{group_text, stream_of, groups_of}
+use Rattle.model_record.specs.{after_type, group_text, groups_of, HasText, IsByte, IsWidth, record_text, single_text, stream_of, type_of, value_text}
 use Rattle.model_log.proofs.Checksums.{bytes-bytes_high_first}
-use Rattle.model_store.specs.Scan.{IsStorable}
+use Rattle.model_store.specs.{IsStorable}
 
 either : (t : Bool) (a b : List ℕ) → All IsByte a → All IsByte b → All IsByte (cond t a b)
 either true a b first second = first

@@ -4,22 +4,17 @@ use Rattle.std.proofs.lemmas.List.{take_all}
 use Rattle.std.proofs.lemmas.Bool.Decides.{nat_tests}
 use Rattle.model_base.specs.declared.shape.Shape.{Shape}
 use Rattle.model_record.specs.declared.group.Whole.{Whole}
-use Rattle.model_device.specs.Disk.{Disk, sector, Covers, written_sector, after_write, settled}
-use Rattle.model_device.specs.Calls.{written, synced}
-use Rattle.model_device.specs.Within.{IsSectorWrite}
+use Rattle.model_device.specs.{Adds, after_write, Covers, IsSectorWrite, sector, settled, synced, written, written_sector}
+use Rattle.model_device.specs.Disk.{Disk}
 use Rattle.model_device.specs.declared.write.Write.{Write}
 use Rattle.model_device.proofs.Images.{sector-after_write}
 use Rattle.model_device.proofs.Overwritten.{length-overwritten, part-overwritten_inside}
-use Rattle.model_log.specs.Lsn.{offset_of}
-use Rattle.model_log.specs.Checkpoint.{place_of, read_checkpoint, checkpoint_text}
-use Rattle.model_log.specs.Head.{read_head}
+use Rattle.model_log.specs.{checkpoint_text, log_block, log_device_length, offset_of, place_of, read_checkpoint, read_head}
 use Rattle.model_log.specs.declared.head.Head.TheVariants.{Good}
-use Rattle.model_log.specs.Device.{log_block, log_device_length}
 use Rattle.model_log.proofs.CheckpointRound.{checkpoint-reads_back}
 use Rattle.model_logdev.specs.declared.marks.LogMarks.{LogMarks}
 use Rattle.model_logdev.specs.Marks.{MayBeNext, HasNextNumber, after_synced, after_checkpoint, after_asked}
 use Rattle.model_logdev.specs.Held.{sector_of, IsLogBlock, HoldsBlocks, AreInOrder, other_place, IsBeside, LogHolds, IsWritten, IsLive}
-use Rattle.model_device.specs.MayHold.{Adds}
 use Rattle.model_logdev.proofs.Places.{HasBlocks, sector-place, place-from}
 use Rattle.model_logdev.proofs.Windows.{wider, round-on}
 use Rattle.model_logdev.proofs.Images.{sector-log_block, blocks-on, place-cases, header-below, beside-kept}

@@ -1,18 +1,16 @@
 -- What a crash of a log device leaves to be read, and that a longer run and a fresh part hold.
 use Rattle.std.proofs.Common.{ℕ, inl, inr, List, ◌++◌, subst, ⊎_elim, arith}
-use Rattle.model_log.specs.Lsn.{IsAtDataStart}
+use Rattle.model_log.specs.{IsAtDataStart, IsRunOf}
 use Rattle.std.specs.List.{All}
 use Rattle.model_base.specs.declared.shape.Shape.{Shape}
-use Rattle.model_record.specs.Record.{IsByte}
-use Rattle.model_record.specs.Group.{stream_of, groups_of}
+use Rattle.model_record.specs.{groups_of, IsByte, IsFront, stream_of}
 use Rattle.model_record.specs.declared.group.Whole.{Whole}
-use Rattle.model_device.specs.Disk.{Disk, IsImage}
-use Rattle.model_log.specs.Run.{IsRunOf}
+use Rattle.model_device.specs.{IsImage}
+use Rattle.model_device.specs.Disk.{Disk}
 use Rattle.model_log.proofs.Runs.{boundary-longer}
 use Rattle.model_log.proofs.BoundaryRound.{block-longer}
 use Rattle.model_log.specs.declared.block.BlockView.{BlockView}
-use Rattle.model_store.specs.Scan.{IsScan, IsBadRecord, AreGroupsOf, groups_start, data_from}
-use Rattle.model_record.specs.Group.{IsFront}
+use Rattle.model_store.specs.{AreGroupsOf, data_from, groups_start, IsBadRecord, IsScan}
 use Rattle.model_store.proofs.OneScan.{OneGroup, same_blocks, same_groups, front-no_storable}
 use Rattle.model_logdev.specs.declared.marks.LogMarks.{LogMarks}
 use Rattle.model_logdev.specs.Held.{AreInOrder, IsLogBlock, LogHolds, IsWritten}

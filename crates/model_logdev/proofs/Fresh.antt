@@ -4,13 +4,10 @@ use Rattle.std.specs.Prelude.{nat_lt, nat_le}
 use Rattle.std.proofs.lemmas.Bool.{cases_lt}
 use Rattle.std.proofs.lemmas.Bool.Decides.{nat_tests}
 use Rattle.model_base.specs.declared.shape.Shape.{Shape}
-use Rattle.model_number.specs.Field.{field}
-use Rattle.model_device.specs.Disk.{Disk, sector}
-use Rattle.model_log.specs.Lsn.{offset_of}
-use Rattle.model_log.specs.Block.{fits_checksum}
-use Rattle.model_log.specs.Checkpoint.{place_of, is_checkpoint, read_checkpoint}
-use Rattle.model_log.specs.Device.{log_device_length, newer}
-use Rattle.model_log.specs.Head.{read_head}
+use Rattle.model_number.specs.{field}
+use Rattle.model_device.specs.{sector}
+use Rattle.model_device.specs.Disk.{Disk}
+use Rattle.model_log.specs.{fits_checksum, is_checkpoint, log_device_length, newer, offset_of, place_of, read_checkpoint, read_head}
 use Rattle.model_logdev.specs.Fresh.{IsFresh}
 use Rattle.model_device.specs.MayHold.{MayHold}
 use Rattle.model_logdev.specs.declared.marks.LogMarks.{LogMarks}

@@ -5,15 +5,14 @@ use Rattle.std.proofs.lemmas.Bool.{cases_lt, cases_Bool}
 use Rattle.std.proofs.lemmas.Bool.Decides.{nat_tests}
 use Rattle.model_base.specs.declared.shape.Shape.{Shape}
 use Rattle.model_record.specs.declared.group.Whole.{Whole}
-use Rattle.model_device.specs.Disk.{Disk, sector, IsImage}
-use Rattle.model_log.specs.Lsn.{offset_of}
-use Rattle.model_log.specs.Checkpoint.{place_of, read_checkpoint}
-use Rattle.model_log.specs.Device.{log_block, log_device_length, newest_checkpoint, newer}
+use Rattle.model_device.specs.{IsImage, sector}
+use Rattle.model_device.specs.Disk.{Disk}
+use Rattle.model_log.specs.{log_block, log_device_length, newer, newest_checkpoint, offset_of, place_of, read_checkpoint}
 use Rattle.model_device.specs.MayHold.{MayHold}
 use Rattle.model_device.proofs.MayHold.{holds-sector}
 use Rattle.model_logdev.specs.declared.marks.LogMarks.{LogMarks}
 use Rattle.model_logdev.specs.Held.{sector_of, IsInRound, IsLogBlock, HoldsBlocks, AreInOrder, other_place, IsBeside, LogHolds}
-use Rattle.model_store.specs.Reading.{HasHead}
+use Rattle.model_store.specs.{HasHead}
 use Rattle.model_logdev.proofs.Places.{HasBlocks, sector-place, place-within, place-round}
 use Rattle.model_logdev.proofs.Windows.{round-on}
 

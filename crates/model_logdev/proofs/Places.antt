@@ -3,7 +3,7 @@ use Rattle.std.proofs.Common.{◌≡◌, ◌≤◌, ◌<◌, ◌+◌, ◌-◌, �
 use Rattle.std.proofs.lemmas.Bool.{cases_lt}
 use Rattle.std.proofs.lemmas.Nat.{div-add-mod', mod-mul-add, mod_below, mul-le}
 use Rattle.model_base.specs.declared.shape.Shape.{Shape}
-use Rattle.model_log.specs.Lsn.{offset_of, block_of}
+use Rattle.model_log.specs.{block_of, offset_of}
 use Rattle.model_logdev.specs.Held.{sector_of, IsInRound}
 
 -- a log has blocks

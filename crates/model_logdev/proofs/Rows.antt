@@ -2,25 +2,20 @@
 use Rattle.std.proofs.Common.{◌≡◌, ◌≤◌, ◌<◌, ◌+◌, ◌-◌, ◌*◌, ◌%◌, ◌==◌, ◌⊎◌, ℕ, zero, suc, inl, inr, min, Bool, true, false, cond, List, [], ◌∷◌, ◌++◌, length, take, drop, Option, Some, None, refl, sym, ap, subst, ◌∙◌, ⊎_elim, arith}
 use Rattle.std.specs.List.{slice_get, All, AllByRecursion}
 use Rattle.model_base.specs.declared.limits.TheConstants.{LSN_LIMIT}
-use Rattle.model_record.specs.Record.{IsByte}
+use Rattle.model_record.specs.{groups_of, IsByte, stream_of}
 use Rattle.std.specs.Prelude.{nat_lt}
 use Rattle.std.proofs.lemmas.List.{append-nil, drop-drop}
 use Rattle.std.proofs.lemmas.Bool.{cases_lt}
 use Rattle.std.proofs.lemmas.Bool.Decides.{nat_tests}
 use Rattle.model_base.specs.declared.shape.Shape.{Shape}
 use Rattle.model_record.specs.declared.group.Whole.{Whole}
-use Rattle.model_record.specs.Group.{stream_of, groups_of}
-use Rattle.model_log.specs.Lsn.{sn_of, block_of, IsAtDataStart, IsDataLsn}
-use Rattle.model_log.specs.Block.{read_block, data_of, is_full}
-use Rattle.model_log.specs.Run.{IsRunOf, IsBoundary, spans_of}
-use Rattle.model_log.specs.Boundary.{stream_between, length_at}
-use Rattle.model_log.specs.Device.{log_block}
+use Rattle.model_log.specs.{block_of, data_of, is_full, IsAtDataStart, IsBoundary, IsDataLsn, IsRunOf, length_at, log_block, read_block, sn_of, spans_of, stream_between}
 use Rattle.model_log.specs.declared.block.BlockView.{BlockView}
 use Rattle.model_log.proofs.BoundaryLengths.{sn_of-rises, sn_of-start, sn_of-header, content_at-is}
 use Rattle.model_log.proofs.Runs.{boundary-reached, data-start}
 use Rattle.model_log.proofs.Crossings.{IsLeast, IsEmptyOf, TellsFirst, first-tells}
 use Rattle.model_log.proofs.BoundaryRound.{ReadsAs, reads-as}
-use Rattle.model_store.specs.Scan.{IsStorable, Taken, taken_from, taken, bytes_of, view_at, data_at, lsn_at, joined, groups_start}
+use Rattle.model_store.specs.{bytes_of, data_at, groups_start, IsStorable, joined, lsn_at, Taken, taken, taken_from, view_at}
 use Rattle.std.specs.Option.{option_map}
 use Rattle.model_logdev.specs.Held.{IsBlockBetween, IsNoBlock, IsLogBlock}
 

@@ -5,15 +5,13 @@ use Rattle.std.proofs.lemmas.List.{drop-drop, drop-take}
 use Rattle.std.proofs.lemmas.Bool.{cases_lt}
 use Rattle.model_base.specs.declared.shape.Shape.{Shape}
 use Rattle.model_record.specs.declared.group.Whole.{Whole}
-use Rattle.model_record.specs.Group.{stream_of, groups_of}
-use Rattle.model_log.specs.Lsn.{sn_of, block_of, IsDataLsn}
-use Rattle.model_log.specs.Run.{Span, IsRunOf, IsBoundary, spans_of, end_of}
-use Rattle.model_log.specs.Boundary.{stream_between}
+use Rattle.model_record.specs.{groups_of, stream_of}
+use Rattle.model_log.specs.{block_of, end_of, IsBoundary, IsDataLsn, IsRunOf, sn_of, Span, spans_of, stream_between}
 use Rattle.model_log.specs.declared.block.BlockView.{BlockView}
 use Rattle.model_log.proofs.BoundaryLengths.{sn_of-rises, sn_of-start}
 use Rattle.model_log.proofs.Runs.{boundary-reached, boundary-back, spans_of-append, end_of-append, run-front, run-back, data-start}
 use Rattle.model_log.proofs.Crossings.{IsLeast}
-use Rattle.model_store.specs.Scan.{IsStorable, AreGroupsOf, joined, groups_start, data_from}
+use Rattle.model_store.specs.{AreGroupsOf, data_from, groups_start, IsStorable, joined}
 use Rattle.model_logdev.specs.Held.{HoldsBlocks}
 use Rattle.model_logdev.specs.Reads.{ScansTo}
 use Rattle.model_logdev.proofs.Splits.{Splits, split-at, Cuts, cut-at, end-reached, all-below-end, all-behind, all-from}

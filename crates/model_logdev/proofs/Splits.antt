@@ -7,10 +7,9 @@ use Rattle.model_base.specs.declared.shape.Shape.{Shape}
 use Rattle.model_record.specs.declared.rec.Rec.{Rec}
 use Rattle.model_record.specs.declared.rec.Rec.TheVariants.{Init}
 use Rattle.model_record.specs.declared.group.Whole.{Whole}
-use Rattle.model_record.specs.Group.{group_text, group_length, stream_of, groups_of, IsGroup, IsFront}
-use Rattle.model_log.specs.Lsn.{sn_of, IsDataLsn}
-use Rattle.model_log.specs.Run.{IsRunOf, IsBoundary, spans_of, end_of}
-use Rattle.model_store.specs.Scan.{IsStorable}
+use Rattle.model_record.specs.{group_length, group_text, groups_of, IsFront, IsGroup, stream_of}
+use Rattle.model_log.specs.{end_of, IsBoundary, IsDataLsn, IsRunOf, sn_of, spans_of}
+use Rattle.model_store.specs.{IsStorable}
 use Rattle.model_logdev.proofs.Bytes.{group_text-some}
 use Rattle.model_log.proofs.Runs.{First, first-of, run-first, run-none, run-cons, boundary-start, boundary-end, IsReached, boundary-reached, stream-none, stream-first, lsn-before}
 use Rattle.model_log.proofs.BoundaryLengths.{sn_of-rises}

@@ -4,14 +4,11 @@ use Rattle.std.proofs.lemmas.Bool.Decides.{nat_tests}
 use Rattle.model_base.specs.declared.shape.Shape.{Shape}
 use Rattle.std.specs.Int.{bytes_high_first}
 use Rattle.byteorder.specs.Numbers.{big_number-reads_back}
-use Rattle.model_number.specs.Field.{field}
+use Rattle.model_number.specs.{field}
 use Rattle.model_log.proofs.Sealed.{field-padded}
 use Rattle.model_record.specs.declared.group.Whole.{Whole}
-use Rattle.model_record.specs.Group.{stream_of, groups_of}
-use Rattle.model_log.specs.Run.{spans_of}
-use Rattle.model_log.specs.Lsn.{block_number}
-use Rattle.model_log.specs.Block.{block_text, length_of, read_block, is_block_at, fits_number, view_of, is_length, is_first, fits_checksum}
-use Rattle.model_log.specs.Boundary.{IsBoundaryBlock, content_at, first_at}
+use Rattle.model_record.specs.{groups_of, stream_of}
+use Rattle.model_log.specs.{block_number, block_text, content_at, first_at, fits_checksum, fits_number, is_block_at, is_first, is_length, IsBoundaryBlock, length_of, read_block, spans_of, view_of}
 use Rattle.model_logdev.specs.Held.{IsNoBlock, IsLogBlock}
 use Rattle.model_log.proofs.BoundaryLengths.{content-short}
 use Rattle.model_logdev.proofs.Places.{HasBlocks}

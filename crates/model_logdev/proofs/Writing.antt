@@ -4,26 +4,19 @@ use Rattle.std.proofs.lemmas.Bool.{cases_lt}
 use Rattle.model_base.specs.declared.limits.TheConstants.{BLOCK_SIZE}
 use Rattle.model_base.specs.declared.shape.Shape.{Shape}
 use Rattle.model_record.specs.declared.group.Whole.{Whole}
-use Rattle.model_device.specs.Disk.{Disk, sector, Covers, written_sector, after_write}
-use Rattle.model_device.specs.Calls.{written}
-use Rattle.model_device.specs.Within.{IsSectorWrite}
+use Rattle.model_device.specs.{Adds, after_write, Covers, IsSectorWrite, sector, written, written_sector}
+use Rattle.model_device.specs.Disk.{Disk}
 use Rattle.model_device.specs.declared.write.Write.{Write}
 use Rattle.model_device.proofs.Images.{sector-after_write}
 use Rattle.model_device.proofs.Overwritten.{length-overwritten, part-overwritten_inside}
-use Rattle.model_log.specs.Lsn.{offset_of, block_of}
-use Rattle.model_log.specs.Checkpoint.{place_of, read_checkpoint}
-use Rattle.model_log.specs.Head.{read_head}
+use Rattle.model_log.specs.{block_of, IsBoundary, IsBoundaryBlock, log_block, log_device_length, offset_of, place_of, read_checkpoint, read_head, spans_of}
 use Rattle.model_log.specs.declared.head.Head.TheVariants.{Good}
 use Rattle.model_log.specs.declared.layout.TheConstants.{HEADER_BYTES, BLOCK_HEADER}
-use Rattle.model_log.specs.Run.{IsBoundary, spans_of}
-use Rattle.model_log.specs.Boundary.{IsBoundaryBlock}
-use Rattle.model_log.specs.Device.{log_block, log_device_length}
 use Rattle.model_log.proofs.Runs.{boundary-reached, data-start}
 use Rattle.model_log.proofs.BoundaryRound.{block-later}
 use Rattle.model_logdev.specs.declared.marks.LogMarks.{LogMarks}
 use Rattle.model_logdev.specs.Marks.{after_given, after_written}
 use Rattle.model_logdev.specs.Held.{sector_of, round_of, IsInRound, IsLogBlock, HoldsBlocks, AreInOrder, other_place, IsBeside, LogHolds, IsWritten, IsLive}
-use Rattle.model_device.specs.MayHold.{Adds}
 use Rattle.model_device.proofs.MayHold.{adds-written}
 use Rattle.model_logdev.proofs.Places.{sector-place, place-from, place-on, one-place_each}
 use Rattle.model_logdev.proofs.Windows.{wider}

@@ -1,10 +1,9 @@
 -- A log device on which a run can start.
 use Rattle.std.specs.Prelude.{ℕ, ◌≡◌, ◌-◌, ◌≤◌, length, Some, None}
 use Rattle.model_base.specs.declared.shape.Shape.{Shape}
-use Rattle.model_device.specs.Disk.{Disk, sector, IsImage, HasOneImage}
-use Rattle.model_log.specs.Block.{read_block}
-use Rattle.model_log.specs.Device.{log_block, log_device_length, newest_checkpoint}
-use Rattle.model_log.specs.Head.{read_head}
+use Rattle.model_device.specs.{HasOneImage, IsImage, sector}
+use Rattle.model_device.specs.Disk.{Disk}
+use Rattle.model_log.specs.{log_block, log_device_length, newest_checkpoint, read_block, read_head}
 use Rattle.model_log.specs.declared.head.Head.TheVariants.{Good}
 use Rattle.model_log.specs.declared.layout.TheConstants.{BLOCK_HEADER}
 use Rattle.model_logdev.specs.Held.{IsInRound}

@@ -3,14 +3,9 @@ use Rattle.std.specs.Prelude.{ℕ, ◌≡◌, ◌≤◌, ◌<◌, ◌+◌, ◌-�
 use Rattle.model_base.specs.declared.shape.Shape.{Shape}
 use Rattle.model_base.specs.declared.limits.TheConstants.{BLOCK_SIZE, START_LSN}
 use Rattle.model_record.specs.declared.group.Whole.{Whole}
-use Rattle.model_device.specs.Disk.{Disk, sector}
-use Rattle.model_log.specs.Lsn.{offset_of, block_of, IsAtDataStart}
-use Rattle.model_log.specs.Run.{IsRunOf, IsBoundary, spans_of}
-use Rattle.model_log.specs.Block.{read_block}
-use Rattle.model_log.specs.Boundary.{IsBoundaryBlock}
-use Rattle.model_log.specs.Checkpoint.{place_of, read_checkpoint}
-use Rattle.model_log.specs.Device.{log_block, log_device_length}
-use Rattle.model_log.specs.Head.{read_head}
+use Rattle.model_device.specs.{sector}
+use Rattle.model_device.specs.Disk.{Disk}
+use Rattle.model_log.specs.{block_of, IsAtDataStart, IsBoundary, IsBoundaryBlock, IsRunOf, log_block, log_device_length, offset_of, place_of, read_block, read_checkpoint, read_head, spans_of}
 use Rattle.model_log.specs.declared.head.Head.TheVariants.{Good}
 use Rattle.model_log.specs.declared.layout.TheConstants.{BLOCK_HEADER}
 use Rattle.model_device.specs.MayHold.{MayHold}

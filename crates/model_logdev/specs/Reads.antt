@@ -3,13 +3,11 @@ use Rattle.std.specs.Prelude.{ℕ, ◌≡◌, ◌≤◌, ◌<◌, ◌^◌, List,
 use Rattle.std.specs.List.{AllByRecursion}
 use Rattle.model_base.specs.declared.shape.Shape.{Shape}
 use Rattle.model_base.specs.declared.limits.TheConstants.{LSN_LIMIT}
-use Rattle.model_record.specs.Group.{groups_of}
+use Rattle.model_record.specs.{groups_of}
 use Rattle.model_record.specs.declared.group.Whole.{Whole}
-use Rattle.model_log.specs.Run.{IsBoundary, spans_of, end_of}
+use Rattle.model_log.specs.{end_of, IsBoundary, newest_checkpoint, spans_of}
 use Rattle.model_log.specs.declared.block.BlockView.{BlockView}
-use Rattle.model_log.specs.Device.{newest_checkpoint}
-use Rattle.model_store.specs.Scan.{IsStorable, IsScan, IsBadRecord}
-use Rattle.model_store.specs.Reading.{HasHead}
+use Rattle.model_store.specs.{HasHead, IsBadRecord, IsScan, IsStorable}
 use Rattle.model_logdev.specs.declared.marks.LogMarks.{LogMarks}
 
 -- The scan from the checkpoint on reads the groups up to a boundary between the marks: those in the middle. Those

@@ -2,8 +2,9 @@
 ghost use Rattle.std.specs.Prelude.{◌++◌, ℕ, List};
 ghost use Rattle.model_base.specs.declared.shape.Shape.{Shape};
 ghost use Rattle.model_record.specs.declared.group.Whole.{Whole};
-ghost use Rattle.model_device.specs.Disk.{Disk, IsImage};
-ghost use Rattle.model_log.specs.Run.{IsRunOf};
+ghost use Rattle.model_device.specs.{IsImage};
+ghost use Rattle.model_device.specs.Disk.{Disk};
+ghost use Rattle.model_log.specs.{IsRunOf};
 ghost use Rattle.model_logdev.specs.Held.{LogHolds, IsLive};
 ghost use Rattle.model_logdev.specs.declared.marks.LogMarks.{LogMarks};
 ghost use Rattle.model_logdev.specs.Reads.{CrashReads, FitsStore};

@@ -1,9 +1,9 @@
 -- After a crash in opening the devices are at rest, and the store on them is in order.
 use Rattle.std.proofs.Common.{ℕ, List, sym, ap, subst, ⊎_elim, arith}
-use Rattle.model_device.specs.Disk.{Disk, IsImage, settled}
-use Rattle.model_device.specs.Calls.{Crashes}
+use Rattle.model_device.specs.{Crashes, IsImage, settled}
+use Rattle.model_device.specs.Disk.{Disk}
 use Rattle.model_device.proofs.Images.{settled_images}
-use Rattle.model_store.specs.Fair.{IsFair}
+use Rattle.model_store.specs.{IsFair}
 use Rattle.model_store.specs.Reading.{Reading}
 use Rattle.model_opening.specs.Again.{HasRoom, OpensAgain}
 use Rattle.model_opening.specs.Opened.{IsAtRest, ReadsOpened, KeepsOpened}

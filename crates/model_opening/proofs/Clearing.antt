@@ -5,15 +5,12 @@ use Rattle.std.proofs.lemmas.Bool.{cases_lt}
 use Rattle.std.proofs.lemmas.List.{take-append-drop, drop-append-le, take-append-le, nil_from_length, take_all}
 use Rattle.model_base.specs.declared.shape.Shape.{Shape}
 use Rattle.model_record.specs.declared.group.Whole.{Whole}
-use Rattle.model_record.specs.Group.{stream_of, groups_of, IsFront}
-use Rattle.model_log.specs.Lsn.{sn_of, block_of, IsDataLsn, start_after}
-use Rattle.model_log.specs.Block.{is_full, read_block}
-use Rattle.model_log.specs.Device.{log_block, log_device_length}
-use Rattle.model_log.specs.Run.{IsRunOf, spans_of, end_of}
+use Rattle.model_record.specs.{groups_of, IsFront, stream_of}
+use Rattle.model_log.specs.{block_of, end_of, is_full, IsDataLsn, IsRunOf, log_block, log_device_length, read_block, sn_of, spans_of, start_after}
 use Rattle.model_log.specs.declared.block.BlockView.{BlockView}
 use Rattle.model_log.proofs.Runs.{First, first-of, run-first, boundary-start, boundary-before_end}
 use Rattle.model_log.proofs.BoundaryLengths.{sn_of-rises, sn_of-block, sn_of-header}
-use Rattle.model_store.specs.Scan.{IsLastOf, IsStorable, AreGroups, AreGroupsOf, IsScan, view_at, lsn_at, joined, groups_start, data_from}
+use Rattle.model_store.specs.{AreGroups, AreGroupsOf, data_from, groups_start, IsLastOf, IsScan, IsStorable, joined, lsn_at, view_at}
 use Rattle.model_logdev.proofs.Places.{HasBlocks}
 use Rattle.model_logdev.proofs.Splits.{first-ends}
 use Rattle.model_opening.specs.Cleared.{IsKept, IsOutside, IsClearing}

@@ -3,9 +3,9 @@ use Rattle.std.proofs.Common.{◌≡◌, ◌-◌, ◌%◌, ℕ, List, Option, So
 use Rattle.std.specs.List.{slice_get}
 use Rattle.model_base.specs.declared.shape.Shape.{Shape}
 use Rattle.model_record.specs.declared.group.Whole.{Whole}
-use Rattle.model_log.specs.Device.{log_block}
+use Rattle.model_log.specs.{log_block}
 use Rattle.model_log.specs.declared.block.BlockView.{BlockView}
-use Rattle.model_store.specs.Scan.{AreGroupsOf, view_at, lsn_at, joined, groups_start}
+use Rattle.model_store.specs.{AreGroupsOf, groups_start, joined, lsn_at, view_at}
 use Rattle.model_store.proofs.Ending.{IsGroupsStart, EndsWithin, AreFirstsIn, first-place, starts-among, ends-behind, ends-among}
 use Rattle.model_store.proofs.Taking.{view_at-some}
 use Rattle.model_opening.proofs.Rows.{joined-short}

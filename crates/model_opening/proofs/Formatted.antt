@@ -5,30 +5,23 @@ use Rattle.std.specs.List.{slice_get}
 use Rattle.std.specs.Option.{option_map}
 use Rattle.std.specs.Prelude.{nat_le, nat_lt}
 use Rattle.std.proofs.lemmas.List.{drop-take, take-take, length-replicate, replicate-append-replicate, length-take-le}
-use Rattle.model_base.specs.Limits.{IsWithinLimits}
+use Rattle.model_base.specs.{IsWithinLimits}
 use Rattle.model_base.specs.declared.shape.Shape.{Shape}
 use Rattle.model_base.specs.declared.limits.TheConstants.{BLOCK_SIZE, START_LSN}
-use Rattle.model_datadev.specs.Stored.{IsOpened, IsUpTo, copied}
+use Rattle.model_datadev.specs.{copied, IsOpened, IsUpTo}
 use Rattle.model_datadev.proofs.Zeros.{zeros-opened}
 use Rattle.model_datadev.proofs.Stretches.{stretch-piece}
-use Rattle.model_device.specs.Disk.{Disk, sector, settled}
-use Rattle.model_log.specs.Block.{read_block, fits_checksum}
-use Rattle.model_log.specs.Checkpoint.{checkpoint_text, read_checkpoint, is_checkpoint, place_of}
-use Rattle.model_log.specs.Device.{header_block, log_block, log_device_length, newer, newest_checkpoint}
-use Rattle.model_log.specs.Head.{head_text, read_head}
-use Rattle.model_log.specs.Lsn.{offset_of}
+use Rattle.model_device.specs.{sector, settled}
+use Rattle.model_device.specs.Disk.{Disk}
+use Rattle.model_log.specs.{checkpoint_text, fits_checksum, head_text, header_block, is_checkpoint, log_block, log_device_length, newer, newest_checkpoint, offset_of, place_of, read_block, read_checkpoint, read_head}
 use Rattle.model_log.specs.declared.block.BlockView.{BlockView}
 use Rattle.model_log.specs.declared.head.Head.TheVariants.{Good, Unformatted}
 use Rattle.model_log.proofs.HeadRound.{head-reads_back}
 use Rattle.model_log.proofs.CheckpointRound.{checkpoint-reads_back}
-use Rattle.model_number.specs.Crc32c.{crc_of, register_after, after_byte, after_eight_bits, after_bit}
-use Rattle.model_number.specs.Field.{field}
-use Rattle.model_page.specs.Blank.{blank_page}
-use Rattle.model_page.specs.Copies.{IsInPlace, copy_lsn, copy_lsn_by, slot_bytes, stretch_at, place_lsn_by, data_device_length}
-use Rattle.model_page.specs.Page.{user_part, page_check}
+use Rattle.model_number.specs.{after_bit, after_byte, after_eight_bits, crc_of, field, register_after}
+use Rattle.model_page.specs.{blank_page, copy_lsn, copy_lsn_by, data_device_length, IsInPlace, page_check, place_lsn_by, slot_bytes, stretch_at, user_part}
 use Rattle.model_page.specs.declared.content.Content.{Content}
-use Rattle.model_store.specs.Reading.{IsReading, IsReadPage, IsOrderly, Refuses, HasDevices}
-use Rattle.model_store.specs.Scan.{Taken, taken_from, view_at, lsn_at}
+use Rattle.model_store.specs.{HasDevices, IsOrderly, IsReading, IsReadPage, lsn_at, Refuses, Taken, taken_from, view_at}
 use Rattle.model_store.specs.declared.refusal.Refusal.TheVariants.{NotFormatted}
 use Rattle.model_opening.specs.Cleared.{zero_block}
 use Rattle.model_opening.specs.Formatted.{IsFormattedLog, IsFormattedData, IsFormatted, formatted_store}

@@ -1,12 +1,11 @@
 -- The log device of an opened store: a run can start on it; and what is read while its checkpoint is written.
 use Rattle.std.proofs.Common.{◌≡◌, ◌≢◌, ◌<◌, ◌+◌, ℕ, ◌⊎◌, inl, inr, List, refl, sym, ap, subst, ◌∙◌, ⊎_elim, arith}
 use Rattle.std.proofs.lemmas.Bool.{cases_lt}
-use Rattle.model_device.specs.Disk.{settled}
-use Rattle.model_log.specs.Checkpoint.{place_of}
-use Rattle.model_log.specs.Device.{header_block}
-use Rattle.model_log.specs.Head.{read_head}
-use Rattle.model_store.specs.Reading.{Reading, IsOrderly}
-use Rattle.model_logdev.specs.Fresh.{IsFresh}
+use Rattle.model_device.specs.{settled}
+use Rattle.model_log.specs.{header_block, place_of, read_head}
+use Rattle.model_store.specs.{IsOrderly}
+use Rattle.model_store.specs.Reading.{Reading}
+use Rattle.model_logdev.specs.{IsFresh}
 use Rattle.model_opening.specs.Cleared.{IsCleared, IsClearing, HasSameHeaders}
 use Rattle.model_opening.specs.Next.{IsUnread, IsMarking, IsMarked}
 use Rattle.model_opening.specs.Opened.{IsAtRest, ReadsOpened, start_of, start_block}

@@ -1,9 +1,11 @@
 -- What opening leaves on the two devices, step by step, is read with the opened pages; and in the end a run can start.
 use Rattle.std.proofs.Common.{◌≡◌, ◌+◌, ℕ, inl, false, List, [], refl, sym, subst}
-use Rattle.model_datadev.specs.Stored.{Stored, IsUpTo, read_as}
-use Rattle.model_device.specs.Disk.{Disk, IsImage, settled}
-use Rattle.model_store.specs.Fair.{IsFair}
-use Rattle.model_store.specs.Reading.{Reading, IsReading, IsOrderly}
+use Rattle.model_datadev.specs.{IsUpTo, read_as}
+use Rattle.model_datadev.specs.Stored.{Stored}
+use Rattle.model_device.specs.{IsImage, settled}
+use Rattle.model_device.specs.Disk.{Disk}
+use Rattle.model_store.specs.{IsFair, IsOrderly, IsReading}
+use Rattle.model_store.specs.Reading.{Reading}
 use Rattle.model_opening.specs.Cleared.{IsCleared, IsClearing, HasSameHeaders}
 use Rattle.model_opening.specs.Next.{IsMarking, IsMarked}
 use Rattle.model_opening.specs.Opened.{IsOpenable, ReadsOpened, KeepsOpened, start_of, start_block}

@@ -4,13 +4,12 @@ use Rattle.std.specs.List.{slice_get}
 use Rattle.model_base.specs.declared.shape.Shape.{Shape}
 use Rattle.model_record.specs.declared.group.Whole.{Whole}
 use Rattle.model_log.specs.declared.block.BlockView.{BlockView}
-use Rattle.model_page.specs.Page.{user_part}
-use Rattle.model_page.specs.Copies.{place_lsn, place_bytes, slot_bytes}
+use Rattle.model_page.specs.{place_bytes, place_lsn, slot_bytes, user_part}
 use Rattle.model_page.specs.declared.content.Content.{Content}
 use Rattle.model_datadev.proofs.Kept.{same-copy}
-use Rattle.model_datadev.specs.Stored.{read_as}
-use Rattle.model_store.specs.Reading.{Reading, IsReading, IsOrderly, IsReadPage, IsNoNewerCopy, replayed}
-use Rattle.model_store.specs.Scan.{AreGroupsOf, groups_start}
+use Rattle.model_datadev.specs.{read_as}
+use Rattle.model_store.specs.{AreGroupsOf, groups_start, IsNoNewerCopy, IsOrderly, IsReading, IsReadPage, replayed}
+use Rattle.model_store.specs.Reading.{Reading}
 use Rattle.model_store.proofs.Heads.{checkpoint-bounds}
 use Rattle.model_page.proofs.Kept.{same_kept}
 use Rattle.model_opening.specs.Mended.{IsRepaired, AreHeld}

@@ -3,13 +3,10 @@ use Rattle.std.proofs.Common.{◌≡◌, ◌≢◌, ◌≤◌, ◌<◌, ◌+◌,
 use Rattle.std.proofs.lemmas.Bool.{cases_lt}
 use Rattle.model_base.specs.declared.shape.Shape.{Shape}
 use Rattle.model_record.specs.declared.group.Whole.{Whole}
-use Rattle.model_log.specs.Lsn.{block_of, offset_of, start_after}
-use Rattle.model_log.specs.Block.{read_block}
-use Rattle.model_log.specs.Checkpoint.{place_of, checkpoint_text, read_checkpoint}
-use Rattle.model_log.specs.Device.{header_block, log_block, newer, newest_checkpoint}
+use Rattle.model_log.specs.{block_of, checkpoint_text, header_block, log_block, newer, newest_checkpoint, offset_of, place_of, read_block, read_checkpoint, start_after}
 use Rattle.model_log.specs.declared.block.BlockView.{BlockView}
 use Rattle.model_log.proofs.CheckpointRound.{checkpoint-reads_back}
-use Rattle.model_store.specs.Scan.{IsScan, view_at, lsn_at}
+use Rattle.model_store.specs.{IsScan, lsn_at, view_at}
 use Rattle.model_store.proofs.Places.{has_place}
 use Rattle.model_store.proofs.Taking.{view_at-some}
 use Rattle.model_logdev.proofs.Places.{HasBlocks, place-round}

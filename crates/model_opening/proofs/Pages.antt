@@ -3,16 +3,13 @@ use Rattle.std.proofs.Common.{◌≡◌, ◌<◌, ℕ, zero, suc, inl, inr, fals
 use Rattle.std.specs.List.{slice_get}
 use Rattle.std.specs.List.{slice_index_or as get_or}
 use Rattle.model_device.specs.Disk.{Disk}
-use Rattle.model_page.specs.Blank.{blank_page}
-use Rattle.model_page.specs.Page.{user_part}
-use Rattle.model_page.specs.Copies.{IsKept, copy_lsn, slot_bytes}
+use Rattle.model_page.specs.{blank_page, copy_lsn, IsKept, slot_bytes, user_part}
 use Rattle.model_page.specs.declared.content.Content.{Content}
-use Rattle.model_datadev.specs.Batch.{Fresh, IsNew}
-use Rattle.model_datadev.specs.Repair.{KeepsAll}
-use Rattle.model_datadev.specs.Stored.{IsUpTo, Keeps, Stored, ImageHolds, KeepsPage, copied, read_as}
+use Rattle.model_datadev.specs.{copied, Fresh, ImageHolds, IsNew, IsUpTo, Keeps, KeepsAll, KeepsPage, read_as}
+use Rattle.model_datadev.specs.Stored.{Stored}
 use Rattle.model_datadev.proofs.Kept.{same-copy}
-use Rattle.model_store.specs.Fair.{IsFair}
-use Rattle.model_store.specs.Reading.{Reading, IsReading, IsOrderly, HasOldCopies, IsNoNewerCopy, IsReadPage}
+use Rattle.model_store.specs.{HasOldCopies, IsFair, IsNoNewerCopy, IsOrderly, IsReading, IsReadPage}
+use Rattle.model_store.specs.Reading.{Reading}
 use Rattle.model_opening.specs.Rewritten.{IsRewriting, IsRewritten}
 use Rattle.model_opening.specs.Written.{IsWrittenOver}
 

@@ -6,14 +6,11 @@ use Rattle.std.proofs.lemmas.Bool.{cases_Bool, cases_lt}
 use Rattle.std.proofs.lemmas.Bool.Decides.{nat_tests}
 use Rattle.model_base.specs.declared.shape.Shape.{Shape}
 use Rattle.model_record.specs.declared.group.Whole.{Whole}
-use Rattle.model_record.specs.Group.{groups_of}
-use Rattle.model_log.specs.Lsn.{IsDataLsn}
-use Rattle.model_log.specs.Run.{IsRunOf}
+use Rattle.model_record.specs.{groups_of}
+use Rattle.model_log.specs.{IsDataLsn, IsRunOf}
 use Rattle.model_log.proofs.Runs.{First, first-of, run-first}
 use Rattle.model_page.specs.declared.content.Content.{Content}
-use Rattle.model_store.specs.Apply.{touches, user_after, page_after}
-use Rattle.model_store.specs.Reading.{replayed}
-use Rattle.model_store.specs.Scan.{IsStorable}
+use Rattle.model_store.specs.{IsStorable, page_after, replayed, touches, user_after}
 use Rattle.model_logdev.proofs.Splits.{first-ends}
 
 -- The page has the lsn q from which groups are replayed, or the end of one of them; the next group starts at s.

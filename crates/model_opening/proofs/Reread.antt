@@ -2,17 +2,14 @@
 use Rattle.std.proofs.Common.{◌≡◌, ◌≤◌, ◌<◌, ◌+◌, ◌*◌, ◌%◌, ◌^◌, ℕ, inl, inr, List, [], length, Option, Some, None, refl, sym, ap, subst, ◌∙◌, ⊎_elim, arith}
 use Rattle.std.specs.List.{slice_get}
 use Rattle.model_base.specs.declared.shape.Shape.{Shape}
-use Rattle.model_base.specs.Limits.{IsWithinLimits}
+use Rattle.model_base.specs.{IsWithinLimits}
 use Rattle.model_record.specs.declared.group.Whole.{Whole}
-use Rattle.model_log.specs.Checkpoint.{place_of, read_checkpoint}
-use Rattle.model_log.specs.Head.{read_head}
-use Rattle.model_log.specs.Block.{read_block}
-use Rattle.model_log.specs.Device.{header_block, log_block, log_device_length, newer, newest_checkpoint}
+use Rattle.model_log.specs.{header_block, log_block, log_device_length, newer, newest_checkpoint, place_of, read_block, read_checkpoint, read_head}
 use Rattle.model_log.specs.declared.block.BlockView.{BlockView}
-use Rattle.model_page.specs.Copies.{IsKept}
+use Rattle.model_page.specs.{IsKept}
 use Rattle.model_page.specs.declared.content.Content.{Content}
-use Rattle.model_store.specs.Reading.{Reading, IsReading, IsOrderly, HasHead, IsReadPage, replayed}
-use Rattle.model_store.specs.Scan.{AreGroupsOf, IsScan, groups_start}
+use Rattle.model_store.specs.{AreGroupsOf, groups_start, HasHead, IsOrderly, IsReading, IsReadPage, IsScan, replayed}
+use Rattle.model_store.specs.Reading.{Reading}
 use Rattle.model_store.proofs.Folding.{read-not_ahead}
 use Rattle.model_store.proofs.Heads.{good-limits, checkpoint-bounds}
 use Rattle.model_page.proofs.Kept.{same_kept}

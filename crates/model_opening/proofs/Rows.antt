@@ -7,11 +7,9 @@ use Rattle.std.proofs.lemmas.Bool.{cases_Bool}
 use Rattle.std.proofs.lemmas.Bool.Decides.{nat_tests}
 use Rattle.model_base.specs.declared.shape.Shape.{Shape}
 use Rattle.model_base.specs.declared.limits.TheConstants.{LSN_LIMIT}
-use Rattle.model_log.specs.Lsn.{offset_of}
-use Rattle.model_log.specs.Block.{read_block, is_block_at, is_full, fits_number, view_of, is_length, is_first, fits_checksum}
-use Rattle.model_log.specs.Device.{log_block, log_device_length}
+use Rattle.model_log.specs.{fits_checksum, fits_number, is_block_at, is_first, is_full, is_length, log_block, log_device_length, offset_of, read_block, view_of}
 use Rattle.model_log.specs.declared.block.BlockView.{BlockView}
-use Rattle.model_store.specs.Scan.{Taken, taken_from, bytes_of, view_at, data_at, lsn_at, joined, groups_start}
+use Rattle.model_store.specs.{bytes_of, data_at, groups_start, joined, lsn_at, Taken, taken_from, view_at}
 use Rattle.model_store.proofs.Taking.{data_at-some}
 use Rattle.model_logdev.proofs.Places.{HasBlocks, place-within}
 

@@ -2,9 +2,8 @@
 use Rattle.std.proofs.Common.{◌≡◌, ◌≢◌, ◌&&◌, ◌≤◌, ◌<◌, ◌+◌, ◌*◌, ◌%◌, ◌^◌, ℕ, Bool, true, false, cond, List, Some, None, refl, sym, ap, ◌∙◌, arith}
 use Rattle.std.proofs.lemmas.Bool.Decides.{nat_tests}
 use Rattle.model_base.specs.declared.shape.Shape.{Shape}
-use Rattle.model_number.specs.Field.{field}
-use Rattle.model_log.specs.Lsn.{block_number}
-use Rattle.model_log.specs.Block.{read_block, is_block_at, fits_number, view_of, is_length, is_first, fits_checksum}
+use Rattle.model_number.specs.{field}
+use Rattle.model_log.specs.{block_number, fits_checksum, fits_number, is_block_at, is_first, is_length, read_block, view_of}
 use Rattle.model_log.specs.declared.block.BlockView.{BlockView}
 use Rattle.model_logdev.proofs.Places.{HasBlocks}
 use Rattle.model_opening.specs.Cleared.{zero_block}

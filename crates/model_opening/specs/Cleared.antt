@@ -3,9 +3,8 @@
 use Rattle.std.specs.Prelude.{ℕ, ◌≡◌, ◌≤◌, ◌<◌, ◌⊎◌, List, length, replicate}
 use Rattle.model_base.specs.declared.shape.Shape.{Shape}
 use Rattle.model_base.specs.declared.limits.TheConstants.{BLOCK_SIZE}
-use Rattle.model_log.specs.Lsn.{block_of}
-use Rattle.model_log.specs.Device.{header_block, log_block}
-use Rattle.model_logdev.specs.Held.{IsInRound}
+use Rattle.model_log.specs.{block_of, header_block, log_block}
+use Rattle.model_logdev.specs.{IsInRound}
 
 -- the kept range: from the checkpoint's block to the block before that of the lsn at which the run will start
 pub record IsKept (shape : Shape) (ckpt start b : ℕ) : Type 0 where

@@ -2,14 +2,13 @@
 use Rattle.std.specs.Prelude.{ℕ, ◌≡◌, ◌≤◌, ◌<◌, ◌+◌, ◌*◌, ◌%◌, ◌⊎◌, List, [], length}
 use Rattle.model_base.specs.declared.shape.Shape.{Shape}
 use Rattle.model_base.specs.declared.limits.TheConstants.{BLOCK_SIZE, START_LSN}
-use Rattle.model_device.specs.Disk.{Disk, IsImage, sector}
-use Rattle.model_log.specs.Checkpoint.{checkpoint_text}
-use Rattle.model_log.specs.Device.{header_block, log_block, log_device_length}
-use Rattle.model_log.specs.Head.{head_text}
+use Rattle.model_device.specs.{IsImage, sector}
+use Rattle.model_device.specs.Disk.{Disk}
+use Rattle.model_log.specs.{checkpoint_text, head_text, header_block, log_block, log_device_length}
 use Rattle.model_log.specs.declared.layout.TheConstants.{BLOCK_HEADER}
-use Rattle.model_page.specs.Blank.{blank_pages}
-use Rattle.model_page.specs.Copies.{data_device_length}
-use Rattle.model_store.specs.Reading.{Reading, Refuses, IsOrderly}
+use Rattle.model_page.specs.{blank_pages, data_device_length}
+use Rattle.model_store.specs.{IsOrderly, Refuses}
+use Rattle.model_store.specs.Reading.{Reading}
 use Rattle.model_store.specs.declared.refusal.Refusal.TheVariants.{NotFormatted}
 use Rattle.model_opening.specs.Cleared.{zero_block}
 use Rattle.model_opening.specs.Opened.{IsAtRest}

@@ -1,8 +1,8 @@
 -- The data device once the places that didn't pass are repaired.
 use Rattle.std.specs.Prelude.{ℕ, ◌≡◌, ◌≢◌, ◌<◌, List, length, None}
 use Rattle.model_base.specs.declared.shape.Shape.{Shape}
-use Rattle.model_datadev.specs.Repair.{KeepsSame}
-use Rattle.model_page.specs.Copies.{IsInPlace, place_lsn, slot_bytes}
+use Rattle.model_datadev.specs.{KeepsSame}
+use Rattle.model_page.specs.{IsInPlace, place_lsn, slot_bytes}
 use Rattle.model_page.specs.declared.content.Content.{Content}
 
 -- the kept pages and the slots are those that were, and each place passes

@@ -2,10 +2,8 @@
 use Rattle.std.specs.Prelude.{ℕ, ◌≡◌, ◌≢◌, ◌<◌, ◌%◌, ◌⊎◌, List, length, None}
 use Rattle.model_base.specs.declared.shape.Shape.{Shape}
 use Rattle.model_base.specs.declared.limits.TheConstants.{BLOCK_SIZE}
-use Rattle.model_log.specs.Block.{read_block}
-use Rattle.model_log.specs.Checkpoint.{place_of, checkpoint_text}
-use Rattle.model_log.specs.Device.{header_block, log_block}
-use Rattle.model_logdev.specs.Held.{IsInRound}
+use Rattle.model_log.specs.{checkpoint_text, header_block, log_block, place_of, read_block}
+use Rattle.model_logdev.specs.{IsInRound}
 
 -- no block from that of the lsn up to one round of the log on is read
 abbrev pub IsUnread : Shape → ℕ → List ℕ → Type 0

@@ -1,10 +1,11 @@
 -- What opening a store needs, and what it leaves to be read wherever it ends.
 use Rattle.std.specs.Prelude.{ℕ, ◌≡◌, ◌+◌, ◌-◌, ◌⊎◌, List, []}
-use Rattle.model_device.specs.Disk.{Disk, IsImage, HasOneImage}
-use Rattle.model_log.specs.Lsn.{start_after}
+use Rattle.model_device.specs.{HasOneImage, IsImage}
+use Rattle.model_device.specs.Disk.{Disk}
+use Rattle.model_log.specs.{start_after}
 use Rattle.model_log.specs.declared.layout.TheConstants.{BLOCK_HEADER}
-use Rattle.model_store.specs.Fair.{IsFair}
-use Rattle.model_store.specs.Reading.{Reading, IsReading, IsOrderly, HasOldCopies}
+use Rattle.model_store.specs.{HasOldCopies, IsFair, IsOrderly, IsReading}
+use Rattle.model_store.specs.Reading.{Reading}
 
 -- the device has one image, and reads give it
 pub record IsAtRest (disk : Disk) : Type 0 where

@@ -2,8 +2,9 @@
 use Rattle.std.specs.Prelude.{◌+◌, [], false}
 use Rattle.model_device.specs.Disk.{Disk}
 use Rattle.model_store.specs.Reading.{Reading}
-use Rattle.model_logdev.specs.Fresh.{IsFresh}
-use Rattle.model_datadev.specs.Stored.{Stored, IsUpTo, read_as}
+use Rattle.model_logdev.specs.{IsFresh}
+use Rattle.model_datadev.specs.{IsUpTo, read_as}
+use Rattle.model_datadev.specs.Stored.{Stored}
 use Rattle.model_opening.specs.Opened.{start_of}
 
 -- The log device has the next checkpoint where the run starts, and nothing behind it is read; each place of the data device

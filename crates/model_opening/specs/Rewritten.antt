@@ -2,9 +2,10 @@
 -- read.
 use Rattle.std.specs.Prelude.{ℕ, ◌≡◌, ◌≤◌, ◌⊎◌, List, length, slice_get, Some}
 use Rattle.model_base.specs.declared.shape.Shape.{Shape}
-use Rattle.model_page.specs.Copies.{IsKept, data_device_length}
+use Rattle.model_page.specs.{data_device_length, IsKept}
 use Rattle.model_page.specs.declared.content.Content.{Content}
-use Rattle.model_store.specs.Reading.{Reading, HasOldCopies}
+use Rattle.model_store.specs.{HasOldCopies}
+use Rattle.model_store.specs.Reading.{Reading}
 
 -- page p is kept as it was kept on the device before, or as it is read
 pub record KeepsEither (shape : Shape) (old new : List ℕ) (p : ℕ) (page : Content) : Type 0 where

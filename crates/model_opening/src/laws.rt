@@ -1,16 +1,15 @@
 // What holds of every store while it is opened.
 ghost use Rattle.std.specs.Prelude.{◌≡◌, ◌+◌, ℕ, List, [], length, false};
-ghost use Rattle.model_base.specs.Limits.{IsWithinLimits};
+ghost use Rattle.model_base.specs.{IsWithinLimits};
 ghost use Rattle.model_base.specs.declared.shape.Shape.{Shape};
-ghost use Rattle.model_device.specs.Calls.{Crashes};
-ghost use Rattle.model_device.specs.Disk.{Disk, IsImage, settled};
-ghost use Rattle.model_datadev.specs.Batch.{Fresh};
-ghost use Rattle.model_datadev.specs.Repair.{KeepsAll};
-ghost use Rattle.model_datadev.specs.Stored.{IsUpTo, Keeps, Stored, read_as};
-ghost use Rattle.model_logdev.specs.Fresh.{IsFresh};
+ghost use Rattle.model_device.specs.{Crashes, IsImage, settled};
+ghost use Rattle.model_device.specs.Disk.{Disk};
+ghost use Rattle.model_datadev.specs.{Fresh, IsUpTo, Keeps, KeepsAll, read_as};
+ghost use Rattle.model_datadev.specs.Stored.{Stored};
+ghost use Rattle.model_logdev.specs.{IsFresh};
 ghost use Rattle.model_page.specs.declared.content.Content.{Content};
-ghost use Rattle.model_store.specs.Fair.{IsFair};
-ghost use Rattle.model_store.specs.Reading.{Reading, IsReading, IsOrderly};
+ghost use Rattle.model_store.specs.{IsFair, IsOrderly, IsReading};
+ghost use Rattle.model_store.specs.Reading.{Reading};
 ghost use Rattle.model_opening.specs.Again.{HasRoom, OpensAgain};
 ghost use Rattle.model_opening.specs.Cleared.{IsClearing, IsCleared, HasSameHeaders};
 ghost use Rattle.model_opening.specs.Formatted.{IsFormatted, formatted_store};

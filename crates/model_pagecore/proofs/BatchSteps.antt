@@ -6,14 +6,9 @@ use mathlib.Core.Option.{some, some-injective, some-ne-none}
 use native.Mathlib.Decide.{dec_le, ℕ_discrete}
 use Rattle.model_base.specs.declared.limits.TheConstants.{LSN_LIMIT}
 use Rattle.model_core.proofs.Groups.{some_same}
-use Rattle.model_core.specs.Actors.{Actor}
+use Rattle.model_core.specs.{Actor, BatchPage, CleanerState, Entry, KeptPage, Listed, lsn, page_words_at, SharedWords, UserState}
 use Rattle.model_core.specs.DataSide.{DataSide}
-use Rattle.model_core.specs.FlushLists.{Listed}
-use Rattle.model_core.specs.Groups.{Entry, KeptPage}
-use Rattle.model_core.specs.Layout.{SharedWords, page_words_at}
-use Rattle.model_core.specs.Lsn.{lsn}
 use Rattle.model_core.specs.Setup.{Setup}
-use Rattle.model_core.specs.States.{CleanerState, BatchPage, UserState}
 use Rattle.model_pagecore.proofs.PageHistory.{last_most, upto_whole}
 use Rattle.model_pagecore.proofs.PageFrame.{log_same, longer_same, page_moved, page_others}
 use Rattle.model_pagecore.proofs.PageStep.{mate}

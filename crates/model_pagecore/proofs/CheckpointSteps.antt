@@ -5,16 +5,9 @@ use Rattle.std.specs.Prelude.{None, min, slice_set}
 use lib.ListN.{get_elem?}
 use mathlib.Core.Option.{some, some-ne-none}
 use Rattle.model_core.proofs.Groups.{some_same}
-use Rattle.model_core.specs.Actors.{Actor}
-use Rattle.model_core.specs.CheckpointerProgram.{checkpointer_took}
-use Rattle.model_core.specs.CleanerProgram.{cleaner_took, first_of_batch, no_page}
+use Rattle.model_core.specs.{Actor, BatchPage, checkpointer_took, CheckpointerState, cleaner_took, CleanerState, Entry, first_of_batch, floor, Listed, lsn, no_page, page_words_at, PageWords, SharedWords, UserState, with_page_words}
 use Rattle.model_core.specs.DataSide.{DataSide}
-use Rattle.model_core.specs.FlushLists.{Listed}
-use Rattle.model_core.specs.Groups.{Entry}
-use Rattle.model_core.specs.Layout.{PageWords, SharedWords, page_words_at, with_page_words}
-use Rattle.model_core.specs.Lsn.{floor, lsn}
 use Rattle.model_core.specs.Setup.{Setup}
-use Rattle.model_core.specs.States.{CleanerState, CheckpointerState, BatchPage, UserState}
 use Rattle.model_core.specs.declared.steps.CleanerStep.{CleanerStep}
 use Rattle.model_pagecore.proofs.PageFrame.{log_same, longer_same, page_moved, page_others}
 use Rattle.model_pagecore.proofs.PageStep.{at_else, at_here, freed_sheet, latched_sheet, leaf_else, leaf_here, leaf_step, list_at, list_step, mate, page_quiet}

@@ -5,15 +5,9 @@ use Rattle.std.specs.Prelude.{slice_index}
 use lib.ListN.{get_elem?}
 use mathlib.Core.Option.{some, some-ne-none}
 use Rattle.model_core.proofs.Groups.{at_end, at_less, changed, changed_else, changed_here}
-use Rattle.model_core.specs.Actors.{Actor}
-use Rattle.model_core.specs.CleanerProgram.{cleaner_took, no_page, next_in_round, page_loaded}
+use Rattle.model_core.specs.{Actor, BatchPage, cleaner_took, CleanerState, Entry, Listed, lsn, next_in_round, no_page, page_loaded, page_words_at, PageWords, SharedWords, UserState, with_page_words}
 use Rattle.model_core.specs.DataSide.{DataSide}
-use Rattle.model_core.specs.FlushLists.{Listed}
-use Rattle.model_core.specs.Groups.{Entry}
-use Rattle.model_core.specs.Layout.{PageWords, SharedWords, page_words_at, with_page_words}
-use Rattle.model_core.specs.Lsn.{lsn}
 use Rattle.model_core.specs.Setup.{Setup}
-use Rattle.model_core.specs.States.{CleanerState, BatchPage, UserState}
 use Rattle.model_pagecore.proofs.PageStep.{at_else, at_here, freed_sheet, latched_sheet, leaf_else, leaf_here, leaf_step, page_quiet}
 use Rattle.model_pagecore.specs.Growing.{Grows}
 use Rattle.model_pagecore.specs.PageFacts.{PageGhost, listed}

@@ -7,17 +7,9 @@ use mathlib.Core.Option.{some}
 use native.Mathlib.Decide.{dec_le, ℕ_discrete}
 use Rattle.model_core.proofs.Groups.{changed, changed_else, changed_here, some_same}
 use Rattle.model_core.proofs.Lsns.{ring_same}
-use Rattle.model_core.specs.Actors.{Actor}
-use Rattle.model_core.specs.CloserProgram.{closer_took}
+use Rattle.model_core.specs.{Actor, change_at, changes, closer_took, CloserState, Entry, entry, group_end, line, Listed, lsn, SharedWords, user_took, UserState}
 use Rattle.model_core.specs.DataSide.{DataSide}
-use Rattle.model_core.specs.FlushLists.{Listed}
-use Rattle.model_core.specs.Groups.{Entry}
-use Rattle.model_core.specs.Layout.{SharedWords}
-use Rattle.model_core.specs.Lsn.{lsn}
-use Rattle.model_core.specs.Program.{entry}
 use Rattle.model_core.specs.Setup.{Setup}
-use Rattle.model_core.specs.States.{CloserState, UserState}
-use Rattle.model_core.specs.UserProgram.{change_at, changes, line, group_end, user_took}
 use Rattle.model_pagecore.proofs.PageStep.{named, page_quiet, ring_step}
 use Rattle.model_pagecore.specs.Growing.{Grows}
 use Rattle.model_pagecore.specs.PageFacts.{PageGhost, ClosedLink, listed}

@@ -6,18 +6,9 @@ use mathlib.Core.Option.{some}
 use native.Mathlib.Decide.{dec_le, ℕ_discrete}
 use Rattle.model_core.proofs.Groups.{changed, changed_else, changed_here, some_same}
 use Rattle.model_core.proofs.Lsns.{lsn_some}
-use Rattle.model_core.specs.Actors.{Actor}
-use Rattle.model_core.specs.CheckpointerProgram.{lowered}
-use Rattle.model_core.specs.CleanerProgram.{first_of_batch}
+use Rattle.model_core.specs.{Actor, BatchPage, CheckpointerState, CleanerState, Each, Entry, entry, first_of_batch, joined, line, Listed, lowered, lsn, oldest_end, oldest_of, page_of, page_words_at, Relaxed, SharedWords, user_took, UserState, without}
 use Rattle.model_core.specs.DataSide.{DataSide}
-use Rattle.model_core.specs.FlushLists.{Each, Listed, Relaxed, joined, oldest_end, oldest_of, without}
-use Rattle.model_core.specs.Groups.{Entry}
-use Rattle.model_core.specs.Layout.{SharedWords, page_words_at}
-use Rattle.model_core.specs.Lsn.{lsn}
-use Rattle.model_core.specs.Program.{entry}
 use Rattle.model_core.specs.Setup.{Setup}
-use Rattle.model_core.specs.States.{CleanerState, CheckpointerState, BatchPage, UserState}
-use Rattle.model_core.specs.UserProgram.{line, page_of, user_took}
 use Rattle.model_pagecore.proofs.PageHistory.{each_joined, each_more, each_without, joined_else, joined_here, last_most, oldest_after, relaxed_joined, relaxed_without, without_else, without_here}
 use Rattle.model_pagecore.proofs.PageStep.{list_at, list_mem, list_sheet, list_step, work_here}
 use Rattle.model_pagecore.specs.Growing.{Grows}

@@ -7,16 +7,9 @@ use mathlib.Core.Option.{some}
 use native.Mathlib.Decide.{dec_le, ℕ_discrete}
 use Rattle.model_core.proofs.Lists.{at_longer, at_set}
 use Rattle.model_core.proofs.Groups.{at_end, at_less}
-use Rattle.model_core.specs.Actors.{Actor}
-use Rattle.model_core.specs.CleanerProgram.{first_of_batch}
+use Rattle.model_core.specs.{Actor, BatchPage, cells_of, change_at, changes, CheckpointerState, CleanerState, CloserState, Entry, entry, first_of_batch, KeptPage, line, Listed, page_of, page_words_at, PageWords, SharedWords, UserState}
 use Rattle.model_core.specs.DataSide.{DataSide}
-use Rattle.model_core.specs.FlushLists.{Listed}
-use Rattle.model_core.specs.Groups.{Entry, KeptPage}
-use Rattle.model_core.specs.Layout.{PageWords, SharedWords, page_words_at}
-use Rattle.model_core.specs.Program.{entry}
 use Rattle.model_core.specs.Setup.{Setup}
-use Rattle.model_core.specs.States.{CleanerState, CloserState, CheckpointerState, BatchPage, UserState}
-use Rattle.model_core.specs.UserProgram.{cells_of, change_at, changes, line, page_of}
 use Rattle.model_core.specs.declared.steps.CleanerStep.{CleanerStep}
 use Rattle.model_core.specs.declared.steps.CloserStep.{CloserStep}
 use Rattle.model_core.specs.declared.steps.UserStep.{UserStep}

@@ -5,9 +5,7 @@ use lib.ListN.{get_elem?}
 use native.Mathlib.Decide.{dec_le, ℕ_discrete}
 use Rattle.model_core.proofs.Groups.{some_same, tiles_at, tiles_le}
 use Rattle.model_core.proofs.Lsns.{lsn_le, lsn_less}
-use Rattle.model_core.specs.FlushLists.{Each, Listed, Relaxed, joined, oldest_of, without}
-use Rattle.model_core.specs.Groups.{PageChange, Entry, CellWrite, Tiles, end_of}
-use Rattle.model_core.specs.Lsn.{lsn}
+use Rattle.model_core.specs.{CellWrite, Each, end_of, Entry, joined, Listed, lsn, oldest_of, PageChange, Relaxed, Tiles, without}
 use Rattle.model_pagecore.specs.Pages.{EndsAt, Laid, cells_on, end_lsn, last_end, write_cells, touches, applied_upto, applied_all}
 use mathlib.Core.Option as maybe
 use Rattle.model_core.specs.declared.limits.TheConstants.{CLOSED_LINKS}

@@ -4,15 +4,9 @@ use Rattle.std.specs.Prelude.{slice_index, slice_set}
 use lib.ListN.{get_elem?}
 use mathlib.Core.Option.{some}
 use native.Mathlib.Decide.{ℕ_discrete}
-use Rattle.model_core.specs.Actors.{Actor}
+use Rattle.model_core.specs.{Actor, blank_words, CellWrite, change_at, Entry, Listed, lsn, page_words_at, PageChange, PageWords, SharedWords, UserState, with_page_words}
 use Rattle.model_core.specs.DataSide.{DataSide}
-use Rattle.model_core.specs.FlushLists.{Listed}
-use Rattle.model_core.specs.Groups.{PageChange, Entry, CellWrite}
-use Rattle.model_core.specs.Layout.{PageWords, SharedWords, blank_words, page_words_at, with_page_words}
-use Rattle.model_core.specs.Lsn.{lsn}
 use Rattle.model_core.specs.Setup.{Setup}
-use Rattle.model_core.specs.States.{UserState}
-use Rattle.model_core.specs.UserProgram.{change_at}
 use Rattle.model_pagecore.proofs.PageHistory.{each_more}
 use Rattle.model_pagecore.proofs.PageFrame.{log_same, longer_same, page_later, page_moved, page_others, one_page_later}
 use Rattle.model_pagecore.proofs.Unfinished.{unfinished_later}

@@ -7,16 +7,9 @@ use native.Mathlib.Decide.{dec_le}
 use Rattle.model_core.proofs.Lists.{at_last}
 use Rattle.model_core.proofs.Groups.{at_end, at_less}
 use Rattle.model_core.proofs.Lsns.{lsn_less, lsn_some}
-use Rattle.model_core.specs.Actors.{Actor}
+use Rattle.model_core.specs.{Actor, change_at, changes, Entry, entry, group_bytes, line, Listed, lsn, page_words_at, SharedWords, user_took, UserState}
 use Rattle.model_core.specs.DataSide.{DataSide}
-use Rattle.model_core.specs.FlushLists.{Listed}
-use Rattle.model_core.specs.Groups.{Entry}
-use Rattle.model_core.specs.Layout.{SharedWords, page_words_at}
-use Rattle.model_core.specs.Lsn.{lsn}
-use Rattle.model_core.specs.Program.{entry}
 use Rattle.model_core.specs.Setup.{Setup}
-use Rattle.model_core.specs.States.{UserState}
-use Rattle.model_core.specs.UserProgram.{change_at, changes, line, group_bytes, user_took}
 use Rattle.model_pagecore.proofs.PageHistory.{upto_snoc}
 use Rattle.model_pagecore.proofs.PageFrame.{log_snoc, longer_snoc, page_moved, page_others, one_page_later}
 use Rattle.model_pagecore.proofs.PageStep.{mate, named}

@@ -1,8 +1,7 @@
 -- What stays of a batch whose writing failed.
 use Rattle.std.proofs.Common.{List, [], arith, sym, ℕ, ◌∙◌, ◌≡◌, ◌≤◌}
 use mathlib.Core.Option.{some-ne-none}
-use Rattle.model_core.specs.Groups.{Entry, KeptPage}
-use Rattle.model_core.specs.States.{BatchPage}
+use Rattle.model_core.specs.{BatchPage, Entry, KeptPage}
 use Rattle.model_pagecore.proofs.PageFrame.{Longer}
 use Rattle.model_pagecore.specs.PageFacts.{AreUnfinished}
 use Rattle.model_pagecore.specs.Pages.{applied_upto}

@@ -7,16 +7,9 @@ use mathlib.Core.Option.{some}
 use native.Mathlib.Decide.{ℕ_discrete}
 use Rattle.model_core.proofs.Groups.{changed, changed_else, changed_here}
 use Rattle.model_core.proofs.Lsns.{lsn_some}
-use Rattle.model_core.specs.Actors.{Actor}
+use Rattle.model_core.specs.{Actor, after_link, answered, cells_of, CellWrite, change_at, changes, Entry, entry, group_end, line, Listed, lsn, mode, page_of, page_words_at, PageWords, put_of, SharedWords, to_next_page, user_took, UserState, with_page_words}
 use Rattle.model_core.specs.DataSide.{DataSide}
-use Rattle.model_core.specs.FlushLists.{Listed}
-use Rattle.model_core.specs.Groups.{Entry, CellWrite}
-use Rattle.model_core.specs.Layout.{PageWords, SharedWords, page_words_at, with_page_words}
-use Rattle.model_core.specs.Lsn.{lsn}
-use Rattle.model_core.specs.Program.{entry}
 use Rattle.model_core.specs.Setup.{Setup}
-use Rattle.model_core.specs.States.{UserState}
-use Rattle.model_core.specs.UserProgram.{answered, cells_of, change_at, changes, line, mode, group_end, page_of, put_of, after_link, to_next_page, user_took}
 use Rattle.model_pagecore.proofs.PageHistory.{last_after, puts_snoc, take_all, take_next, whole_after}
 use Rattle.model_pagecore.proofs.PageStep.{at_else, at_here, cells_mine, freed_sheet, latched_sheet, leaf_step, list_at, list_step, page_quiet, work_here}
 use Rattle.model_pagecore.specs.Growing.{Grows}

@@ -4,9 +4,7 @@ use lib.ListN.{get_elem?}
 use mathlib.Core.Option.{some}
 use Rattle.model_base.specs.declared.limits.TheConstants.{LSN_LIMIT}
 use Rattle.model_core.specs.DataSide.{DataSide}
-use Rattle.model_core.specs.FailureCodes.{IsDataCode}
-use Rattle.model_core.specs.Groups.{KeptPage}
-use Rattle.model_core.specs.States.{BatchPage}
+use Rattle.model_core.specs.{BatchPage, IsDataCode, KeptPage}
 use Rattle.model_core.specs.declared.limits.TheConstants.{BATCH_PAGES, FRAME_CELLS}
 
 -- the kept pages with a batch

@@ -1,6 +1,6 @@
 -- What each turn leaves of what only the proof knows of the pages.
 use Rattle.std.specs.Prelude.{true, ℕ, ◌≡◌, ◌≤◌}
-use Rattle.model_core.specs.Layout.{SharedWords, page_words_at}
+use Rattle.model_core.specs.{page_words_at, SharedWords}
 use Rattle.model_pagecore.specs.PageFacts.{PageGhost}
 
 -- the bound of the checkpoints doesn't fall, a group that is closed stays so, and so does who took a latch that was held

@@ -2,10 +2,7 @@
 use Rattle.std.specs.Prelude.{List, length, ℕ, ◌<◌, ◌≡◌, ◌≤◌, ◌⊎◌}
 use lib.ListN.{get_elem?}
 use mathlib.Core.Option.{some}
-use Rattle.model_core.specs.Actors.{Actor}
-use Rattle.model_core.specs.Groups.{PageChange}
-use Rattle.model_core.specs.States.{BatchPage, CleanerState, UserState}
-use Rattle.model_core.specs.UserProgram.{change_at, changes}
+use Rattle.model_core.specs.{Actor, BatchPage, change_at, changes, CleanerState, PageChange, UserState}
 use Rattle.model_core.specs.declared.steps.CleanerStep.{CleanerStep}
 use Rattle.model_core.specs.declared.steps.UserStep.{UserStep}
 use Rattle.model_core.specs.Actors as actor

@@ -3,12 +3,8 @@ use Rattle.std.specs.Prelude.{Bool, List, slice_index, true, ℕ, ◌%◌, ◌+�
 use lib.ListN.{get_elem?}
 use mathlib.Core.Option.{some}
 use Rattle.model_core.specs.DataSide.{DataSide}
-use Rattle.model_core.specs.FlushLists.{Each, Listed, Relaxed, oldest_of}
-use Rattle.model_core.specs.Groups.{Entry, KeptPage}
-use Rattle.model_core.specs.Layout.{SharedWords, page_words_at}
-use Rattle.model_core.specs.Lsn.{lsn}
+use Rattle.model_core.specs.{BatchPage, Each, Entry, KeptPage, Listed, lsn, oldest_of, page_words_at, Relaxed, SharedWords}
 use Rattle.model_core.specs.Setup.{Setup}
-use Rattle.model_core.specs.States.{BatchPage}
 use Rattle.model_pagecore.specs.DataLaws.{AreApart}
 use Rattle.model_pagecore.specs.Pages.{EndsAt, OnePage, applied_upto, end_lsn, start_lsn}
 use Rattle.model_core.specs.declared.limits.TheConstants.{CLOSED_LINKS, FLUSH_LISTS}

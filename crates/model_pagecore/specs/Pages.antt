@@ -2,9 +2,7 @@
 use Rattle.std.specs.Prelude.{Bool, List, [], cond, false, nat_le, slice_set, take, true, ℕ, ◌<◌, ◌==◌, ◌∷◌, ◌≡◌, ◌≤◌, ◌⊎◌}
 use lib.ListN.{get_elem?}
 use mathlib.Core.Option.{some}
-use Rattle.model_core.specs.Groups.{PageChange, Entry, KeptPage, CellWrite, end_of}
-use Rattle.model_core.specs.Layout.{PageWords}
-use Rattle.model_core.specs.Lsn.{lsn}
+use Rattle.model_core.specs.{CellWrite, end_of, Entry, KeptPage, lsn, PageChange, PageWords}
 
 -- where a group starts and ends
 abbrev pub start_lsn : Entry → ℕ

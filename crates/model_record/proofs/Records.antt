@@ -3,7 +3,7 @@ use Rattle.std.proofs.Common.{◌≡◌, ℕ, ◌+◌, ◌/◌, ◌%◌, ◌<◌
 use Rattle.std.specs.Int.{bytes_high_first}
 use Rattle.std.proofs.lemmas.List.{length-replicate, take_at, drop_at}
 use Rattle.std.proofs.lemmas.List.Elements.{All-replicate}
-use Rattle.model_number.specs.Spelling.{spelling32, spelling64, Spells32}
+use Rattle.model_number.specs.{spelling32, spelling64, Spells32}
 use Rattle.model_record.specs.Record.{IsWidth, IsByte, value_text}
 use Rattle.model_record.specs.Bodies.{IsShort, IsLength, IsBody, IsValue, IsString, IsPlace, IsSpot, IsAfterType}
 use Rattle.model_record.specs.declared.place.Place.{Place}

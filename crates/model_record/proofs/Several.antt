@@ -2,7 +2,7 @@
 use Rattle.std.proofs.Common.{◌≡◌, ℕ, ◌+◌, ◌<◌, ◌^◌, List, [], ◌∷◌, ◌++◌, refl, sym, ap, subst, ◌∙◌, append_assoc, arith}
 use Rattle.std.specs.List.{flat_map, AllByRecursion}
 use Rattle.std.proofs.lemmas.List.{append-nil}
-use Rattle.model_number.specs.Spelling.{spelling32, spelling64}
+use Rattle.model_number.specs.{spelling32, spelling64}
 use Rattle.model_record.specs.Record.{type_of, after_type, record_text, single_text, IsWidth, HasText}
 use Rattle.model_record.specs.Group.{group_text, IsGroup}
 use Rattle.model_record.specs.Bodies.{IsAfterType, IsRecord}

@@ -1,7 +1,7 @@
 -- The texts of a record's parts.
 use Rattle.std.specs.Prelude.{ℕ, ◌≡◌, ◌≤◌, ◌<◌, ◌+◌, ◌^◌, List, ◌∷◌, ◌++◌, length, All}
 use Rattle.std.specs.Int.{bytes_high_first}
-use Rattle.model_number.specs.Spelling.{spelling32}
+use Rattle.model_number.specs.{spelling32}
 use Rattle.model_record.specs.declared.place.Place.{Place}
 use Rattle.model_record.specs.declared.place.Spot.{Spot}
 use Rattle.model_record.specs.declared.rec.Rec.{Rec}

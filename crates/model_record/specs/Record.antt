@@ -3,7 +3,7 @@
 -- MLOG_INIT_FILE_PAGE2.
 use Rattle.std.specs.Prelude.{ℕ, ◌≡◌, ◌≤◌, ◌<◌, ◌+◌, ◌^◌, ◌==◌, ◌⊎◌, if◌then◌else◌, List, [], ◌∷◌, ◌++◌, length, All}
 use Rattle.std.specs.Int.{bytes_high_first}
-use Rattle.model_number.specs.Spelling.{spelling32, spelling64}
+use Rattle.model_number.specs.{spelling32, spelling64}
 use Rattle.model_record.specs.declared.rec.Rec.{Rec}
 use Rattle.model_record.specs.declared.rec.Rec.TheVariants.{Num, Text, Init}
 

@@ -1,6 +1,6 @@
 -- A printed line.
 use Rattle.std.specs.Prelude.{ℕ, List, [], ◌∷◌, ◌++◌}
-use Rattle.model_script.specs.Spelling.{spaced}
+use Rattle.model_script.specs.{spaced}
 
 -- words with single spaces between them, and a line feed
 abbrev pub line_text : List (List ℕ) → List ℕ

@@ -4,12 +4,10 @@ use Rattle.std.specs.Prelude.{nat_le}
 use Rattle.std.specs.List.{AllByRecursion}
 use Rattle.model_base.specs.declared.shape.Shape.{Shape}
 use Rattle.model_record.specs.declared.group.Whole.{Whole}
-use Rattle.model_record.specs.Group.{groups_of}
-use Rattle.model_log.specs.Lsn.{IsDataLsn}
-use Rattle.model_log.specs.Run.{IsRunOf, IsBoundary, spans_of}
+use Rattle.model_record.specs.{groups_of}
+use Rattle.model_log.specs.{IsBoundary, IsDataLsn, IsRunOf, spans_of}
 use Rattle.model_page.specs.declared.content.Content.{Content}
-use Rattle.model_store.specs.Apply.{upto, page_after}
-use Rattle.model_store.specs.Scan.{IsStorable}
+use Rattle.model_store.specs.{IsStorable, page_after, upto}
 use Rattle.model_log.proofs.Runs.{First, first-of, run-first, boundary-reached, boundary-start}
 use Rattle.model_logdev.proofs.Splits.{first-ends, all-behind, all-from}
 use Rattle.model_store.proofs.Folding.{step-lsn}

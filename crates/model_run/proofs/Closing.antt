@@ -4,32 +4,28 @@ use Rattle.std.specs.List.{AllByRecursion}
 use Rattle.std.proofs.lemmas.Option.{slice_get_within}
 use Rattle.std.proofs.lemmas.Bool.Decides.{nat_tests}
 use Rattle.model_base.specs.declared.shape.Shape.{Shape}
-use Rattle.model_base.specs.Limits.{IsWithinLimits}
+use Rattle.model_base.specs.{IsWithinLimits}
 use Rattle.model_record.specs.declared.group.Whole.{Whole}
-use Rattle.model_record.specs.Group.{groups_of}
-use Rattle.model_device.specs.Disk.{Disk, IsImage}
-use Rattle.model_log.specs.Lsn.{IsAtDataStart, start_after}
-use Rattle.model_log.specs.Run.{IsRunOf}
+use Rattle.model_record.specs.{groups_of}
+use Rattle.model_device.specs.{IsImage}
+use Rattle.model_device.specs.Disk.{Disk}
+use Rattle.model_log.specs.{IsAtDataStart, IsRunOf, start_after}
 use Rattle.model_log.specs.declared.block.BlockView.{BlockView}
 use Rattle.model_page.specs.declared.content.Content.{Content}
-use Rattle.model_store.specs.Apply.{folded, page_folded}
-use Rattle.model_store.specs.Fair.{IsFair}
-use Rattle.model_store.specs.Reading.{Reading, IsReadPage, IsNoNewerCopy, HasScan}
-use Rattle.model_page.specs.Copies.{copy_lsn}
+use Rattle.model_store.specs.{folded, HasScan, IsFair, IsNoNewerCopy, IsReadPage, IsStorable, page_folded}
+use Rattle.model_store.specs.Reading.{Reading}
+use Rattle.model_page.specs.{copy_lsn}
 use Rattle.model_run.proofs.Cuts.{IsCut, kept-page, copies-old}
-use Rattle.model_store.specs.Scan.{IsStorable}
 use Rattle.model_store.proofs.Places.{has_place}
 use Rattle.model_script.specs.declared.script.ScriptLine.{ScriptLine}
-use Rattle.model_history.specs.Legal.{IsLegal, IsLegalEntry, FitsMarks}
+use Rattle.model_history.specs.{FitsMarks, IsLegal, IsLegalEntry}
 use Rattle.model_history.specs.declared.entry.Entry.{Entry}
 use Rattle.model_history.specs.declared.entry.Marks.{Marks}
 use Rattle.model_history.specs.declared.entry.State.TheVariants.{Flushed}
-use Rattle.model_theorem.specs.Values.{Opened, Ran}
-use Rattle.model_logdev.specs.Held.{LogHolds}
+use Rattle.model_theorem.specs.{Opened, Ran, ReadsPrefix}
+use Rattle.model_logdev.specs.{CrashReads, FitsStore, LogHolds, ScansTo}
 use Rattle.model_logdev.specs.declared.marks.LogMarks.{LogMarks}
-use Rattle.model_logdev.specs.Reads.{ScansTo, CrashReads, FitsStore}
 use Rattle.model_run.specs.Kept.{DataHolds}
-use Rattle.model_theorem.specs.Run.{ReadsPrefix}
 use Rattle.model_run.specs.Given.{AreGiven}
 use Rattle.model_run.specs.Closed.{Closed, IsClosed, AreMarksBehind, groups_of_run}
 use Rattle.model_store.proofs.Folding.{length-folded, get-folded}

@@ -3,15 +3,12 @@ use Rattle.std.proofs.Common.{◌≡◌, ℕ, ◌<◌, ◌≤◌, ◌⊎◌, inl
 use Rattle.std.specs.List.{AllByRecursion}
 use Rattle.model_base.specs.declared.shape.Shape.{Shape}
 use Rattle.model_record.specs.declared.group.Whole.{Whole}
-use Rattle.model_record.specs.Group.{groups_of}
-use Rattle.model_log.specs.Lsn.{IsDataLsn}
-use Rattle.model_log.specs.Run.{IsRunOf, IsBoundary, spans_of, end_of}
+use Rattle.model_record.specs.{groups_of}
+use Rattle.model_log.specs.{end_of, IsBoundary, IsDataLsn, IsRunOf, spans_of}
 use Rattle.model_page.specs.declared.content.Content.{Content}
-use Rattle.model_store.specs.Apply.{page_folded, upto, touches}
-use Rattle.model_store.specs.Reading.{IsReadPage, IsNoNewerCopy, replayed}
-use Rattle.model_page.specs.Copies.{copy_lsn}
+use Rattle.model_store.specs.{IsNoNewerCopy, IsReadPage, IsStorable, page_folded, replayed, touches, upto}
+use Rattle.model_page.specs.{copy_lsn}
 use Rattle.model_run.proofs.Later.{copy-old, copy-older}
-use Rattle.model_store.specs.Scan.{IsStorable}
 use Rattle.model_log.proofs.Runs.{run-front, run-back}
 use Rattle.model_logdev.proofs.Splits.{end-reached}
 use Rattle.model_run.specs.Kept.{HasPassed, IsKeptPrefix, KeepsPrefix}

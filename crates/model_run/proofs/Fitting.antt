@@ -2,15 +2,14 @@
 use Rattle.std.proofs.Common.{◌≡◌, ℕ, ◌==◌, List, [], ◌∷◌, Some, slice_get, sym, subst}
 use Rattle.std.specs.List.{AllByRecursion}
 use Rattle.model_base.specs.declared.shape.Shape.{Shape}
-use Rattle.model_record.specs.Group.{groups_of}
-use Rattle.model_store.specs.Scan.{IsStorable}
-use Rattle.model_script.specs.LineGroup.{group_of}
+use Rattle.model_record.specs.{groups_of}
+use Rattle.model_store.specs.{IsStorable}
+use Rattle.model_script.specs.{group_of, LineFits}
 use Rattle.model_script.specs.declared.script.ScriptLine.{ScriptLine}
-use Rattle.model_history.specs.Legal.{IsOfLine, lines_of_user, wholes_of}
+use Rattle.model_history.specs.{IsOfLine, lines_of_user, wholes_of}
 use Rattle.model_history.specs.declared.entry.Entry.{Entry}
 use Rattle.model_history.proofs.Filters.{filter-place}
 use Rattle.model_history.proofs.Groups.{HasLine, all-at, group-is}
-use Rattle.model_script.specs.Fit.{LineFits}
 
 -- a line of a user fits, as each of the script does
 pub line-fits : (shape : Shape) (script : List ScriptLine) (user k : ℕ) (line : ScriptLine) → AllByRecursion (LineFits shape) script

@@ -5,10 +5,8 @@ use Rattle.std.specs.List.{AllByRecursion}
 use Rattle.std.proofs.lemmas.Bool.Decides.{nat_tests}
 use Rattle.std.proofs.lemmas.List.{take_all, append-nil, drop-append-le}
 use Rattle.model_record.specs.declared.group.Whole.{Whole}
-use Rattle.model_record.specs.Group.{group_text, stream_of, groups_of}
-use Rattle.model_log.specs.Lsn.{sn_of, block_of, IsDataLsn}
-use Rattle.model_log.specs.Run.{Span, IsBoundary, IsRunOf, end_of, span_of, spans_of}
-use Rattle.model_log.specs.Boundary.{IsGivenTo, stream_between, ends_in, crossing_end, first_at}
+use Rattle.model_record.specs.{group_text, groups_of, stream_of}
+use Rattle.model_log.specs.{block_of, crossing_end, end_of, ends_in, first_at, IsBoundary, IsDataLsn, IsGivenTo, IsRunOf, sn_of, Span, span_of, spans_of, stream_between}
 use Rattle.model_log.proofs.BoundaryLengths.{stream_between-is}
 use Rattle.model_log.proofs.Runs.{First, first-of, run-first, run-front, run-back, stream-none, stream-first, stream-append, spans_of-append, end_of-append, boundary-end, boundary-reached, IsReached}
 use Rattle.model_run.specs.Growing.{AreFirstsFor}

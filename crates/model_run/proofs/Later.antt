@@ -4,14 +4,11 @@ use Rattle.std.specs.Prelude.{nat_le}
 use Rattle.std.specs.List.{AllByRecursion}
 use Rattle.model_base.specs.declared.shape.Shape.{Shape}
 use Rattle.model_record.specs.declared.group.Whole.{Whole}
-use Rattle.model_record.specs.Group.{groups_of}
+use Rattle.model_record.specs.{groups_of}
 use Rattle.model_device.specs.Disk.{Disk}
-use Rattle.model_log.specs.Lsn.{IsDataLsn}
-use Rattle.model_log.specs.Run.{IsRunOf, spans_of, end_of}
+use Rattle.model_log.specs.{end_of, IsDataLsn, IsRunOf, spans_of}
 use Rattle.model_page.specs.declared.content.Content.{Content}
-use Rattle.model_store.specs.Apply.{page_folded, upto, page_after, touches, user_after}
-use Rattle.model_store.specs.Scan.{IsStorable}
-use Rattle.model_store.specs.Reading.{IsNoNewerCopy}
+use Rattle.model_store.specs.{IsNoNewerCopy, IsStorable, page_after, page_folded, touches, upto, user_after}
 use Rattle.model_page.proofs.Kept.{same_kept}
 use Rattle.model_log.proofs.Runs.{First, first-of, run-first, run-front, run-back}
 use Rattle.model_logdev.proofs.Splits.{all-behind, all-from, end-reached}

@@ -3,14 +3,14 @@ use Rattle.std.proofs.Common.{◌≡◌, ℕ, ◌<◌, ◌≤◌, List, Option, 
 use Rattle.std.proofs.lemmas.Bool.{cases_lt}
 use Rattle.model_base.specs.declared.shape.Shape.{Shape}
 use Rattle.model_record.specs.declared.group.Whole.{Whole}
-use Rattle.model_device.specs.Disk.{Disk, IsImage, sector}
+use Rattle.model_device.specs.{IsImage, sector}
+use Rattle.model_device.specs.Disk.{Disk}
 use Rattle.model_device.proofs.MayHold.{holds-sector}
-use Rattle.model_log.specs.Checkpoint.{place_of, read_checkpoint}
-use Rattle.model_log.specs.Device.{newer, newest_checkpoint}
-use Rattle.model_logdev.specs.Held.{LogHolds}
+use Rattle.model_log.specs.{newer, newest_checkpoint, place_of, read_checkpoint}
+use Rattle.model_logdev.specs.{LogHolds}
 use Rattle.model_logdev.specs.declared.marks.LogMarks.{LogMarks}
 use Rattle.model_logdev.proofs.Images.{header-below, place-cases, when_less, when_not_less}
-use Rattle.model_theorem.specs.Opening.{HasCheckpointFrom, HeldOlder, IsOpenedBefore}
+use Rattle.model_theorem.specs.{HasCheckpointFrom, HeldOlder, IsOpenedBefore}
 use Rattle.model_run.specs.Closed.{Closed, IsClosed, groups_of_run}
 
 -- this is a checkpoint, and its number isn't below that

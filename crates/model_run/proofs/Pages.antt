@@ -7,8 +7,7 @@ use Rattle.std.proofs.lemmas.Bool.Decides.{nat_tests}
 use Rattle.model_record.specs.declared.rec.Rec.{Rec}
 use Rattle.model_record.specs.declared.group.Whole.{Whole}
 use Rattle.model_page.specs.declared.content.Content.{Content}
-use Rattle.model_store.specs.Apply.{page_folded, upto, page_after, touches, user_after}
-use Rattle.model_store.specs.Reading.{replayed}
+use Rattle.model_store.specs.{page_after, page_folded, replayed, touches, upto, user_after}
 use Rattle.model_run.specs.Kept.{HasPassed}
 
 pub folded-append : (p : ℕ) (xs ys : List Whole) (page : Content) → page_folded p (xs ++ ys) page ≡ page_folded p ys (page_folded p xs page)

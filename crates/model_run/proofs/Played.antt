@@ -6,21 +6,18 @@ use Rattle.std.proofs.lemmas.Bool.{cases_lt}
 use Rattle.std.specs.Prelude.{nat_le}
 use Rattle.model_base.specs.declared.shape.Shape.{Shape}
 use Rattle.model_record.specs.declared.group.Whole.{Whole}
-use Rattle.model_record.specs.Group.{groups_of}
+use Rattle.model_record.specs.{groups_of}
 use Rattle.model_device.specs.Disk.{Disk}
-use Rattle.model_log.specs.Lsn.{IsDataLsn}
-use Rattle.model_log.specs.Run.{IsRunOf, IsBoundary, end_of, spans_of}
+use Rattle.model_log.specs.{end_of, IsBoundary, IsDataLsn, IsRunOf, spans_of}
 use Rattle.model_page.specs.declared.content.Content.{Content}
-use Rattle.model_store.specs.Apply.{upto}
-use Rattle.model_store.specs.Reading.{IsNoNewerCopy}
-use Rattle.model_store.specs.Scan.{IsStorable}
-use Rattle.model_script.specs.LineGroup.{group_of}
+use Rattle.model_store.specs.{IsNoNewerCopy, IsStorable, upto}
+use Rattle.model_script.specs.{group_of}
 use Rattle.model_script.specs.declared.script.ScriptLine.{ScriptLine}
-use Rattle.model_history.specs.Legal.{IsLegal, entry_spans, group_of_line, whole_of, wholes_of}
+use Rattle.model_history.specs.{entry_spans, group_of_line, IsLegal, whole_of, wholes_of}
 use Rattle.model_history.specs.declared.entry.Entry.{Entry}
 use Rattle.model_history.specs.declared.entry.Marks.{Marks}
 use Rattle.model_history.specs.declared.entry.State.TheVariants.{Lost}
-use Rattle.model_logdev.specs.Held.{LogHolds, AreInOrder}
+use Rattle.model_logdev.specs.{AreInOrder, LogHolds}
 use Rattle.model_logdev.specs.declared.marks.LogMarks.{LogMarks}
 use Rattle.model_log.proofs.Runs.{boundary-reached, boundary-before_end, boundary-end, data-start}
 use Rattle.model_logdev.proofs.Splits.{all-behind, all-from}

@@ -1,10 +1,9 @@
 -- The crash theorem of a run that is safe.
 use Rattle.std.proofs.Common.{◌≡◌, ℕ, List, subst}
-use Rattle.model_store.specs.Reading.{Reading, IsReading}
-use Rattle.model_theorem.specs.Crash.{CrashSafe, failures_of}
-use Rattle.model_theorem.specs.Opening.{IsOpenedBefore}
-use Rattle.model_theorem.specs.Run.{IsPrefixRead, ReadsPrefix, RunSafe}
-use Rattle.model_theorem.specs.Values.{Crash, Opened, Account}
+use Rattle.model_store.specs.{IsReading}
+use Rattle.model_store.specs.Reading.{Reading}
+use Rattle.model_theorem.specs.{Account, CrashSafe, failures_of, IsOpenedBefore, IsPrefixRead, Opened, ReadsPrefix, RunSafe}
+use Rattle.model_theorem.specs.Values.{Crash}
 use Rattle.model_run.specs.Crashed.{IsCrashOf, before_crash}
 
 -- a store is read in one way

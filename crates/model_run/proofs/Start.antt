@@ -2,12 +2,10 @@
 use Rattle.std.proofs.Common.{◌≢◌, ℕ, ◌+◌, ◌<◌, ◌≤◌, List, [], arith, refl}
 use Rattle.model_base.specs.declared.limits.TheConstants.{LSN_LIMIT}
 use Rattle.model_device.specs.Disk.{Disk}
-use Rattle.model_logdev.specs.Held.{IsLive}
-use Rattle.model_logdev.specs.Marks.{first_marks}
-use Rattle.model_opening.specs.Opened.{start_of}
-use Rattle.model_opening.specs.Rewritten.{IsRewritten}
+use Rattle.model_logdev.specs.{first_marks, IsLive}
+use Rattle.model_opening.specs.{IsRewritten, start_of}
 use Rattle.model_script.specs.declared.script.ScriptLine.{ScriptLine}
-use Rattle.model_history.specs.Legal.{IsLeft}
+use Rattle.model_history.specs.{IsLeft}
 use Rattle.model_store.specs.Reading.{Reading}
 use Rattle.model_logdev.proofs.Fresh.{fresh-holds}
 use Rattle.model_opening.proofs.Pages.{stored-image}

@@ -4,12 +4,11 @@ use Rattle.std.specs.Prelude.{nat_le}
 use Rattle.std.proofs.lemmas.Bool.{eq-eqb}
 use Rattle.std.proofs.lemmas.List.{append-nil}
 use Rattle.std.proofs.lemmas.List.Elements.{filter-append}
-use Rattle.model_script.specs.LineGroup.{group_of}
+use Rattle.model_script.specs.{group_of}
 use Rattle.model_script.specs.declared.script.ScriptLine.{ScriptLine}
-use Rattle.model_history.specs.Answered.{HasNoLost, IsAnswered, state_by}
-use Rattle.model_history.specs.Legal.{IsLegal, FitsMarks, FitsMode, entry_spans, lines_of_user, entries_of_user, whole_of, wholes_of, group_of_line}
+use Rattle.model_history.specs.{entries_of_user, entry_spans, FitsMarks, FitsMode, group_of_line, HasNoLost, IsAnswered, IsLegal, lines_of_user, state_by, whole_of, wholes_of}
 use Rattle.model_history.proofs.Growing.{legal-more, more-own, more-other, push-place, state_by-says, state_by-allows}
-use Rattle.model_log.specs.Run.{end_of}
+use Rattle.model_log.specs.{end_of}
 use Rattle.model_history.specs.declared.entry.Entry.{Entry}
 use Rattle.model_history.specs.declared.entry.Marks.{Marks}
 use Rattle.model_history.specs.declared.entry.State.{State}

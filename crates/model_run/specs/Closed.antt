@@ -4,11 +4,10 @@ use Rattle.model_base.specs.declared.limits.TheConstants.{LSN_LIMIT}
 use Rattle.model_record.specs.declared.group.Whole.{Whole}
 use Rattle.model_device.specs.Disk.{Disk}
 use Rattle.model_script.specs.declared.script.ScriptLine.{ScriptLine}
-use Rattle.model_history.specs.Legal.{IsLeft, wholes_of}
+use Rattle.model_history.specs.{IsLeft, wholes_of}
 use Rattle.model_history.specs.declared.entry.Marks.{Marks}
-use Rattle.model_theorem.specs.Run.{IsRun, LosesOnlyByFailure}
-use Rattle.model_theorem.specs.Values.{Opened, Ran, RunResult}
-use Rattle.model_logdev.specs.Held.{LogHolds}
+use Rattle.model_theorem.specs.{IsRun, LosesOnlyByFailure, Opened, Ran, RunResult}
+use Rattle.model_logdev.specs.{LogHolds}
 use Rattle.model_logdev.specs.declared.marks.LogMarks.{LogMarks}
 use Rattle.model_run.specs.Given.{AreGiven}
 use Rattle.model_run.specs.Kept.{DataHolds}

@@ -1,7 +1,7 @@
 -- What a crash adds to a run.
-use Rattle.model_store.specs.Fair.{IsFair}
-use Rattle.model_theorem.specs.Crash.{IsEveryScript, AreAnyStops, IsPrinted, IsReadFromDevices}
-use Rattle.model_theorem.specs.Values.{Crash, Opened, Account, RunResult}
+use Rattle.model_store.specs.{IsFair}
+use Rattle.model_theorem.specs.{Account, AreAnyStops, IsEveryScript, IsPrinted, IsReadFromDevices, Opened, RunResult}
+use Rattle.model_theorem.specs.Values.{Crash}
 
 -- what the run of a call left just before the crash
 abbrev pub before_crash : Crash → Opened → Account → RunResult

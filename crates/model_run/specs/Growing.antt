@@ -2,9 +2,7 @@
 use Rattle.std.specs.Prelude.{ℕ, ◌≡◌, ◌≤◌, ◌<◌, ◌+◌, ◌-◌, ◌*◌, ◌==◌, ◌⊎◌, if◌then◌else◌, List, length, get_or}
 use Rattle.model_base.specs.declared.limits.TheConstants.{BLOCK_SIZE}
 use Rattle.model_record.specs.declared.group.Whole.{Whole}
-use Rattle.model_log.specs.Lsn.{block_of}
-use Rattle.model_log.specs.Boundary.{blocks_between, first_at}
-use Rattle.model_log.specs.Run.{spans_of}
+use Rattle.model_log.specs.{block_of, blocks_between, first_at, spans_of}
 
 -- The first offset of the block at b of a run with one more group: as it was in the block where the group starts and
 -- before it; behind that the group's end where it ends in the block, and else 0.

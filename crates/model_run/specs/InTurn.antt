@@ -1,12 +1,11 @@
 -- The history of a run that plays one line after another, of which the last may be lost.
 use Rattle.std.specs.Prelude.{ℕ, ◌+◌, List, [], ◌∷◌, ◌++◌, length, Option, Some, None}
-use Rattle.model_record.specs.Group.{group_length}
+use Rattle.model_record.specs.{group_length}
 use Rattle.model_record.specs.declared.group.Whole.{Whole}
-use Rattle.model_log.specs.Lsn.{lsn_of, sn_of}
-use Rattle.model_script.specs.LineGroup.{group_of}
+use Rattle.model_log.specs.{lsn_of, sn_of}
+use Rattle.model_script.specs.{group_of}
 use Rattle.model_script.specs.declared.script.ScriptLine.{ScriptLine}
-use Rattle.model_history.specs.Answered.{state_by, IsAnswered}
-use Rattle.model_history.specs.Legal.{lines_of_user}
+use Rattle.model_history.specs.{IsAnswered, lines_of_user, state_by}
 use Rattle.model_history.specs.declared.entry.Entry.{Entry}
 use Rattle.model_history.specs.declared.entry.Marks.{Marks}
 use Rattle.model_history.specs.declared.entry.State.{State}

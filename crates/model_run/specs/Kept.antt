@@ -4,12 +4,9 @@ use Rattle.std.specs.List.{AllByRecursion}
 use Rattle.model_base.specs.declared.shape.Shape.{Shape}
 use Rattle.model_record.specs.declared.group.Whole.{Whole}
 use Rattle.model_device.specs.Disk.{Disk}
-use Rattle.model_page.specs.Page.{user_part}
-use Rattle.model_page.specs.Copies.{IsKept, copy_lsn, slot_bytes, data_device_length}
+use Rattle.model_page.specs.{copy_lsn, data_device_length, IsKept, slot_bytes, user_part}
 use Rattle.model_page.specs.declared.content.Content.{Content}
-use Rattle.model_store.specs.Apply.{touches, upto}
-use Rattle.model_store.specs.Fair.{IsFair}
-use Rattle.model_store.specs.Reading.{IsNoNewerCopy}
+use Rattle.model_store.specs.{IsFair, IsNoNewerCopy, touches, upto}
 
 -- each of the groups that touches page p and starts below the checkpoint ends at or below the lsn q
 abbrev pub HasPassed : ℕ → List Whole → ℕ → ℕ → Type 0

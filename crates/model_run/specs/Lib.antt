@@ -7,3 +7,9 @@ pub mod Kept
 pub mod PlayedOut
 pub mod Start
 pub mod Stored
+pub use Rattle.model_run.specs.Closed.{IsClosed, result_of}
+pub use Rattle.model_run.specs.Crashed.{IsCrashOf, before_crash}
+pub use Rattle.model_run.specs.Given.{AreGiven}
+pub use Rattle.model_run.specs.Kept.{DataHolds, HasPassed, IsKeptPrefix, copy_of}
+pub use Rattle.model_run.specs.Start.{IsStart, opened_as}
+pub use Rattle.model_run.specs.Stored.{IsBatchOf, IsEither, IsStored}

@@ -2,12 +2,12 @@
 use Rattle.std.specs.Prelude.{ℕ, ◌≡◌, ◌≢◌, ◌≤◌, ◌<◌, List, [], ◌++◌, Option, None}
 use Rattle.model_base.specs.declared.limits.TheConstants.{LSN_LIMIT}
 use Rattle.model_device.specs.Disk.{Disk}
-use Rattle.model_log.specs.Lsn.{start_after}
+use Rattle.model_log.specs.{start_after}
 use Rattle.model_script.specs.declared.script.ScriptLine.{ScriptLine}
-use Rattle.model_history.specs.Legal.{IsLeft}
+use Rattle.model_history.specs.{IsLeft}
 use Rattle.model_history.specs.declared.entry.Marks.{Marks}
-use Rattle.model_theorem.specs.Values.{Opened, Ran}
-use Rattle.model_logdev.specs.Held.{LogHolds}
+use Rattle.model_theorem.specs.{Opened, Ran}
+use Rattle.model_logdev.specs.{LogHolds}
 use Rattle.model_logdev.specs.declared.marks.LogMarks.{LogMarks}
 use Rattle.model_run.specs.Closed.{Closed}
 use Rattle.model_run.specs.Given.{AreGiven}

@@ -2,13 +2,13 @@
 use Rattle.std.specs.Prelude.{ℕ, ◌+◌, List, [], None}
 use Rattle.std.specs.List.{AllByRecursion}
 use Rattle.model_device.specs.Disk.{Disk}
-use Rattle.model_logdev.specs.Marks.{first_marks}
-use Rattle.model_store.specs.Reading.{Reading, IsOrderly}
-use Rattle.model_opening.specs.Opened.{start_of}
-use Rattle.model_opening.specs.Ready.{IsReady}
-use Rattle.model_script.specs.Fit.{LineFits}
+use Rattle.model_logdev.specs.{first_marks}
+use Rattle.model_store.specs.{IsOrderly}
+use Rattle.model_store.specs.Reading.{Reading}
+use Rattle.model_opening.specs.{IsReady, start_of}
+use Rattle.model_script.specs.{LineFits}
 use Rattle.model_script.specs.declared.script.ScriptLine.{ScriptLine}
-use Rattle.model_theorem.specs.Values.{Opened}
+use Rattle.model_theorem.specs.{Opened}
 use Rattle.model_run.specs.PlayedOut.{PlayedOut}
 
 -- a store that was read as this, as it is opened

@@ -7,33 +7,17 @@ use native.Mathlib.Decide.{dec_le}
 use Rattle.model_base.specs.declared.limits.TheConstants.{LSN_LIMIT}
 use Rattle.model_core.proofs.Groups.{tiles_at}
 use Rattle.model_core.proofs.Lsns.{lsn_le}
-use Rattle.model_core.specs.Actors.{Actor}
-use Rattle.model_core.specs.AnswerFits.{AnswerFits, PageFitting, cleaner_fits, closer_fits}
-use Rattle.model_core.specs.Answers.{old_of}
-use Rattle.model_core.specs.CheckpointerProgram.{checkpointer_op}
-use Rattle.model_core.specs.CleanerProgram.{cleaner_op}
-use Rattle.model_core.specs.CloserProgram.{closer_op}
+use Rattle.model_core.specs.{Actor, CellWrite, change_at, checkpointer_op, cleaner_fits, cleaner_op, CleanerState, closer_fits, closer_op, CloserState, end_of, Entry, flusher_op, is_checking, Listed, lsn, next, old_of, own_op, page_words_at, PageChange, PageFitting, shared_answer, SharedWords, user_op, writer_op}
+use Rattle.model_core.specs.AnswerFits.{AnswerFits}
 use Rattle.model_core.specs.DataSide.{DataSide}
-use Rattle.model_core.specs.FlushLists.{Listed}
-use Rattle.model_core.specs.FlusherProgram.{flusher_op}
-use Rattle.model_core.specs.Groups.{CellWrite, Entry, PageChange, end_of}
-use Rattle.model_core.specs.Layout.{SharedWords, page_words_at}
 use Rattle.model_core.specs.LogSide.{LogSide}
-use Rattle.model_core.specs.Lsn.{lsn}
-use Rattle.model_core.specs.Program.{is_checking, next, own_op}
 use Rattle.model_core.specs.Setup.{Setup}
-use Rattle.model_core.specs.States.{CleanerState, CloserState}
-use Rattle.model_core.specs.UserProgram.{change_at, user_op}
-use Rattle.model_core.specs.WordTurn.{shared_answer}
-use Rattle.model_core.specs.WriterProgram.{writer_op}
 use Rattle.model_core.specs.declared.ops.Op.{Op}
 use Rattle.model_core.specs.declared.steps.CleanerStep.{CleanerStep}
 use Rattle.model_core.specs.declared.steps.CloserStep.{CloserStep}
 use Rattle.model_logcore.proofs.AnswersFit.{can_take, small_sn}
-use Rattle.model_logcore.specs.LogFacts.{LogGhost}
-use Rattle.model_pagecore.specs.PageFacts.{PageGhost}
-use Rattle.model_pagecore.specs.PageHalf.{At, CleanerAt, CleanerFits, CloserFits}
-use Rattle.model_pagecore.specs.Pages.{Agree, All, Last, applied_all, cells_on, none_in_hand, write_cells}
+use Rattle.model_logcore.specs.{LogGhost}
+use Rattle.model_pagecore.specs.{Agree, All, applied_all, At, cells_on, CleanerAt, CleanerFits, CloserFits, Last, none_in_hand, PageGhost, write_cells}
 use Rattle.model_running.specs.Bounds.{HasBytes, HaveSmallCodes}
 use Rattle.model_running.specs.RunningStore.{BothHalves}
 use Rattle.model_core.specs.declared.words.Word.TheVariants as word

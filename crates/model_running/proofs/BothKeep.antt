@@ -6,25 +6,10 @@ use lib.ListN.{get_elem?}
 use mathlib.Core.Option.{some}
 use Rattle.model_core.proofs.Lists.{set_again}
 use Rattle.model_core.proofs.Lsns.{lsn_le}
-use Rattle.model_core.specs.Actors.{Actor, Batch, Blocks, Nothing}
-use Rattle.model_core.specs.Answers.{heard, old_of}
-use Rattle.model_core.specs.CheckpointerProgram.{checkpointer_op, checkpointer_took}
-use Rattle.model_core.specs.CleanerProgram.{cleaner_op, cleaner_took, first_of_batch, no_page, next_in_round}
-use Rattle.model_core.specs.CloserProgram.{closer_op, closer_took}
+use Rattle.model_core.specs.{Actor, after_link, answered, Batch, BatchPage, Blocks, changes, checked, checkpointer_op, checkpointer_took, CheckpointerState, cleaner_op, cleaner_took, CleanerState, closer_op, closer_took, CloserState, DataServed, Entry, first_of_batch, floor, flusher_op, FlusherState, found, group_bytes, group_end, heard, IsSized, joined, lent, Listed, lists_left, log_left, LogServed, lsn, mode, next, next_in_round, no_page, Nothing, old_of, oldest_end, own_took, page_of, page_words_at, PageWords, phase_log, shared_answer, shared_left, SharedWords, took, user_op, user_took, UserState, with_mark, with_page_words, without, writer_op, WriterState}
 use Rattle.model_core.specs.DataSide.{DataSide}
-use Rattle.model_core.specs.FlushLists.{Listed, joined, oldest_end, without}
-use Rattle.model_core.specs.FlusherProgram.{flusher_op}
-use Rattle.model_core.specs.Groups.{Entry}
-use Rattle.model_core.specs.Layout.{IsSized, PageWords, SharedWords, page_words_at, with_page_words}
 use Rattle.model_core.specs.LogSide.{LogSide}
-use Rattle.model_core.specs.Lsn.{floor, lsn}
-use Rattle.model_core.specs.Program.{lent, log_left, next, own_took, phase_log, checked, took}
 use Rattle.model_core.specs.Setup.{Setup}
-use Rattle.model_core.specs.States.{CleanerState, CloserState, CheckpointerState, WriterState, FlusherState, BatchPage, UserState}
-use Rattle.model_core.specs.Turn.{LogServed, DataServed}
-use Rattle.model_core.specs.UserProgram.{after_link, answered, changes, group_bytes, group_end, mode, page_of, user_op, user_took, with_mark}
-use Rattle.model_core.specs.WordTurn.{found, lists_left, shared_answer, shared_left}
-use Rattle.model_core.specs.WriterProgram.{writer_op}
 use Rattle.model_core.specs.declared.steps.CleanerStep.{CleanerStep}
 use Rattle.model_core.specs.declared.steps.CloserStep.{CloserStep}
 use Rattle.model_core.specs.declared.steps.UserStep.{UserStep}
@@ -33,8 +18,7 @@ use Rattle.model_core.specs.declared.steps.WriterStep.{WriterStep}
 use Rattle.model_core.specs.declared.steps.FlusherStep.{FlusherStep}
 use Rattle.model_logcore.proofs.LogKeeps.{keeps}
 use Rattle.model_logcore.proofs.DeviceSteps.{can_write}
-use Rattle.model_logcore.specs.LogFacts.{LogGhost}
-use Rattle.model_logcore.specs.LogFits.{UserAt, UserFits}
+use Rattle.model_logcore.specs.{LogGhost, UserAt, UserFits}
 use Rattle.model_logcore.specs.LogHalf.{LogHalf}
 use Rattle.model_logcore.specs.LogLaws.{LogLaws}
 use Rattle.model_pagecore.proofs.BatchSteps.{keeps_unwritten, keeps_written}
@@ -48,11 +32,9 @@ use Rattle.model_pagecore.proofs.CheckpointSteps.{keeps_begin, keeps_candidate, 
 use Rattle.model_pagecore.proofs.PageStep.{grown, page_quiet}
 use Rattle.model_pagecore.proofs.UserPageSteps.{keeps_store_frame, keeps_release_latch, keeps_give_list, keeps_take_latch, keeps_store_newest, keeps_load_oldest, keeps_store_oldest, keeps_load_ctail, tied_fits}
 use Rattle.model_pagecore.proofs.ReserveSteps.{keeps_page_reserve}
-use Rattle.model_pagecore.specs.DataLaws.{AfterBatch, DataLaws, renewed}
-use Rattle.model_pagecore.specs.Growing.{Grows}
-use Rattle.model_pagecore.specs.PageFacts.{PageGhost}
-use Rattle.model_pagecore.specs.PageHalf.{CleanerAt, CleanerFits, CloserFits, IsFresh, PageFits, PageHalf, CheckpointerPagesAt, CheckpointerPageFits, UserPagesAt, UserPageFits, rests}
-use Rattle.model_pagecore.specs.Pages.{Laid}
+use Rattle.model_pagecore.specs.{AfterBatch, CheckpointerPageFits, CheckpointerPagesAt, CleanerAt, CleanerFits, CloserFits, Grows, IsFresh, Laid, PageFits, PageGhost, renewed, rests, UserPageFits, UserPagesAt}
+use Rattle.model_pagecore.specs.DataLaws.{DataLaws}
+use Rattle.model_pagecore.specs.PageHalf.{PageHalf}
 use Rattle.model_running.specs.RunningStore.{BothHalves}
 use Rattle.model_running.specs.UsersClosed.{UsersClosed}
 use Rattle.model_core.specs.declared.ops.Answer.TheVariants as answer

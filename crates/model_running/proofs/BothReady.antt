@@ -2,20 +2,10 @@
 use Rattle.std.proofs.Common.{Bool, List, ap, cond, false, refl, true, ℕ, ◌∙◌, ◌≡◌}
 use lib.ListN.{get_elem?}
 use mathlib.Core.Option.{some}
-use Rattle.model_core.specs.Actors.{Actor, Batch, Blocks, Lent, Nothing}
-use Rattle.model_core.specs.CheckpointerProgram.{checkpointer_op}
-use Rattle.model_core.specs.CleanerProgram.{cleaner_op}
-use Rattle.model_core.specs.CloserProgram.{closer_op}
+use Rattle.model_core.specs.{Actor, Batch, Blocks, checkpointer_op, CheckpointerState, cleaner_op, CleanerState, closer_op, CloserState, flusher_op, FlusherState, Lent, lent, Listed, next, Nothing, SharedWords, user_op, UserState, writer_op, WriterState}
 use Rattle.model_core.specs.DataSide.{DataSide}
-use Rattle.model_core.specs.FlushLists.{Listed}
-use Rattle.model_core.specs.FlusherProgram.{flusher_op}
-use Rattle.model_core.specs.Layout.{SharedWords}
 use Rattle.model_core.specs.LogSide.{LogSide}
-use Rattle.model_core.specs.Program.{lent, next}
 use Rattle.model_core.specs.Setup.{Setup}
-use Rattle.model_core.specs.States.{CheckpointerState, CleanerState, CloserState, FlusherState, UserState, WriterState}
-use Rattle.model_core.specs.UserProgram.{user_op}
-use Rattle.model_core.specs.WriterProgram.{writer_op}
 use Rattle.model_core.specs.declared.ops.Op.{Op}
 use Rattle.model_core.specs.declared.steps.CheckpointerStep.{CheckpointerStep}
 use Rattle.model_core.specs.declared.steps.CleanerStep.{CleanerStep}
@@ -24,11 +14,11 @@ use Rattle.model_core.specs.declared.steps.FlusherStep.{FlusherStep}
 use Rattle.model_core.specs.declared.steps.UserStep.{UserStep}
 use Rattle.model_core.specs.declared.steps.WriterStep.{WriterStep}
 use Rattle.model_logcore.proofs.Ready.{ready}
-use Rattle.model_logcore.specs.LogFacts.{LogGhost}
+use Rattle.model_logcore.specs.{LogGhost}
 use Rattle.model_logcore.specs.LogLaws.{LogLaws}
 use Rattle.model_logcore.specs.Ready.{Ready}
 use Rattle.model_pagecore.specs.DataLaws.{DataLaws}
-use Rattle.model_pagecore.specs.PageFacts.{PageGhost}
+use Rattle.model_pagecore.specs.{PageGhost}
 use Rattle.model_running.proofs.CallConditions.{all_written, can_checkpoint, can_write_batch}
 use Rattle.model_running.specs.DataReady.{DataReady}
 use Rattle.model_running.specs.RunningStore.{BothHalves}

@@ -3,29 +3,21 @@ use Rattle.std.proofs.Common.{List, [], arith, false, length, subst, sym, â„•, â
 use lib.ListN.{get_elem?}
 use mathlib.Core.Option.{some}
 use Rattle.model_base.specs.declared.limits.TheConstants.{LSN_LIMIT}
-use Rattle.model_core.specs.Actors.{Actor, Batch, Blocks, Nothing}
+use Rattle.model_core.specs.{Actor, Batch, BatchPage, Blocks, change_at, CheckpointerState, CleanerState, Entry, IsSized, Listed, lsn, Nothing, PageChange, SharedWords, UserState}
 use Rattle.model_core.specs.DataSide.{DataSide}
-use Rattle.model_core.specs.FlushLists.{Listed}
-use Rattle.model_core.specs.Groups.{Entry, PageChange}
-use Rattle.model_core.specs.Layout.{IsSized, SharedWords}
 use Rattle.model_core.specs.LogSide.{LogSide}
-use Rattle.model_core.specs.Lsn.{lsn}
 use Rattle.model_core.specs.Setup.{Setup}
-use Rattle.model_core.specs.States.{CleanerState, CheckpointerState, BatchPage, UserState}
-use Rattle.model_core.specs.UserProgram.{change_at}
 use Rattle.model_logcore.proofs.AnswersFit.{small_sn}
-use Rattle.model_logcore.specs.LogFacts.{LogGhost}
-use Rattle.model_logcore.specs.LogFits.{UserAt, UserFits}
+use Rattle.model_logcore.specs.{LogGhost, UserAt, UserFits}
 use Rattle.model_logcore.specs.LogHalf.{LogHalf}
 use Rattle.model_logcore.specs.LogLaws.{LogLaws}
 use Rattle.model_pagecore.proofs.BatchSteps.{can_batch}
 use Rattle.model_pagecore.proofs.PageHistory.{laid}
 use Rattle.model_pagecore.proofs.CheckpointSteps.{all_passed}
 use Rattle.model_pagecore.proofs.PageStep.{cells_mine}
-use Rattle.model_pagecore.specs.DataLaws.{AfterBatch, CanBatch, DataLaws}
-use Rattle.model_pagecore.specs.PageFacts.{PageGhost}
-use Rattle.model_pagecore.specs.PageHalf.{CleanerFits, PageHalf, CheckpointerPagesAt, CheckpointerPageFits, runs}
-use Rattle.model_pagecore.specs.Pages.{Laid, touches}
+use Rattle.model_pagecore.specs.{AfterBatch, CanBatch, CheckpointerPageFits, CheckpointerPagesAt, CleanerFits, Laid, PageGhost, runs, touches}
+use Rattle.model_pagecore.specs.DataLaws.{DataLaws}
+use Rattle.model_pagecore.specs.PageHalf.{PageHalf}
 use Rattle.model_running.specs.RunningStore.{BothHalves}
 use Rattle.model_core.specs.declared.steps.CleanerStep.TheVariants as cleaner_step
 use Rattle.model_core.specs.declared.steps.CheckpointerStep.TheVariants as checkpointer_step

@@ -3,22 +3,10 @@ use Rattle.std.proofs.Common.{Bool, List, cond, eqb, false, inl, inr, refl, subs
 use Rattle.std.specs.Prelude.{slice_index, slice_set}
 use lib.ListN.{get_elem?}
 use mathlib.Core.Option.{some}
-use Rattle.model_core.specs.Actors.{Actor, Batch, Blocks, Nothing}
-use Rattle.model_core.specs.CheckpointerProgram.{checkpointer_op}
-use Rattle.model_core.specs.CleanerProgram.{cleaner_op}
-use Rattle.model_core.specs.CloserProgram.{closer_op}
+use Rattle.model_core.specs.{Actor, Batch, Blocks, checkpointer_op, CheckpointerState, cleaner_op, CleanerState, closer_op, CloserState, DataServed, flusher_op, FlusherState, lent, Listed, LogServed, next, Nothing, read, shared_left, SharedWords, user_op, UserState, writer_op, WriterState, wrote}
 use Rattle.model_core.specs.DataSide.{DataSide}
-use Rattle.model_core.specs.FlushLists.{Listed}
-use Rattle.model_core.specs.FlusherProgram.{flusher_op}
-use Rattle.model_core.specs.Layout.{SharedWords, read, wrote}
 use Rattle.model_core.specs.LogSide.{LogSide}
-use Rattle.model_core.specs.Program.{lent, next}
 use Rattle.model_core.specs.Setup.{Setup}
-use Rattle.model_core.specs.States.{CleanerState, CloserState, CheckpointerState, WriterState, FlusherState, UserState}
-use Rattle.model_core.specs.Turn.{LogServed, DataServed}
-use Rattle.model_core.specs.UserProgram.{user_op}
-use Rattle.model_core.specs.WordTurn.{shared_left}
-use Rattle.model_core.specs.WriterProgram.{writer_op}
 use Rattle.model_core.specs.declared.steps.CleanerStep.{CleanerStep}
 use Rattle.model_core.specs.declared.steps.CloserStep.{CloserStep}
 use Rattle.model_core.specs.declared.steps.UserStep.{UserStep}
@@ -26,12 +14,10 @@ use Rattle.model_core.specs.declared.steps.CheckpointerStep.{CheckpointerStep}
 use Rattle.model_core.specs.declared.steps.WriterStep.{WriterStep}
 use Rattle.model_core.specs.declared.steps.FlusherStep.{FlusherStep}
 use Rattle.model_logcore.proofs.DeviceSteps.{can_write}
-use Rattle.model_logcore.specs.LogFacts.{LogGhost}
-use Rattle.model_logcore.specs.LogFits.{UserAt, UserFits}
+use Rattle.model_logcore.specs.{LogGhost, UserAt, UserFits}
 use Rattle.model_logcore.specs.LogLaws.{LogLaws}
 use Rattle.model_pagecore.specs.DataLaws.{DataLaws}
-use Rattle.model_pagecore.specs.PageFacts.{PageGhost}
-use Rattle.model_pagecore.specs.PageHalf.{CleanerFits}
+use Rattle.model_pagecore.specs.{CleanerFits, PageGhost}
 use Rattle.model_running.specs.RunningStore.{BothHalves}
 use Rattle.model_core.specs.declared.steps.UserStep.TheVariants as user_step
 use Rattle.model_core.specs.declared.steps.CloserStep.TheVariants as closer_step

@@ -3,30 +3,18 @@ use Rattle.std.proofs.Common.{Bool, List, cond, eqb, false, refl, true, ℕ, ◌
 use Rattle.std.specs.Prelude.{slice_index, slice_set}
 use lib.ListN.{get_elem?}
 use mathlib.Core.Option.{some}
-use Rattle.model_core.specs.Actors.{Actor}
-use Rattle.model_core.specs.CleanerProgram.{cleaner_op, first_of_batch}
-use Rattle.model_core.specs.CloserProgram.{closer_op}
+use Rattle.model_core.specs.{Actor, cleaner_op, CleanerState, closer_op, CloserState, first_of_batch, flusher_op, FlusherState, Listed, next, page_of, page_words_at, shared_left, SharedWords, user_op, UserState, with_page_words, writer_op, WriterState}
 use Rattle.model_core.specs.DataSide.{DataSide}
-use Rattle.model_core.specs.FlushLists.{Listed}
-use Rattle.model_core.specs.FlusherProgram.{flusher_op}
-use Rattle.model_core.specs.Layout.{SharedWords, page_words_at, with_page_words}
 use Rattle.model_core.specs.LogSide.{LogSide}
-use Rattle.model_core.specs.Program.{next}
 use Rattle.model_core.specs.Setup.{Setup}
-use Rattle.model_core.specs.States.{CleanerState, CloserState, FlusherState, UserState, WriterState}
-use Rattle.model_core.specs.UserProgram.{page_of, user_op}
-use Rattle.model_core.specs.WordTurn.{shared_left}
-use Rattle.model_core.specs.WriterProgram.{writer_op}
 use Rattle.model_core.specs.declared.ops.Op.{Op}
 use Rattle.model_core.specs.declared.steps.CleanerStep.{CleanerStep}
 use Rattle.model_core.specs.declared.steps.CloserStep.{CloserStep}
 use Rattle.model_core.specs.declared.steps.FlusherStep.{FlusherStep}
 use Rattle.model_core.specs.declared.steps.UserStep.{UserStep}
 use Rattle.model_core.specs.declared.steps.WriterStep.{WriterStep}
-use Rattle.model_logcore.specs.LogFacts.{LogGhost}
-use Rattle.model_logcore.specs.Start.{start_checkpoint}
-use Rattle.model_pagecore.specs.PageFacts.{PageGhost}
-use Rattle.model_pagecore.specs.PageHalf.{CheckpointerPageFits}
+use Rattle.model_logcore.specs.{LogGhost, start_checkpoint}
+use Rattle.model_pagecore.specs.{CheckpointerPageFits, PageGhost}
 use Rattle.model_running.specs.RunningStore.{BothHalves}
 use Rattle.model_core.specs.Actors as actor
 use Rattle.model_core.specs.declared.ops.Op.TheVariants as op

@@ -7,26 +7,14 @@ use native.Mathlib.Decide.{dec_le}
 use Rattle.model_core.proofs.Groups.{tiles_at}
 use Rattle.model_core.proofs.Lists.{at_set, at_snoc}
 use Rattle.model_core.proofs.Lsns.{lsn_less, lsn_same, ring_same}
-use Rattle.model_core.specs.Actors.{Actor}
-use Rattle.model_core.specs.Answers.{heard, old_of}
+use Rattle.model_core.specs.{Actor, Entry, entry, group_end, heard, line, Listed, log_left, lsn, next, old_of, phase_log, shared_left, SharedWords, took, user_checked, user_op, user_took, UserState}
 use Rattle.model_core.specs.DataSide.{DataSide}
-use Rattle.model_core.specs.FlushLists.{Listed}
-use Rattle.model_core.specs.Groups.{Entry}
-use Rattle.model_core.specs.Layout.{SharedWords}
 use Rattle.model_core.specs.LogSide.{LogSide}
-use Rattle.model_core.specs.Lsn.{lsn}
-use Rattle.model_core.specs.Program.{entry, log_left, next, phase_log, took}
 use Rattle.model_core.specs.Setup.{Setup}
-use Rattle.model_core.specs.States.{UserState}
-use Rattle.model_core.specs.UserProgram.{group_end, line, user_checked, user_op, user_took}
-use Rattle.model_core.specs.WordTurn.{shared_left}
 use Rattle.model_core.specs.declared.ops.Answer.{Answer}
 use Rattle.model_core.specs.declared.steps.UserStep.{UserStep}
-use Rattle.model_logcore.specs.LogFacts.{LogGhost}
-use Rattle.model_logcore.specs.LogFits.{UserAt, UserFits}
-use Rattle.model_pagecore.specs.Growing.{Grows}
-use Rattle.model_pagecore.specs.PageFacts.{ClosedLinks, PageGhost}
-use Rattle.model_pagecore.specs.PageHalf.{UserPageFits, UserPagesAt}
+use Rattle.model_logcore.specs.{LogGhost, UserAt, UserFits}
+use Rattle.model_pagecore.specs.{ClosedLinks, Grows, PageGhost, UserPageFits, UserPagesAt}
 use Rattle.model_running.proofs.SeatsKeep.{SameActor, took_keeps}
 use Rattle.model_running.proofs.UserCloses.{Needs, closes, closes_checked}
 use Rattle.model_running.specs.RunningStore.{BothHalves}

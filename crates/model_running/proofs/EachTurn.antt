@@ -1,14 +1,11 @@
 -- Each turn of any actor, whatever its device calls answer, leaves a running store.
 use Rattle.std.proofs.Common.{List, ap, arith, cond, eqb, refl, set, subst, suc, sym, zero, ℕ, ◌%◌, ◌+◌, ◌<◌, ◌∙◌, ◌≡◌}
 use Rattle.std.specs.Prelude.{slice_index}
-use Rattle.model_core.specs.Actors.{Actor}
+use Rattle.model_core.specs.{Actor, answer_of, Core, joined, list_word, Listed, lists_left, next, took, without, words_left}
 use Rattle.model_core.specs.DataSide.{DataSide}
-use Rattle.model_core.specs.FlushLists.{Listed, joined, without}
 use Rattle.model_core.specs.LogSide.{LogSide}
-use Rattle.model_core.specs.Program.{next, took}
 use Rattle.model_core.specs.Setup.{Setup}
-use Rattle.model_core.specs.Turn.{Core, Turn, list_word}
-use Rattle.model_core.specs.WordTurn.{answer_of, lists_left, words_left}
+use Rattle.model_core.specs.Turn.{Turn}
 use Rattle.model_core.specs.declared.ops.Answer.{Answer}
 use Rattle.model_core.specs.declared.ops.Op.{Op}
 use Rattle.model_core.specs.declared.ops.Step.{Step}

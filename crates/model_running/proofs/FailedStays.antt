@@ -3,21 +3,11 @@ use Rattle.std.proofs.Common.{Bool, List, ap, arith, cond, false, get_or-set_oth
 use Rattle.std.specs.Prelude.{slice_index, slice_set}
 use lib.ListN.{get_elem?}
 use mathlib.Core.Option.{some}
-use Rattle.model_core.specs.Actors.{Actor}
-use Rattle.model_core.specs.CheckpointerProgram.{checkpointer_op}
-use Rattle.model_core.specs.CleanerProgram.{cleaner_op}
-use Rattle.model_core.specs.CloserProgram.{closer_op}
+use Rattle.model_core.specs.{Actor, checkpointer_op, CheckpointerState, cleaner_op, CleanerState, closer_op, CloserState, Core, flat, flusher_op, FlusherState, index, is_checking, next, own_op, SharedWords, user_op, UserState, words_left, writer_op, WriterState}
 use Rattle.model_core.specs.DataSide.{DataSide}
-use Rattle.model_core.specs.FlusherProgram.{flusher_op}
-use Rattle.model_core.specs.Layout.{SharedWords, flat, index}
 use Rattle.model_core.specs.LogSide.{LogSide}
-use Rattle.model_core.specs.Program.{is_checking, next, own_op}
 use Rattle.model_core.specs.Setup.{Setup}
-use Rattle.model_core.specs.States.{CheckpointerState, CleanerState, CloserState, FlusherState, UserState, WriterState}
-use Rattle.model_core.specs.Turn.{Core, Turn}
-use Rattle.model_core.specs.UserProgram.{user_op}
-use Rattle.model_core.specs.WordTurn.{words_left}
-use Rattle.model_core.specs.WriterProgram.{writer_op}
+use Rattle.model_core.specs.Turn.{Turn}
 use Rattle.model_core.specs.declared.ops.Answer.{Answer}
 use Rattle.model_core.specs.declared.ops.Op.{Op}
 use Rattle.model_core.specs.declared.ops.Step.{Step}
@@ -29,8 +19,7 @@ use Rattle.model_core.specs.declared.steps.UserStep.{UserStep}
 use Rattle.model_core.specs.declared.steps.WriterStep.{WriterStep}
 use Rattle.model_core.specs.declared.words.Word.{Word}
 use Rattle.model_logcore.proofs.WriterSteps.{own}
-use Rattle.model_logcore.specs.LogFacts.{LogGhost}
-use Rattle.model_logcore.specs.LogFits.{CheckpointerAt, CheckpointerFits, CleanerTold, FlusherAt, FlusherFits, WriterAt, WriterFits}
+use Rattle.model_logcore.specs.{CheckpointerAt, CheckpointerFits, CleanerTold, FlusherAt, FlusherFits, LogGhost, WriterAt, WriterFits}
 use Rattle.model_logcore.specs.LogHalf.{LogHalf}
 use Rattle.model_running.specs.RunningStore.{IsRunning}
 use Rattle.model_core.specs.declared.words.Word.TheVariants as word

@@ -2,9 +2,7 @@
 use Rattle.std.proofs.Common.{Bool, List, [], ap, arith, cond, eqb, false, length, refl, set, suc, sym, true, zero, ℕ, ◌%◌, ◌*◌, ◌++◌, ◌+◌, ◌<◌, ◌∙◌, ◌∷◌, ◌≡◌}
 use Rattle.std.specs.Prelude.{None, slice_index, slice_set}
 use Rattle.model_core.proofs.Groups.{back, front}
-use Rattle.model_core.specs.FlushLists.{Listed, oldest_end}
-use Rattle.model_core.specs.Layout.{IsSized, IsWord, PageWords, SharedWords, cells_at, closed_links_at, firsts_at, flat, flat_page_words, index, page_stride, page_words_at, pages_at, read, rows, with_page_words, wrote}
-use Rattle.model_core.specs.WordTurn.{OpWords, answer_of, found, list_answer, shared_answer, shared_left, word_found, words_left}
+use Rattle.model_core.specs.{answer_of, cells_at, closed_links_at, firsts_at, flat, flat_page_words, found, index, IsSized, IsWord, list_answer, Listed, oldest_end, OpWords, page_stride, page_words_at, pages_at, PageWords, read, rows, shared_answer, shared_left, SharedWords, with_page_words, word_found, words_left, wrote}
 use Rattle.model_core.specs.declared.ops.Answer.{Answer}
 use Rattle.model_core.specs.declared.ops.Op.{Op}
 use Rattle.model_core.specs.declared.words.Word.{Word}

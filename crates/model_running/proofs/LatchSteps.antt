@@ -4,16 +4,13 @@ use lib.ListN.{get_elem?}
 use mathlib.Core.Option.{some, some-injective, some-ne-none}
 use native.Mathlib.Decide.{ℕ_discrete}
 use Rattle.model_core.proofs.Lists.{at_last, at_longer}
-use Rattle.model_core.specs.Answers.{has_taken, old_of}
-use Rattle.model_core.specs.CleanerProgram.{cleaner_checked, cleaner_took, end_round, first_of_batch, next_in_round, page_loaded}
-use Rattle.model_core.specs.States.{BatchPage, CleanerState, UserState}
-use Rattle.model_core.specs.UserProgram.{after_link, can_close, can_link, cells_of, change_at, changes, group_bytes, group_end, has_room, page_of, to_next_page, user_checked, user_took}
+use Rattle.model_core.specs.{after_link, BatchPage, can_close, can_link, cells_of, change_at, changes, cleaner_checked, cleaner_took, CleanerState, end_round, first_of_batch, group_bytes, group_end, has_room, has_taken, next_in_round, old_of, page_loaded, page_of, to_next_page, user_checked, user_took, UserState}
 use Rattle.model_core.specs.declared.limits.TheConstants.{BATCH_PAGES, FRAME_CELLS}
 use Rattle.model_core.specs.declared.ops.Answer.{Answer}
 use Rattle.model_core.specs.declared.steps.CleanerStep.{CleanerStep}
 use Rattle.model_core.specs.declared.steps.UserStep.{UserStep}
 use Rattle.model_log.specs.declared.layout.TheConstants.{BLOCK_DATA}
-use Rattle.model_pagecore.specs.Latches.{CleanerHasLatch, HasLatch, IsAmong, IsInBatch, UserHasLatch}
+use Rattle.model_pagecore.specs.{CleanerHasLatch, HasLatch, IsAmong, IsInBatch, UserHasLatch}
 use Rattle.model_core.specs.Actors as actor
 use Rattle.model_core.specs.declared.ops.Answer.TheVariants as answer
 use Rattle.model_core.specs.declared.steps.CleanerStep.TheVariants as cleaner_step

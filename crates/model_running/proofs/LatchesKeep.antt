@@ -5,24 +5,10 @@ use lib.ListN.{get_elem?}
 use mathlib.Core.Option.{some, some-injective}
 use native.Mathlib.Decide.{ℕ_discrete}
 use Rattle.model_core.proofs.Lists.{set_else}
-use Rattle.model_core.specs.Actors.{Actor}
-use Rattle.model_core.specs.Answers.{heard, old_of}
-use Rattle.model_core.specs.CleanerProgram.{cleaner_checked, cleaner_op, cleaner_took, first_of_batch, next_in_round}
-use Rattle.model_core.specs.CloserProgram.{closer_op}
-use Rattle.model_core.specs.CheckpointerProgram.{checkpointer_op}
+use Rattle.model_core.specs.{Actor, blank_words, changes, checkpointer_op, CheckpointerState, cleaner_checked, cleaner_op, cleaner_took, CleanerState, closer_op, CloserState, Entry, first_of_batch, flusher_op, FlusherState, group_end, heard, Listed, lsn, next, next_in_round, old_of, page_of, page_words_at, PageWords, put_of, shared_answer, shared_left, SharedWords, took, user_checked, user_op, user_took, UserState, with_page_words, writer_op, WriterState}
 use Rattle.model_core.specs.DataSide.{DataSide}
-use Rattle.model_core.specs.FlushLists.{Listed}
-use Rattle.model_core.specs.FlusherProgram.{flusher_op}
-use Rattle.model_core.specs.Groups.{Entry}
-use Rattle.model_core.specs.Layout.{PageWords, SharedWords, blank_words, page_words_at, with_page_words}
 use Rattle.model_core.specs.LogSide.{LogSide}
-use Rattle.model_core.specs.Lsn.{lsn}
-use Rattle.model_core.specs.Program.{next, took}
 use Rattle.model_core.specs.Setup.{Setup}
-use Rattle.model_core.specs.States.{CheckpointerState, CleanerState, CloserState, FlusherState, UserState, WriterState}
-use Rattle.model_core.specs.UserProgram.{changes, group_end, page_of, put_of, user_checked, user_op, user_took}
-use Rattle.model_core.specs.WordTurn.{shared_answer, shared_left}
-use Rattle.model_core.specs.WriterProgram.{writer_op}
 use Rattle.model_core.specs.declared.ops.Answer.{Answer}
 use Rattle.model_core.specs.declared.ops.Op.{Op}
 use Rattle.model_core.specs.declared.steps.CheckpointerStep.{CheckpointerStep}
@@ -32,11 +18,9 @@ use Rattle.model_core.specs.declared.steps.FlusherStep.{FlusherStep}
 use Rattle.model_core.specs.declared.steps.UserStep.{UserStep}
 use Rattle.model_core.specs.declared.steps.WriterStep.{WriterStep}
 use Rattle.model_logcore.proofs.Frame.{set_at}
-use Rattle.model_logcore.specs.LogFacts.{LogGhost}
-use Rattle.model_pagecore.specs.Growing.{Grows}
-use Rattle.model_pagecore.specs.Latches.{CleanerHasLatch, HasLatch, UserHasLatch}
-use Rattle.model_pagecore.specs.PageFacts.{PageGhost}
-use Rattle.model_pagecore.specs.PageHalf.{CleanerFits, HoldsOnly, PageFits, PageHalf, UserPageFits, UserPagesAt}
+use Rattle.model_logcore.specs.{LogGhost}
+use Rattle.model_pagecore.specs.{CleanerFits, CleanerHasLatch, Grows, HasLatch, HoldsOnly, PageFits, PageGhost, UserHasLatch, UserPageFits, UserPagesAt}
+use Rattle.model_pagecore.specs.PageHalf.{PageHalf}
 use Rattle.model_running.proofs.LatchSteps.{cleaner_goes, cleaner_hears, latch_taken, user_goes, user_hears}
 use Rattle.model_running.specs.LatchesHeld.{LatchesAreHeld}
 use Rattle.model_running.specs.RunningStore.{BothHalves}

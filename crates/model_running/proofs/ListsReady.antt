@@ -3,21 +3,10 @@ use Rattle.std.proofs.Common.{Bool, List, [], arith, cond, false, get_or, length
 use lib.ListN.{get_elem?}
 use mathlib.Core.Option.{some}
 use native.Mathlib.Decide.{dec_le}
-use Rattle.model_core.specs.Actors.{Actor}
-use Rattle.model_core.specs.CheckpointerProgram.{checkpointer_op}
-use Rattle.model_core.specs.CleanerProgram.{cleaner_op, no_page}
-use Rattle.model_core.specs.CloserProgram.{closer_op}
+use Rattle.model_core.specs.{Actor, BatchPage, checkpointer_op, CheckpointerState, cleaner_op, CleanerState, closer_op, CloserState, flusher_op, FlusherState, Listed, lsn, next, no_page, oldest_of, page_of, SharedWords, user_op, UserState, writer_op, WriterState}
 use Rattle.model_core.specs.DataSide.{DataSide}
-use Rattle.model_core.specs.FlushLists.{Listed, oldest_of}
-use Rattle.model_core.specs.FlusherProgram.{flusher_op}
-use Rattle.model_core.specs.Layout.{SharedWords}
 use Rattle.model_core.specs.LogSide.{LogSide}
-use Rattle.model_core.specs.Lsn.{lsn}
-use Rattle.model_core.specs.Program.{next}
 use Rattle.model_core.specs.Setup.{Setup}
-use Rattle.model_core.specs.States.{BatchPage, CheckpointerState, CleanerState, CloserState, FlusherState, UserState, WriterState}
-use Rattle.model_core.specs.UserProgram.{page_of, user_op}
-use Rattle.model_core.specs.WriterProgram.{writer_op}
 use Rattle.model_core.specs.declared.ops.Op.{Op}
 use Rattle.model_core.specs.declared.steps.CheckpointerStep.{CheckpointerStep}
 use Rattle.model_core.specs.declared.steps.CleanerStep.{CleanerStep}
@@ -26,10 +15,9 @@ use Rattle.model_core.specs.declared.steps.FlusherStep.{FlusherStep}
 use Rattle.model_core.specs.declared.steps.UserStep.{UserStep}
 use Rattle.model_core.specs.declared.steps.WriterStep.{WriterStep}
 use Rattle.model_logcore.proofs.Ready.{ready}
-use Rattle.model_logcore.specs.LogFacts.{LogGhost}
+use Rattle.model_logcore.specs.{LogGhost}
 use Rattle.model_pagecore.proofs.PageHistory.{each_more}
-use Rattle.model_pagecore.specs.PageFacts.{PageGhost}
-use Rattle.model_pagecore.specs.PageHalf.{CleanerAt, CleanerFits, UserPageFits, UserPagesAt}
+use Rattle.model_pagecore.specs.{CleanerAt, CleanerFits, PageGhost, UserPageFits, UserPagesAt}
 use Rattle.model_running.specs.ListReady.{ListReady}
 use Rattle.model_running.specs.RunningStore.{BothHalves}
 use Rattle.model_core.specs.declared.words.Word.TheVariants as word

@@ -1,20 +1,11 @@
 -- Each turn leaves each actor in its seat.
 use Rattle.std.proofs.Common.{Bool, List, [], ap, arith, cond, false, inl, inr, length, map, refl, set, subst, suc, sym, true, zero, ℕ, ⊎_elim, ◌++◌, ◌+◌, ◌<◌, ◌==◌, ◌∙◌, ◌∷◌, ◌≡◌, ◌⊎◌}
 use lib.ListN.{get_elem?}
-use Rattle.model_core.specs.Actors.{Actor}
-use Rattle.model_core.specs.Answers.{heard, old_of}
-use Rattle.model_core.specs.CheckpointerProgram.{checkpointer_checked, checkpointer_took}
-use Rattle.model_core.specs.CleanerProgram.{cleaner_checked, cleaner_took}
-use Rattle.model_core.specs.CloserProgram.{closer_checked, closer_took}
+use Rattle.model_core.specs.{Actor, after_link, answered, can_close, can_link, cells_of, changes, checkpointer_checked, checkpointer_took, cleaner_checked, cleaner_took, closer_checked, closer_took, Core, flusher_checked, flusher_took, FlusherState, has_passed, has_room, has_space, heard, mode, old_of, to_next_page, took, user_checked, user_took, UserState, with_mark, writer_checked, writer_took, WriterState}
 use Rattle.model_core.specs.DataSide.{DataSide}
-use Rattle.model_core.specs.FlusherProgram.{flusher_checked, flusher_took}
 use Rattle.model_core.specs.LogSide.{LogSide}
-use Rattle.model_core.specs.Program.{took}
 use Rattle.model_core.specs.Setup.{Setup}
-use Rattle.model_core.specs.States.{FlusherState, UserState, WriterState}
-use Rattle.model_core.specs.Turn.{Core, Turn}
-use Rattle.model_core.specs.UserProgram.{after_link, answered, can_close, can_link, cells_of, changes, has_passed, has_room, has_space, mode, to_next_page, user_checked, user_took, with_mark}
-use Rattle.model_core.specs.WriterProgram.{writer_checked, writer_took}
+use Rattle.model_core.specs.Turn.{Turn}
 use Rattle.model_core.specs.declared.ops.Answer.{Answer}
 use Rattle.model_core.specs.declared.ops.Step.{Step}
 use Rattle.model_core.specs.declared.steps.UserStep.{UserStep}

@@ -3,23 +3,16 @@ use Rattle.std.proofs.Common.{List, [], ap, arith, false, get_or, length, refl, 
 use lib.ListN.{get_elem?}
 use mathlib.Core.Option.{some, some-ne-none}
 use Rattle.model_base.specs.declared.limits.TheConstants.{LSN_LIMIT}
-use Rattle.model_core.specs.Actors.{Actor}
+use Rattle.model_core.specs.{Actor, change_at, CheckpointerState, CleanerState, CloserState, flat, Line, line_at, LoadedMarks, lsn, PageWords, SharedWords}
 use Rattle.model_core.specs.DataSide.{DataSide}
-use Rattle.model_core.specs.Layout.{PageWords, SharedWords, flat}
 use Rattle.model_core.specs.LogSide.{LogSide}
-use Rattle.model_core.specs.Lsn.{lsn}
 use Rattle.model_core.specs.Setup.{Setup}
-use Rattle.model_core.specs.States.{CheckpointerState, CleanerState, CloserState, Line, LoadedMarks}
-use Rattle.model_core.specs.UserProgram.{change_at, line_at}
 use Rattle.model_logcore.proofs.DeviceSteps.{alone}
 use Rattle.model_logcore.proofs.NewUsers.{new_user_is}
 use Rattle.model_logcore.proofs.StartHolds.{half_starts, start}
-use Rattle.model_logcore.specs.LogFacts.{sum_over_actors}
-use Rattle.model_logcore.specs.LogHalf.{left_to_reserve}
-use Rattle.model_logcore.specs.Start.{StartActor, checkpointer_start, cleaner_start, closer_start, start_checkpoint}
+use Rattle.model_logcore.specs.{checkpointer_start, cleaner_start, closer_start, left_to_reserve, start_checkpoint, StartActor, sum_over_actors}
 use Rattle.model_pagecore.proofs.PageStart.{pages_start}
-use Rattle.model_pagecore.specs.PageFacts.{PageGhost}
-use Rattle.model_pagecore.specs.PageHalf.{CheckpointerPageFits, CleanerFits, CloserFits, PageFits, UserPagesAt}
+use Rattle.model_pagecore.specs.{CheckpointerPageFits, CleanerFits, CloserFits, PageFits, PageGhost, UserPagesAt}
 use Rattle.model_running.specs.RunningStore.{BothHalves, RunningStore}
 use Rattle.model_running.specs.StartStore.{StartStore}
 use Rattle.model_running.specs.UsersClosed.{HandIsClosed}

@@ -3,22 +3,10 @@ use Rattle.std.proofs.Common.{Bool, List, [], ap, arith, cond, eqb, false, get_o
 use Rattle.std.specs.Prelude.{slice_index}
 use lib.ListN.{get_elem?}
 use mathlib.Core.Option.{some}
-use Rattle.model_core.specs.Actors.{Actor}
-use Rattle.model_core.specs.CheckpointerProgram.{checkpointer_op}
-use Rattle.model_core.specs.CleanerProgram.{cleaner_op, first_of_batch, no_page}
-use Rattle.model_core.specs.CloserProgram.{closer_op}
+use Rattle.model_core.specs.{Actor, answer_of, BatchPage, checkpointer_op, CheckpointerState, cleaner_op, CleanerState, closer_op, CloserState, DataServed, first_of_batch, flat, flusher_op, FlusherState, IsWord, lent, Listed, lists_left, LogServed, mode, next, no_page, OpWords, shared_answer, shared_left, SharedWords, took, user_op, UserState, words_left, writer_op, WriterState}
 use Rattle.model_core.specs.DataSide.{DataSide}
-use Rattle.model_core.specs.FlushLists.{Listed}
-use Rattle.model_core.specs.FlusherProgram.{flusher_op}
-use Rattle.model_core.specs.Layout.{IsWord, SharedWords, flat}
 use Rattle.model_core.specs.LogSide.{LogSide}
-use Rattle.model_core.specs.Program.{lent, next, took}
 use Rattle.model_core.specs.Setup.{Setup}
-use Rattle.model_core.specs.States.{CleanerState, CloserState, CheckpointerState, WriterState, FlusherState, BatchPage, UserState}
-use Rattle.model_core.specs.Turn.{LogServed, DataServed}
-use Rattle.model_core.specs.UserProgram.{mode, user_op}
-use Rattle.model_core.specs.WordTurn.{OpWords, answer_of, lists_left, shared_answer, shared_left, words_left}
-use Rattle.model_core.specs.WriterProgram.{writer_op}
 use Rattle.model_core.specs.declared.ops.Answer.{Answer}
 use Rattle.model_core.specs.declared.ops.Op.{Op}
 use Rattle.model_core.specs.declared.steps.CleanerStep.{CleanerStep}
@@ -27,12 +15,10 @@ use Rattle.model_core.specs.declared.steps.UserStep.{UserStep}
 use Rattle.model_core.specs.declared.steps.CheckpointerStep.{CheckpointerStep}
 use Rattle.model_core.specs.declared.steps.WriterStep.{WriterStep}
 use Rattle.model_core.specs.declared.steps.FlusherStep.{FlusherStep}
-use Rattle.model_logcore.specs.LogFacts.{LogGhost}
+use Rattle.model_logcore.specs.{LogGhost}
 use Rattle.model_logcore.specs.LogLaws.{LogLaws}
 use Rattle.model_pagecore.specs.DataLaws.{DataLaws}
-use Rattle.model_pagecore.specs.PageFacts.{PageGhost}
-use Rattle.model_pagecore.specs.PageHalf.{CleanerAt, CleanerFits, CheckpointerPagesAt, CheckpointerPageFits, Unlisting, UserPagesAt, UserPageFits}
-use Rattle.model_pagecore.specs.Pages.{InWordOnly, Unlisted, ListingStage}
+use Rattle.model_pagecore.specs.{CheckpointerPageFits, CheckpointerPagesAt, CleanerAt, CleanerFits, InWordOnly, ListingStage, PageGhost, Unlisted, Unlisting, UserPageFits, UserPagesAt}
 use Rattle.model_running.proofs.FlatWords.{flat_answer, flat_left}
 use Rattle.model_running.proofs.BothKeep.{keeps_both}
 use Rattle.model_running.specs.RunningStore.{BothHalves, RunningStore}

@@ -3,15 +3,12 @@ use Rattle.std.proofs.Common.{Bool, List, arith, cond, eqb, eqb-true, false, len
 use lib.ListN.{get_elem?}
 use mathlib.Core.Option.{some}
 use native.Mathlib.Decide.{ℕ_discrete}
-use Rattle.model_core.specs.Groups.{Entry}
-use Rattle.model_core.specs.Program.{entry}
+use Rattle.model_core.specs.{after_link, answered, can_close, can_link, cells_of, change_at, changes, Entry, entry, group_bytes, group_end, has_passed, has_room, has_space, line, LoadedMarks, mode, to_next_page, user_checked, user_took, UserState, with_mark}
 use Rattle.model_core.specs.Setup.{Setup}
-use Rattle.model_core.specs.States.{LoadedMarks, UserState}
-use Rattle.model_core.specs.UserProgram.{after_link, answered, can_close, can_link, cells_of, change_at, changes, group_bytes, group_end, has_passed, has_room, has_space, line, mode, to_next_page, user_checked, user_took, with_mark}
 use Rattle.model_core.specs.declared.steps.UserStep.{UserStep}
 use Rattle.model_log.specs.declared.layout.TheConstants.{BLOCK_DATA}
 use Rattle.model_logcore.proofs.UserGroups.{rank_same}
-use Rattle.model_logcore.specs.LogFacts.{Place, Tiled}
+use Rattle.model_logcore.specs.{Place, Tiled}
 use Rattle.model_running.specs.UsersClosed.{HandIsClosed, UserClosed}
 use Rattle.model_core.specs.declared.steps.UserStep.TheVariants as user_step
 

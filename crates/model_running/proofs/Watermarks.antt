@@ -2,25 +2,17 @@
 use Rattle.std.proofs.Common.{List, arith, refl, subst, sym, ℕ, ⊎_elim, ◌<◌, ◌≡◌, ◌⊎◌}
 use lib.ListN.{get_elem?}
 use mathlib.Core.Option.{some}
-use Rattle.model_core.specs.Actors.{Actor}
+use Rattle.model_core.specs.{Actor, CheckpointerState, CleanerState, CloserState, Core, Entry, Listed, SharedWords, UserState}
 use Rattle.model_core.specs.DataSide.{DataSide}
-use Rattle.model_core.specs.FlushLists.{Listed}
-use Rattle.model_core.specs.Groups.{Entry}
-use Rattle.model_core.specs.Layout.{SharedWords}
 use Rattle.model_core.specs.LogSide.{LogSide}
 use Rattle.model_core.specs.Setup.{Setup}
-use Rattle.model_core.specs.States.{CheckpointerState, CleanerState, CloserState, UserState}
-use Rattle.model_core.specs.Turn.{Core}
 use Rattle.model_core.specs.declared.steps.CleanerStep.{CleanerStep}
 use Rattle.model_core.specs.declared.steps.UserStep.{UserStep}
 use Rattle.model_logcore.proofs.Watermarks.{log_watermarks, watermarks_log}
-use Rattle.model_logcore.specs.LogFacts.{LogGhost}
+use Rattle.model_logcore.specs.{LogGhost}
 use Rattle.model_logcore.specs.LogLaws.{LogLaws}
 use Rattle.model_pagecore.specs.DataLaws.{DataLaws}
-use Rattle.model_pagecore.specs.Latches.{CleanerHasLatch, UserHasLatch}
-use Rattle.model_pagecore.specs.PageFacts.{PageGhost}
-use Rattle.model_pagecore.specs.PageHalf.{CheckpointerPageFits, CleanerAt, CleanerFits, CloserFits, HoldsOnly, UserPageFits, UserPagesAt}
-use Rattle.model_pagecore.specs.Pages.{Passed}
+use Rattle.model_pagecore.specs.{CheckpointerPageFits, CleanerAt, CleanerFits, CleanerHasLatch, CloserFits, HoldsOnly, PageGhost, Passed, UserHasLatch, UserPageFits, UserPagesAt}
 use Rattle.model_running.proofs.LatchesKeep.{held_by}
 use Rattle.model_running.specs.RunningStore.{BothHalves, IsRunning}
 use Rattle.model_running.specs.Watermarks.{CleanerTells, ClosedChangesAreListedOrKept, FailureHasCause, FramesAreApplied, HasWatermarks, KeptPagesArePrefixes, ListsAreRelaxed, UserTells, Watermarks}

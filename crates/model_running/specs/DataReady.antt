@@ -1,10 +1,9 @@
 -- The conditions of the cleaner's call.
 use Rattle.std.specs.Prelude.{[], ℕ}
-use Rattle.model_core.specs.Actors.{Batch, Lent}
+use Rattle.model_core.specs.{Batch, KeptPage, Lent}
 use Rattle.model_core.specs.DataSide.{DataSide}
-use Rattle.model_core.specs.Groups.{KeptPage}
 use Rattle.model_core.specs.declared.ops.Op.{Op}
-use Rattle.model_pagecore.specs.DataLaws.{CanBatch}
+use Rattle.model_pagecore.specs.{CanBatch}
 use Rattle.model_core.specs.declared.ops.Op.TheVariants as op
 
 -- nothing is unfinished in the data part, and the batch that is lent may be written

@@ -2,9 +2,8 @@
 use Rattle.std.specs.Prelude.{List, ℕ, ◌<◌, ◌≡◌}
 use lib.ListN.{get_elem?}
 use mathlib.Core.Option.{some}
-use Rattle.model_core.specs.Actors.{Actor}
-use Rattle.model_core.specs.Layout.{SharedWords, page_words_at}
-use Rattle.model_pagecore.specs.Latches.{HasLatch}
+use Rattle.model_core.specs.{Actor, page_words_at, SharedWords}
+use Rattle.model_pagecore.specs.{HasLatch}
 
 -- The actor that took it last: its step says that it holds it, or it has failed. `holder` gives that actor's seat.
 abbrev pub LatchesAreHeld : ℕ → SharedWords → (ℕ → ℕ) → List Actor → Type 0

@@ -1,6 +1,6 @@
 -- The conditions of the calls of a flush list.
 use Rattle.std.specs.Prelude.{List, ℕ, ◌%◌, ◌+◌, ◌<◌, ◌≡◌}
-use Rattle.model_core.specs.FlushLists.{Each, Listed, oldest_of}
+use Rattle.model_core.specs.{Each, Listed, oldest_of}
 use Rattle.model_core.specs.declared.limits.TheConstants.{CLOSED_LINKS, FLUSH_LISTS}
 use Rattle.model_core.specs.declared.ops.Op.{Op}
 use Rattle.model_core.specs.declared.ops.Op.TheVariants as op

@@ -1,16 +1,12 @@
 -- Both halves of the invariant, over one list of actors.
 use Rattle.std.specs.Prelude.{List, true, ℕ, ◌<◌, ◌≡◌, ◌≤◌, ◌⊎◌}
-use Rattle.model_core.specs.Actors.{Actor}
+use Rattle.model_core.specs.{Actor, Core, flat, IsScripted, Listed, SharedWords}
 use Rattle.model_core.specs.DataSide.{DataSide}
-use Rattle.model_core.specs.FlushLists.{Listed}
-use Rattle.model_core.specs.Layout.{SharedWords, flat}
 use Rattle.model_core.specs.LogSide.{LogSide}
-use Rattle.model_core.specs.Setup.{IsScripted, Setup}
-use Rattle.model_core.specs.Turn.{Core}
-use Rattle.model_logcore.specs.LogFacts.{LogGhost}
+use Rattle.model_core.specs.Setup.{Setup}
+use Rattle.model_logcore.specs.{LogGhost, start_checkpoint}
 use Rattle.model_logcore.specs.LogHalf.{LogHalf}
-use Rattle.model_logcore.specs.Start.{start_checkpoint}
-use Rattle.model_pagecore.specs.PageFacts.{PageGhost}
+use Rattle.model_pagecore.specs.{PageGhost}
 use Rattle.model_pagecore.specs.PageHalf.{PageHalf}
 use Rattle.model_running.specs.LatchesHeld.{LatchesAreHeld}
 use Rattle.model_running.specs.UsersClosed.{UsersClosed}

@@ -2,14 +2,13 @@
 use Rattle.std.specs.Prelude.{List, cond, length, nat_lt, suc, zero, ℕ, ◌%◌, ◌+◌, ◌/◌, ◌<◌, ◌^◌, ◌≡◌, ◌≤◌, ◌⊎◌}
 use lib.ListN.{get_elem?}
 use mathlib.Core.Option.{some}
-use Rattle.model_core.specs.Actors.{Actor}
+use Rattle.model_core.specs.{Actor, Core, UserState}
 use Rattle.model_core.specs.DataSide.{DataSide}
 use Rattle.model_core.specs.LogSide.{LogSide}
-use Rattle.model_core.specs.States.{UserState}
-use Rattle.model_core.specs.Turn.{Core, Turn}
+use Rattle.model_core.specs.Turn.{Turn}
 use Rattle.model_core.specs.declared.ops.Answer.{Answer}
 use Rattle.model_core.specs.declared.ops.Step.{Step}
-use Rattle.model_script.specs.Generator.{draw}
+use Rattle.model_script.specs.{draw}
 use Rattle.model_core.specs.Actors as actor
 use Rattle.model_core.specs.declared.steps.UserStep.TheVariants as user_step
 

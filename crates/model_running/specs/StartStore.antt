@@ -3,14 +3,11 @@ use Rattle.std.specs.Prelude.{[], false, slice_index, ℕ, ◌<◌, ◌≡◌, �
 use lib.ListN.{get_elem?}
 use mathlib.Core.Option.{some}
 use Rattle.std.specs.Prelude.{List}
-use Rattle.model_core.specs.Actors.{Actor}
+use Rattle.model_core.specs.{Actor, CheckpointerState, IsScripted, lsn, page_words_at, PageWords, SharedWords}
 use Rattle.model_core.specs.DataSide.{DataSide}
-use Rattle.model_core.specs.Layout.{PageWords, SharedWords, page_words_at}
 use Rattle.model_core.specs.LogSide.{LogSide}
-use Rattle.model_core.specs.Lsn.{lsn}
-use Rattle.model_core.specs.Setup.{IsScripted, Setup}
-use Rattle.model_core.specs.States.{CheckpointerState}
-use Rattle.model_logcore.specs.Start.{StartActor, StartPart, StartWords}
+use Rattle.model_core.specs.Setup.{Setup}
+use Rattle.model_logcore.specs.{StartActor, StartPart, StartWords}
 use Rattle.model_core.specs.Actors as actor
 
 -- the words of the pages: each page is free, unlisted, and as it was opened

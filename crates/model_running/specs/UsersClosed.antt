@@ -2,10 +2,7 @@
 use Rattle.std.specs.Prelude.{Bool, List, length, true, ℕ, ◌<◌, ◌≡◌}
 use lib.ListN.{get_elem?}
 use mathlib.Core.Option.{some}
-use Rattle.model_core.specs.Actors.{Actor}
-use Rattle.model_core.specs.Groups.{Entry}
-use Rattle.model_core.specs.States.{UserState}
-use Rattle.model_core.specs.UserProgram.{changes}
+use Rattle.model_core.specs.{Actor, changes, Entry, UserState}
 use Rattle.model_core.specs.declared.steps.UserStep.{UserStep}
 use Rattle.model_core.specs.declared.steps.UserStep.TheVariants as user_step
 use Rattle.model_core.specs.Actors as actor

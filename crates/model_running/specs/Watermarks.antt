@@ -3,25 +3,15 @@
 use Rattle.std.specs.Prelude.{List, slice_index, true, ℕ, ◌+◌, ◌<◌, ◌≡◌, ◌≤◌, ◌⊎◌}
 use lib.ListN.{get_elem?}
 use mathlib.Core.Option.{some}
-use Rattle.model_core.specs.Actors.{Actor}
+use Rattle.model_core.specs.{Actor, CheckpointerState, CleanerState, CloserState, Core, Each, Entry, flat, IsDataCode, IsLogCode, Listed, page_words_at, Relaxed, SharedWords, UserState}
 use Rattle.model_core.specs.DataSide.{DataSide}
-use Rattle.model_core.specs.FailureCodes.{IsDataCode, IsLogCode}
-use Rattle.model_core.specs.FlushLists.{Each, Listed, Relaxed}
-use Rattle.model_core.specs.Groups.{Entry}
-use Rattle.model_core.specs.Layout.{SharedWords, flat, page_words_at}
 use Rattle.model_core.specs.LogSide.{LogSide}
 use Rattle.model_core.specs.Setup.{Setup}
-use Rattle.model_core.specs.States.{CheckpointerState, CleanerState, CloserState, UserState}
-use Rattle.model_core.specs.Turn.{Core}
 use Rattle.model_core.specs.declared.limits.TheConstants.{CLOSED_LINKS}
 use Rattle.model_core.specs.declared.steps.CleanerStep.{CleanerStep}
 use Rattle.model_core.specs.declared.steps.UserStep.{UserStep}
-use Rattle.model_logcore.specs.Start.{start_checkpoint}
-use Rattle.model_logcore.specs.Watermarks.{LogWatermarks}
-use Rattle.model_pagecore.specs.Latches.{CleanerHasLatch, UserHasLatch}
-use Rattle.model_pagecore.specs.PageFacts.{AreUnfinished, ClosedLink, PageGhost, listed}
-use Rattle.model_pagecore.specs.PageHalf.{CheckpointerPagesAt, CleanerHolds, HoldsOnly, UserHolds}
-use Rattle.model_pagecore.specs.Pages.{Agree, All, EndsAt, Last, PageIs, Passed, StartsAt, applied_upto, end_lsn, none_in_hand, start_lsn, touches}
+use Rattle.model_logcore.specs.{LogWatermarks, start_checkpoint}
+use Rattle.model_pagecore.specs.{Agree, All, applied_upto, AreUnfinished, CheckpointerPagesAt, CleanerHasLatch, CleanerHolds, ClosedLink, end_lsn, EndsAt, HoldsOnly, Last, listed, none_in_hand, PageGhost, PageIs, Passed, start_lsn, StartsAt, touches, UserHasLatch, UserHolds}
 use Rattle.model_running.specs.LatchesHeld.{LatchesAreHeld}
 use Rattle.model_running.specs.UsersClosed.{UsersClosed}
 use Rattle.model_core.specs.Actors as actor

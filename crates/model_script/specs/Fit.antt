@@ -5,9 +5,8 @@ use Rattle.std.specs.Prelude.{ℕ, ◌≡◌, ◌≤◌, ◌<◌, ◌+◌, ◌*�
 use Rattle.std.specs.List.{AllByRecursion}
 use Rattle.model_base.specs.declared.shape.Shape.{Shape}
 use Rattle.model_base.specs.declared.limits.TheConstants.{BLOCK_SIZE, LSN_LIMIT, MAX_GROUP, USER_START}
-use Rattle.model_record.specs.Fits.{user_end, GroupFits}
-use Rattle.model_record.specs.Group.{IsGroup, group_length, stream_of}
-use Rattle.model_log.specs.Lsn.{lsn_of, sn_of}
+use Rattle.model_record.specs.{group_length, GroupFits, IsGroup, stream_of, user_end}
+use Rattle.model_log.specs.{lsn_of, sn_of}
 use Rattle.model_script.specs.LineGroup.{group_of}
 use Rattle.model_script.specs.declared.item.Item.{Item}
 use Rattle.model_script.specs.declared.item.Item.TheVariants.{Num, Text, Init}

@@ -6,9 +6,8 @@ use Rattle.std.proofs.lemmas.Bool.Decides.{nat_tests}
 use Rattle.model_base.specs.declared.shape.Shape.{Shape}
 use Rattle.model_record.specs.declared.rec.Rec.{Rec}
 use Rattle.model_record.specs.declared.group.Whole.{Whole}
-use Rattle.model_record.specs.Group.{group_length}
-use Rattle.model_log.specs.Lsn.{lsn_of, sn_of}
-use Rattle.model_log.specs.Run.{IsRunOf, spans_of, end_of}
+use Rattle.model_record.specs.{group_length}
+use Rattle.model_log.specs.{end_of, IsRunOf, lsn_of, sn_of, spans_of}
 use Rattle.model_log.proofs.Runs.{run-first}
 use Rattle.model_log.specs.declared.block.BlockView.{BlockView}
 use Rattle.model_page.specs.declared.content.Content.{Content}

@@ -2,18 +2,16 @@
 use Rattle.std.proofs.Common.{◌≡◌, ℕ, ◌<◌, ◌≤◌, ◌⊎◌, inl, inr, List, length, Option, Some, None, arith, refl, sym, ap, ap₂, subst, ◌∙◌}
 use Rattle.model_base.specs.declared.shape.Shape.{Shape}
 use Rattle.model_record.specs.declared.group.Whole.{Whole}
-use Rattle.model_record.specs.Group.{IsFront}
+use Rattle.model_record.specs.{IsFront}
 use Rattle.model_log.specs.declared.block.BlockView.{BlockView}
 use Rattle.model_log.specs.declared.head.Head.{Head}
 use Rattle.model_log.specs.declared.head.Head.TheVariants.{Good, OtherFormat, Unformatted}
 use Rattle.model_log.specs.declared.layout.TheConstants.{HEADER_BYTES}
-use Rattle.model_log.specs.Head.{read_head}
-use Rattle.model_log.specs.Device.{header_block, log_device_length, newest_checkpoint}
+use Rattle.model_log.specs.{end_of, header_block, log_device_length, newest_checkpoint, read_head, spans_of}
 use Rattle.model_page.specs.declared.content.Content.{Content}
-use Rattle.model_page.specs.Copies.{IsLost, data_device_length}
+use Rattle.model_page.specs.{data_device_length, IsLost}
 use Rattle.model_store.specs.declared.refusal.Refusal.{Refusal}
 use Rattle.model_store.specs.declared.refusal.Refusal.TheVariants.{SmallLog, NotFormatted, BadFormat, SmallData, NoCheckpoint, BadRecord, PageLost, PageAhead}
-use Rattle.model_log.specs.Run.{spans_of, end_of}
 use Rattle.model_store.specs.Scan.{IsScan, IsBadRecord, AreGroups, AreGroupsOf, groups_start, data_from}
 use Rattle.model_store.specs.Reading.{Reading, IsReading, Refuses, HasScan, HasHead, HasDevices, IsScanned, IsKeptAt, AreKeptBelow, AreNotAheadBelow}
 use Rattle.model_store.proofs.Places.{has_place, same_some}

@@ -3,7 +3,7 @@ use Rattle.std.proofs.Common.{◌≡◌, ℕ, List, sym, ap, subst, ◌∙◌}
 use Rattle.model_base.specs.declared.shape.Shape.{Shape}
 use Rattle.model_record.specs.declared.group.Whole.{Whole}
 use Rattle.model_log.specs.declared.block.BlockView.{BlockView}
-use Rattle.model_log.specs.Device.{newest_checkpoint}
+use Rattle.model_log.specs.{newest_checkpoint}
 use Rattle.model_page.specs.declared.content.Content.{Content}
 use Rattle.model_store.specs.Scan.{IsScan}
 use Rattle.model_store.specs.Reading.{Reading, IsReading, HasScan, HasHead, IsReadPage, replayed}

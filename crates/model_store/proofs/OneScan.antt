@@ -5,11 +5,9 @@ use Rattle.std.proofs.lemmas.List.{append-nil, nil_from_length}
 use Rattle.model_base.specs.declared.shape.Shape.{Shape}
 use Rattle.model_record.specs.declared.rec.Rec.{Rec}
 use Rattle.model_record.specs.declared.group.Whole.{Whole}
-use Rattle.model_record.specs.Group.{group_text, stream_of, groups_of, IsGroup, IsUnfinished, IsFront, group_length}
-use Rattle.model_log.specs.Lsn.{lsn_of, sn_of}
+use Rattle.model_record.specs.{group_length, group_text, groups_of, IsFront, IsGroup, IsUnfinished, stream_of}
+use Rattle.model_log.specs.{end_of, is_full, IsRunOf, lsn_of, sn_of, spans_of}
 use Rattle.model_log.specs.declared.block.BlockView.{BlockView}
-use Rattle.model_log.specs.Block.{is_full}
-use Rattle.model_log.specs.Run.{IsRunOf, spans_of, end_of}
 use Rattle.model_log.proofs.Runs.{run-first}
 use Rattle.model_store.specs.Scan.{AreBlocks, IsStorable, AreGroups, AreGroupsOf, IsScan, HasNoStorable, groups_start, data_from}
 use Rattle.model_store.proofs.Places.{has_place, same_places}

@@ -3,8 +3,7 @@ use Rattle.std.proofs.Common.{◌≡◌, ℕ, List, Bool, true, false, cond, ltb
 use Rattle.std.specs.Option.{option_map}
 use Rattle.model_base.specs.declared.shape.Shape.{Shape}
 use Rattle.model_base.specs.declared.limits.TheConstants.{LSN_LIMIT}
-use Rattle.model_log.specs.Block.{read_block, data_of}
-use Rattle.model_log.specs.Device.{log_block}
+use Rattle.model_log.specs.{data_of, log_block, read_block}
 use Rattle.model_log.specs.declared.block.BlockView.{BlockView}
 use Rattle.model_store.specs.Scan.{Taken, taken_from, view_at, data_at, bytes_of}
 

@@ -2,10 +2,10 @@
 use Rattle.std.specs.Prelude.{ℕ, ◌+◌, ◌-◌, ◌==◌, nat_le, if◌then◌else◌, Bool, List, [], ◌∷◌, length, replicate}
 use Rattle.std.specs.List.{list_any}
 use Rattle.std.specs.Int.{bytes_high_first}
-use Rattle.model_base.specs.Overwrite.{overwritten}
+use Rattle.model_base.specs.{overwritten}
 use Rattle.model_base.specs.declared.shape.Shape.{Shape}
 use Rattle.model_base.specs.declared.limits.TheConstants.{USER_START}
-use Rattle.model_record.specs.Record.{page_of}
+use Rattle.model_record.specs.{page_of}
 use Rattle.model_record.specs.declared.rec.Rec.{Rec}
 use Rattle.model_record.specs.declared.rec.Rec.TheVariants.{Num, Text, Init}
 use Rattle.model_record.specs.declared.group.Whole.{Whole}

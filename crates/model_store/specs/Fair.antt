@@ -2,9 +2,9 @@
 -- taken to tell: bytes that pass the page check are one of the whole contents that the stretch had.
 use Rattle.std.specs.Prelude.{ℕ, ◌≡◌, ◌≢◌, ◌≤◌, ◌<◌, ◌+◌, List, length, take}
 use Rattle.model_base.specs.declared.shape.Shape.{Shape}
-use Rattle.model_device.specs.Disk.{Disk, IsImage, after_writes}
-use Rattle.model_page.specs.Page.{page_check}
-use Rattle.model_page.specs.Copies.{stretch_at}
+use Rattle.model_device.specs.{after_writes, IsImage}
+use Rattle.model_device.specs.Disk.{Disk}
+use Rattle.model_page.specs.{page_check, stretch_at}
 use Rattle.model_page.specs.declared.page.PageState.TheVariants.{Broken}
 
 -- the stretch of a slot or a place holds the bytes that it has once the first so many writes are applied whole

@@ -2,9 +2,9 @@
 use Rattle.std.specs.Prelude.{ℕ, ◌≡◌, ◌⊎◌, List, take, replicate}
 use Rattle.model_base.specs.declared.limits.TheConstants.{BLOCK_SIZE, FIRST_DATA_LSN}
 use Rattle.model_base.specs.declared.shape.Shape.{Shape}
-use Rattle.model_base.specs.Limits.{default_shape}
+use Rattle.model_base.specs.{default_shape}
 use Rattle.model_page.specs.declared.content.Content.{Content}
-use Rattle.model_page.specs.Blank.{blank_pages}
+use Rattle.model_page.specs.{blank_pages}
 use Rattle.model_store.specs.Reading.{Reading, IsOrderly}
 
 -- the first block of the log device is all zero

@@ -4,13 +4,11 @@ use Rattle.std.specs.Prelude.{ℕ, ◌≡◌, ◌≤◌, ◌<◌, ◌^◌, ◌-�
 use Rattle.model_base.specs.declared.shape.Shape.{Shape}
 use Rattle.model_base.specs.declared.limits.TheConstants.{LSN_LIMIT}
 use Rattle.model_record.specs.declared.group.Whole.{Whole}
-use Rattle.model_log.specs.Head.{read_head}
-use Rattle.model_log.specs.Device.{header_block, log_device_length, newest_checkpoint}
+use Rattle.model_log.specs.{header_block, log_device_length, newest_checkpoint, read_head}
 use Rattle.model_log.specs.declared.head.Head.TheVariants.{Good, OtherFormat, Unformatted}
 use Rattle.model_log.specs.declared.layout.TheConstants.{HEADER_BYTES}
 use Rattle.model_log.specs.declared.block.BlockView.{BlockView}
-use Rattle.model_page.specs.Page.{user_part}
-use Rattle.model_page.specs.Copies.{IsKept, IsLost, copy_lsn, slot_bytes, data_device_length}
+use Rattle.model_page.specs.{copy_lsn, data_device_length, IsKept, IsLost, slot_bytes, user_part}
 use Rattle.model_page.specs.declared.content.Content.{Content}
 use Rattle.model_store.specs.Apply.{page_after}
 use Rattle.model_store.specs.Scan.{IsScan, IsBadRecord}

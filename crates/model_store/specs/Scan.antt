@@ -4,14 +4,10 @@ use Rattle.std.specs.List.{AllByRecursion}
 use Rattle.std.specs.Option.{option_map}
 use Rattle.model_base.specs.declared.shape.Shape.{Shape}
 use Rattle.model_base.specs.declared.limits.TheConstants.{BLOCK_SIZE, LSN_LIMIT, MAX_GROUP}
-use Rattle.model_record.specs.Group.{group_text, stream_of, groups_of, group_length, IsGroup, IsFront}
-use Rattle.model_record.specs.Fits.{GroupFits}
+use Rattle.model_record.specs.{group_length, group_text, GroupFits, groups_of, IsFront, IsGroup, stream_of}
 use Rattle.model_record.specs.declared.rec.Rec.{Rec}
 use Rattle.model_record.specs.declared.group.Whole.{Whole}
-use Rattle.model_log.specs.Lsn.{sn_of}
-use Rattle.model_log.specs.Block.{read_block, is_full, data_of}
-use Rattle.model_log.specs.Run.{IsRunOf, spans_of, end_of}
-use Rattle.model_log.specs.Device.{log_block}
+use Rattle.model_log.specs.{data_of, end_of, is_full, IsRunOf, log_block, read_block, sn_of, spans_of}
 use Rattle.model_log.specs.declared.layout.TheConstants.{BLOCK_HEADER}
 use Rattle.model_log.specs.declared.block.BlockView.{BlockView}
 

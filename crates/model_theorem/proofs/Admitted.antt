@@ -2,29 +2,26 @@
 use Rattle.std.proofs.Common.{◌≡◌, ℕ, zero, suc, ◌+◌, ◌==◌, Bool, true, false, cond, length, slice_get, ◌≤◌, ◌<◌, List, [], ◌∷◌, Some, Ok, sym, ap, ◌∙◌, refl, subst, arith, inl, inr, ⊎_elim}
 use Rattle.std.specs.Prelude.{take}
 use Rattle.model_base.specs.declared.shape.Shape.{Shape}
-use Rattle.model_store.specs.Apply.{folded}
+use Rattle.model_store.specs.{folded}
 use Rattle.std.proofs.lemmas.Bool.{eqb-true}
 use Rattle.model_base.specs.Lines as lines
-use Rattle.model_device.specs.Disk.{Disk, IsImage, IsWrittenBy, sector, settled}
+use Rattle.model_device.specs.{IsImage, IsWrittenBy, sector, settled}
+use Rattle.model_device.specs.Disk.{Disk}
 use Rattle.model_device.specs.declared.write.Write.{Write}
-use Rattle.model_history.specs.Legal.{IsLeft, HasLeft, IsLegal, IsLegalEntry, count_up_to, wholes_of, lines_of_user, entries_of_user}
+use Rattle.model_history.specs.{count_up_to, entries_of_user, HasLeft, IsLeft, IsLegal, IsLegalEntry, lines_of_user, wholes_of}
 use Rattle.model_history.specs.declared.entry.Entry.{Entry}
 use Rattle.model_history.specs.declared.entry.State.TheVariants.{Lost, Flushed}
-use Rattle.model_log.specs.Checkpoint.{read_checkpoint}
-use Rattle.model_log.specs.Device.{newer, newest_checkpoint}
-use Rattle.model_log.specs.Lsn.{lsn_of, sn_of}
+use Rattle.model_log.specs.{lsn_of, newer, newest_checkpoint, read_checkpoint, sn_of}
 use Rattle.model_script.specs.declared.script.ScriptLine.{ScriptLine}
 use Rattle.model_number.specs.Spelling as spelling
 use Rattle.model_record.specs.Group as group
 use Rattle.model_record.specs.Record as text
-use Rattle.model_record.specs.Group.{group_length}
-use Rattle.model_script.specs.LineGroup.{group_of}
+use Rattle.model_record.specs.{group_length}
+use Rattle.model_script.specs.{group_of, LineFits, script_end, script_of}
 use Rattle.model_script.specs.Grammar as grammar
-use Rattle.model_script.specs.Grammar.{script_of}
-use Rattle.model_base.specs.Limits.{default_shape}
+use Rattle.model_base.specs.{default_shape}
 use Rattle.model_store.specs.Reading.{Reading}
 use Rattle.model_theorem.specs.Crash.{CrashSafe}
-use Rattle.model_script.specs.Fit.{LineFits, script_end}
 use Rattle.model_base.specs.declared.limits.TheConstants.{LSN_LIMIT}
 use Rattle.model_theorem.specs.Values.{Opened}
 use Rattle.model_theorem.specs.Opening.{IsOpeningDone}

@@ -3,15 +3,14 @@ use Rattle.std.proofs.Common.{◌≡◌, ℕ, ◌+◌, ◌<◌, List, [], ◌∷
 use Rattle.std.specs.Prelude.{IfSome, slice_get, take}
 use Rattle.std.proofs.lemmas.Bool.{cases_lt}
 use Rattle.std.proofs.lemmas.Bool.Decides.{nat_tests}
-use Rattle.model_base.specs.Count.{HasRisen}
-use Rattle.model_base.specs.Limits.{default_shape}
-use Rattle.model_device.specs.Disk.{Disk, IsImage}
-use Rattle.model_log.specs.Device.{newest_checkpoint}
-use Rattle.model_opening.specs.Formatted.{formatted_store}
-use Rattle.model_store.specs.Apply.{folded}
-use Rattle.model_store.specs.Reading.{Reading, IsReading}
-use Rattle.model_log.specs.Run.{IsTiled}
-use Rattle.model_history.specs.Legal.{count_up_to, entry_spans, wholes_of}
+use Rattle.model_base.specs.{default_shape, HasRisen}
+use Rattle.model_device.specs.{IsImage}
+use Rattle.model_device.specs.Disk.{Disk}
+use Rattle.model_log.specs.{IsTiled, newest_checkpoint}
+use Rattle.model_opening.specs.{formatted_store}
+use Rattle.model_store.specs.{folded, IsReading}
+use Rattle.model_store.specs.Reading.{Reading}
+use Rattle.model_history.specs.{count_up_to, entry_spans, wholes_of}
 use Rattle.model_history.specs.declared.entry.Entry.{Entry}
 use Rattle.model_theorem.specs.Values.{Crash, Opened, Ran, Account, Device, entries_of}
 use Rattle.model_theorem.specs.Run.{IsRun, first_count}

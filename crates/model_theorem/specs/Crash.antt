@@ -3,12 +3,11 @@
 -- those of applying the first n groups whole to the opened pages, n reaching every group printed flushed; a group is
 -- lost only where a device call failed.
 use Rattle.std.specs.Prelude.{ℕ, ◌≡◌, ◌≤◌, ◌<◌, ◌⊎◌, ◌+◌, ◌++◌, Option, Some, None, IfSome}
-use Rattle.model_base.specs.Count.{HasRisen}
-use Rattle.model_device.specs.Disk.{IsImage, settled}
-use Rattle.model_store.specs.Opening.{IsUnused}
-use Rattle.model_store.specs.Reading.{IsReading, HasOldCopies}
-use Rattle.model_history.specs.Legal.{IsLeft}
-use Rattle.model_report.specs.Report.{report_text}
+use Rattle.model_base.specs.{HasRisen}
+use Rattle.model_device.specs.{IsImage, settled}
+use Rattle.model_store.specs.{HasOldCopies, IsReading, IsUnused}
+use Rattle.model_history.specs.{IsLeft}
+use Rattle.model_report.specs.{report_text}
 use Rattle.model_theorem.specs.Opening.{AreUnopened, IsOpenedBefore}
 use Rattle.model_theorem.specs.Run.{IsRun, IsPrefixRead, LosesOnlyByFailure}
 use Rattle.model_theorem.specs.Script.{IsWholeScript, FitsOpened}

@@ -1,20 +1,19 @@
 -- Calls that the promise is tried on: what it refuses, and what it admits.
 use Rattle.std.specs.Prelude.{ℕ, false, ◌≡◌, ◌≢◌, ◌≤◌, ◌<◌, ◌⊎◌, List, [], ◌∷◌, codes, slice_get, Option, Some, None}
 use Rattle.std.specs.List.{AllByRecursion}
-use Rattle.model_base.specs.Limits.{default_shape}
+use Rattle.model_base.specs.{default_shape}
 use Rattle.model_base.specs.declared.limits.TheConstants.{FIRST_DATA_LSN, LSN_LIMIT}
-use Rattle.model_page.specs.Blank.{blank_pages}
-use Rattle.model_device.specs.Disk.{settled}
+use Rattle.model_page.specs.{blank_pages}
+use Rattle.model_device.specs.{settled}
 use Rattle.model_device.specs.declared.write.Write.{Write}
-use Rattle.model_log.specs.Device.{newest_checkpoint}
-use Rattle.model_log.specs.Lsn.{start_after}
+use Rattle.model_log.specs.{newest_checkpoint, start_after}
 use Rattle.model_log.specs.declared.layout.TheConstants.{HEADER_BYTES}
-use Rattle.model_report.specs.Report.{report_text}
-use Rattle.model_script.specs.Fit.{script_end}
+use Rattle.model_report.specs.{report_text}
+use Rattle.model_script.specs.{script_end}
 use Rattle.model_script.specs.declared.item.Item.TheVariants.{Num}
 use Rattle.model_script.specs.declared.script.ScriptLine.{ScriptLine}
-use Rattle.model_store.specs.Opening.{IsUnused}
-use Rattle.model_store.specs.Reading.{Reading, IsReading, HasOldCopies}
+use Rattle.model_store.specs.{HasOldCopies, IsReading, IsUnused}
+use Rattle.model_store.specs.Reading.{Reading}
 use Rattle.model_history.specs.declared.entry.Entry.{Entry}
 use Rattle.model_history.specs.declared.entry.State.TheVariants.{Lost, Flushed}
 use Rattle.model_theorem.specs.Opening.{HeldOlder}

@@ -5,3 +5,9 @@ pub mod Premises
 pub mod Run
 pub mod Script
 pub mod Values
+pub use Rattle.model_theorem.specs.Crash.{AreAnyStops, AreArmedFirst, CrashSafe, HasPassedAll, IsCrashed, IsEveryScript, IsPrinted, IsReadFromDevices, IsStoppedAsAsked, failures_of}
+pub use Rattle.model_theorem.specs.Opening.{AreUnopened, HasCheckpointFrom, HeldOlder, IsOpenedBefore}
+pub use Rattle.model_theorem.specs.Premises.{IsFresh, RunPremises}
+pub use Rattle.model_theorem.specs.Run.{IsPrefixRead, IsRun, LosesOnlyByFailure, ReadsPrefix, RunPromise, RunSafe}
+pub use Rattle.model_theorem.specs.Script.{FitsOpened, IsWholeScript, room_of}
+pub use Rattle.model_theorem.specs.Values.{Account, CrashOptions, Device, Opened, Ran, RunAccount, RunCall, RunDevice, RunResult, Stop, entries_of, marks_of, start_of}

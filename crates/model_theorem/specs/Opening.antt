@@ -1,13 +1,13 @@
 -- Whether opening came to its end, as the log device tells it. Opening ends by making a checkpoint durable, whose number is
 -- the next after that of the store that was found; a run begins only behind that.
 use Rattle.std.specs.Prelude.{ℕ, ◌≡◌, ◌≤◌, ◌<◌, ◌+◌, List, Option, Some, None}
-use Rattle.model_base.specs.Limits.{default_shape}
+use Rattle.model_base.specs.{default_shape}
 use Rattle.model_base.specs.declared.shape.Shape.{Shape}
-use Rattle.model_device.specs.Disk.{Disk, IsImage, HasOneImage}
-use Rattle.model_log.specs.Device.{newest_checkpoint}
-use Rattle.model_opening.specs.Formatted.{formatted_store}
-use Rattle.model_store.specs.Opening.{IsUnused}
-use Rattle.model_store.specs.Reading.{IsOrderly}
+use Rattle.model_device.specs.{HasOneImage, IsImage}
+use Rattle.model_device.specs.Disk.{Disk}
+use Rattle.model_log.specs.{newest_checkpoint}
+use Rattle.model_opening.specs.{formatted_store}
+use Rattle.model_store.specs.{IsOrderly, IsUnused}
 use Rattle.model_theorem.specs.Values.{Ran}
 
 -- the devices are at rest, and hold what formatting leaves, with the checkpoint of number 0, which the first opening

@@ -2,11 +2,10 @@
 -- the devices, and they tell what they mean: so there are values to fill in. The rest is here. It speaks of what is
 -- handed in and of what the devices tell, and of nothing that a call could choose.
 use Rattle.std.specs.Prelude.{ℕ, ◌<◌}
-use Rattle.model_base.specs.Count.{last_count}
-use Rattle.model_device.specs.Disk.{Disk, HasOneImage}
-use Rattle.model_device.specs.Valid.{IsValid}
-use Rattle.model_store.specs.Fair.{IsFair}
-use Rattle.model_store.specs.Opening.{Opens}
+use Rattle.model_base.specs.{last_count}
+use Rattle.model_device.specs.{HasOneImage, IsValid}
+use Rattle.model_device.specs.Disk.{Disk}
+use Rattle.model_store.specs.{IsFair, Opens}
 use Rattle.model_theorem.specs.Values.{Crash, RunCall, Opened}
 
 -- at entry a crash would leave what reads give, and the count of faults can still rise

@@ -1,16 +1,14 @@
 -- The two halves of what is promised: what a run is, and what a reading of its devices is of it.
 use Rattle.std.specs.Prelude.{ℕ, ◌≡◌, ◌≢◌, ◌≤◌, ◌<◌, ◌+◌, List, [], take, slice_get, Option, Some, None, IfSome}
-use Rattle.model_device.specs.Disk.{IsImage}
-use Rattle.model_log.specs.Lsn.{start_after}
-use Rattle.model_log.specs.Run.{IsBoundary}
-use Rattle.model_store.specs.Apply.{folded}
-use Rattle.model_store.specs.Fair.{IsFair}
-use Rattle.model_store.specs.Reading.{Reading, IsReading, HasOldCopies}
+use Rattle.model_device.specs.{IsImage}
+use Rattle.model_log.specs.{IsBoundary, start_after}
+use Rattle.model_store.specs.{folded, HasOldCopies, IsFair, IsReading}
+use Rattle.model_store.specs.Reading.{Reading}
 use Rattle.model_script.specs.declared.script.ScriptLine.{ScriptLine}
-use Rattle.model_history.specs.Legal.{IsLegal, IsLeft, entry_spans, wholes_of, count_up_to}
+use Rattle.model_history.specs.{count_up_to, entry_spans, IsLeft, IsLegal, wholes_of}
 use Rattle.model_history.specs.declared.entry.Entry.{Entry}
 use Rattle.model_history.specs.declared.entry.State.TheVariants.{Lost, Flushed}
-use Rattle.model_report.specs.Report.{report_text}
+use Rattle.model_report.specs.{report_text}
 use Rattle.model_theorem.specs.Opening.{AreUnopened, IsOpenedBefore}
 use Rattle.model_theorem.specs.Script.{IsWholeScript, FitsOpened}
 use Rattle.model_theorem.specs.Values.{Opened, Ran, RunAccount, RunCall, RunResult, entries_of}

@@ -1,9 +1,8 @@
 -- The script of a call: it was read whole, and it fits the store that was opened.
 use Rattle.std.specs.Prelude.{ℕ, ◌≡◌, ◌-◌, Bool, if◌then◌else◌, List, [], Option, Some, None, Ok, IfSome}
-use Rattle.model_log.specs.Lsn.{start_after}
+use Rattle.model_log.specs.{start_after}
 use Rattle.model_log.specs.declared.layout.TheConstants.{BLOCK_HEADER}
-use Rattle.model_script.specs.Fit.{ScriptFits, round_end}
-use Rattle.model_script.specs.Grammar.{script_of}
+use Rattle.model_script.specs.{round_end, script_of, ScriptFits}
 use Rattle.model_script.specs.declared.script.ScriptLine.{ScriptLine}
 use Rattle.model_theorem.specs.Values.{Opened}
 

@@ -3,9 +3,9 @@ use Rattle.std.proofs.Common.{◌≡◌, ◌≤◌, ◌<◌, ◌+◌, ◌*◌, �
 use Rattle.std.specs.Prelude.{Some, slice_get}
 use borrow.Rule.Slice.PartMut.{put_mid}
 use Rattle.model_record.specs.declared.rec.Rec.{Rec}
-use Rattle.model_record.specs.Record.{page_of}
+use Rattle.model_record.specs.{page_of}
 use Rattle.model_page.specs.declared.content.Content.{Content}
-use Rattle.model_store.specs.Apply.{user_after_own, applied}
+use Rattle.model_store.specs.{applied, user_after_own}
 use Rattle.redo_apply.specs.Frames.{contents}
 use Rattle.redo_apply.proofs.Frames.{length-contents, slice_get-contents, contents-put, frame-within, length-put_mid, written-all}
 use Rattle.redo_apply.proofs.Records.{applied-one}

@@ -3,9 +3,9 @@ use Rattle.std.proofs.Common.{◌≡◌, ℕ, zero, suc, ◌+◌, ◌<◌, Bool,
 use Rattle.std.proofs.lemmas.Bool.Decides.{nat_tests}
 use Rattle.std.specs.Prelude.{Some, slice_get}
 use Rattle.model_record.specs.declared.rec.Rec.{Rec}
-use Rattle.model_record.specs.Record.{page_of}
+use Rattle.model_record.specs.{page_of}
 use Rattle.model_page.specs.declared.content.Content.{Content}
-use Rattle.model_store.specs.Apply.{user_after_own, user_after, touches, page_after, pages_after_from, applied}
+use Rattle.model_store.specs.{applied, page_after, pages_after_from, touches, user_after, user_after_own}
 
 neither_true : (a b : Bool) → (a || b) ≡ false → (a ≡ false) × (b ≡ false)
 neither_true true b h = cc

@@ -3,11 +3,10 @@ use Rattle.std.proofs.Common.{◌≡◌, ◌≤◌, ◌<◌, ◌+◌, ◌*◌, �
 use Rattle.std.specs.Prelude.{Some, slice_get, nat_le}
 use Rattle.std.proofs.lemmas.Bool.Decides.{nat_tests}
 use Rattle.model_base.specs.declared.shape.Shape.{Shape}
-use Rattle.model_record.specs.Fits.{RecordFits, GroupFits}
-use Rattle.model_record.specs.Record.{page_of}
+use Rattle.model_record.specs.{GroupFits, page_of, RecordFits}
 use Rattle.model_record.specs.declared.rec.Rec.{Rec}
 use Rattle.model_page.specs.declared.content.Content.{Content}
-use Rattle.model_store.specs.Apply.{page_after, applied}
+use Rattle.model_store.specs.{applied, page_after}
 use Rattle.model_store.proofs.Folding.{get-applied}
 use Rattle.redo_apply.specs.Fits.{ArePagesOf}
 use Rattle.redo_apply.specs.Frames.{contents}

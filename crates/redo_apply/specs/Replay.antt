@@ -2,7 +2,7 @@
 use Rattle.std.specs.Prelude.{ℕ, ◌≡◌, nat_le, if◌then◌else◌, List, length, slice_get, Some}
 use Rattle.model_record.specs.declared.rec.Rec.{Rec}
 use Rattle.model_page.specs.declared.content.Content.{Content}
-use Rattle.model_store.specs.Apply.{page_after}
+use Rattle.model_store.specs.{page_after}
 
 -- the lsns of the pages
 pub record HaveLsns (pages : List Content) (lsns : List ℕ) : Type 0 where

@@ -1,10 +1,10 @@
 // The pages of a store in memory.
 ghost use Rattle.std.specs.Prelude.{◌≡◌, ◌+◌, ◌≤◌, ◌<◌, ◌∷◌, [], length, slice_get, slice_set, IfOk, IfSome};
-ghost use Rattle.model_base.specs.Limits.{IsWithinLimits};
+ghost use Rattle.model_base.specs.{IsWithinLimits};
 ghost use Rattle.model_base.specs.declared.shape.Shape.{Shape};
-ghost use Rattle.model_page.specs.Blank.{blank_pages};
-ghost use Rattle.model_record.specs.Record.{page_of};
-ghost use Rattle.model_store.specs.Apply.{applied, page_after};
+ghost use Rattle.model_page.specs.{blank_pages};
+ghost use Rattle.model_record.specs.{page_of};
+ghost use Rattle.model_store.specs.{applied, page_after};
 ghost use Rattle.redo_apply.specs.Fits.{ArePagesOf, FitsPages, WritesWithin};
 ghost use Rattle.redo_apply.specs.Replay.{AreAfterWhere, HaveLsns};
 

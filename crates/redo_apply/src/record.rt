@@ -1,9 +1,9 @@
 // What a record does to the user bytes of its page.
 ghost use Rattle.std.specs.Prelude.{◌≡◌, ◌+◌, ◌≤◌, ◌-◌, length};
 ghost use Rattle.std.specs.Int.{bytes_high_first};
-ghost use Rattle.model_base.specs.Overwrite.{overwritten};
-ghost use Rattle.model_record.specs.Record.{page_of};
-ghost use Rattle.model_store.specs.Apply.{user_after_own};
+ghost use Rattle.model_base.specs.{overwritten};
+ghost use Rattle.model_record.specs.{page_of};
+ghost use Rattle.model_store.specs.{user_after_own};
 ghost use Rattle.redo_apply.specs.Fits.{WritesWithin};
 
 use model_base::USER_START;

@@ -5,8 +5,7 @@ use Rattle.std.proofs.lemmas.Bool.Decides.{nat_tests}
 use Rattle.std.proofs.lemmas.List.{take_all, take-append-drop}
 use Rattle.std.proofs.lemmas.List.Elements.{All-take, All-drop}
 use Rattle.model_log.specs.declared.block.BlockView.{BlockView}
-use Rattle.model_log.specs.Block.{length_of, block_text, is_first, is_full, read_block, data_of}
-use Rattle.model_log.specs.Boundary.{framed}
+use Rattle.model_log.specs.{block_text, data_of, framed, is_first, is_full, length_of, read_block}
 use Rattle.model_log.proofs.Checksums.{IsByte}
 use Rattle.model_log.proofs.BlockRound.{view-reads_back, data-reads_back, length-block_text}
 use Rattle.redo_block.specs.Framing.{AreFirsts, data_with, unframed}

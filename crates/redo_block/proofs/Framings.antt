@@ -4,8 +4,7 @@ use Rattle.std.proofs.lemmas.List.{drop_more, append-nil}
 use Rattle.std.proofs.lemmas.Bool.{false≢true}
 use Rattle.std.proofs.lemmas.Bool.Decides.{nat_tests}
 use Rattle.model_log.specs.declared.block.BlockView.{BlockView}
-use Rattle.model_log.specs.Block.{length_of, block_text, is_first, is_full, read_block, data_of}
-use Rattle.model_log.specs.Boundary.{framed}
+use Rattle.model_log.specs.{block_text, data_of, framed, is_first, is_full, length_of, read_block}
 use Rattle.redo_block.specs.Framing.{AreFirsts, data_with, unframed_blocks, unframed}
 
 -- the first offset of the next block fits it

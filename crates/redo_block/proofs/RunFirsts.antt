@@ -2,11 +2,8 @@
 use Rattle.std.proofs.Common.{◌≡◌, ◌≤◌, ◌<◌, ◌+◌, ◌-◌, ◌*◌, ◌/◌, ◌%◌, ℕ, suc, min, List, [], ◌∷◌, length, get_or, drop, refl, sym, ap, subst, ◌∙◌, ⊎_elim, length-take, length-drop, arith, IsTrue}
 use Rattle.std.proofs.lemmas.Bool.{cases_lt}
 use Rattle.model_record.specs.declared.group.Whole.{Whole}
-use Rattle.model_record.specs.Group.{stream_of, groups_of}
-use Rattle.model_log.specs.Lsn.{sn_of, block_of, IsAtDataStart}
-use Rattle.model_log.specs.Run.{IsRunOf, spans_of}
-use Rattle.model_log.specs.Block.{length_of, is_first}
-use Rattle.model_log.specs.Boundary.{first_at, length_at, IsGivenTo}
+use Rattle.model_record.specs.{groups_of, stream_of}
+use Rattle.model_log.specs.{block_of, first_at, is_first, IsAtDataStart, IsGivenTo, IsRunOf, length_at, length_of, sn_of, spans_of}
 use Rattle.model_log.proofs.Runs.{IsReached, boundary-reached, data-start}
 use Rattle.model_log.proofs.Crossings.{TellsFirst, first-tells}
 use Rattle.model_log.proofs.BoundaryLengths.{sn_of-rises, sn_of-start, sn_of-block, length-stream_between, length-reached, length_of-behind}

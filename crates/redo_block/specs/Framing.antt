@@ -3,7 +3,7 @@ use Rattle.std.specs.Prelude.{ℕ, zero, suc, ◌≡◌, ◌≢◌, ◌+◌, ◌
 use Rattle.model_base.specs.declared.limits.TheConstants.{BLOCK_SIZE}
 use Rattle.model_log.specs.declared.layout.TheConstants.{BLOCK_DATA}
 use Rattle.model_log.specs.declared.block.BlockView.{BlockView}
-use Rattle.model_log.specs.Block.{length_of, is_first, is_full, read_block, data_of}
+use Rattle.model_log.specs.{data_of, is_first, is_full, length_of, read_block}
 
 -- a first offset for each block of the stream, which fits the data that the block holds
 abbrev pub AreFirsts : List ℕ → List ℕ → Type 0

@@ -1,1 +1,2 @@
 pub mod Framing
+pub use Rattle.redo_block.specs.Framing.{AreFirsts}

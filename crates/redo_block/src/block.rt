@@ -1,6 +1,6 @@
 // One block of the log, filled and read in place.
 ghost use Rattle.std.specs.Prelude.{◌≡◌, ◌≤◌, ◌<◌, ◌^◌, length, IfSome, IsTrue};
-ghost use Rattle.model_log.specs.Block.{length_of, block_text, view_of, fits_number, is_length, is_first, read_block, data_of};
+ghost use Rattle.model_log.specs.{block_text, data_of, fits_number, is_first, is_length, length_of, read_block, view_of};
 
 use model_base::BLOCK_SIZE;
 use model_log::{BLOCK_DATA, BLOCK_DATA_END, BLOCK_HEADER, BlockView};

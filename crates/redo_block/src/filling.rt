@@ -1,7 +1,6 @@
 // Filling many blocks in place.
 ghost use Rattle.std.specs.Prelude.{◌≡◌, ◌≤◌, ◌<◌, ◌+◌, ◌*◌, ◌^◌, length, IsTrue};
-ghost use Rattle.model_log.specs.Block.{length_of, is_first, block_text};
-ghost use Rattle.model_log.specs.Boundary.{framed};
+ghost use Rattle.model_log.specs.{block_text, framed, is_first, length_of};
 ghost use Rattle.redo_block.specs.Framing.{AreFirsts};
 
 use crate::fill;

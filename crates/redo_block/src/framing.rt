@@ -1,10 +1,7 @@
 // A stream cut into blocks, and joined again.
 ghost use Rattle.std.specs.Prelude.{◌≡◌, ◌≤◌, ◌<◌, ◌+◌, ◌*◌, ◌%◌, ◌^◌, ℕ, List, length, min, All, IfOk, IsTrue, ◌↔◌};
 ghost use Rattle.model_record.specs.declared.group.Whole.{Whole};
-ghost use Rattle.model_log.specs.Lsn.{block_of, IsAtDataStart};
-ghost use Rattle.model_log.specs.Run.{IsRunOf};
-ghost use Rattle.model_log.specs.Block.{length_of, is_first};
-ghost use Rattle.model_log.specs.Boundary.{framed, IsGivenTo};
+ghost use Rattle.model_log.specs.{block_of, framed, is_first, IsAtDataStart, IsGivenTo, IsRunOf, length_of};
 ghost use Rattle.redo_block.specs.Framing.{AreFirsts, unframed};
 
 use crate::{block_data, frame_into, is_first, length_of, read};

@@ -1,7 +1,7 @@
 -- Words, one on.
 use Rattle.std.proofs.Common.{ℕ, ◌≡◌, ◌+◌, ◌<◌, ◌≤◌, Bool, true, false, List, [], ◌∷◌, ◌++◌, Option, Some, None, String, Global, string_bytes, map, drop, length, get_or, option_map, option_and_then, refl, ap, sym, ◌∙◌, append_assoc, append-nil}
 use Rattle.std.proofs.lemmas.List.{at_drop_more, at_drop_all}
-use Rattle.model_command.specs.Words.{Said, nothing_said, said_from, said_with, with_option, with_value, word_number, word_of}
+use Rattle.model_command.specs.{nothing_said, Said, said_from, said_with, with_option, with_value, word_number, word_of}
 use Rattle.model_command.specs.declared.words.Expected.{Expected}
 use Rattle.model_command.specs.declared.words.Expected.TheVariants.{Any, Number, Numbers}
 use Rattle.model_command.specs.declared.words.Given.{Given}

@@ -1,6 +1,6 @@
 -- How far the words behind a command's name are read.
 use Rattle.std.specs.Prelude.{ℕ, ◌≡◌, List, [], ◌∷◌, ◌++◌, Option, None, option_map}
-use Rattle.model_command.specs.Words.{Said, said_from}
+use Rattle.model_command.specs.{Said, said_from}
 use Rattle.model_command.specs.declared.words.Expected.{Expected}
 use Rattle.model_command.specs.declared.words.Expected.TheVariants.{Any}
 use Rattle.model_command.specs.declared.words.Given.{Given}

@@ -1,7 +1,7 @@
 // The words behind a command's name.
 ghost use Rattle.std.specs.Prelude.{◌≡◌, [], IfOk, OnOk, MatchBool, map};
 ghost use Rattle.std.specs.String.{string_bytes};
-ghost use Rattle.model_command.specs.Words.{said_from};
+ghost use Rattle.model_command.specs.{said_from};
 ghost use Rattle.model_command.specs.declared.words.Expected.TheVariants.{Any};
 ghost use Rattle.redo_command.specs.Progress.{IsRefused, IsTaken, expecting, nothing_read, said_after, with_read_option, with_read_value};
 
@@ -21,7 +21,7 @@ pub struct Arguments {
 }
 
 impl Model for Arguments {
-    ghost use Rattle.model_command.specs.Words.{Said};
+    ghost use Rattle.model_command.specs.{Said};
 
     ghost Value = { Said };
 

@@ -1,7 +1,7 @@
 // The six commands.
 ghost use Rattle.std.specs.Prelude.{◌≡◌, ◌≢◌, None, Some, IfOk, IfErr, map};
 ghost use Rattle.std.specs.String.{string_bytes};
-ghost use Rattle.model_command.specs.Commands.{asked_of, command_of, crash_of, drive_of, format_of, gen_of, given_number, number_or, plain_command, where_allowed};
+ghost use Rattle.model_command.specs.{asked_of, command_of, crash_of, drive_of, format_of, gen_of, given_number, number_or, plain_command, where_allowed};
 ghost use Rattle.model_command.specs.declared.words.Name.TheVariants as name;
 ghost use Rattle.model_command.specs.declared.words.TheConstants.{DEFAULT_TURNS, MAX_TURNS};
 ghost use Rattle.redo_command.specs.Fault.{IsFaultOf};

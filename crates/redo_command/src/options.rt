@@ -1,7 +1,7 @@
 // The options that are given.
 ghost use Rattle.std.specs.Prelude.{◌≡◌, ◌&&◌, find};
 ghost use Rattle.std.specs.List.{list_any, list_all};
-ghost use Rattle.model_command.specs.Commands.{are_among, are_different, given_number, is_among, is_given, is_named, number_or, number_within};
+ghost use Rattle.model_command.specs.{are_among, are_different, given_number, is_among, is_given, is_named, number_or, number_within};
 
 use crate::word::spelling;
 use model_command::{Given, Name};

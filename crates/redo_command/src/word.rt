@@ -1,7 +1,7 @@
 // One word.
 ghost use Rattle.std.specs.Prelude.{◌≡◌, ◌==◌, find, position};
 ghost use Rattle.std.specs.Str.{bytes_eq};
-ghost use Rattle.model_command.specs.Words.{is_flag, joined_word, name_of, name_word, spelling, word_number, word_of, word_with};
+ghost use Rattle.model_command.specs.{is_flag, joined_word, name_of, name_word, spelling, word_number, word_of, word_with};
 
 use model_command::{Name, Word};
 use redo_script::number_up_to;

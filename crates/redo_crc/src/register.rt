@@ -1,6 +1,6 @@
 // A checksum in the making.
 ghost use Rattle.std.specs.Prelude.{◌≡◌, ℕ, List, [], ◌++◌, bit_xor};
-ghost use Rattle.model_number.specs.Crc32c.{all_ones, crc_of, register_after};
+ghost use Rattle.model_number.specs.{all_ones, crc_of, register_after};
 ghost use Rattle.redo_crc.specs.Parts.{HasTaken};
 
 use crate::step::register_after;

@@ -1,6 +1,6 @@
 // What the bytes of a text do to a register: eight at once, and the last few one by one.
 ghost use Rattle.std.specs.Prelude.{◌≡◌, ◌<◌};
-ghost use Rattle.model_number.specs.Crc32c.{after_byte, after_eight_bits, register_after};
+ghost use Rattle.model_number.specs.{after_byte, after_eight_bits, register_after};
 ghost use Rattle.redo_crc.specs.Tables.{after_zeros};
 
 use crate::tables::{STRIDE, TABLES};

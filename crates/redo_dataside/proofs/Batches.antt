@@ -3,14 +3,12 @@ use Rattle.std.proofs.Common.{Bool, List, Some, [], ap, cond, eqb, false, length
 use Rattle.std.specs.List.{slice_get}
 use lib.ListN.{get_elem?}
 use mathlib.Core.Option.{some}
-use Rattle.model_core.specs.Groups.{KeptPage}
-use Rattle.model_core.specs.States.{BatchPage}
-use Rattle.model_datadev.specs.Batch.{Fresh, after_batch}
-use Rattle.model_datadev.specs.Stored.{IsLater}
-use Rattle.model_finish.specs.PageContents.{content_of, contents_of, new_content}
-use Rattle.model_page.specs.Page.{user_part}
+use Rattle.model_core.specs.{BatchPage, KeptPage}
+use Rattle.model_datadev.specs.{after_batch, Fresh, IsLater}
+use Rattle.model_finish.specs.{content_of, contents_of, new_content}
+use Rattle.model_page.specs.{user_part}
 use Rattle.model_page.specs.declared.content.Content.{Content}
-use Rattle.model_pagecore.specs.DataLaws.{kept_in, renewed}
+use Rattle.model_pagecore.specs.{kept_in, renewed}
 use Rattle.redo_dataside.specs.DataPartSide.{fresh_batch, fresh_page}
 
 -- which page of the batch the device gets there

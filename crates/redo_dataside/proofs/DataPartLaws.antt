@@ -2,24 +2,24 @@
 use Rattle.std.proofs.Common.{Err, List, None, Ok, Option, Result, Some, [], ap, arith, cond, false, inl, inr, is_some, refl, subst, sym, true, ⊎_elim, ℕ, ◌<◌, ◌==◌, ◌∙◌, ◌≡◌, ◌≤◌}
 use Rattle.std.specs.Prelude.{OnOk}
 use native.Mathlib.Decide.{dec_le}
-use Rattle.model_base.specs.Count.{HasRisen, last_count}
+use Rattle.model_base.specs.{HasRisen, last_count}
 use Rattle.model_base.specs.declared.shape.Shape.{Shape}
 use Rattle.model_core.specs.DataSide.{DataSide}
-use Rattle.model_core.specs.FailureCodes.{IsDataCode}
-use Rattle.model_core.specs.Groups.{KeptPage}
-use Rattle.model_core.specs.States.{BatchPage}
-use Rattle.model_datadev.specs.Batch.{Fresh, after_batch}
-use Rattle.model_datadev.specs.Stored.{IsLater, IsUpTo, Keeps, Stored}
-use Rattle.model_finish.specs.PageContents.{contents_of}
+use Rattle.model_core.specs.{BatchPage, IsDataCode, KeptPage}
+use Rattle.model_datadev.specs.{after_batch, Fresh, IsLater, IsUpTo, Keeps}
+use Rattle.model_datadev.specs.Stored.{Stored}
+use Rattle.model_finish.specs.{contents_of}
 use Rattle.model_page.specs.declared.content.Content.{Content}
-use Rattle.model_pagecore.specs.DataLaws.{AfterBatch, CanBatch, DataLaws, renewed}
+use Rattle.model_pagecore.specs.{AfterBatch, CanBatch, renewed}
+use Rattle.model_pagecore.specs.DataLaws.{DataLaws}
 use Rattle.redo_dataside.proofs.Batches.{later, renewed_is}
 use Rattle.redo_dataside.specs.DataPartSide.{DataWrote, HasFailedBy, HoldsPages, data_side, fault_code, fresh_batch, result_code}
 use Rattle.redo_dblwr.proofs.Tells.{told-weaker}
 use Rattle.redo_disk.specs.Seen.{Seen}
 use Rattle.redo_disk.specs.declared.error.DevError.{DevError}
 use Rattle.redo_disk.specs.declared.error.DevError.TheVariants.{Failed, NoMemory}
-use Rattle.redo_store.specs.Part.{Part, PartKeeps, PartStep, PartStores}
+use Rattle.redo_store.specs.{PartKeeps, PartStep, PartStores}
+use Rattle.redo_store.specs.Part.{Part}
 
 pub not_failed : (failed : Option DevError) → is_some failed ≡ false → failed ≡ None
 not_failed None e = refl

@@ -5,10 +5,10 @@ use Rattle.std.specs.List.{flat_map}
 use Rattle.std.specs.Prelude.{map}
 use lib.ListN.{get_elem?}
 use mathlib.Core.Option.{some}
-use Rattle.model_core.specs.States.{BatchPage}
-use Rattle.model_datadev.specs.Batch.{Fresh, batch_of}
+use Rattle.model_core.specs.{BatchPage}
+use Rattle.model_datadev.specs.{batch_of, Fresh}
 use Rattle.model_finish.proofs.CellsApply.{user_length}
-use Rattle.model_page.specs.Page.{user_part}
+use Rattle.model_page.specs.{user_part}
 use Rattle.redo_dataside.specs.DataPartSide.{IsBatchOf, fresh_batch, fresh_page}
 
 abbrev pairs_of : List BatchPage → List (ℕ × ℕ)

@@ -5,17 +5,15 @@ use Rattle.std.specs.Prelude.{map}
 use lib.ListN.{get_elem?}
 use mathlib.Core.Option.{some}
 use native.Mathlib.Decide.{dec_le, ℕ_discrete}
-use Rattle.model_base.specs.Limits.{IsWithinLimits}
+use Rattle.model_base.specs.{IsWithinLimits}
 use Rattle.model_base.specs.declared.shape.Shape.{Shape}
-use Rattle.model_core.specs.Actors.{Batch}
-use Rattle.model_core.specs.Groups.{KeptPage}
-use Rattle.model_core.specs.States.{BatchPage}
+use Rattle.model_core.specs.{Batch, BatchPage, KeptPage}
 use Rattle.model_datadev.proofs.Joined.{batch-at, length-batch_of}
-use Rattle.model_datadev.specs.Batch.{Fresh, IsWritable}
-use Rattle.model_page.specs.Page.{user_part}
-use Rattle.model_pagecore.specs.DataLaws.{CanBatch}
+use Rattle.model_datadev.specs.{Fresh, IsWritable}
+use Rattle.model_page.specs.{user_part}
+use Rattle.model_pagecore.specs.{CanBatch}
 use Rattle.redo_dataside.proofs.Batches.{fresh_at, fresh_length}
-use Rattle.model_running.specs.DataReady.{CanLendBatch}
+use Rattle.model_running.specs.{CanLendBatch}
 use Rattle.redo_dataside.proofs.DataPartLaws.{not_failed}
 use Rattle.redo_dataside.proofs.Lent.{lent_batch}
 use Rattle.redo_dataside.specs.DataPartSide.{HoldsPages, IsBatchOf, data_side}

@@ -3,16 +3,18 @@ use Rattle.std.proofs.Common.{None, Option, [], ap, arith, false, is_some, subst
 use Rattle.std.specs.Prelude.{IfSome}
 use Rattle.model_base.specs.declared.shape.Shape.{Shape}
 use Rattle.model_core.specs.DataSide.{DataSide}
-use Rattle.model_core.specs.Groups.{KeptPage}
+use Rattle.model_core.specs.{KeptPage}
 use Rattle.model_core.specs.Setup.{Setup}
-use Rattle.model_datadev.specs.Stored.{IsUpTo, Stored, read_as}
-use Rattle.model_finish.specs.PageContents.{contents_of}
+use Rattle.model_datadev.specs.{IsUpTo, read_as}
+use Rattle.model_datadev.specs.Stored.{Stored}
+use Rattle.model_finish.specs.{contents_of}
 use Rattle.model_page.specs.declared.content.Content.{Content}
 use Rattle.model_store.specs.Reading.{Reading}
 use Rattle.redo_dataside.specs.DataPartSide.{HasBegun, data_side}
 use Rattle.redo_disk.specs.Seen.{Seen}
 use Rattle.redo_disk.specs.declared.error.DevError.{DevError}
-use Rattle.redo_store.specs.Part.{Part, PartStores}
+use Rattle.redo_store.specs.{PartStores}
+use Rattle.redo_store.specs.Part.{Part}
 
 -- what a store asks of the data part at its start
 pub record StartsHolding (E : DataSide) (c : Setup) (d : E.Part) : Type 0 where

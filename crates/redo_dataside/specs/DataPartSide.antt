@@ -1,20 +1,18 @@
 -- The data part as the running store sees it.
 use Rattle.std.specs.Prelude.{Err, List, [], OnOk, Ok, Result, Some, is_some, length, map, ℕ, ◌*◌, ◌≡◌, ◌≤◌}
-use Rattle.model_base.specs.Count.{HasRisen}
+use Rattle.model_base.specs.{HasRisen}
 use Rattle.model_base.specs.declared.limits.TheConstants.{USER_BYTES}
 use Rattle.model_base.specs.declared.shape.Shape.{Shape}
 use Rattle.model_core.specs.DataSide.{DataSide}
-use Rattle.model_core.specs.FailureCodes.{data_device_code, no_memory_code}
-use Rattle.model_core.specs.Groups.{KeptPage}
-use Rattle.model_core.specs.States.{BatchPage}
-use Rattle.model_datadev.specs.Batch.{Fresh, after_batch, batch_of}
-use Rattle.model_datadev.specs.Stored.{IsLater}
-use Rattle.model_finish.specs.PageContents.{contents_of, new_content}
+use Rattle.model_core.specs.{BatchPage, data_device_code, KeptPage, no_memory_code}
+use Rattle.model_datadev.specs.{after_batch, batch_of, Fresh, IsLater}
+use Rattle.model_finish.specs.{contents_of, new_content}
 use Rattle.model_page.specs.declared.content.Content.{Content}
 use Rattle.redo_disk.specs.Seen.{Seen}
 use Rattle.redo_disk.specs.declared.error.DevError.{DevError}
 use Rattle.redo_disk.specs.declared.error.DevError.TheVariants.{Failed, NoMemory}
-use Rattle.redo_store.specs.Part.{Part, PartKeeps, PartStep, PartStores}
+use Rattle.redo_store.specs.{PartKeeps, PartStep, PartStores}
+use Rattle.redo_store.specs.Part.{Part}
 
 -- the code that FAILED gets for what a call answered
 abbrev pub fault_code : DevError → ℕ

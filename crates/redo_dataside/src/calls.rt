@@ -1,10 +1,9 @@
 // The call of the data part, answered by a code.
 ghost use Rattle.std.specs.Prelude.{List, None, ◌≡◌};
-ghost use Rattle.model_core.specs.States.{BatchPage};
-ghost use Rattle.model_datadev.specs.Batch.{IsWritable};
+ghost use Rattle.model_core.specs.{BatchPage};
+ghost use Rattle.model_datadev.specs.{IsWritable};
 ghost use Rattle.redo_dataside.specs.DataPartSide.{DataWrote, IsBatchOf, result_code};
-ghost use Rattle.redo_disk.specs.Calls.{EndWith};
-ghost use Rattle.redo_disk.specs.Made.{MakesCalls};
+ghost use Rattle.redo_disk.specs.{EndWith, MakesCalls};
 
 use redo_disk::{DevError, Sectors};
 use redo_store::DataPart;

@@ -1,18 +1,16 @@
 // That the data part meets the laws by which the running store speaks of it, and what its device holds of a run.
 ghost use Rattle.std.specs.Prelude.{ℕ, List, Some, slice_get, ◌≡◌, ◌<◌};
 ghost use Rattle.model_base.specs.declared.shape.Shape.{Shape};
-ghost use Rattle.model_core.specs.Groups.{KeptPage};
+ghost use Rattle.model_core.specs.{BatchPage, KeptPage};
 ghost use Rattle.model_core.specs.Setup.{Setup};
-ghost use Rattle.model_core.specs.States.{BatchPage};
 ghost use Rattle.model_device.specs.Disk.{Disk};
-ghost use Rattle.model_finish.specs.ClosedStore.{DataTells};
-ghost use Rattle.model_finish.specs.FinishedPages.{ArePrefixes, HasItsPages};
-ghost use Rattle.model_finish.specs.PageContents.{content_in, contents_of};
+ghost use Rattle.model_finish.specs.{ArePrefixes, content_in, contents_of, DataTells, HasItsPages};
 ghost use Rattle.model_page.specs.declared.content.Content.{Content};
-ghost use Rattle.model_pagecore.specs.DataLaws.{AreApart, DataLaws};
+ghost use Rattle.model_pagecore.specs.{AreApart};
+ghost use Rattle.model_pagecore.specs.DataLaws.{DataLaws};
 ghost use Rattle.model_record.specs.declared.group.Whole.{Whole};
-ghost use Rattle.model_run.specs.Stored.{IsStored};
-ghost use Rattle.model_theorem.specs.Values.{Opened};
+ghost use Rattle.model_run.specs.{IsStored};
+ghost use Rattle.model_theorem.specs.{Opened};
 ghost use Rattle.redo_dataside.specs.DataPartSide.{HasBegun, HoldsPages, data_side};
 ghost use Rattle.redo_store.specs.Part.{Part};
 

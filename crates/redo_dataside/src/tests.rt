@@ -1,6 +1,6 @@
 // What the call answers, over devices in memory.
 ghost use Rattle.std.specs.Prelude.{◌≡◌, ◌≤◌, ◌<◌, ◌%◌, length, IfOk, None};
-ghost use Rattle.model_base.specs.Limits.{default_shape};
+ghost use Rattle.model_base.specs.{default_shape};
 
 use crate::write_batch;
 use model_base::{LSN_LIMIT, Shape, USER_BYTES};

@@ -6,8 +6,8 @@ use Rattle.std.proofs.lemmas.Option.{slice_get_within}
 use Rattle.std.proofs.lemmas.Slice.{take-put_mid}
 use borrow.Rule.Slice.PartMut.{put_mid}
 use Rattle.model_base.specs.declared.shape.Shape.{Shape}
-use Rattle.model_page.specs.Page.{page_text}
-use Rattle.model_datadev.specs.Batch.{Fresh, batch_of, new_text, batch_text}
+use Rattle.model_page.specs.{page_text}
+use Rattle.model_datadev.specs.{batch_of, batch_text, Fresh, new_text}
 use Rattle.model_datadev.proofs.Batches.{length-page_text}
 use Rattle.model_datadev.proofs.Joined.{fresh_of, batch-at}
 

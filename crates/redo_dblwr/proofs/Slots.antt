@@ -1,10 +1,10 @@
 -- What a read of all slots leaves.
 use Rattle.std.proofs.Common.{◌≡◌, ◌≤◌, ◌+◌, ◌-◌, ◌*◌, ℕ, List, take, drop, sym, ap, ◌∙◌, arith}
 use Rattle.std.proofs.lemmas.List.{drop-take, take-take}
-use Rattle.model_base.specs.Limits.{IsWithinLimits}
+use Rattle.model_base.specs.{IsWithinLimits}
 use Rattle.model_base.specs.declared.shape.Shape.{Shape}
 use Rattle.model_datadev.proofs.Stretches.{piece, stretch-piece}
-use Rattle.model_datadev.specs.Repair.{SameSlots}
+use Rattle.model_datadev.specs.{SameSlots}
 
 -- of the first bytes a piece within them is the same
 piece-front : (n whole : ℕ) (bytes : List ℕ) → n * 4096 + 4096 ≤ whole → piece (n * 4096) (take whole bytes) ≡ piece (n * 4096) bytes

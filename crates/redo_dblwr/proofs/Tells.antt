@@ -2,7 +2,7 @@
 use Rattle.std.proofs.Common.{◌≡◌, Option, Some, None, sym, subst}
 use Rattle.std.specs.Prelude.{IfSome, OnErr, Result, Ok, Err}
 use Rattle.model_device.specs.Disk.{Disk}
-use Rattle.redo_disk.specs.Seen.{OnTold}
+use Rattle.redo_disk.specs.{OnTold}
 
 pub told-step : (old new : Option Disk) (P Q : Disk → Type 0) (R : Disk → Disk → Type 0) → ((a b : Disk) → P a → R a b → Q b)
     → IfSome old P → OnTold old new R → IfSome new Q

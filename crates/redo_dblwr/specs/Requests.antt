@@ -1,7 +1,7 @@
 -- What the reads of the data device ask for.
 use Rattle.std.specs.Prelude.{ℕ, ◌*◌}
 use Rattle.model_base.specs.declared.shape.Shape.{Shape}
-use Rattle.redo_disk.specs.Calls.{Request, ToRead}
+use Rattle.redo_disk.specs.{Request, ToRead}
 
 -- one stretch of page size: the slots come first, and then the places
 abbrev pub stretch_read : Shape → ℕ → Request

@@ -1,11 +1,9 @@
 // The copies of pages in the slots of the doublewrite area.
 ghost use Rattle.std.specs.Prelude.{◌≡◌, ◌≤◌, ◌*◌, length, IfSome, OnOk};
-ghost use Rattle.model_base.specs.Limits.{IsWithinLimits};
-ghost use Rattle.model_datadev.specs.Repair.{SameSlots};
-ghost use Rattle.model_page.specs.Copies.{data_device_length};
-ghost use Rattle.redo_disk.specs.Calls.{Reads};
-ghost use Rattle.redo_disk.specs.Made.{MakesCall};
-ghost use Rattle.redo_disk.specs.Seen.{HasCause};
+ghost use Rattle.model_base.specs.{IsWithinLimits};
+ghost use Rattle.model_datadev.specs.{SameSlots};
+ghost use Rattle.model_page.specs.{data_device_length};
+ghost use Rattle.redo_disk.specs.{HasCause, MakesCall, Reads};
 
 use model_base::Shape;
 use redo_disk::{DevError, Sectors};

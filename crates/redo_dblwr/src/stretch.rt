@@ -1,14 +1,11 @@
 // One stretch of page size on the data device: a slot of the doublewrite area, or the place of a page.
 ghost use Rattle.std.specs.Prelude.{◌≡◌, ◌≤◌, ◌<◌, ◌*◌, ◌+◌, [], ◌∷◌, length, IfSome, OnOk, OnErr};
-ghost use Rattle.model_base.specs.Limits.{IsWithinLimits};
-ghost use Rattle.model_datadev.specs.Batch.{place_at};
-ghost use Rattle.model_datadev.specs.Steps.{IsPutOrNot};
-ghost use Rattle.model_device.specs.Calls.{written, synced};
-ghost use Rattle.model_page.specs.Copies.{data_device_length, stretch_at};
+ghost use Rattle.model_base.specs.{IsWithinLimits};
+ghost use Rattle.model_datadev.specs.{IsPutOrNot, place_at};
+ghost use Rattle.model_device.specs.{synced, written};
+ghost use Rattle.model_page.specs.{data_device_length, stretch_at};
 ghost use Rattle.redo_dblwr.specs.Requests.{stretch_read};
-ghost use Rattle.redo_disk.specs.Calls.{Serve, error_of, put_requests};
-ghost use Rattle.redo_disk.specs.Made.{MakesCalls};
-ghost use Rattle.redo_disk.specs.Seen.{IsRange, HasCause, OnTold, write_at};
+ghost use Rattle.redo_disk.specs.{error_of, HasCause, IsRange, MakesCalls, OnTold, put_requests, Serve, write_at};
 
 use model_base::{PAGE_SIZE, Shape};
 use redo_disk::{DevError, Sectors};

@@ -1,7 +1,7 @@
 // The pages of a batch, sealed side by side as they go into the slots.
 ghost use Rattle.std.specs.Prelude.{◌≡◌, ◌≤◌, ◌*◌, length, take};
-ghost use Rattle.model_datadev.specs.Batch.{batch_of, batch_text};
-ghost use Rattle.model_page.specs.Page.{page_text};
+ghost use Rattle.model_datadev.specs.{batch_of, batch_text};
+ghost use Rattle.model_page.specs.{page_text};
 
 use model_base::{PAGE_SIZE, Shape, USER_BYTES, USER_START};
 use redo_page::seal;

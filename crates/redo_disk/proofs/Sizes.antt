@@ -1,7 +1,7 @@
 -- Calls keep the length of what a device means.
 use Rattle.std.proofs.Common.{ℕ, List, length, sym, ap, subst, ◌∙◌, arith, ⊎_elim}
 use Rattle.model_device.specs.Disk.{Disk}
-use Rattle.model_device.specs.Calls.{Crashes, FailsWrite, synced, written}
+use Rattle.model_device.specs.{Crashes, FailsWrite, synced, written}
 use Rattle.model_device.proofs.Overwritten.{length-overwritten}
 use Rattle.redo_disk.specs.Seen.{HasSize, IsRange, write_at}
 

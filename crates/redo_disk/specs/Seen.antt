@@ -2,8 +2,8 @@
 -- telling; one that doesn't never does.
 use Rattle.std.specs.Prelude.{ℕ, ◌≡◌, ◌≤◌, ◌+◌, ◌%◌, List, length, take, drop, Option, Some, None, Result, IsErrOf, IfSome, OnOk, OnErr}
 use Rattle.model_base.specs.declared.limits.TheConstants.{BLOCK_SIZE}
-use Rattle.model_base.specs.Count.{HasRisen}
-use Rattle.model_device.specs.Calls.{written, FailsWrite, synced, Crashes}
+use Rattle.model_base.specs.{HasRisen}
+use Rattle.model_device.specs.{Crashes, FailsWrite, synced, written}
 use Rattle.model_device.specs.Disk.{Disk}
 use Rattle.model_device.specs.declared.write.Write.{Write}
 use Rattle.redo_disk.specs.declared.error.DevError.{DevError}

@@ -1,7 +1,7 @@
 // A write that survives any crash.
 ghost use Rattle.std.specs.Prelude.{◌≡◌, length, OnOk};
-ghost use Rattle.model_base.specs.Overwrite.{overwritten};
-ghost use Rattle.model_device.specs.Disk.{HasOneImage};
+ghost use Rattle.model_base.specs.{overwritten};
+ghost use Rattle.model_device.specs.{HasOneImage};
 ghost use Rattle.redo_disk.specs.Calls.{Serve, error_of, put_requests};
 ghost use Rattle.redo_disk.specs.Made.{MakesCalls};
 ghost use Rattle.redo_disk.specs.Seen.{IsRange, HasCause, OnTold, write_at};

@@ -1,8 +1,6 @@
 // The checkpoint blocks.
 ghost use Rattle.std.specs.Prelude.{◌≡◌, ◌≤◌, ◌<◌, ◌^◌, IsTrue};
-ghost use Rattle.model_log.specs.Block.{fits_checksum};
-ghost use Rattle.model_log.specs.Checkpoint.{place_of, checkpoint_text, is_checkpoint, read_checkpoint};
-ghost use Rattle.model_log.specs.Device.{newer};
+ghost use Rattle.model_log.specs.{checkpoint_text, fits_checksum, is_checkpoint, newer, place_of, read_checkpoint};
 
 use model_base::{BLOCK_SIZE, LSN_LIMIT, MAX_LOG_BLOCKS, MIN_LOG_BLOCKS, START_LSN};
 use model_log::RING_SIZE;

@@ -1,7 +1,6 @@
 // The file header.
 ghost use Rattle.std.specs.Prelude.{◌≡◌, IsTrue};
-ghost use Rattle.model_log.specs.Block.{fits_checksum};
-ghost use Rattle.model_log.specs.Head.{head_text, shape_of, read_head};
+ghost use Rattle.model_log.specs.{fits_checksum, head_text, read_head, shape_of};
 
 use model_base::START_LSN;
 use model_log::Head;

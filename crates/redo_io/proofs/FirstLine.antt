@@ -5,7 +5,7 @@ use Rattle.std.proofs.lemmas.List.{take_all, drop_all, nil_from_length, length-m
 use Rattle.std.proofs.lemmas.List.FromFn.{length-enumerate_from}
 use Rattle.std.proofs.lemmas.Option.{none-some, cond_some}
 use Rattle.std.specs.List.{position_or_len, enumerate_from}
-use Rattle.model_base.specs.Lines.{fed_lines, onto_first, without_return, lines_of}
+use Rattle.model_base.specs.{fed_lines, lines_of, onto_first, without_return}
 use Rattle.redo_io.specs.Lines.{numbered_from}
 
 -- the place of the first line feed, or the length

@@ -1,7 +1,7 @@
 -- The calls of something in memory that fail, by their numbers from 0, and counts that stand still at their last value.
 use Rattle.std.specs.Prelude.{ℕ, ◌+◌, ◌==◌, min, Bool, if◌then◌else◌, List}
 use Rattle.std.specs.List.{list_any}
-use Rattle.model_base.specs.Count.{last_count}
+use Rattle.model_base.specs.{last_count}
 
 -- one more, where 64 bits hold it
 abbrev pub next_count : ℕ → ℕ

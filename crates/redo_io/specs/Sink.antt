@@ -1,7 +1,7 @@
 -- What a writer to a sink sees of it, and what a write does to that. A sink that doesn't tell what it has taken never
 -- does.
 use Rattle.std.specs.Prelude.{ℕ, ◌≡◌, ◌≤◌, ◌<◌, List, ◌++◌, length, take, Option, None, Some, Result, IfOk, OnErr}
-use Rattle.model_base.specs.Count.{HasRisen}
+use Rattle.model_base.specs.{HasRisen}
 use Rattle.redo_io.specs.declared.fault.IoFault.{IoFault}
 
 -- a sink, as its writers see it

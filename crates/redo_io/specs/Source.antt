@@ -1,7 +1,7 @@
 -- What a reader of a source sees of it, and what a read does to that. A source that doesn't tell what it has left never
 -- does.
 use Rattle.std.specs.Prelude.{ℕ, ◌≡◌, ◌≤◌, ◌<◌, List, [], length, take, drop, Option, None, Some, Result, IfOk, OnErr, IfSome}
-use Rattle.model_base.specs.Count.{HasRisen}
+use Rattle.model_base.specs.{HasRisen}
 use Rattle.redo_io.specs.declared.fault.IoFault.{IoFault}
 
 -- a source, as its readers see it

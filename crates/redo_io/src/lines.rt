@@ -1,7 +1,7 @@
 // The lines of a text with their numbers.
 ghost use Rattle.std.specs.Prelude.{◌≡◌, ◌≤◌, ◌<◌, ◌==◌, [], ◌∷◌, length, position, None};
 ghost use Rattle.std.specs.Iterator.{YieldsFirstBy, item_count};
-ghost use Rattle.model_base.specs.Lines.{fed_lines, without_return};
+ghost use Rattle.model_base.specs.{fed_lines, without_return};
 ghost use Rattle.redo_io.specs.Lines.{numbered_from};
 
 use std::marker::Model;

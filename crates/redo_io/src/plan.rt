@@ -1,6 +1,6 @@
 // Which calls of something in memory fail.
 ghost use Rattle.std.specs.Prelude.{◌≡◌, ◌≤◌, IsTrue};
-ghost use Rattle.model_base.specs.Count.{HasRisen};
+ghost use Rattle.model_base.specs.{HasRisen};
 ghost use Rattle.redo_io.specs.Plan.{after_call, fails_now, unused, with_fault};
 
 use std::marker::Model;

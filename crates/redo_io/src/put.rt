@@ -1,6 +1,6 @@
 // Writing a text whole.
 ghost use Rattle.std.specs.Prelude.{◌≡◌, ◌≤◌, ◌<◌, OnOk, OnErr};
-ghost use Rattle.model_base.specs.Count.{HasRisen};
+ghost use Rattle.model_base.specs.{HasRisen};
 ghost use Rattle.redo_io.specs.Sink.{with_taken, TakesPart};
 ghost use Rattle.redo_io.specs.Writes.{IsPutThrough};
 

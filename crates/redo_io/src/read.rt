@@ -1,6 +1,6 @@
 // Reading a text whole.
 ghost use Rattle.std.specs.Prelude.{◌≡◌, ◌≤◌, ◌<◌, ◌+◌, ◌^◌, [], length, IfOk, OnOk, IfSome, IsErrOf, vec_len};
-ghost use Rattle.model_base.specs.Count.{HasRisen};
+ghost use Rattle.model_base.specs.{HasRisen};
 ghost use Rattle.redo_io.specs.Reads.{IsReadThrough};
 ghost use Rattle.redo_io.specs.Source.{TakesAtMost};
 

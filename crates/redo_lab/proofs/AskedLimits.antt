@@ -2,11 +2,10 @@
 use Rattle.std.proofs.Common.{ℕ, ◌≡◌, ◌≤◌, ◌<◌, ◌-◌, ◌^◌, ◌&&◌, Bool, true, false, nat_le, if◌then◌else◌, List, [], ◌∷◌, codes, Option, Some, None, refl, subst, arith, lit≤}
 use Rattle.std.specs.Option.{option_map, option_and_then}
 use Rattle.std.specs.Str.{bytes_eq}
-use Rattle.model_base.specs.Limits.{IsWithinLimits, space_limit}
+use Rattle.model_base.specs.{IsWithinLimits, space_limit}
 use Rattle.model_base.specs.declared.limits.TheConstants.{DEFAULT_LOG_BLOCKS, DEFAULT_PAGES, DEFAULT_SPACE, MAX_LOG_BLOCKS, MAX_PAGES, MIN_LOG_BLOCKS}
 use Rattle.model_command.specs.Commands as commands
-use Rattle.model_command.specs.Commands.{asked_of, are_among, are_different, crash_of, drive_names, drive_of, format_of, gen_of, given_number, is_given, number_or, number_within, plain_command, where_allowed}
-use Rattle.model_command.specs.Words.{said_from}
+use Rattle.model_command.specs.{are_among, are_different, asked_of, crash_of, drive_names, drive_of, format_of, gen_of, given_number, is_given, number_or, number_within, plain_command, said_from, where_allowed}
 use Rattle.model_command.specs.declared.asked.Asked.{Asked}
 use Rattle.model_command.specs.declared.asked.Command.{Command}
 use Rattle.model_command.specs.declared.asked.Command.TheVariants.{Format, Run, Recover, Dump}

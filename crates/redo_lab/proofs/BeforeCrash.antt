@@ -1,18 +1,16 @@
 -- What a crash meets: a run whose lines were played, or none, where a device stopped opening.
 use Rattle.std.proofs.Common.{ℕ, ◌≡◌, ◌≤◌, ◌<◌, ◌+◌, Bool, List, [], Option, Some, None, IfSome, refl, sym, subst, arith}
-use Rattle.model_base.specs.Limits.{default_shape}
-use Rattle.model_device.specs.Disk.{Disk, IsImage}
-use Rattle.model_history.specs.Legal.{IsLeft}
-use Rattle.model_opening.specs.Formatted.{formatted_store}
-use Rattle.model_opening.specs.Opened.{IsOpenable, KeepsOpened}
-use Rattle.model_run.specs.Start.{opened_as}
+use Rattle.model_base.specs.{default_shape}
+use Rattle.model_device.specs.{IsImage}
+use Rattle.model_device.specs.Disk.{Disk}
+use Rattle.model_history.specs.{IsLeft}
+use Rattle.model_opening.specs.{formatted_store, IsOpenable, KeepsOpened}
+use Rattle.model_run.specs.{opened_as}
 use Rattle.model_script.specs.declared.script.ScriptLine.{ScriptLine}
-use Rattle.model_store.specs.Fair.{IsFair}
+use Rattle.model_store.specs.{IsFair}
 use Rattle.model_store.specs.Reading.{Reading}
-use Rattle.model_theorem.specs.Opening.{IsOpenedBefore}
-use Rattle.model_theorem.specs.Run.{LosesOnlyByFailure, ReadsPrefix, RunSafe}
-use Rattle.model_theorem.specs.Values.{Opened, Ran, RunResult, entries_of}
-use Rattle.redo_open.specs.Devices.{WhereBothTell}
+use Rattle.model_theorem.specs.{entries_of, IsOpenedBefore, LosesOnlyByFailure, Opened, Ran, ReadsPrefix, RunResult, RunSafe}
+use Rattle.redo_open.specs.{WhereBothTell}
 use Rattle.redo_lab.specs.Call.{Call, Guarded}
 use Rattle.redo_lab.specs.Answer.{TookPlace}
 use Rattle.redo_lab.specs.Course.{ArePlayed, AreStopped, AreUnderWay, ran_of}

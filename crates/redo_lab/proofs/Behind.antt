@@ -1,17 +1,15 @@
 -- What the calls of the layers below leave of a device behind its fuse.
 use Rattle.std.proofs.Common.{ℕ, ◌≡◌, List, [], ◌∷◌, Option, Result, Ok, Err, ap, subst, ◌∙◌, ⊎_elim}
 use Rattle.std.specs.List.{AllByRecursion}
-use Rattle.redo_disk.specs.Calls.{AreReads, Call, Reads, Writes, Syncs, EndWith, MayEndWith, ReadsMayEndWith, failures}
-use Rattle.redo_disk.specs.Made.{MakesCalls}
+use Rattle.redo_disk.specs.{AreReads, Call, EndWith, failures, MakesCalls, MayEndWith, Reads, ReadsMayEndWith, Syncs, Writes}
 use Rattle.redo_disk.specs.Seen.{Seen}
 use Rattle.redo_disk.specs.declared.error.DevError.{DevError}
 use Rattle.redo_disk.proofs.Calls.{MayEndWith-ends}
 use Rattle.redo_disk.proofs.Made.{weaker_calls}
-use Rattle.redo_memdisk.specs.Fuse.{fresh}
-use Rattle.redo_memdisk.specs.Fused.{CallsThrough, fuse_of, inner_of}
+use Rattle.redo_memdisk.specs.{CallsThrough, fresh, fuse_of, inner_of}
 use Rattle.redo_memdisk.specs.declared.fused.Fused.{Fused}
-use Rattle.redo_open.specs.Formatting.{FormatCalls}
-use Rattle.redo_recover.specs.Calls.{IsPieceRead, ReadsLog, ReadsPieces}
+use Rattle.redo_open.specs.{FormatCalls}
+use Rattle.redo_recover.specs.{IsPieceRead, ReadsLog, ReadsPieces}
 use Rattle.redo_recover.specs.declared.fault.RecFault.{RecFault}
 use Rattle.redo_recover.specs.declared.fault.RecFault.TheVariants.{SmallLog, NotFormatted, BadFormat, SmallData, NoCheckpoint, BadRecord, PageLost, PageAhead, LogDev, DataDev, NoMemory}
 use Rattle.redo_lab.specs.Call.{Guarded, IsKept, IsLeftAlone, guarded}

@@ -5,8 +5,7 @@ use Rattle.model_command.specs.declared.asked.Command.{Command}
 use Rattle.model_report.specs.declared.fault.Fault.{Fault}
 use Rattle.model_report.specs.declared.fault.Fault.TheVariants.{Memory, Words}
 use Rattle.redo_disk.specs.Seen.{Seen}
-use Rattle.redo_io.specs.Sink.{SinkSeen}
-use Rattle.redo_io.specs.Source.{SourceSeen, TakesAtMost}
+use Rattle.redo_io.specs.{SinkSeen, SourceSeen, TakesAtMost}
 use Rattle.redo_io.specs.declared.read.TheConstants.{PIECE}
 use Rattle.redo_lab.specs.Asked.{command_of}
 use Rattle.redo_lab.specs.Call.{LabCall}

@@ -7,12 +7,10 @@ use Rattle.model_device.specs.Disk.{Disk}
 use Rattle.model_report.specs.declared.fault.Fault.{Fault}
 use Rattle.model_report.specs.declared.fault.Fault.TheVariants as fault
 use Rattle.model_script.specs.declared.script.ScriptLine.{ScriptLine}
-use Rattle.model_store.specs.Fair.{IsFair}
+use Rattle.model_store.specs.{IsFair}
 use Rattle.model_store.specs.declared.refusal.Refusal.{Refusal}
-use Rattle.model_theorem.specs.Opening.{IsOpenedBefore}
-use Rattle.model_theorem.specs.Run.{LosesOnlyByFailure}
-use Rattle.model_history.specs.Legal.{IsLeft}
-use Rattle.model_theorem.specs.Values.{Ran, entries_of}
+use Rattle.model_theorem.specs.{entries_of, IsOpenedBefore, LosesOnlyByFailure, Ran}
+use Rattle.model_history.specs.{IsLeft}
 use Rattle.redo_disk.specs.Seen.{Seen}
 use Rattle.redo_lab.specs.Answer.{AreUnfailedAside, IsCrashText}
 use Rattle.redo_lab.specs.Call.{Call, Guarded}

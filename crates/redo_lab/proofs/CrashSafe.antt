@@ -1,17 +1,15 @@
 -- The crash theorem of a call whose devices were crashed and read.
 use Rattle.std.proofs.Common.{ℕ, ◌≡◌, ◌≢◌, Bool, List, Option, Some, None, IfSome, refl, sym, ap, subst, ◌∙◌, ⊎_elim, arith}
-use Rattle.model_device.specs.Calls.{Crashes}
-use Rattle.model_device.specs.Disk.{Disk, IsImage, settled}
-use Rattle.model_run.specs.Crashed.{IsCrashOf, before_crash}
+use Rattle.model_device.specs.{Crashes, IsImage, settled}
+use Rattle.model_device.specs.Disk.{Disk}
+use Rattle.model_run.specs.{before_crash, IsCrashOf}
 use Rattle.model_script.specs.declared.script.ScriptLine.{ScriptLine}
-use Rattle.model_store.specs.Reading.{HasOldCopies, IsReading, Reading}
-use Rattle.model_theorem.specs.Crash.{AreArmedFirst, CrashSafe, IsCrashed, IsStoppedAsAsked, failures_of}
-use Rattle.model_theorem.specs.Opening.{IsOpenedBefore}
-use Rattle.model_theorem.specs.Run.{RunSafe}
-use Rattle.model_theorem.specs.Script.{FitsOpened}
+use Rattle.model_store.specs.{HasOldCopies, IsReading}
+use Rattle.model_store.specs.Reading.{Reading}
+use Rattle.model_theorem.specs.{Account, AreArmedFirst, CrashSafe, Device, failures_of, FitsOpened, IsCrashed, IsOpenedBefore, IsStoppedAsAsked, Opened, Ran, RunSafe}
 use Rattle.model_theorem.specs.Values as values
-use Rattle.model_theorem.specs.Values.{Account, Device, Opened, Ran}
-use Rattle.redo_disk.specs.Seen.{OnTold, Seen}
+use Rattle.redo_disk.specs.{OnTold}
+use Rattle.redo_disk.specs.Seen.{Seen}
 use Rattle.redo_lab.specs.Answer.{TookPlace}
 use Rattle.redo_lab.specs.Call.{Call, Guarded}
 use Rattle.redo_lab.specs.Course.{AreUnderWay}

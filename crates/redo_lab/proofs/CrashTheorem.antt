@@ -3,11 +3,9 @@ use Rattle.std.proofs.Common.{ℕ, ◌≡◌, ◌≢◌, ◌+◌, ◌++◌, Bool
 use Rattle.model_command.specs.declared.asked.Drive.{Drive}
 use Rattle.model_device.specs.Disk.{Disk}
 use Rattle.model_script.specs.declared.script.ScriptLine.{ScriptLine}
-use Rattle.model_theorem.specs.Crash.{CrashSafe}
+use Rattle.model_theorem.specs.{Account, CrashOptions, CrashSafe, Opened, Ran, RunSafe}
 use Rattle.model_theorem.specs.Premises.{Premises}
-use Rattle.model_theorem.specs.Run.{RunSafe}
 use Rattle.model_theorem.specs.Values as values
-use Rattle.model_theorem.specs.Values.{Account, CrashOptions, Opened, Ran}
 use Rattle.redo_lab.specs.Call.{Call, Guarded}
 use Rattle.redo_lab.specs.Crashed.{AreReadBack}
 use Rattle.redo_lab.specs.Outcome.{IsSafeCrash, crash_of}

@@ -1,24 +1,22 @@
 -- A device behind its fuse that is crashed and then read.
 use Rattle.std.proofs.Common.{ℕ, ◌≡◌, List, Option, Some, Result, Ok, Err, IfOk, refl, sym, ap, subst, ◌∙◌}
-use Rattle.model_device.specs.Calls.{Crashes}
+use Rattle.model_device.specs.{Crashes}
 use Rattle.model_device.specs.Disk.{Disk}
 use Rattle.model_script.specs.declared.script.ScriptLine.{ScriptLine}
-use Rattle.model_store.specs.Reading.{IsReading, Reading, Refuses}
+use Rattle.model_store.specs.{IsReading, Refuses}
+use Rattle.model_store.specs.Reading.{Reading}
 use Rattle.model_store.specs.declared.refusal.Refusal.TheVariants as refusal
-use Rattle.model_theorem.specs.Values.{Ran}
-use Rattle.redo_disk.specs.Calls.{Call, ReadsMayEndWith, failures}
-use Rattle.redo_disk.specs.Made.{MakesCalls}
-use Rattle.redo_disk.specs.Seen.{OnTold, Seen}
+use Rattle.model_theorem.specs.{Ran}
+use Rattle.redo_disk.specs.{Call, failures, MakesCalls, OnTold, ReadsMayEndWith}
+use Rattle.redo_disk.specs.Seen.{Seen}
 use Rattle.redo_disk.specs.declared.error.DevError.{DevError}
 use Rattle.redo_disk.proofs.Made.{weaker_calls}
-use Rattle.redo_memdisk.specs.Fuse.{with_change}
-use Rattle.redo_memdisk.specs.Fused.{CallsThrough, CrashesThrough}
+use Rattle.redo_memdisk.specs.{CallsThrough, CrashesThrough, with_change}
 use Rattle.redo_memdisk.specs.declared.fuse.Fuse.{Fuse}
 use Rattle.redo_memdisk.specs.declared.fuse.Stage.{Stage}
 use Rattle.redo_memdisk.specs.declared.fuse.Stage.TheVariants.{Before, Stopping, Crashed}
 use Rattle.redo_memdisk.specs.declared.fused.Fused.{Fused}
-use Rattle.redo_recover.specs.Calls.{ReadsLog, ReadsPieces, data_error, log_error}
-use Rattle.redo_recover.specs.Devices.{HasCauseIn, HasLengthCause, OnContents}
+use Rattle.redo_recover.specs.{data_error, HasCauseIn, HasLengthCause, log_error, OnContents, ReadsLog, ReadsPieces}
 use Rattle.redo_recover.specs.declared.fault.RecFault.{RecFault}
 use Rattle.redo_recover.specs.declared.fault.RecFault.TheVariants.{SmallLog, NotFormatted, BadFormat, SmallData, NoCheckpoint, BadRecord, PageLost, PageAhead, LogDev, DataDev, NoMemory}
 use Rattle.redo_lab.specs.Call.{Guarded, guarded}

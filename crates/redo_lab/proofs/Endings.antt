@@ -1,21 +1,20 @@
 -- From the outcome of a command to the ending of the call.
 use Rattle.std.proofs.Common.{ℕ, ◌≡◌, ◌≢◌, ◌+◌, ◌⊎◌, List, [], ◌++◌, Option, Some, None, IfSome, refl, sym, ap, subst, ◌∙◌, inl, inr, ⊎_elim, arith}
-use Rattle.model_base.specs.Count.{HasRisen}
+use Rattle.model_base.specs.{HasRisen}
 use Rattle.model_base.specs.declared.limits.TheConstants.{MAX_SCRIPT}
 use Rattle.model_command.specs.declared.asked.Command.{Command}
 use Rattle.model_command.specs.declared.asked.Command.TheVariants.{Format, Run, Crash, Recover, Dump, Gen}
 use Rattle.model_command.specs.declared.asked.Drive.{Drive}
-use Rattle.model_report.specs.FaultLine.{status_of}
+use Rattle.model_report.specs.{status_of}
 use Rattle.model_report.specs.declared.fault.Fault.{Fault}
 use Rattle.model_report.specs.declared.fault.Fault.TheVariants as fault
-use Rattle.model_theorem.specs.Values.{CrashOptions}
+use Rattle.model_theorem.specs.{CrashOptions}
 use Rattle.model_store.specs.declared.refusal.Refusal.TheVariants as refusal
-use Rattle.redo_io.specs.Sink.{SinkSeen, with_taken}
-use Rattle.redo_io.specs.Source.{TakesAtMost}
+use Rattle.redo_io.specs.{SinkSeen, TakesAtMost, with_taken}
 use Rattle.redo_io.specs.declared.read.TheConstants.{PIECE}
 use Rattle.redo_lab.specs.Asked.{command_of}
 use Rattle.redo_disk.specs.Seen.{Seen}
-use Rattle.redo_memdisk.specs.Fuse.{fresh}
+use Rattle.redo_memdisk.specs.{fresh}
 use Rattle.redo_memdisk.specs.declared.fuse.Fuse.{Fuse}
 use Rattle.redo_lab.specs.Call.{AreLeftAlone, Call, LabCall}
 use Rattle.redo_lab.specs.Cause.{AsksNothing}

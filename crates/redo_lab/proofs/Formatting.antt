@@ -1,18 +1,17 @@
 -- What `format` comes to.
 use Rattle.std.proofs.Common.{ℕ, ◌≡◌, List, Result, Ok, Err, IfSome, IfOk, refl, sym, subst, inr, arith}
 use Rattle.std.proofs.lemmas.Bool.{false≢true}
-use Rattle.model_base.specs.Limits.{IsWithinLimits}
+use Rattle.model_base.specs.{IsWithinLimits}
 use Rattle.model_base.specs.declared.shape.Shape.{Shape}
 use Rattle.model_command.specs.declared.asked.Command.TheVariants.{Format}
 use Rattle.model_device.specs.Disk.{Disk}
 use Rattle.model_opening.specs.Formatted as opening
-use Rattle.model_opening.specs.Formatted.{formatted_store}
-use Rattle.model_opening.specs.Opened.{IsOpenable}
-use Rattle.model_report.specs.Listing.{format_text}
-use Rattle.model_store.specs.Reading.{IsOrderly}
+use Rattle.model_opening.specs.{formatted_store, IsOpenable}
+use Rattle.model_report.specs.{format_text}
+use Rattle.model_store.specs.{IsOrderly}
 use Rattle.model_store.specs.declared.refusal.Refusal.TheVariants as refusal
 use Rattle.redo_disk.specs.Seen.{Seen}
-use Rattle.redo_open.specs.Formatting.{HasFormatCause}
+use Rattle.redo_open.specs.{HasFormatCause}
 use Rattle.redo_recover.specs.declared.fault.RecFault.{RecFault}
 use Rattle.redo_recover.specs.declared.fault.RecFault.TheVariants.{SmallLog, NotFormatted, BadFormat, SmallData, NoCheckpoint, BadRecord, PageLost, PageAhead, LogDev, DataDev, NoMemory}
 use Rattle.redo_lab.specs.Answer.{shape_of}

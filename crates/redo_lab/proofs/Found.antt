@@ -1,13 +1,12 @@
 -- The store that was found when both fuses were armed, and what is left of it where a run ended before its first line.
 use Rattle.std.proofs.Common.{ℕ, None, sym, subst, ap, ◌∙◌, inl, inr, ⊎_elim}
-use Rattle.model_base.specs.Limits.{default_shape}
+use Rattle.model_base.specs.{default_shape}
 use Rattle.model_device.specs.Disk.{Disk}
-use Rattle.model_opening.specs.Formatted.{KeepsNoStore}
-use Rattle.model_opening.specs.Opened.{IsOpenable, KeepsOpened}
-use Rattle.model_theorem.specs.Opening.{IsOpenedBefore}
+use Rattle.model_opening.specs.{IsOpenable, KeepsNoStore, KeepsOpened}
+use Rattle.model_theorem.specs.{IsOpenedBefore}
 use Rattle.model_store.specs.declared.refusal.Refusal.{Refusal}
 use Rattle.redo_memdisk.specs.declared.fuse.Fuse.{Fuse}
-use Rattle.redo_open.specs.Devices.{WhereBothTell}
+use Rattle.redo_open.specs.{WhereBothTell}
 use Rattle.redo_lab.specs.Call.{AreLeftAlone, Call}
 use Rattle.redo_lab.specs.Cause.{IsBegunOrKept, IsFoundKept, KeepsStore, LeavesStopped, LeavesStore}
 use Rattle.redo_lab.specs.Course.{AreRefusedOpened, AreStopped, AreUnderWay, KeepsFound}

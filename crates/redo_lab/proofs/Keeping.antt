@@ -1,16 +1,14 @@
 -- A store in use, as long as both devices mean what they meant.
 use Rattle.std.proofs.Common.{ℕ, ◌≡◌, List, Option, Some, sym, subst, ◌∙◌, ⊎_elim}
 use Rattle.model_device.specs.Disk.{Disk}
-use Rattle.model_opening.specs.Opened.{IsAtRest, IsOpenable, KeepsOpened}
-use Rattle.model_store.specs.Fair.{IsFair}
+use Rattle.model_opening.specs.{IsAtRest, IsOpenable, KeepsOpened}
+use Rattle.model_store.specs.{IsFair, IsReading, IsUnused, OpensOrderly}
 use Rattle.model_opening.proofs.Formatted.{zeros-refused}
-use Rattle.model_store.specs.Opening.{IsUnused, OpensOrderly}
-use Rattle.model_store.specs.Reading.{IsReading, Reading}
+use Rattle.model_store.specs.Reading.{Reading}
 use Rattle.model_store.specs.declared.refusal.Refusal.TheVariants.{NotFormatted}
-use Rattle.model_theorem.specs.Premises.{IsFresh}
-use Rattle.model_theorem.specs.Values.{Opened}
+use Rattle.model_theorem.specs.{IsFresh, Opened}
 use Rattle.redo_disk.specs.Seen.{Seen}
-use Rattle.redo_open.specs.Devices.{WhereBothTell}
+use Rattle.redo_open.specs.{WhereBothTell}
 use Rattle.redo_lab.specs.Call.{AreKept, Call, Guarded}
 use Rattle.redo_lab.specs.Cause.{KeepsStore}
 use Rattle.redo_lab.specs.Course.{AreUnderWay, KeepsFound}

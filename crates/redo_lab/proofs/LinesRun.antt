@@ -1,26 +1,23 @@
 -- What the lines of a script come to that were run on an opened store.
 use Rattle.std.proofs.Common.{ℕ, ◌≡◌, ◌<◌, ◌+◌, ◌⊎◌, List, Option, Some, None, IfSome, refl, sym, ap, subst, ◌∙◌, inl, inr, ⊎_elim, arith}
-use Rattle.model_run.specs.Closed.{IsClosed}
-use Rattle.model_run.specs.Start.{IsStart, opened_as}
+use Rattle.model_run.specs.{IsClosed, IsStart, opened_as}
 use Rattle.model_report.specs.declared.fault.Fault.TheVariants as fault
-use Rattle.model_script.specs.Fit.{ScriptFits}
+use Rattle.model_script.specs.{ScriptFits}
 use Rattle.model_script.specs.declared.script.ScriptLine.{ScriptLine}
-use Rattle.model_theorem.specs.Run.{LosesOnlyByFailure}
-use Rattle.redo_disk.specs.Calls.{Call, MayEndWith, failures}
-use Rattle.redo_disk.specs.Made.{MakesCalls}
+use Rattle.model_theorem.specs.{LosesOnlyByFailure}
+use Rattle.redo_disk.specs.{Call, failures, MakesCalls, MayEndWith}
 use Rattle.redo_disk.specs.Seen.{Seen}
 use Rattle.redo_disk.specs.declared.error.DevError.{DevError}
 use Rattle.redo_disk.specs.declared.error.DevError.TheVariants.{Failed, NoMemory}
 use Rattle.redo_disk.proofs.Made.{may_end, none_may_end, out_of_memory}
-use Rattle.redo_machine.specs.Beginning.{room_from}
-use Rattle.redo_machine.specs.Drive.{ComesToRun, HasMemory, IsOwed, ran_of}
+use Rattle.redo_machine.specs.{ComesToRun, HasMemory, IsOwed, ran_of, room_from}
 use Rattle.redo_machine.specs.declared.drive.Driven.{Driven}
 use Rattle.redo_machine.specs.declared.drive.Turns.{Turns}
 use Rattle.redo_machine.specs.declared.running.Ran.{Ran}
 use Rattle.redo_machine.specs.declared.running.Ran.TheVariants as ended
 use Rattle.redo_pageactors.specs.declared.closed.Closed.{Closed}
 use Rattle.redo_pageactors.specs.declared.opened.Opened.{Opened}
-use Rattle.redo_script.specs.Judged.{IsUnfitScript}
+use Rattle.redo_script.specs.{IsUnfitScript}
 use Rattle.redo_script.specs.declared.unfit.Unfit.{Unfit}
 use Rattle.redo_script.specs.declared.unfit.Unfit.TheVariants as unfit
 use Rattle.redo_lab.specs.Playing.{AreRun, AreSpentOn, IsWithoutMemory, MakeCalls, Plays, course_done, course_of, ended_by, fault_of_unfit, played_of}

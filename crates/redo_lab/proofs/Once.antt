@@ -5,10 +5,8 @@ use Rattle.std.specs.Cmp.Lexicographic.{other_text, pointwise, same_text}
 use Rattle.std.proofs.lemmas.Bool.{false≢true}
 use Rattle.model_base.specs.declared.limits.TheConstants.{BLOCK_SIZE}
 use Rattle.model_device.specs.Disk.{Disk}
-use Rattle.model_store.specs.Opening.{IsUnused}
-use Rattle.redo_disk.specs.Calls.{Answer, Call, Reads, ReadsEndWith, error_of}
-use Rattle.redo_disk.specs.Made.{MakesCall, MakesCalls}
-use Rattle.redo_disk.specs.Seen.{part}
+use Rattle.model_store.specs.{IsUnused}
+use Rattle.redo_disk.specs.{Answer, Call, error_of, MakesCall, MakesCalls, part, Reads, ReadsEndWith}
 use Rattle.redo_lab.specs.Prepared.{ReadsOnce}
 
 one-read : (at : ℕ) (before after : List ℕ) (answer : Answer) → ReadsEndWith (error_of answer) (Reads at before answer after ∷ [])

@@ -1,12 +1,14 @@
 -- Whether opening came to its end, as the log device tells it: on a store that could be opened when the fuses were armed.
 use Rattle.std.proofs.Common.{ℕ, ◌+◌, Some, None, inl, refl, ap, ◌∙◌, arith}
-use Rattle.model_device.specs.Disk.{Disk, IsImage}
-use Rattle.model_log.specs.Device.{newest_checkpoint}
-use Rattle.model_opening.specs.Opened.{IsOpenable}
-use Rattle.model_run.specs.Closed.{Closed, IsClosed}
+use Rattle.model_device.specs.{IsImage}
+use Rattle.model_device.specs.Disk.{Disk}
+use Rattle.model_log.specs.{newest_checkpoint}
+use Rattle.model_opening.specs.{IsOpenable}
+use Rattle.model_run.specs.{IsClosed}
+use Rattle.model_run.specs.Closed.{Closed}
 use Rattle.model_store.specs.Reading.{Reading}
-use Rattle.model_theorem.specs.Opening.{HeldOlder, IsOpenedBefore}
-use Rattle.redo_open.specs.Devices.{HasSameCheckpoint}
+use Rattle.model_theorem.specs.{HeldOlder, IsOpenedBefore}
+use Rattle.redo_open.specs.{HasSameCheckpoint}
 
 -- the log device of a closed run tells that opening came to its end
 abbrev pub OpenedLaw : Type 0

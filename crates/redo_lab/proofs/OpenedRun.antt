@@ -2,38 +2,34 @@
 use Rattle.std.proofs.Common.{ℕ, ◌≡◌, ◌≤◌, ◌+◌, cond, List, Option, Some, None, IfSome, sym, ap, subst, ◌∙◌, inl, inr, ⊎_elim, arith}
 use Rattle.std.specs.List.{AllByRecursion}
 use Rattle.std.proofs.lemmas.Bool.{eq-eqb}
-use Rattle.model_base.specs.Limits.{default_shape}
+use Rattle.model_base.specs.{default_shape}
 use Rattle.model_base.specs.declared.limits.TheConstants.{BLOCK_SIZE}
 use Rattle.model_base.specs.declared.shape.Shape.{Shape}
 use Rattle.model_device.specs.Disk.{Disk}
-use Rattle.model_history.specs.Legal.{IsLeft}
-use Rattle.model_log.specs.Lsn.{IsAtDataStart, block_of, start_after}
+use Rattle.model_history.specs.{IsLeft}
+use Rattle.model_log.specs.{block_of, IsAtDataStart, start_after}
 use Rattle.model_log.specs.declared.layout.TheConstants.{BLOCK_HEADER}
-use Rattle.model_opening.specs.Formatted.{IsFormatted, formatted_store}
-use Rattle.model_opening.specs.Opened.{IsOpenable, KeepsOpened}
-use Rattle.model_opening.specs.Ready.{IsReady}
+use Rattle.model_opening.specs.{formatted_store, IsFormatted, IsOpenable, IsReady, KeepsOpened}
 use Rattle.model_report.specs.declared.fault.Fault.TheVariants as fault
-use Rattle.model_run.specs.Closed.{IsClosed}
-use Rattle.model_run.specs.Start.{IsStart, opened_as}
-use Rattle.model_script.specs.Fit.{LineFits, ScriptFits, first_misfit}
+use Rattle.model_run.specs.{IsClosed, IsStart, opened_as}
+use Rattle.model_script.specs.{first_misfit, LineFits, ScriptFits}
 use Rattle.model_script.specs.declared.misfit.Misfit.{Misfit}
 use Rattle.model_script.specs.declared.script.ScriptLine.{ScriptLine}
-use Rattle.model_store.specs.Reading.{Reading, IsReading}
+use Rattle.model_store.specs.{IsReading}
+use Rattle.model_store.specs.Reading.{Reading}
 use Rattle.model_theorem.specs.Values as values
-use Rattle.redo_disk.specs.Calls.{Call, MayEndWith, failures}
-use Rattle.redo_disk.specs.Made.{MakesCalls}
+use Rattle.redo_disk.specs.{Call, failures, MakesCalls, MayEndWith}
 use Rattle.redo_disk.specs.Seen.{Seen}
 use Rattle.redo_disk.specs.declared.error.DevError.{DevError}
 use Rattle.redo_disk.specs.declared.error.DevError.TheVariants as device
-use Rattle.redo_memdisk.specs.Fused.{CallsThrough, seen_through}
+use Rattle.redo_memdisk.specs.{CallsThrough, seen_through}
 use Rattle.redo_memdisk.specs.declared.fused.Fused.{Fused}
-use Rattle.redo_open.specs.Devices.{WhereBothTell}
-use Rattle.redo_open.specs.Opening.{IsOpenedReady, IsOpeningOf, OpensLog}
-use Rattle.redo_pageactors.specs.Opened.{IsRunnable}
+use Rattle.redo_open.specs.{IsOpenedReady, IsOpeningOf, OpensLog, WhereBothTell}
+use Rattle.redo_pageactors.specs.{IsRunnable}
 use Rattle.redo_pageactors.specs.declared.opened.Opened.{Opened}
-use Rattle.redo_recover.specs.Devices.{OnContents}
+use Rattle.redo_recover.specs.{OnContents}
 use Rattle.redo_lab.specs.Call.{Guarded, guarded}
-use Rattle.redo_machine.specs.Beginning.{room_from}
+use Rattle.redo_machine.specs.{room_from}
 use Rattle.redo_machine.specs.declared.drive.Driven.{Driven}
 use Rattle.redo_machine.specs.declared.drive.Turns.{Turns}
 use Rattle.redo_lab.specs.Course.{AreMisfitted, ArePlayed, AreSpent, ComesTo, ran_of}

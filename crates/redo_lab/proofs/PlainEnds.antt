@@ -1,20 +1,20 @@
 -- What the commands that run no script come to.
 use Rattle.std.proofs.Common.{ℕ, ◌≡◌, ◌≤◌, Bool, List, Option, Result, Ok, Err, IfSome, IfOk, refl, sym, ap, subst, inl, inr, arith}
-use Rattle.model_base.specs.Count.{HasRisen}
+use Rattle.model_base.specs.{HasRisen}
 use Rattle.model_command.specs.declared.asked.Command.{Command}
 use Rattle.model_command.specs.declared.asked.Command.TheVariants.{Recover, Dump, Gen}
-use Rattle.model_report.specs.Listing.{dump_text, recover_text}
+use Rattle.model_report.specs.{dump_text, recover_text}
 use Rattle.model_report.specs.declared.fault.Fault.TheVariants as fault
-use Rattle.model_script.specs.Generator.{generated_text}
-use Rattle.model_store.specs.Reading.{IsReading, Reading, Refuses}
+use Rattle.model_script.specs.{generated_text}
+use Rattle.model_store.specs.{IsReading, Refuses}
+use Rattle.model_store.specs.Reading.{Reading}
 use Rattle.model_store.specs.declared.refusal.Refusal.{Refusal}
 use Rattle.model_store.specs.declared.refusal.Refusal.TheVariants as refusal
 use Rattle.redo_disk.specs.Seen.{Seen}
-use Rattle.redo_disk.specs.Calls.{failures}
-use Rattle.redo_memdisk.specs.Fuse.{fresh}
+use Rattle.redo_disk.specs.{failures}
+use Rattle.redo_memdisk.specs.{fresh}
 use Rattle.redo_memdisk.specs.declared.fuse.Fuse.{Fuse}
-use Rattle.redo_recover.specs.Calls.{data_error, log_error}
-use Rattle.redo_recover.specs.Devices.{HasCauseIn, HasLengthCause, OnContents}
+use Rattle.redo_recover.specs.{data_error, HasCauseIn, HasLengthCause, log_error, OnContents}
 use Rattle.redo_recover.specs.declared.fault.RecFault.{RecFault}
 use Rattle.redo_recover.specs.declared.fault.RecFault.TheVariants.{SmallLog, NotFormatted, BadFormat, SmallData, NoCheckpoint, BadRecord, PageLost, PageAhead, LogDev, DataDev, NoMemory}
 use Rattle.redo_lab.specs.Answer.{AreUnfailed, IsReadOff}

@@ -1,31 +1,27 @@
 -- The two devices while a run prepares them.
 use Rattle.std.proofs.Common.{ℕ, ◌≡◌, ◌≤◌, ◌<◌, ◌↔◌, true, false, IsTrue, length, Option, Some, None, Ok, Err, IfSome, refl, sym, ap, subst, ◌∙◌, inl, inr, ⊎_elim, arith}
 use Rattle.std.proofs.lemmas.Bool.{cases_lt, false≢true}
-use Rattle.model_base.specs.Limits.{default_shape}
+use Rattle.model_base.specs.{default_shape}
 use Rattle.model_device.specs.Disk.{Disk}
-use Rattle.model_log.specs.Device.{log_device_length}
+use Rattle.model_log.specs.{log_device_length}
 use Rattle.model_log.specs.declared.layout.TheConstants.{HEADER_BYTES}
-use Rattle.model_opening.specs.Formatted.{IsFormatted, KeepsNoStore}
-use Rattle.model_page.specs.Copies.{data_device_length}
-use Rattle.model_store.specs.Opening.{IsUnused}
+use Rattle.model_opening.specs.{IsFormatted, KeepsNoStore}
+use Rattle.model_page.specs.{data_device_length}
+use Rattle.model_store.specs.{IsUnused}
 use Rattle.model_store.specs.declared.refusal.Refusal.{Refusal}
 use Rattle.model_store.specs.declared.refusal.Refusal.TheVariants as refusal
-use Rattle.redo_disk.specs.Calls.{Call, failures}
-use Rattle.redo_disk.specs.Made.{MakesCalls}
-use Rattle.redo_disk.specs.Seen.{HasSize, Seen}
+use Rattle.redo_disk.specs.{Call, failures, HasSize, MakesCalls}
+use Rattle.redo_disk.specs.Seen.{Seen}
 use Rattle.redo_disk.specs.declared.error.DevError.{DevError}
 use Rattle.redo_disk.specs.declared.error.DevError.TheVariants as device
 use Rattle.redo_disk.proofs.Calls.{MayEndWith-ends}
 use Rattle.redo_disk.proofs.Made.{weaker_calls}
 use Rattle.redo_memdisk.proofs.Behind.{counts-calls}
-use Rattle.redo_memdisk.specs.Counted.{before_arming, counted}
-use Rattle.redo_memdisk.specs.Fuse.{fresh}
-use Rattle.redo_memdisk.specs.Fused.{CallsThrough, fuse_of, inner_of}
+use Rattle.redo_memdisk.specs.{before_arming, CallsThrough, counted, fresh, fuse_of, inner_of}
 use Rattle.redo_memdisk.specs.declared.fuse.Fuse.{Fuse}
 use Rattle.redo_memdisk.specs.declared.fused.Fused.{Fused}
-use Rattle.redo_open.specs.Devices.{WhereBothTell}
-use Rattle.redo_open.specs.Formatting.{FormatCalls, JudgesLengths}
-use Rattle.redo_recover.specs.Devices.{log_fault_of}
+use Rattle.redo_open.specs.{FormatCalls, JudgesLengths, WhereBothTell}
+use Rattle.redo_recover.specs.{log_fault_of}
 use Rattle.redo_recover.specs.declared.fault.RecFault.{RecFault}
 use Rattle.redo_recover.specs.declared.fault.RecFault.TheVariants.{SmallLog, NotFormatted, BadFormat, SmallData, NoCheckpoint, BadRecord, PageLost, PageAhead, LogDev, DataDev, NoMemory}
 use Rattle.redo_lab.specs.Call.{guarded}

@@ -4,8 +4,8 @@ use Rattle.std.specs.Prelude.{take}
 use Rattle.std.proofs.Math.Seq.{take-append-add}
 use Rattle.std.proofs.lemmas.List.{length-append, take-append-le}
 use Rattle.std.proofs.lemmas.Bool.{cases_lt}
-use Rattle.model_base.specs.Count.{HasRisen, last_count}
-use Rattle.redo_io.specs.Sink.{SinkSeen, TakesPart, with_taken}
+use Rattle.model_base.specs.{HasRisen, last_count}
+use Rattle.redo_io.specs.{SinkSeen, TakesPart, with_taken}
 use Rattle.redo_lab.specs.Ending.{IsPutOut}
 
 -- what is taken in two goes

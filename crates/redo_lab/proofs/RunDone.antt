@@ -1,7 +1,7 @@
 -- What the command `run` comes to.
 use Rattle.std.proofs.Common.{ℕ, ◌≤◌, Bool, List, Option, Some, None, refl, sym, subst, ⊎_elim, arith}
 use Rattle.std.proofs.lemmas.Bool.{false≢true}
-use Rattle.model_base.specs.Count.{HasRisen}
+use Rattle.model_base.specs.{HasRisen}
 use Rattle.model_command.specs.declared.asked.Command.TheVariants.{Run}
 use Rattle.model_command.specs.declared.asked.Drive.{Drive}
 use Rattle.model_report.specs.declared.fault.Fault.{Fault}

@@ -8,7 +8,7 @@ use Rattle.model_report.specs.declared.fault.Fault.TheVariants as fault
 use Rattle.model_script.specs.declared.misfit.Misfit.{Misfit}
 use Rattle.model_script.specs.declared.script.ScriptLine.{ScriptLine}
 use Rattle.model_store.specs.declared.refusal.Refusal.{Refusal}
-use Rattle.redo_disk.specs.Calls.{failures}
+use Rattle.redo_disk.specs.{failures}
 use Rattle.redo_disk.specs.Seen.{Seen}
 use Rattle.redo_machine.specs.declared.drive.Turns.{Turns}
 use Rattle.redo_lab.specs.Answer.{AreUnfailed, AreUnfailedAside}

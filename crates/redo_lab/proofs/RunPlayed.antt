@@ -1,25 +1,20 @@
 -- A run whose lines were played: what its report is owed.
 use Rattle.std.proofs.Common.{ℕ, ◌≡◌, ◌≢◌, ◌≤◌, ◌+◌, Bool, List, [], Option, Some, None, IfSome, refl, sym, ap, subst, ◌∙◌, ⊎_elim, arith}
-use Rattle.model_base.specs.Limits.{IsWithinLimits, default_shape}
+use Rattle.model_base.specs.{default_shape, IsWithinLimits}
 use Rattle.model_base.specs.declared.shape.Shape.{Shape}
 use Rattle.model_command.specs.declared.asked.Drive.{Drive}
 use Rattle.model_device.specs.Disk.{Disk}
-use Rattle.model_history.specs.Legal.{IsLeft}
-use Rattle.model_opening.specs.Formatted.{IsFormatted, formatted_store}
-use Rattle.model_opening.specs.Opened.{IsOpenable}
+use Rattle.model_history.specs.{IsLeft}
+use Rattle.model_opening.specs.{formatted_store, IsFormatted, IsOpenable}
 use Rattle.model_page.specs.declared.content.Content.{Content}
-use Rattle.model_run.specs.Closed.{Closed, IsClosed, result_of}
-use Rattle.model_run.specs.Start.{opened_as}
+use Rattle.model_run.specs.{IsClosed, opened_as, result_of}
+use Rattle.model_run.specs.Closed.{Closed}
 use Rattle.model_script.specs.declared.script.ScriptLine.{ScriptLine}
-use Rattle.model_store.specs.Opening.{Opens, OpensOrderly, OpensUnused}
+use Rattle.model_store.specs.{Opens, OpensOrderly, OpensUnused}
 use Rattle.model_store.specs.Reading.{Reading}
-use Rattle.model_theorem.specs.Opening.{AreUnopened, HeldOlder, IsOpenedBefore}
-use Rattle.model_theorem.specs.Premises.{IsFresh}
-use Rattle.model_theorem.specs.Run.{LosesOnlyByFailure, RunSafe}
-use Rattle.model_theorem.specs.Script.{FitsOpened, IsWholeScript}
-use Rattle.model_theorem.specs.Values.{Opened}
+use Rattle.model_theorem.specs.{AreUnopened, FitsOpened, HeldOlder, IsFresh, IsOpenedBefore, IsWholeScript, LosesOnlyByFailure, Opened, RunSafe}
 use Rattle.redo_disk.specs.Seen.{Seen}
-use Rattle.redo_open.specs.Devices.{HasSameCheckpoint, WhereBothTell}
+use Rattle.redo_open.specs.{HasSameCheckpoint, WhereBothTell}
 use Rattle.redo_lab.specs.Answer.{IsRunSafe, IsRunText}
 use Rattle.redo_lab.specs.Call.{Call, Guarded}
 use Rattle.redo_lab.specs.Course.{ArePlayed, KeepsCheckpoint, ran_of}

@@ -1,24 +1,22 @@
 -- A run that can be done isn't ended but by want of memory, or by its turns.
 use Rattle.std.proofs.Common.{ℕ, ◌≡◌, ◌≤◌, ◌<◌, Bool, true, List, Option, Some, None, IfSome, sym, ap, subst, ◌∙◌, ⊎_elim, arith}
-use Rattle.model_base.specs.Limits.{default_shape}
+use Rattle.model_base.specs.{default_shape}
 use Rattle.model_base.specs.declared.shape.Shape.{Shape}
 use Rattle.model_command.specs.declared.asked.Command.{Command}
 use Rattle.model_device.specs.Disk.{Disk}
-use Rattle.model_log.specs.Lsn.{start_after}
+use Rattle.model_log.specs.{start_after}
 use Rattle.model_log.specs.declared.layout.TheConstants.{HEADER_BYTES}
 use Rattle.model_report.specs.declared.fault.Fault.{Fault}
 use Rattle.model_report.specs.declared.fault.Fault.TheVariants as fault
-use Rattle.model_script.specs.Fit.{ScriptFits, first_misfit}
-use Rattle.model_script.specs.Grammar.{script_of}
+use Rattle.model_script.specs.{first_misfit, script_of, ScriptFits}
 use Rattle.model_script.specs.declared.misfit.Misfit.{Misfit}
 use Rattle.model_script.specs.declared.script.ScriptLine.{ScriptLine}
-use Rattle.model_store.specs.Opening.{Opens}
-use Rattle.model_store.specs.Reading.{IsReading, Reading}
+use Rattle.model_store.specs.{IsReading, Opens}
+use Rattle.model_store.specs.Reading.{Reading}
 use Rattle.model_store.specs.declared.refusal.Refusal.{Refusal}
 use Rattle.model_store.specs.declared.refusal.Refusal.TheVariants as refusal
-use Rattle.model_theorem.specs.Script.{FitsOpened, room_of}
-use Rattle.model_theorem.specs.Values.{Opened}
-use Rattle.redo_disk.specs.Seen.{HasSize}
+use Rattle.model_theorem.specs.{FitsOpened, Opened, room_of}
+use Rattle.redo_disk.specs.{HasSize}
 use Rattle.redo_machine.specs.declared.drive.Turns.{Turns}
 use Rattle.redo_lab.specs.Asked.{reads_script}
 use Rattle.redo_lab.specs.Call.{Call}

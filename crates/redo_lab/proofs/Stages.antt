@@ -2,19 +2,16 @@
 use Rattle.std.proofs.Common.{ℕ, ◌≡◌, ◌≤◌, true, List, [], ◌∷◌, length, Option, Some, None, IfSome, IsTrue, refl, sym, ap, subst, ◌∙◌, inl, inr, ⊎_elim, arith}
 use Rattle.std.proofs.lemmas.Bool.{false≢true}
 use Rattle.std.specs.Option.{option_and_then}
-use Rattle.model_base.specs.Count.{HasRisen}
-use Rattle.model_theorem.specs.Crash.{HasPassedAll}
-use Rattle.redo_io.specs.Plan.{next_count, next_count_if}
-use Rattle.redo_disk.specs.Calls.{Call, Reads, Writes, Syncs, MayEndWith, ReadsMayEndWith, changing_calls, failed_calls, failures}
-use Rattle.redo_disk.specs.Made.{Makes, MakesCalls}
+use Rattle.model_base.specs.{HasRisen}
+use Rattle.model_theorem.specs.{HasPassedAll}
+use Rattle.redo_io.specs.{next_count, next_count_if}
+use Rattle.redo_disk.specs.{Call, changing_calls, failed_calls, failures, Makes, MakesCalls, MayEndWith, Reads, ReadsMayEndWith, Syncs, Writes}
 use Rattle.redo_disk.specs.Seen.{Seen}
 use Rattle.redo_disk.specs.declared.error.DevError.{DevError}
 use Rattle.redo_disk.specs.declared.error.DevError.TheVariants.{Failed, NoMemory}
 use Rattle.redo_disk.proofs.Calls.{changing_calls-reads, failed_calls-may_end}
 use Rattle.redo_memdisk.proofs.Behind.{after-calls, counts-calls, keeps-behind}
-use Rattle.redo_memdisk.specs.Counted.{after_calls, after_crash, before_arming, counted, while_stopping}
-use Rattle.redo_memdisk.specs.Fuse.{armed, crashed_with, fails_next, fresh, has_passed_all, is_failed}
-use Rattle.redo_memdisk.specs.Fused.{CallsThrough, CrashesThrough, armed_at, fuse_of, inner_of}
+use Rattle.redo_memdisk.specs.{after_calls, after_crash, armed, armed_at, before_arming, CallsThrough, counted, crashed_with, CrashesThrough, fails_next, fresh, fuse_of, has_passed_all, inner_of, is_failed, while_stopping}
 use Rattle.redo_memdisk.specs.declared.fuse.Fuse.{Fuse}
 use Rattle.redo_memdisk.specs.declared.fuse.Stage.{Stage}
 use Rattle.redo_memdisk.specs.declared.fuse.Stage.TheVariants.{Before, Stopping, Crashed}

@@ -3,11 +3,9 @@ use Rattle.std.proofs.Common.{ℕ, ◌≡◌, ◌≢◌, Bool, true, false, List
 use Rattle.std.proofs.lemmas.Bool.{cases_lt}
 use Rattle.model_device.specs.Disk.{Disk}
 use Rattle.model_device.specs.declared.write.Write.{Write}
-use Rattle.redo_disk.specs.Calls.{AreReads, Answer, Call, Reads, Writes, Syncs}
-use Rattle.redo_disk.specs.Made.{Makes}
-use Rattle.redo_disk.specs.Seen.{OnTold, Seen, SyncStep, WriteStep}
-use Rattle.redo_memdisk.specs.Fuse.{fails_next}
-use Rattle.redo_memdisk.specs.Fused.{CallsThrough, ReadsThrough, SyncsThrough, WritesThrough}
+use Rattle.redo_disk.specs.{Answer, AreReads, Call, Makes, OnTold, Reads, Syncs, SyncStep, Writes, WriteStep}
+use Rattle.redo_disk.specs.Seen.{Seen}
+use Rattle.redo_memdisk.specs.{CallsThrough, fails_next, ReadsThrough, SyncsThrough, WritesThrough}
 use Rattle.redo_memdisk.specs.declared.fused.Fused.{Fused}
 
 -- what told goes on telling

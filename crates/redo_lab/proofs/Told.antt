@@ -1,9 +1,10 @@
 -- What is so of devices that tell what they mean.
 use Rattle.std.proofs.Common.{ℕ, ◌≡◌, List, Option, Some, None, IfSome, subst}
 use Rattle.model_device.specs.Disk.{Disk}
-use Rattle.model_store.specs.Reading.{IsReading, Reading, Refuses}
+use Rattle.model_store.specs.{IsReading, Refuses}
+use Rattle.model_store.specs.Reading.{Reading}
 use Rattle.model_store.specs.declared.refusal.Refusal.{Refusal}
-use Rattle.redo_recover.specs.Devices.{OnContents}
+use Rattle.redo_recover.specs.{OnContents}
 
 -- a store isn't both read and refused
 abbrev pub OneAnswer : Type 0

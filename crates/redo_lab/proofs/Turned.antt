@@ -6,13 +6,13 @@ use Rattle.model_command.specs.declared.asked.Drive.{Drive}
 use Rattle.model_report.specs.declared.fault.Fault.{Fault}
 use Rattle.model_report.specs.declared.fault.Fault.TheVariants as fault
 use Rattle.model_script.specs.declared.script.ScriptLine.{ScriptLine}
-use Rattle.redo_disk.specs.Calls.{Call}
+use Rattle.redo_disk.specs.{Call}
 use Rattle.redo_disk.specs.Seen.{Seen}
 use Rattle.redo_disk.specs.declared.error.DevError.{DevError}
 use Rattle.redo_disk.specs.declared.error.DevError.TheVariants.{Failed, NoMemory}
 use Rattle.redo_disk.proofs.Made.{may_end}
-use Rattle.redo_io.specs.Source.{SourceSeen}
-use Rattle.redo_machine.specs.Drive.{ComesToRun, HasMemory, RunsByTurns}
+use Rattle.redo_io.specs.{SourceSeen}
+use Rattle.redo_machine.specs.{ComesToRun, HasMemory, RunsByTurns}
 use Rattle.redo_machine.specs.declared.drive.Driven.{Driven}
 use Rattle.redo_machine.specs.declared.drive.Turns.{Turns}
 use Rattle.redo_machine.specs.declared.running.Ran as running

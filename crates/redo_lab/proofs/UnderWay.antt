@@ -1,28 +1,23 @@
 -- Two devices from the arming of their fuses on, and a store that wasn't opened on them.
 use Rattle.std.proofs.Common.{ℕ, ◌≡◌, ◌≢◌, ◌≤◌, ◌<◌, ◌+◌, List, [], ◌∷◌, length, Option, Some, None, IfSome, refl, sym, ap, subst, ◌∙◌, inr, ⊎_elim, arith, lit<, lit≤}
-use Rattle.model_base.specs.Limits.{IsWithinLimits, default_shape}
+use Rattle.model_base.specs.{default_shape, IsWithinLimits}
 use Rattle.model_device.specs.Disk.{Disk}
 use Rattle.model_log.specs.declared.layout.TheConstants.{HEADER_BYTES}
-use Rattle.model_opening.specs.Formatted.{IsFormatted, formatted_store}
-use Rattle.model_opening.specs.Opened.{IsOpenable, KeepsOpened}
+use Rattle.model_opening.specs.{formatted_store, IsFormatted, IsOpenable, KeepsOpened}
 use Rattle.model_script.specs.declared.script.ScriptLine.{ScriptLine}
-use Rattle.model_store.specs.Opening.{IsUnused}
-use Rattle.model_store.specs.Reading.{Reading, IsReading, Refuses}
+use Rattle.model_store.specs.{IsReading, IsUnused, Refuses}
+use Rattle.model_store.specs.Reading.{Reading}
 use Rattle.model_store.specs.declared.refusal.Refusal.{Refusal}
 use Rattle.model_store.specs.declared.refusal.Refusal.TheVariants as refusal
-use Rattle.redo_disk.specs.Calls.{Call, Reads, Writes, Syncs, MayEndWith, failures}
-use Rattle.redo_disk.specs.Made.{MakesCalls}
+use Rattle.redo_disk.specs.{Call, failures, MakesCalls, MayEndWith, Reads, Syncs, Writes}
 use Rattle.redo_disk.specs.Seen.{Seen}
 use Rattle.redo_disk.specs.declared.error.DevError.{DevError}
 use Rattle.redo_disk.proofs.Made.{weaker_calls}
-use Rattle.redo_memdisk.specs.Counted.{while_stopping}
-use Rattle.redo_memdisk.specs.Fused.{CallsThrough, seen_through}
+use Rattle.redo_memdisk.specs.{CallsThrough, seen_through, while_stopping}
 use Rattle.redo_memdisk.specs.declared.fused.Fused.{Fused}
 use Rattle.redo_memdisk.proofs.Behind.{counts-calls}
-use Rattle.redo_open.specs.Devices.{HasSameCheckpoint, WhereBothTell}
-use Rattle.redo_open.specs.Opening.{HasFaultCause, OpensLog}
-use Rattle.redo_recover.specs.Calls.{BeginWithHeader, data_error, log_error}
-use Rattle.redo_recover.specs.Devices.{OnContents, refusal_of}
+use Rattle.redo_open.specs.{HasFaultCause, HasSameCheckpoint, OpensLog, WhereBothTell}
+use Rattle.redo_recover.specs.{BeginWithHeader, data_error, log_error, OnContents, refusal_of}
 use Rattle.redo_recover.specs.declared.fault.RecFault.{RecFault}
 use Rattle.redo_recover.specs.declared.fault.RecFault.TheVariants.{SmallLog, NotFormatted, BadFormat, SmallData, NoCheckpoint, BadRecord, PageLost, PageAhead, LogDev, DataDev, NoMemory}
 use Rattle.redo_machine.specs.declared.drive.Turns.{Turns}

@@ -6,7 +6,7 @@ use Rattle.model_command.specs.declared.asked.Command.TheVariants.{Run, Crash}
 use Rattle.model_command.specs.declared.asked.Drive.{Drive}
 use Rattle.model_report.specs.declared.fault.Fault.{Fault}
 use Rattle.model_report.specs.declared.fault.Fault.TheVariants as fault
-use Rattle.model_script.specs.Grammar.{script_of}
+use Rattle.model_script.specs.{script_of}
 use Rattle.model_script.specs.declared.misfit.Misfit.{Misfit}
 use Rattle.redo_lab.specs.Call.{AreLeftAlone, Call}
 use Rattle.redo_lab.specs.Complete.{CanRun}

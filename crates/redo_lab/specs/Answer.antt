@@ -1,21 +1,18 @@
 -- What the text of each command says.
 use Rattle.std.specs.Prelude.{ℕ, ◌≡◌, ◌≤◌, ◌+◌, Bool, List, Option, Some, None, IfSome}
-use Rattle.model_base.specs.Limits.{default_shape, IsWithinLimits}
+use Rattle.model_base.specs.{default_shape, IsWithinLimits}
 use Rattle.model_base.specs.declared.shape.Shape.{Shape}
 use Rattle.model_command.specs.declared.asked.Command.{Command}
 use Rattle.model_command.specs.declared.asked.Command.TheVariants.{Format, Run, Crash, Recover, Dump, Gen}
 use Rattle.model_command.specs.declared.asked.Drive.{Drive}
-use Rattle.model_history.specs.Legal.{IsLeft}
+use Rattle.model_history.specs.{IsLeft}
 use Rattle.model_page.specs.declared.content.Content.{Content}
-use Rattle.model_report.specs.Listing.{dump_text, format_text, recover_text}
-use Rattle.model_report.specs.Report.{report_text}
-use Rattle.model_script.specs.Generator.{generated_text}
+use Rattle.model_report.specs.{dump_text, format_text, recover_text, report_text}
+use Rattle.model_script.specs.{generated_text}
 use Rattle.model_script.specs.declared.script.ScriptLine.{ScriptLine}
-use Rattle.model_store.specs.Reading.{Reading, IsReading}
-use Rattle.model_theorem.specs.Premises.{RunPremises}
-use Rattle.model_theorem.specs.Run.{IsRun, LosesOnlyByFailure, RunPromise}
-use Rattle.model_theorem.specs.Script.{FitsOpened}
-use Rattle.model_theorem.specs.Values.{Opened, Ran, RunAccount, RunCall, entries_of, marks_of, start_of}
+use Rattle.model_store.specs.{IsReading}
+use Rattle.model_store.specs.Reading.{Reading}
+use Rattle.model_theorem.specs.{entries_of, FitsOpened, IsRun, LosesOnlyByFailure, marks_of, Opened, Ran, RunAccount, RunCall, RunPremises, RunPromise, start_of}
 use Rattle.redo_lab.specs.Call.{AreKept, AreLeftAlone, Call, IsUnread}
 use Rattle.redo_lab.specs.Devices.{AreFound, IsCrashedAs, IsOpenedFirst, IsRunDevice, IsUnfailed, WhereToldAtEntry, WhereToldNow}
 use Rattle.redo_lab.specs.Script.{IsScriptOf}

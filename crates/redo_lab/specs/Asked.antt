@@ -2,7 +2,7 @@
 -- ask for nothing.
 use Rattle.std.specs.Prelude.{ℕ, ◌≤◌, if◌then◌else◌, Bool, true, false, not, List, Option, Some, None, option_and_then}
 use Rattle.model_base.specs.declared.limits.TheConstants.{MAX_LOG_BLOCKS, MAX_PAGES, MIN_LOG_BLOCKS}
-use Rattle.model_command.specs.Commands.{asked_of}
+use Rattle.model_command.specs.{asked_of}
 use Rattle.model_command.specs.declared.asked.Asked.{Asked}
 use Rattle.model_command.specs.declared.asked.Command.{Command}
 use Rattle.model_command.specs.declared.asked.Command.TheVariants.{Format, Run, Crash, Recover, Dump, Gen}

@@ -2,10 +2,8 @@
 use Rattle.std.specs.Prelude.{ℕ, ◌≡◌, List, Option}
 use Rattle.model_device.specs.Disk.{Disk}
 use Rattle.redo_disk.specs.Seen.{Seen}
-use Rattle.redo_io.specs.Sink.{SinkSeen}
-use Rattle.redo_io.specs.Source.{SourceSeen}
-use Rattle.redo_memdisk.specs.Fuse.{fresh}
-use Rattle.redo_memdisk.specs.Fused.{armed_from, fuse_of, inner_of}
+use Rattle.redo_io.specs.{SinkSeen, SourceSeen}
+use Rattle.redo_memdisk.specs.{armed_from, fresh, fuse_of, inner_of}
 use Rattle.redo_memdisk.specs.declared.fuse.Fuse.{Fuse}
 use Rattle.redo_memdisk.specs.declared.fused.Fused.{Fused}
 use Rattle.redo_lab.specs.declared.ended.Ended.{Ended}

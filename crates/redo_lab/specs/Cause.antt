@@ -2,30 +2,25 @@
 -- script, formatting or opening, the fit, the run, the crash and the reading behind it. Want of memory decides where it is
 -- met.
 use Rattle.std.specs.Prelude.{ℕ, ◌≡◌, ◌≢◌, ◌≤◌, ◌<◌, ◌⊎◌, true, false, List, Option, Some, None, ⊤}
-use Rattle.model_base.specs.Count.{HasRisen}
-use Rattle.model_base.specs.Limits.{default_shape, IsWithinLimits}
+use Rattle.model_base.specs.{default_shape, HasRisen, IsWithinLimits}
 use Rattle.model_command.specs.declared.asked.Command.{Command}
 use Rattle.model_command.specs.declared.asked.Command.TheVariants.{Format, Run, Crash, Recover, Dump, Gen}
 use Rattle.model_command.specs.declared.asked.Drive.{Drive}
 use Rattle.model_device.specs.Disk.{Disk}
-use Rattle.model_finish.specs.OpenLines.{LeavesOpen}
-use Rattle.model_log.specs.Lsn.{start_after}
+use Rattle.model_finish.specs.{LeavesOpen}
+use Rattle.model_log.specs.{start_after}
 use Rattle.model_log.specs.declared.layout.TheConstants.{HEADER_BYTES}
-use Rattle.model_opening.specs.Formatted.{KeepsNoStore}
-use Rattle.model_opening.specs.Opened.{IsOpenable, KeepsOpened}
+use Rattle.model_opening.specs.{IsOpenable, KeepsNoStore, KeepsOpened}
 use Rattle.model_report.specs.declared.fault.Fault.{Fault}
 use Rattle.model_report.specs.declared.fault.Fault.TheVariants.{Memory, Words, Script, Source, LogDevice, DataDevice, Store, Turns, Fit}
-use Rattle.model_script.specs.Fit.{first_misfit}
+use Rattle.model_script.specs.{first_misfit}
 use Rattle.model_script.specs.declared.misfit.Misfit.{Misfit}
 use Rattle.model_script.specs.declared.script.ScriptLine.{ScriptLine}
-use Rattle.model_store.specs.Opening.{IsUnused, OpensOrderly}
+use Rattle.model_store.specs.{IsUnused, OpensOrderly}
 use Rattle.model_store.specs.Reading.{Reading}
 use Rattle.model_store.specs.declared.refusal.Refusal.{Refusal}
-use Rattle.model_theorem.specs.Premises.{IsFresh}
-use Rattle.model_theorem.specs.Run.{IsRun}
-use Rattle.model_theorem.specs.Script.{FitsOpened, room_of}
-use Rattle.model_theorem.specs.Values.{Opened, Ran}
-use Rattle.redo_disk.specs.Calls.{failures}
+use Rattle.model_theorem.specs.{FitsOpened, IsFresh, IsRun, Opened, Ran, room_of}
+use Rattle.redo_disk.specs.{failures}
 use Rattle.redo_disk.specs.Seen.{Seen}
 use Rattle.redo_disk.specs.declared.error.DevError.{DevError}
 use Rattle.redo_memdisk.specs.declared.fuse.Fuse.{Fuse}

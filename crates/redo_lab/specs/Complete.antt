@@ -1,25 +1,21 @@
 -- What is owed of a call on devices that don't fail: it does what it is asked, or memory ran out, or turns were spent.
 use Rattle.std.specs.Prelude.{ℕ, ◌≡◌, ◌≤◌, ◌⊎◌, Bool, true, List, ⊤, length, Some, Ok, IfSome}
-use Rattle.model_base.specs.Count.{HasRisen}
-use Rattle.model_base.specs.Limits.{default_shape}
+use Rattle.model_base.specs.{default_shape, HasRisen}
 use Rattle.model_base.specs.declared.limits.TheConstants.{MAX_SCRIPT}
 use Rattle.model_base.specs.declared.shape.Shape.{Shape}
 use Rattle.model_command.specs.declared.asked.Command.{Command}
 use Rattle.model_command.specs.declared.asked.Command.TheVariants.{Format, Run, Crash, Recover, Dump, Gen}
 use Rattle.model_device.specs.Disk.{Disk}
-use Rattle.model_log.specs.Device.{log_device_length}
-use Rattle.model_page.specs.Copies.{data_device_length}
-use Rattle.model_report.specs.FaultLine.{status_of}
+use Rattle.model_log.specs.{log_device_length}
+use Rattle.model_page.specs.{data_device_length}
+use Rattle.model_report.specs.{status_of}
 use Rattle.model_report.specs.declared.fault.Fault.{Fault}
 use Rattle.model_report.specs.declared.fault.Fault.TheVariants.{Memory, Turns}
-use Rattle.model_script.specs.Grammar.{script_of}
+use Rattle.model_script.specs.{script_of}
 use Rattle.model_script.specs.declared.script.ScriptLine.{ScriptLine}
-use Rattle.model_store.specs.Fair.{IsFair}
-use Rattle.model_store.specs.Opening.{IsUnused, Opens}
-use Rattle.model_store.specs.Reading.{Reading, IsReading}
-use Rattle.model_theorem.specs.Premises.{IsFresh}
-use Rattle.model_theorem.specs.Script.{FitsOpened}
-use Rattle.model_theorem.specs.Values.{Opened}
+use Rattle.model_store.specs.{IsFair, IsReading, IsUnused, Opens}
+use Rattle.model_store.specs.Reading.{Reading}
+use Rattle.model_theorem.specs.{FitsOpened, IsFresh, Opened}
 use Rattle.redo_disk.specs.Seen.{Seen}
 use Rattle.redo_lab.specs.Answer.{AreUnfailed, AreUnfailedAside, shape_of}
 use Rattle.redo_lab.specs.Asked.{command_of, reads_script}

@@ -1,32 +1,29 @@
 -- How far a run came, and what it leaves of the two devices.
 use Rattle.std.specs.Prelude.{ℕ, ◌≡◌, ◌≢◌, ◌≤◌, ◌<◌, ◌+◌, ◌⊎◌, Bool, List, Option, Some, None, IfSome}
-use Rattle.model_base.specs.Limits.{IsWithinLimits}
-use Rattle.model_finish.specs.OpenLines.{LeavesOpen}
-use Rattle.model_history.specs.Legal.{IsLeft}
-use Rattle.model_log.specs.Lsn.{start_after}
-use Rattle.model_opening.specs.Opened.{IsOpenable, KeepsOpened}
+use Rattle.model_base.specs.{IsWithinLimits}
+use Rattle.model_finish.specs.{LeavesOpen}
+use Rattle.model_history.specs.{IsLeft}
+use Rattle.model_log.specs.{start_after}
+use Rattle.model_opening.specs.{IsOpenable, KeepsOpened}
 use Rattle.model_report.specs.declared.fault.Fault.{Fault}
 use Rattle.model_report.specs.declared.fault.Fault.TheVariants as fault
-use Rattle.model_run.specs.Closed.{IsClosed}
-use Rattle.model_run.specs.Start.{opened_as}
-use Rattle.model_script.specs.Fit.{first_misfit}
+use Rattle.model_run.specs.{IsClosed, opened_as}
+use Rattle.model_script.specs.{first_misfit}
 use Rattle.model_script.specs.declared.misfit.Misfit.{Misfit}
 use Rattle.model_script.specs.declared.script.ScriptLine.{ScriptLine}
 use Rattle.model_store.specs.Reading.{Reading}
 use Rattle.model_store.specs.declared.refusal.Refusal.{Refusal}
-use Rattle.model_theorem.specs.Run.{IsRun, LosesOnlyByFailure}
-use Rattle.model_theorem.specs.Script.{FitsOpened, room_of}
-use Rattle.model_theorem.specs.Values.{Opened, Ran}
-use Rattle.redo_disk.specs.Calls.{failures}
+use Rattle.model_theorem.specs.{FitsOpened, IsRun, LosesOnlyByFailure, Opened, Ran, room_of}
+use Rattle.redo_disk.specs.{failures}
 use Rattle.redo_disk.specs.Seen.{Seen}
 use Rattle.redo_disk.specs.declared.error.DevError.{DevError}
 use Rattle.redo_machine.specs.declared.drive.Turns.{Turns}
-use Rattle.redo_open.specs.Devices.{HasSameCheckpoint, WhereBothTell}
+use Rattle.redo_open.specs.{HasSameCheckpoint, WhereBothTell}
 use Rattle.redo_lab.specs.Call.{Guarded}
 use Rattle.redo_lab.specs.Prepared.{ArePrepared, AreTooShort, BothKept, EndUnprepared, WhereTold}
 use Rattle.redo_lab.specs.Stages.{IsArmed}
 use Rattle.redo_lab.specs.Store.{AreRefused, IsOpenedAs, IsShorter}
-use Rattle.model_store.specs.Opening.{IsUnused}
+use Rattle.model_store.specs.{IsUnused}
 use Rattle.redo_lab.specs.declared.playing.Course.{Course}
 use Rattle.redo_lab.specs.declared.playing.Course.TheVariants as course
 use Rattle.redo_lab.specs.declared.playing.Played.{Played}

@@ -1,12 +1,14 @@
 -- What a crash leaves of both devices, and what reading behind it comes to.
 use Rattle.std.specs.Prelude.{ℕ, ◌≡◌, List, Option, Some}
-use Rattle.model_device.specs.Calls.{Crashes}
+use Rattle.model_device.specs.{Crashes}
 use Rattle.model_report.specs.declared.fault.Fault.TheVariants as fault
 use Rattle.model_script.specs.declared.script.ScriptLine.{ScriptLine}
-use Rattle.model_store.specs.Reading.{IsReading, Reading}
+use Rattle.model_store.specs.{IsReading}
+use Rattle.model_store.specs.Reading.{Reading}
 use Rattle.model_store.specs.declared.refusal.Refusal.{Refusal}
-use Rattle.model_theorem.specs.Values.{Ran}
-use Rattle.redo_disk.specs.Seen.{OnTold, Seen}
+use Rattle.model_theorem.specs.{Ran}
+use Rattle.redo_disk.specs.{OnTold}
+use Rattle.redo_disk.specs.Seen.{Seen}
 use Rattle.redo_lab.specs.Call.{Guarded}
 use Rattle.redo_lab.specs.Prepared.{WhereTold}
 use Rattle.redo_lab.specs.Reported.{IsReportOf}

@@ -1,13 +1,10 @@
 -- What a call says of its two devices, where both told what they mean when they were handed in.
 use Rattle.std.specs.Prelude.{ℕ, ◌≡◌, ◌≤◌, ◌<◌, ◌+◌, ◌⊎◌, Option, Some, None, IfSome}
-use Rattle.model_base.specs.Limits.{default_shape}
+use Rattle.model_base.specs.{default_shape}
 use Rattle.model_device.specs.Disk.{Disk}
-use Rattle.model_opening.specs.Formatted.{formatted_store}
-use Rattle.model_opening.specs.Opened.{IsOpenable}
-use Rattle.model_store.specs.Opening.{IsUnused, Opens}
-use Rattle.model_theorem.specs.Opening.{IsOpenedBefore}
-use Rattle.model_theorem.specs.Premises.{IsFresh}
-use Rattle.model_theorem.specs.Values.{Opened, Ran, RunDevice}
+use Rattle.model_opening.specs.{formatted_store, IsOpenable}
+use Rattle.model_store.specs.{IsUnused, Opens}
+use Rattle.model_theorem.specs.{IsFresh, IsOpenedBefore, Opened, Ran, RunDevice}
 use Rattle.redo_disk.specs.Seen.{Seen}
 use Rattle.redo_memdisk.specs.declared.fuse.Fuse.{Fuse}
 use Rattle.redo_lab.specs.Call.{Call, Guarded}

@@ -1,15 +1,14 @@
 -- What each ending of a call means.
 use Rattle.std.specs.Prelude.{ℕ, ◌≡◌, ◌≢◌, ◌+◌, ◌<◌, ◌⊎◌, List, [], ◌++◌, Some, None, IfSome}
-use Rattle.model_base.specs.Count.{HasRisen}
+use Rattle.model_base.specs.{HasRisen}
 use Rattle.model_base.specs.declared.limits.TheConstants.{MAX_SCRIPT}
 use Rattle.model_command.specs.declared.asked.Command.{Command}
 use Rattle.model_command.specs.declared.asked.Command.TheVariants.{Run}
 use Rattle.model_command.specs.declared.asked.Drive.{Drive}
-use Rattle.model_report.specs.FaultLine.{status_of, fault_line}
+use Rattle.model_report.specs.{fault_line, status_of}
 use Rattle.model_report.specs.declared.fault.Fault.{Fault}
 use Rattle.model_report.specs.declared.fault.Fault.TheVariants.{Sink, LogDevice, DataDevice}
-use Rattle.redo_io.specs.Sink.{SinkSeen, with_taken, TakesPart}
-use Rattle.redo_io.specs.Source.{TakesAtMost}
+use Rattle.redo_io.specs.{SinkSeen, TakesAtMost, TakesPart, with_taken}
 use Rattle.redo_io.specs.declared.read.TheConstants.{PIECE}
 use Rattle.redo_lab.specs.Answer.{AreUnfailedAside, IsAnswer, IsRunText}
 use Rattle.redo_lab.specs.Asked.{command_of, pick_of, stops_of}

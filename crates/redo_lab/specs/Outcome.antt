@@ -1,20 +1,17 @@
 -- What a command comes to on two devices, before anything is printed.
 use Rattle.std.specs.Prelude.{ℕ, ◌≡◌, ◌≢◌, true, false, List, [], ◌++◌, Option, Some, None, Result, Ok, Err, IfSome}
-use Rattle.model_base.specs.Count.{HasRisen}
+use Rattle.model_base.specs.{HasRisen}
 use Rattle.model_command.specs.declared.asked.Command.{Command}
 use Rattle.model_command.specs.declared.asked.Command.TheVariants.{Run, Crash}
 use Rattle.model_command.specs.declared.asked.Drive.{Drive}
 use Rattle.model_report.specs.declared.fault.Fault.{Fault}
 use Rattle.model_report.specs.declared.fault.Fault.TheVariants.{Memory}
-use Rattle.model_theorem.specs.Crash.{CrashSafe}
+use Rattle.model_theorem.specs.{Account, CrashOptions, CrashSafe, Device, Opened}
 use Rattle.model_theorem.specs.Premises.{Premises}
 use Rattle.model_theorem.specs.Values as values
-use Rattle.model_theorem.specs.Values.{Account, CrashOptions, Device, Opened}
 use Rattle.redo_disk.specs.Seen.{Seen}
-use Rattle.redo_io.specs.Sink.{SinkSeen}
-use Rattle.redo_io.specs.Source.{SourceSeen}
-use Rattle.redo_memdisk.specs.Fuse.{fresh}
-use Rattle.redo_memdisk.specs.Fused.{fuse_of, inner_of}
+use Rattle.redo_io.specs.{SinkSeen, SourceSeen}
+use Rattle.redo_memdisk.specs.{fresh, fuse_of, inner_of}
 use Rattle.redo_lab.specs.Answer.{AreUnfailedAside, IsAnswer, IsRunText}
 use Rattle.redo_lab.specs.Asked.{leaves_devices, reads_script}
 use Rattle.redo_lab.specs.Call.{AreKept, Call, IsUnread, guarded}

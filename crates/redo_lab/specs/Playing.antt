@@ -1,28 +1,26 @@
 -- What the inner functions of a run come to: both devices once their fuses are armed, and the lines of a script on the store
 -- that was opened.
 use Rattle.std.specs.Prelude.{ℕ, ◌≡◌, ◌≢◌, ◌+◌, ◌⊎◌, List, Option, Some, None}
-use Rattle.model_finish.specs.OpenLines.{LeavesOpen}
-use Rattle.model_history.specs.Legal.{IsLeft}
-use Rattle.model_log.specs.Lsn.{start_after}
+use Rattle.model_finish.specs.{LeavesOpen}
+use Rattle.model_history.specs.{IsLeft}
+use Rattle.model_log.specs.{start_after}
 use Rattle.model_report.specs.declared.fault.Fault.{Fault}
 use Rattle.model_report.specs.declared.fault.Fault.TheVariants as fault
-use Rattle.model_run.specs.Closed.{IsClosed}
-use Rattle.model_run.specs.Start.{IsStart, opened_as}
-use Rattle.model_script.specs.Fit.{ScriptFits, first_misfit}
+use Rattle.model_run.specs.{IsClosed, IsStart, opened_as}
+use Rattle.model_script.specs.{first_misfit, ScriptFits}
 use Rattle.model_script.specs.declared.misfit.Misfit.{Misfit}
 use Rattle.model_script.specs.declared.script.ScriptLine.{ScriptLine}
 use Rattle.model_store.specs.Reading.{Reading}
-use Rattle.model_theorem.specs.Run.{IsRun, LosesOnlyByFailure}
-use Rattle.redo_disk.specs.Calls.{Call, MayEndWith, failures}
-use Rattle.redo_disk.specs.Made.{MakesCalls}
+use Rattle.model_theorem.specs.{IsRun, LosesOnlyByFailure}
+use Rattle.redo_disk.specs.{Call, failures, MakesCalls, MayEndWith}
 use Rattle.redo_disk.specs.Seen.{Seen}
 use Rattle.redo_disk.specs.declared.error.DevError.{DevError}
 use Rattle.redo_disk.specs.declared.error.DevError.TheVariants as device
-use Rattle.redo_machine.specs.Beginning.{IsOpenedAs, room_from}
+use Rattle.redo_machine.specs.{IsOpenedAs, room_from}
 use Rattle.redo_machine.specs.declared.drive.Turns.{Turns}
 use Rattle.redo_machine.specs.declared.running.Ran.{Ran}
 use Rattle.redo_machine.specs.declared.running.Ran.TheVariants as ended
-use Rattle.redo_open.specs.Devices.{WhereBothTell}
+use Rattle.redo_open.specs.{WhereBothTell}
 use Rattle.redo_pageactors.specs.declared.closed.Closed.{Closed}
 use Rattle.redo_pageactors.specs.declared.opened.Opened.{Opened}
 use Rattle.redo_recover.specs.declared.fault.RecFault.{RecFault}

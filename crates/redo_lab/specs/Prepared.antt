@@ -1,17 +1,17 @@
 -- The two devices once a run has prepared them: formatted with the default sizes, where the log device is unused, else as
 -- they were.
 use Rattle.std.specs.Prelude.{ℕ, ◌≡◌, ◌≤◌, ◌⊎◌, List, length, Option, Some, Result, Ok, Err, IfSome}
-use Rattle.model_base.specs.Limits.{default_shape}
+use Rattle.model_base.specs.{default_shape}
 use Rattle.model_device.specs.Disk.{Disk}
 use Rattle.model_log.specs.declared.layout.TheConstants.{HEADER_BYTES}
-use Rattle.model_opening.specs.Formatted.{IsFormatted, KeepsNoStore}
-use Rattle.model_store.specs.Opening.{IsUnused}
+use Rattle.model_opening.specs.{IsFormatted, KeepsNoStore}
+use Rattle.model_store.specs.{IsUnused}
 use Rattle.model_store.specs.declared.refusal.Refusal.{Refusal}
 use Rattle.model_store.specs.declared.refusal.Refusal.TheVariants as refusal
-use Rattle.redo_disk.specs.Calls.{Call, ReadsEndWith}
-use Rattle.redo_disk.specs.Seen.{HasSize, Seen}
+use Rattle.redo_disk.specs.{Call, HasSize, ReadsEndWith}
+use Rattle.redo_disk.specs.Seen.{Seen}
 use Rattle.redo_disk.specs.declared.error.DevError.{DevError}
-use Rattle.redo_open.specs.Devices.{WhereBothTell}
+use Rattle.redo_open.specs.{WhereBothTell}
 use Rattle.redo_recover.specs.declared.fault.RecFault.{RecFault}
 use Rattle.redo_recover.specs.declared.fault.RecFault.TheVariants.{SmallLog, SmallData, LogDev, DataDev, NoMemory}
 use Rattle.redo_lab.specs.Call.{Guarded, IsKept}

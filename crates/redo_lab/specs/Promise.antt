@@ -2,10 +2,9 @@
 use Rattle.std.specs.Prelude.{ℕ, ◌≡◌, ◌≢◌, List, Some, None}
 use Rattle.model_command.specs.declared.asked.Command.TheVariants.{Crash}
 use Rattle.model_command.specs.declared.asked.Drive.{Drive}
-use Rattle.model_theorem.specs.Crash.{AreAnyStops, CrashSafe, IsCrashed}
+use Rattle.model_theorem.specs.{Account, AreAnyStops, CrashOptions, CrashSafe, Device, IsCrashed, Opened, Stop}
 use Rattle.model_theorem.specs.Premises.{Premises}
 use Rattle.model_theorem.specs.Values as values
-use Rattle.model_theorem.specs.Values.{CrashOptions, Stop, Device, Opened, Account}
 use Rattle.redo_disk.specs.Seen.{Seen}
 use Rattle.redo_memdisk.specs.declared.fuse.Fuse.{Fuse}
 use Rattle.redo_lab.specs.Asked.{command_of}

@@ -1,13 +1,13 @@
 -- The text of a report: of a run, or of none where opening was stopped, and behind a crash of what was read.
 use Rattle.std.specs.Prelude.{ℕ, ◌≡◌, ◌⊎◌, List, Option, Some, None}
 use Rattle.std.specs.Borrow.{Bor}
-use Rattle.model_history.specs.Legal.{IsLeft}
+use Rattle.model_history.specs.{IsLeft}
 use Rattle.model_page.specs.declared.content.Content.{Content}
-use Rattle.model_report.specs.Report.{report_text}
+use Rattle.model_report.specs.{report_text}
 use Rattle.model_report.specs.declared.fault.Fault.{Fault}
 use Rattle.model_report.specs.declared.fault.Fault.TheVariants.{Memory}
 use Rattle.model_script.specs.declared.script.ScriptLine.{ScriptLine}
-use Rattle.model_theorem.specs.Values.{Ran, entries_of, marks_of, start_of}
+use Rattle.model_theorem.specs.{entries_of, marks_of, Ran, start_of}
 use Rattle.redo_lab.specs.Course.{ran_of}
 use Rattle.redo_lab.specs.declared.outcome.Outcome.{Outcome}
 use Rattle.redo_lab.specs.declared.outcome.Outcome.TheVariants as outcome

@@ -1,15 +1,15 @@
 -- What comes of reading a script off a source, and why it isn't one.
 use Rattle.std.specs.Prelude.{ℕ, ◌≡◌, ◌<◌, ◌≤◌, List, [], length, Some, Ok, Err, IfSome, ⊤}
-use Rattle.model_base.specs.Count.{HasRisen}
+use Rattle.model_base.specs.{HasRisen}
 use Rattle.model_report.specs.declared.fault.Fault.{Fault}
 use Rattle.model_report.specs.declared.fault.Fault.TheVariants.{Memory, Source, Fit}
 use Rattle.model_report.specs.declared.fault.Fault.TheVariants as fault
 use Rattle.model_base.specs.declared.limits.TheConstants.{MAX_SCRIPT}
-use Rattle.model_script.specs.Grammar.{script_of}
+use Rattle.model_script.specs.{script_of}
 use Rattle.model_script.specs.declared.misfit.Misfit.{Misfit}
 use Rattle.model_script.specs.declared.misfit.Quantity.TheVariants as quantity
 use Rattle.model_script.specs.declared.script.ScriptLine.{ScriptLine}
-use Rattle.redo_io.specs.Source.{SourceSeen}
+use Rattle.redo_io.specs.{SourceSeen}
 
 -- all that the source had left was this text, and none is left, where it tells; a script has no more bytes
 pub record IsTextOf (source source_now : SourceSeen) (text : List ℕ) : Type 0 where

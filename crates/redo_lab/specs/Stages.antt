@@ -1,7 +1,7 @@
 -- A device behind its fuse, from when it was handed in: before the fuse is armed, from then to the crash, and after it.
 use Rattle.std.specs.Prelude.{ℕ, ◌≡◌, ◌≢◌, ◌≤◌, ◌<◌, ◌⊎◌, Option, Some, None, IfSome}
-use Rattle.model_base.specs.Count.{HasRisen}
-use Rattle.model_theorem.specs.Crash.{HasPassedAll}
+use Rattle.model_base.specs.{HasRisen}
+use Rattle.model_theorem.specs.{HasPassedAll}
 use Rattle.redo_disk.specs.Seen.{Seen}
 use Rattle.redo_memdisk.specs.declared.fuse.Stage.TheVariants.{Before, Stopping}
 use Rattle.redo_lab.specs.Call.{Guarded}

@@ -1,17 +1,17 @@
 -- The store that a call opens, and why its devices are refused.
 use Rattle.std.specs.Prelude.{ℕ, ◌≡◌, ◌<◌, ◌≤◌, ◌⊎◌, List, ⊤}
 use Rattle.model_base.specs.declared.shape.Shape.{Shape}
-use Rattle.model_device.specs.Disk.{Disk, IsImage}
-use Rattle.model_log.specs.Device.{log_device_length}
+use Rattle.model_device.specs.{IsImage}
+use Rattle.model_device.specs.Disk.{Disk}
+use Rattle.model_log.specs.{log_device_length}
 use Rattle.model_log.specs.declared.layout.TheConstants.{HEADER_BYTES}
-use Rattle.model_opening.specs.Formatted.{formatted_store}
-use Rattle.model_page.specs.Copies.{data_device_length}
-use Rattle.model_store.specs.Opening.{IsUnused, OpensUnused}
-use Rattle.model_store.specs.Fair.{IsFair}
-use Rattle.model_store.specs.Reading.{Reading, IsOrderly, IsReading, Refuses}
+use Rattle.model_opening.specs.{formatted_store}
+use Rattle.model_page.specs.{data_device_length}
+use Rattle.model_store.specs.{IsFair, IsOrderly, IsReading, IsUnused, OpensUnused, Refuses}
+use Rattle.model_store.specs.Reading.{Reading}
 use Rattle.model_store.specs.declared.refusal.Refusal.{Refusal}
 use Rattle.model_store.specs.declared.refusal.Refusal.TheVariants.{SmallLog, SmallData}
-use Rattle.model_theorem.specs.Values.{Opened}
+use Rattle.model_theorem.specs.{Opened}
 
 -- the store is read as what is opened
 pub record IsReadAs (log_bytes data_bytes : List ℕ) (opened : Opened) : Type 0 where

@@ -4,26 +4,25 @@ use Rattle.std.specs.Prelude.{ℕ, ◌≡◌, ◌⊎◌, List, Option, Some, Non
 use Rattle.model_command.specs.declared.asked.Command.{Command}
 use Rattle.model_command.specs.declared.asked.Command.TheVariants.{Run, Crash}
 use Rattle.model_command.specs.declared.asked.Drive.{Drive}
-use Rattle.model_log.specs.Lsn.{start_after}
-use Rattle.model_opening.specs.Opened.{IsOpenable}
+use Rattle.model_log.specs.{start_after}
+use Rattle.model_opening.specs.{IsOpenable}
 use Rattle.model_page.specs.declared.content.Content.{Content}
 use Rattle.model_report.specs.declared.fault.Fault.{Fault}
 use Rattle.model_report.specs.declared.fault.Fault.TheVariants.{Turns}
 use Rattle.model_script.specs.declared.script.ScriptLine.{ScriptLine}
 use Rattle.model_store.specs.Reading.{Reading}
 use Rattle.model_theorem.specs.Values as values
-use Rattle.redo_disk.specs.Calls.{Call, failures}
+use Rattle.redo_disk.specs.{Call, failures}
 use Rattle.redo_disk.specs.Seen.{Seen}
-use Rattle.redo_io.specs.Source.{SourceSeen}
-use Rattle.redo_machine.specs.Drive.{HasMemory, RunsByTurns}
+use Rattle.redo_io.specs.{SourceSeen}
+use Rattle.redo_machine.specs.{HasMemory, RunsByTurns}
 use Rattle.redo_machine.specs.declared.drive.Driven.{Driven}
 use Rattle.redo_machine.specs.declared.drive.Turns as drive
 use Rattle.redo_machine.specs.declared.running.Ran as running
 use Rattle.redo_machine.specs.declared.running.Ran.TheVariants as ended
-use Rattle.redo_memdisk.specs.Fused.{fuse_of, seen_through}
+use Rattle.redo_memdisk.specs.{fuse_of, seen_through}
 use Rattle.redo_memdisk.specs.declared.fused.Fused.{Fused}
-use Rattle.redo_open.specs.Devices.{WhereBothTell}
-use Rattle.redo_open.specs.Opening.{IsOpenedReady}
+use Rattle.redo_open.specs.{IsOpenedReady, WhereBothTell}
 use Rattle.redo_pageactors.specs.declared.opened.Opened.{Opened}
 use Rattle.redo_lab.specs.Asked.{command_of, turns_of}
 use Rattle.redo_lab.specs.Call.{LabCall, guarded}

@@ -2,7 +2,7 @@
 ghost use Rattle.std.specs.Prelude.{ℕ, List, ◌≡◌, ◌+◌, map};
 ghost use Rattle.std.specs.String.{string_bytes};
 ghost use Rattle.model_base.specs.declared.limits.TheConstants.{MAX_SCRIPT};
-ghost use Rattle.redo_io.specs.Source.{SourceSeen, TakesAtMost};
+ghost use Rattle.redo_io.specs.{SourceSeen, TakesAtMost};
 ghost use Rattle.redo_io.specs.declared.read.TheConstants.{PIECE};
 ghost use Rattle.model_command.specs.declared.asked.Command.TheVariants.{Crash, Run};
 ghost use Rattle.redo_lab.specs.Asked.{IsWithin};

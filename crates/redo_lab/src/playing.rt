@@ -1,13 +1,13 @@
 // The run of a script on two devices: they are prepared and opened, the script is judged, and its lines are run.
 ghost use Rattle.std.specs.Prelude.{◌≡◌, ◌≤◌, ◌<◌, ◌^◌};
 ghost use Rattle.std.specs.List.{AllByRecursion};
-ghost use Rattle.model_base.specs.Limits.{IsWithinLimits};
+ghost use Rattle.model_base.specs.{IsWithinLimits};
 ghost use Rattle.model_log.specs.declared.layout.TheConstants.{BLOCK_HEADER};
-ghost use Rattle.model_script.specs.Ranges.{IsScriptLine};
+ghost use Rattle.model_script.specs.{IsScriptLine};
 ghost use Rattle.redo_disk.specs.Seen.{Seen};
-ghost use Rattle.redo_memdisk.specs.Fused.{CallsThrough, seen_through};
-ghost use Rattle.redo_machine.specs.Beginning.{room_from};
-ghost use Rattle.redo_pageactors.specs.Opened.{IsRunnable};
+ghost use Rattle.redo_memdisk.specs.{CallsThrough, seen_through};
+ghost use Rattle.redo_machine.specs.{room_from};
+ghost use Rattle.redo_pageactors.specs.{IsRunnable};
 ghost use Rattle.redo_lab.specs.Call.{Guarded, guarded};
 ghost use Rattle.redo_lab.specs.Course.{ComesTo};
 ghost use Rattle.redo_lab.specs.declared.playing.Stops.{Stops};

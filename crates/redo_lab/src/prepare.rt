@@ -2,15 +2,12 @@
 ghost use Rattle.std.specs.Prelude.{◌≡◌, ◌≤◌, ◌↔◌, IsTrue, IfOk, IfSome, replicate};
 ghost use Rattle.model_base.specs.declared.limits.TheConstants.{BLOCK_SIZE};
 ghost use Rattle.model_log.specs.declared.layout.TheConstants.{HEADER_BYTES};
-ghost use Rattle.model_store.specs.Opening.{IsUnused};
-ghost use Rattle.redo_disk.specs.Calls.{error_of};
-ghost use Rattle.redo_disk.specs.Made.{MakesCalls};
-ghost use Rattle.redo_disk.specs.Seen.{ReadStep};
+ghost use Rattle.model_store.specs.{IsUnused};
+ghost use Rattle.redo_disk.specs.{error_of, MakesCalls, ReadStep};
 ghost use Rattle.redo_lab.specs.Call.{guarded};
 ghost use Rattle.redo_lab.specs.Prepared.{ReadsOnce, Prepares};
-ghost use Rattle.redo_memdisk.specs.Fuse.{fresh};
-ghost use Rattle.redo_recover.specs.Devices.{log_fault_of};
-ghost use Rattle.redo_memdisk.specs.Fused.{fuse_of, inner_of};
+ghost use Rattle.redo_memdisk.specs.{fresh, fuse_of, inner_of};
+ghost use Rattle.redo_recover.specs.{log_fault_of};
 
 use crate::shapes::default_shape;
 use model_log::HEADER_BYTES;

@@ -1,8 +1,8 @@
 // The texts of a store that was read.
 ghost use Rattle.std.specs.Prelude.{◌≡◌, ◌≤◌, ◌<◌, ◌+◌, ◌*◌, ◌^◌, length, take, IfOk};
 ghost use Rattle.model_base.specs.declared.limits.TheConstants.{BLOCK_SIZE, MAX_PAGES};
-ghost use Rattle.model_report.specs.Listing.{dump_text, recover_text};
-ghost use Rattle.redo_recover.specs.Reading.{reading_of};
+ghost use Rattle.model_report.specs.{dump_text, recover_text};
+ghost use Rattle.redo_recover.specs.{reading_of};
 
 use model_base::Bytes;
 use model_page::Content;

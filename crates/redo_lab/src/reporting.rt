@@ -1,7 +1,7 @@
 // The report of a run.
 ghost use Rattle.std.specs.Prelude.{IfOk};
 ghost use Rattle.redo_lab.specs.Reported.{IsReportOf, run_of};
-ghost use Rattle.redo_report.specs.Read.{read_of};
+ghost use Rattle.redo_report.specs.{read_of};
 
 use crate::playing::Played;
 use model_history::History;

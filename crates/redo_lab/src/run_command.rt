@@ -2,8 +2,8 @@
 ghost use Rattle.std.specs.Prelude.{ℕ, List};
 ghost use Rattle.std.specs.List.{AllByRecursion};
 ghost use Rattle.model_command.specs.declared.asked.Command.TheVariants.{Run};
-ghost use Rattle.model_script.specs.Ranges.{IsScriptLine};
-ghost use Rattle.redo_io.specs.Source.{SourceSeen};
+ghost use Rattle.model_script.specs.{IsScriptLine};
+ghost use Rattle.redo_io.specs.{SourceSeen};
 ghost use Rattle.redo_lab.specs.Course.{ran_of};
 ghost use Rattle.redo_lab.specs.Outcome.{EndsCommand, call_of};
 ghost use Rattle.redo_lab.specs.Reported.{IsRunPrinted};

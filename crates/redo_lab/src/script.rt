@@ -1,7 +1,7 @@
 // The script of the source.
 ghost use Rattle.std.specs.Prelude.{◌≡◌, ◌≤◌, ◌+◌, ℕ, List, IfOk, IfErr};
 ghost use Rattle.model_base.specs.declared.limits.TheConstants.{MAX_SCRIPT};
-ghost use Rattle.redo_io.specs.Source.{TakesAtMost};
+ghost use Rattle.redo_io.specs.{TakesAtMost};
 ghost use Rattle.redo_io.specs.declared.read.TheConstants.{PIECE};
 ghost use Rattle.redo_lab.specs.Script.{IsScriptFault, IsScriptRead};
 

@@ -1,6 +1,6 @@
 // The sizes of a store that is formatted.
 ghost use Rattle.std.specs.Prelude.{◌≡◌};
-ghost use Rattle.model_base.specs.Limits.{default_shape};
+ghost use Rattle.model_base.specs.{default_shape};
 ghost use Rattle.redo_lab.specs.Answer.{shape_of};
 
 use model_base::{DEFAULT_LOG_BLOCKS, DEFAULT_PAGES, DEFAULT_SPACE, PAGE_SIZE, SLOTS, Shape};

@@ -1,9 +1,9 @@
 // The commands that run no script.
 ghost use Rattle.std.specs.Prelude.{ℕ, List, ◌≤◌};
-ghost use Rattle.model_base.specs.Limits.{IsWithinLimits};
+ghost use Rattle.model_base.specs.{IsWithinLimits};
 ghost use Rattle.model_command.specs.declared.asked.Command.TheVariants.{Format, Recover, Dump, Gen};
 ghost use Rattle.model_script.specs.declared.misfit.TheConstants.{MAX_USERS};
-ghost use Rattle.redo_io.specs.Source.{SourceSeen};
+ghost use Rattle.redo_io.specs.{SourceSeen};
 ghost use Rattle.redo_lab.specs.Answer.{shape_of};
 ghost use Rattle.redo_lab.specs.Outcome.{EndsCommand, call_of};
 

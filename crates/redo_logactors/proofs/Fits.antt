@@ -1,8 +1,7 @@
 -- Answers that fit the actors that bound few of them.
 use Rattle.std.proofs.Common.{Bool, arith, cond, false, true, ℕ, ◌+◌, ◌<◌, ◌^◌, ◌≡◌}
-use Rattle.model_core.specs.AnswerFits.{AnswerFits, closer_fits}
-use Rattle.model_core.specs.Answers.{old_of}
-use Rattle.model_core.specs.States.{CloserState, FlusherState}
+use Rattle.model_core.specs.{closer_fits, CloserState, FlusherState, old_of}
+use Rattle.model_core.specs.AnswerFits.{AnswerFits}
 use Rattle.model_core.specs.declared.ops.Answer.{Answer}
 use Rattle.model_core.specs.declared.steps.CloserStep.{CloserStep}
 use Rattle.model_core.specs.Actors as actor

@@ -1,6 +1,6 @@
 -- What the fields of the closer stand for.
 use Rattle.std.specs.Prelude.{ℕ, ◌+◌, ◌<◌, ◌^◌}
-use Rattle.model_core.specs.States.{CloserState}
+use Rattle.model_core.specs.{CloserState}
 use Rattle.model_core.specs.declared.steps.CloserStep.{CloserStep}
 use Rattle.model_core.specs.declared.steps.CloserStep.TheVariants as closer_step
 use Rattle.redo_logactors.specs.declared.closer.Closer.TheInside.{Inside}

@@ -1,5 +1,5 @@
 -- What the fields of the flusher stand for.
-use Rattle.model_core.specs.States.{FlusherState}
+use Rattle.model_core.specs.{FlusherState}
 use Rattle.redo_logactors.specs.declared.flusher.Flusher.TheInside.{Inside}
 
 abbrev pub flusher_view : Inside → FlusherState

@@ -1,6 +1,6 @@
 -- What the fields of the writer stand for.
 use Rattle.std.specs.Prelude.{length, vec_capacity, ◌+◌, ◌<◌, ◌^◌, ◌≤◌}
-use Rattle.model_core.specs.States.{WriterState}
+use Rattle.model_core.specs.{WriterState}
 use Rattle.redo_logactors.specs.declared.writer.TheConstants.{KEPT_BLOCKS, KEPT_BYTES}
 use Rattle.redo_logactors.specs.declared.writer.Writer.TheInside.{Inside}
 

@@ -13,7 +13,7 @@ pub struct Closer {
 }
 
 impl Model for Closer {
-    ghost use Rattle.model_core.specs.States.{CloserState};
+    ghost use Rattle.model_core.specs.{CloserState};
     ghost use Rattle.redo_logactors.specs.CloserView.{closer_view, IsCloser};
 
     ghost Value = { CloserState };

@@ -2,10 +2,8 @@
 ghost use Rattle.std.specs.Prelude.{◌≡◌, ◌<◌, ◌^◌, ◌==◌, if◌then◌else◌, true};
 ghost use Rattle.model_core.specs.Actors as actor;
 ghost use Rattle.model_core.specs.AnswerFits.{AnswerFits};
-ghost use Rattle.model_core.specs.CloserProgram.{closer_next, closer_after, closer_checked};
-ghost use Rattle.model_core.specs.Program.{lent};
-ghost use Rattle.model_core.specs.Waiting.{step_of};
-ghost use Rattle.redo_words.specs.Lending.{Lends};
+ghost use Rattle.model_core.specs.{closer_after, closer_checked, closer_next, lent, step_of};
+ghost use Rattle.redo_words.specs.{Lends};
 
 use crate::closer::Closer;
 use model_core::{CLOSED_LINKS, CloserStep};

@@ -14,7 +14,7 @@ pub struct Flusher {
 }
 
 impl Model for Flusher {
-    ghost use Rattle.model_core.specs.States.{FlusherState};
+    ghost use Rattle.model_core.specs.{FlusherState};
     ghost use Rattle.redo_logactors.specs.FlusherView.{flusher_view};
 
     ghost Value = { FlusherState };

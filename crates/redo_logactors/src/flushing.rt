@@ -2,10 +2,8 @@
 ghost use Rattle.std.specs.Prelude.{◌≡◌, ◌<◌, ◌^◌, ◌==◌, if◌then◌else◌, true};
 ghost use Rattle.model_core.specs.Actors as actor;
 ghost use Rattle.model_core.specs.AnswerFits.{AnswerFits};
-ghost use Rattle.model_core.specs.FlusherProgram.{flusher_next, flusher_after, flusher_checked};
-ghost use Rattle.model_core.specs.Program.{lent};
-ghost use Rattle.model_core.specs.Waiting.{flusher_ending, step_of};
-ghost use Rattle.redo_words.specs.Lending.{Lends};
+ghost use Rattle.model_core.specs.{flusher_after, flusher_checked, flusher_ending, flusher_next, lent, step_of};
+ghost use Rattle.redo_words.specs.{Lends};
 
 use crate::flusher::Flusher;
 use model_core::FlusherStep;

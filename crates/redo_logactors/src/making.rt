@@ -1,7 +1,7 @@
 // The actors of the log as a run begins.
 ghost use Rattle.std.specs.Prelude.{◌≡◌, ◌≤◌, ◌<◌, ◌%◌, ◌^◌, IfOk};
-ghost use Rattle.model_base.specs.Limits.{IsWithinLimits};
-ghost use Rattle.model_core.specs.NewActors.{new_closer, new_flusher, new_writer};
+ghost use Rattle.model_base.specs.{IsWithinLimits};
+ghost use Rattle.model_core.specs.{new_closer, new_flusher, new_writer};
 
 use crate::closer::Closer;
 use crate::flusher::Flusher;

@@ -2,10 +2,7 @@
 ghost use Rattle.std.specs.Prelude.{◌≡◌, ◌<◌, ◌≤◌, ◌+◌, ◌==◌, if◌then◌else◌, false, length};
 ghost use Rattle.model_core.specs.Actors as actor;
 ghost use Rattle.model_core.specs.AnswerFits.{AnswerFits};
-ghost use Rattle.model_core.specs.Answers.{old_of};
-ghost use Rattle.model_core.specs.Fitting.{answer_limit};
-ghost use Rattle.model_core.specs.Waiting.{step_of, writer_ending, writer_waits};
-ghost use Rattle.model_core.specs.WriterProgram.{full_blocks, has_log_space, stands_outside, writer_after, writer_took};
+ghost use Rattle.model_core.specs.{answer_limit, full_blocks, has_log_space, old_of, stands_outside, step_of, writer_after, writer_ending, writer_took, writer_waits};
 
 use crate::writer::{KEPT_BLOCKS, KEPT_BYTES, Writer};
 use crate::writing::{drop_bytes, drop_firsts};

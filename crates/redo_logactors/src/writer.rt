@@ -26,7 +26,7 @@ pub struct Writer {
 }
 
 impl Model for Writer {
-    ghost use Rattle.model_core.specs.States.{WriterState};
+    ghost use Rattle.model_core.specs.{WriterState};
     ghost use Rattle.redo_logactors.specs.WriterView.{writer_view, IsWriter};
 
     ghost Value = { WriterState };

@@ -1,11 +1,8 @@
 // What the writer asks for, and what it makes of the answer.
 ghost use Rattle.std.specs.Prelude.{◌≡◌, ◌<◌, ◌≤◌, ◌/◌, ◌%◌, ◌^◌, ◌==◌, if◌then◌else◌, true, length, drop, vec_capacity};
 ghost use Rattle.model_core.specs.Actors as actor;
-ghost use Rattle.model_core.specs.Lsn.{lsn};
-ghost use Rattle.model_core.specs.Program.{lent};
-ghost use Rattle.model_core.specs.Waiting.{writer_ending};
-ghost use Rattle.model_core.specs.WriterProgram.{read_place, writer_next, writer_checked};
-ghost use Rattle.redo_words.specs.Lending.{Lends};
+ghost use Rattle.model_core.specs.{lent, lsn, read_place, writer_checked, writer_ending, writer_next};
+ghost use Rattle.redo_words.specs.{Lends};
 
 use crate::writer::Writer;
 use model_base::BLOCK_SIZE;

@@ -1,12 +1,10 @@
 -- The write of bytes, if there are any.
 use Rattle.std.proofs.Common.{ℕ, ◌≡◌, ◌≤◌, List, [], ◌∷◌, length, Option, None, subst, arith}
 use Rattle.model_base.specs.declared.shape.Shape.{Shape}
-use Rattle.model_log.specs.Lsn.{offset_of}
+use Rattle.model_log.specs.{offset_of}
 use Rattle.model_log.specs.declared.layout.TheConstants.{HEADER_BYTES}
 use Rattle.redo_disk.specs.declared.error.DevError.{DevError}
-use Rattle.redo_disk.specs.Calls.{Answer, Call, Serve, Writes, error_of}
-use Rattle.redo_disk.specs.Made.{MakesCall, MakesCalls}
-use Rattle.redo_disk.specs.Seen.{write_at}
+use Rattle.redo_disk.specs.{Answer, Call, error_of, MakesCall, MakesCalls, Serve, write_at, Writes}
 use Rattle.redo_disk.proofs.Made.{call_serves, serves_then}
 use Rattle.redo_logdev.specs.Calls.{back_of, front_of, round_writes, some_write}
 

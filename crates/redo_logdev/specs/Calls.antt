@@ -2,15 +2,12 @@
 use Rattle.std.specs.Prelude.{ℕ, ◌≡◌, ◌-◌, ◌*◌, ◌⊎◌, min, List, [], ◌∷◌, ◌++◌, length, take, drop}
 use Rattle.model_base.specs.declared.shape.Shape.{Shape}
 use Rattle.model_device.specs.Disk.{Disk}
-use Rattle.model_device.specs.Calls.{written, FailsWrite}
+use Rattle.model_device.specs.{FailsWrite, written}
 use Rattle.model_device.specs.declared.write.Write.{Write}
-use Rattle.model_log.specs.Lsn.{offset_of}
-use Rattle.model_log.specs.Device.{log_device_length}
+use Rattle.model_log.specs.{checkpoint_text, log_device_length, offset_of, place_of}
 use Rattle.model_log.specs.declared.layout.TheConstants.{HEADER_BYTES}
 use Rattle.model_base.specs.declared.limits.TheConstants.{BLOCK_SIZE}
-use Rattle.model_log.specs.Checkpoint.{checkpoint_text, place_of}
-use Rattle.redo_disk.specs.Calls.{Request, ToWrite}
-use Rattle.redo_disk.specs.Seen.{write_at}
+use Rattle.redo_disk.specs.{Request, ToWrite, write_at}
 
 -- a write of no bytes isn't made
 abbrev pub written_if : ℕ → List ℕ → Disk → Disk

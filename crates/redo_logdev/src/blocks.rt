@@ -1,7 +1,7 @@
 // Filling the blocks of one call.
 ghost use Rattle.std.specs.Prelude.{◌≡◌, ◌≤◌, ◌<◌, ◌+◌, ◌*◌, ◌^◌, length, take};
-ghost use Rattle.model_log.specs.Boundary.{framed};
-ghost use Rattle.redo_block.specs.Framing.{AreFirsts};
+ghost use Rattle.model_log.specs.{framed};
+ghost use Rattle.redo_block.specs.{AreFirsts};
 
 use model_base::BLOCK_SIZE;
 use redo_block::frame_into;

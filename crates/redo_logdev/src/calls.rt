@@ -1,12 +1,10 @@
 // Device calls in a row.
 ghost use Rattle.std.specs.Prelude.{◌≡◌, ◌≤◌, ◌<◌, ◌%◌, ◌^◌, length, OnOk, OnErr};
 ghost use Rattle.model_base.specs.declared.limits.TheConstants.{BLOCK_SIZE, START_LSN, MIN_LOG_BLOCKS, MAX_LOG_BLOCKS};
-ghost use Rattle.model_device.specs.Calls.{written, FailsWrite, synced};
-ghost use Rattle.model_log.specs.Device.{log_device_length};
-ghost use Rattle.model_logdev.specs.Held.{round_of};
-ghost use Rattle.redo_disk.specs.Calls.{Serve, error_of, put_requests};
-ghost use Rattle.redo_disk.specs.Made.{MakesCalls};
-ghost use Rattle.redo_disk.specs.Seen.{IsRange, HasCause, OnTold, write_at};
+ghost use Rattle.model_device.specs.{FailsWrite, synced, written};
+ghost use Rattle.model_log.specs.{log_device_length};
+ghost use Rattle.model_logdev.specs.{round_of};
+ghost use Rattle.redo_disk.specs.{error_of, HasCause, IsRange, MakesCalls, OnTold, put_requests, Serve, write_at};
 ghost use Rattle.redo_logdev.specs.Calls.{written_if, written_round, FailsRound, IsPutOrNot, round_writes, some_write};
 
 use model_base::{BLOCK_SIZE, Shape};

@@ -1,10 +1,8 @@
 // The log part: a device with the marks up to which a run is written and stable on it.
 ghost use Rattle.std.specs.Prelude.{◌≡◌, ◌≤◌, ◌<◌, ◌-◌, ◌^◌, [], None, IfOk, IfSome, MatchResult};
 ghost use Rattle.model_base.specs.declared.limits.TheConstants.{MIN_LOG_BLOCKS, MAX_LOG_BLOCKS};
-ghost use Rattle.model_log.specs.Lsn.{IsAtDataStart};
-ghost use Rattle.model_log.specs.Device.{log_device_length};
-ghost use Rattle.model_logdev.specs.Fresh.{IsFresh};
-ghost use Rattle.model_logdev.specs.Marks.{first_marks};
+ghost use Rattle.model_log.specs.{IsAtDataStart, log_device_length};
+ghost use Rattle.model_logdev.specs.{first_marks, IsFresh};
 ghost use Rattle.redo_logdev.specs.Part.{PartHolds};
 
 use model_base::Shape;

@@ -2,25 +2,23 @@
 use Rattle.std.proofs.Common.{Bool, List, [], None, Option, Some, ap, arith, cond, false, inl, inr, length, refl, subst, sym, true, ℕ, ◌%◌, ◌++◌, ◌+◌, ◌/◌, ◌<◌, ◌==◌, ◌^◌, ◌∙◌, ◌∷◌, ◌≡◌, ◌≤◌}
 use Rattle.std.specs.Prelude.{IfSome}
 use Rattle.model_base.specs.declared.shape.Shape.{Shape}
-use Rattle.model_core.specs.FailureCodes.{IsLogCode}
-use Rattle.model_core.specs.Groups.{Entry, Tiles}
+use Rattle.model_core.specs.{Entry, IsLogCode, lsn, Tiles}
 use Rattle.model_core.specs.LogSide.{LogSide}
-use Rattle.model_core.specs.Lsn.{lsn}
 use Rattle.model_core.proofs.Lsns.{lsn_less}
 use Rattle.model_device.specs.Disk.{Disk}
 use Rattle.model_finish.proofs.Given.{given_to}
 use Rattle.model_finish.proofs.Groups.{groups_snoc, has_length, places, run_of_log, spans_end}
 use Rattle.model_log.proofs.Runs.{run-push}
-use Rattle.model_log.specs.Boundary.{IsGivenTo}
-use Rattle.model_log.specs.Lsn.{block_of}
-use Rattle.model_log.specs.Run.{IsRunOf, Span, spans_of}
-use Rattle.model_logcore.specs.LogLaws.{AfterCheckpoint, AfterSync, AfterWrite, CanCheckpoint, CanWrite, LogLaws}
+use Rattle.model_log.specs.{block_of, IsGivenTo, IsRunOf, Span, spans_of}
+use Rattle.model_logcore.specs.{AfterCheckpoint, AfterSync, AfterWrite, CanCheckpoint, CanWrite}
+use Rattle.model_logcore.specs.LogLaws.{LogLaws}
 use Rattle.model_logdev.proofs.Crash.{longer-holds, longer-written}
-use Rattle.model_logdev.specs.Marks.{after_asked, after_checkpoint, after_given, after_synced, after_written, next_number}
+use Rattle.model_logdev.specs.{after_asked, after_checkpoint, after_given, after_synced, after_written, next_number}
 use Rattle.model_logdev.specs.declared.marks.LogMarks.{LogMarks}
 use Rattle.model_record.specs.declared.group.Whole.{Whole}
 use Rattle.redo_disk.specs.Seen.{Seen}
-use Rattle.redo_logdev.specs.Part.{Part, PartHolds}
+use Rattle.redo_logdev.specs.{PartHolds}
+use Rattle.redo_logdev.specs.Part.{Part}
 use Rattle.redo_logside.proofs.Outcome.{not_failed, outcome, pick}
 use Rattle.redo_disk.specs.declared.error.DevError.{DevError}
 use Rattle.redo_disk.specs.declared.error.DevError.TheVariants.{Failed, NoMemory}

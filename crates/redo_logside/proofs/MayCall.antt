@@ -1,18 +1,17 @@
 -- Where the running store asks for a call of the log part, the call's own conditions hold.
 use Rattle.std.proofs.Common.{List, [], None, ap, arith, drop, false, get_or, inl, inr, length, length-drop, length-take, min, refl, subst, suc, sym, take, ⊎_elim, IsTrue, ℕ, ◌%◌, ◌*◌, ◌+◌, ◌-◌, ◌/◌, ◌<◌, ◌∙◌, ◌∷◌, ◌≡◌, ◌≤◌, ◌⊎◌, ◌^◌}
 use Rattle.model_core.proofs.Lsns.{lsn_less, lsn_offset}
-use Rattle.model_core.specs.Groups.{Entry, IsBound, Tiles, first_of}
-use Rattle.model_core.specs.Lsn.{ceiling, floor, lsn}
+use Rattle.model_core.specs.{ceiling, Entry, first_of, floor, IsBound, lsn, Tiles}
 use Rattle.model_finish.proofs.FirstsFit.{first_fits, first_place}
 use Rattle.model_finish.proofs.Given.{sn_of_block}
 use Rattle.model_finish.proofs.Places.{sn_back}
-use Rattle.model_log.specs.Block.{is_first, length_of}
-use Rattle.model_log.specs.Lsn.{block_of, sn_of}
-use Rattle.model_logcore.specs.LogLaws.{CanCheckpoint, CanWrite}
-use Rattle.model_logdev.specs.Marks.{MayBeNext}
-use Rattle.redo_block.specs.Framing.{AreFirsts}
+use Rattle.model_log.specs.{block_of, is_first, length_of, sn_of}
+use Rattle.model_logcore.specs.{CanCheckpoint, CanWrite}
+use Rattle.model_logdev.specs.{MayBeNext}
+use Rattle.redo_block.specs.{AreFirsts}
 use Rattle.redo_disk.specs.Seen.{Seen}
-use Rattle.redo_logdev.specs.Part.{MayWrite, Part}
+use Rattle.redo_logdev.specs.{MayWrite}
+use Rattle.redo_logdev.specs.Part.{Part}
 use Rattle.redo_logside.proofs.Outcome.{not_failed}
 use Rattle.redo_logside.specs.LogPartSide.{HoldsLog, log_side}
 

@@ -1,12 +1,13 @@
 -- How a call of the log part ends, by its code.
 use Rattle.std.proofs.Common.{Bool, Err, None, Ok, Option, Result, Some, ap, arith, cond, false, inl, inr, refl, sym, true, ⊎_elim, ℕ, ◌<◌, ◌==◌, ◌∙◌, ◌≡◌, ◌≤◌}
 use Rattle.std.specs.Prelude.{OnErr, OnOk}
-use Rattle.model_base.specs.Count.{HasRisen, last_count}
+use Rattle.model_base.specs.{HasRisen, last_count}
 use Rattle.model_logdev.specs.declared.marks.LogMarks.{LogMarks}
 use Rattle.redo_disk.specs.Seen.{Seen}
 use Rattle.redo_disk.specs.declared.error.DevError.{DevError}
 use Rattle.redo_disk.specs.declared.error.DevError.TheVariants.{Failed, NoMemory}
-use Rattle.redo_logdev.specs.Part.{Part, Stays}
+use Rattle.redo_logdev.specs.{Stays}
+use Rattle.redo_logdev.specs.Part.{Part}
 use Rattle.redo_logside.specs.LogPartSide.{HasFailedBy, LogCalled, has_failed, result_code}
 use native.Mathlib.Decide.{dec_le}
 

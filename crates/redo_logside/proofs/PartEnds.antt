@@ -2,15 +2,16 @@
 use Rattle.std.proofs.Common.{Option, Some, arith, refl, subst, sym, ℕ, ◌<◌, ◌^◌, ◌≡◌}
 use Rattle.std.specs.Prelude.{IfSome}
 use Rattle.model_base.specs.declared.shape.Shape.{Shape}
-use Rattle.model_core.specs.Lsn.{lsn}
+use Rattle.model_core.specs.{lsn}
 use Rattle.model_core.specs.Setup.{Setup}
 use Rattle.model_device.specs.Disk.{Disk}
-use Rattle.model_finish.specs.ClosedStore.{LogTells}
-use Rattle.model_logdev.specs.Held.{LogHolds}
+use Rattle.model_finish.specs.{LogTells}
+use Rattle.model_logdev.specs.{LogHolds}
 use Rattle.redo_disk.specs.Seen.{Seen}
 use Rattle.redo_disk.specs.declared.error.DevError.{DevError}
 use Rattle.redo_disk.specs.declared.error.DevError.TheVariants.{Failed, NoMemory}
-use Rattle.redo_logdev.specs.Part.{DiskHolds, Part}
+use Rattle.redo_logdev.specs.{DiskHolds}
+use Rattle.redo_logdev.specs.Part.{Part}
 use Rattle.redo_logside.specs.LogPartSide.{HasFailedBy, fault_code, log_side}
 
 -- The device holds the groups that the part does, if it was as it should be when the run began, and the checkpoint isn't older

@@ -1,15 +1,16 @@
 -- What holds of the log part when a run starts.
 use Rattle.std.proofs.Common.{List, [], None, ap, arith, refl, subst, sym, ℕ, ◌%◌, ◌-◌, ◌<◌, ◌^◌, ◌∙◌, ◌∷◌, ◌≡◌}
 use Rattle.model_core.proofs.Lsns.{lsn_offset}
-use Rattle.model_core.specs.Lsn.{lsn}
+use Rattle.model_core.specs.{lsn}
 use Rattle.model_core.specs.Setup.{Setup}
-use Rattle.model_finish.specs.History.{AreWholesOf}
-use Rattle.model_logcore.specs.Start.{StartPart}
-use Rattle.model_logdev.specs.Marks.{first_marks}
+use Rattle.model_finish.specs.{AreWholesOf}
+use Rattle.model_logcore.specs.{StartPart}
+use Rattle.model_logdev.specs.{first_marks}
 use Rattle.model_logdev.specs.declared.marks.LogMarks.{LogMarks}
 use Rattle.model_record.specs.declared.group.Whole.{Whole}
 use Rattle.redo_disk.specs.Seen.{Seen}
-use Rattle.redo_logdev.specs.Part.{Part, PartHolds}
+use Rattle.redo_logdev.specs.{PartHolds}
+use Rattle.redo_logdev.specs.Part.{Part}
 use Rattle.redo_logside.specs.LogPartSide.{HasBegun, log_side}
 
 no_wholes : (wholes : List Whole) → AreWholesOf [] wholes → wholes ≡ []

@@ -1,13 +1,11 @@
 -- No Op of a running store changes the shape of its log part.
 use Rattle.std.proofs.Common.{List, ap, suc, zero, ℕ, ◌∙◌, ◌≡◌}
 use Rattle.model_base.specs.declared.shape.Shape.{Shape}
-use Rattle.model_core.specs.Actors.{Batch, Blocks, Lent, Nothing}
+use Rattle.model_core.specs.{Batch, Blocks, Core, Lent, lent, LogServed, next, Nothing}
 use Rattle.model_core.specs.DataSide.{DataSide}
 use Rattle.model_core.specs.LogSide.{LogSide}
-use Rattle.model_core.specs.Program.{lent, next}
-use Rattle.model_core.specs.Turn.{Core, LogServed}
 use Rattle.model_core.specs.declared.ops.Op.{Op}
-use Rattle.model_running.specs.Schedule.{TakesTurns}
+use Rattle.model_running.specs.{TakesTurns}
 use Rattle.redo_disk.specs.Seen.{Seen}
 use Rattle.redo_logdev.specs.Part.{Part}
 use Rattle.redo_logside.specs.LogPartSide.{LogCheckpointed, LogSynced, LogWrote, log_side}

@@ -1,1 +1,2 @@
 pub mod LogPartSide
+pub use Rattle.redo_logside.specs.LogPartSide.{has_failed}

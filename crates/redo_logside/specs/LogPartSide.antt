@@ -1,19 +1,18 @@
 -- The log part as the running store sees it.
 use Rattle.std.specs.Prelude.{Bool, Err, List, [], None, OnErr, OnOk, Ok, Option, Result, Some, false, true, ℕ, ◌%◌, ◌+◌, ◌/◌, ◌^◌, ◌<◌, ◌≡◌, ◌≤◌}
-use Rattle.model_base.specs.Count.{HasRisen}
+use Rattle.model_base.specs.{HasRisen}
 use Rattle.model_base.specs.declared.limits.TheConstants.{BLOCK_SIZE}
-use Rattle.model_core.specs.FailureCodes.{log_device_code, no_memory_code}
-use Rattle.model_core.specs.Groups.{Entry}
+use Rattle.model_core.specs.{Entry, log_device_code, lsn, no_memory_code}
 use Rattle.model_core.specs.LogSide.{LogSide}
-use Rattle.model_core.specs.Lsn.{lsn}
-use Rattle.model_finish.specs.History.{AreWholesOf}
-use Rattle.model_logdev.specs.Marks.{after_asked, after_checkpoint, after_given, after_synced, after_written, next_number}
+use Rattle.model_finish.specs.{AreWholesOf}
+use Rattle.model_logdev.specs.{after_asked, after_checkpoint, after_given, after_synced, after_written, next_number}
 use Rattle.model_logdev.specs.declared.marks.LogMarks.{LogMarks}
 use Rattle.model_record.specs.declared.group.Whole.{Whole}
 use Rattle.redo_disk.specs.Seen.{Seen}
 use Rattle.redo_disk.specs.declared.error.DevError.{DevError}
 use Rattle.redo_disk.specs.declared.error.DevError.TheVariants.{Failed, NoMemory}
-use Rattle.redo_logdev.specs.Part.{KeepsHolding, KeepsNumbered, KeepsWriting, Part, PartHolds, Stays}
+use Rattle.redo_logdev.specs.{KeepsHolding, KeepsNumbered, KeepsWriting, PartHolds, Stays}
+use Rattle.redo_logdev.specs.Part.{Part}
 
 -- the code that FAILED gets for what a call answered
 abbrev pub fault_code : DevError → ℕ

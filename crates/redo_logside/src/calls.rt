@@ -1,9 +1,8 @@
 // The calls of the log part, answered by a code.
 ghost use Rattle.std.specs.Prelude.{◌≡◌, None};
-ghost use Rattle.model_logdev.specs.Marks.{MayBeNext};
-ghost use Rattle.redo_disk.specs.Calls.{EndWith};
-ghost use Rattle.redo_disk.specs.Made.{MakesCalls};
-ghost use Rattle.redo_logdev.specs.Part.{MayWrite};
+ghost use Rattle.model_logdev.specs.{MayBeNext};
+ghost use Rattle.redo_disk.specs.{EndWith, MakesCalls};
+ghost use Rattle.redo_logdev.specs.{MayWrite};
 ghost use Rattle.redo_logside.specs.LogPartSide.{LogCheckpointed, LogSynced, LogWrote, result_code};
 
 use redo_disk::{DevError, Sectors};

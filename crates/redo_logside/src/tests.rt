@@ -1,6 +1,6 @@
 // What the calls answer, over devices in memory.
 ghost use Rattle.std.specs.Prelude.{◌≡◌, ◌≤◌, ◌%◌, IfOk, None};
-ghost use Rattle.model_logdev.specs.Marks.{first_marks};
+ghost use Rattle.model_logdev.specs.{first_marks};
 
 use crate::{checkpoint, sync, write_to};
 use model_base::Shape;

@@ -1,6 +1,6 @@
 // Which shapes a store may have.
 ghost use Rattle.std.specs.Prelude.{◌≡◌, ◌↔◌, IsTrue};
-ghost use Rattle.model_base.specs.Limits.{is_within_limits, IsWithinLimits};
+ghost use Rattle.model_base.specs.{is_within_limits, IsWithinLimits};
 
 use model_base::{MAX_LOG_BLOCKS, MAX_PAGES, MIN_LOG_BLOCKS, PAGE_SIZE, SLOTS, Shape};
 

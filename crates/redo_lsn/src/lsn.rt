@@ -1,6 +1,6 @@
 // The two ways to count the bytes of the log, and where the block of an lsn stands.
 ghost use Rattle.std.specs.Prelude.{◌≡◌, ◌≤◌, ◌<◌, ◌^◌, ◌↔◌, IsTrue};
-ghost use Rattle.model_log.specs.Lsn.{lsn_of, sn_of, block_of, block_number, offset_of, start_after, IsDataLsn};
+ghost use Rattle.model_log.specs.{block_number, block_of, IsDataLsn, lsn_of, offset_of, sn_of, start_after};
 
 use model_base::{BLOCK_SIZE, MAX_LOG_BLOCKS, MIN_LOG_BLOCKS, START_LSN};
 use model_log::{BLOCK_DATA, BLOCK_DATA_END, BLOCK_HEADER, HEADER_BYTES};

@@ -1,25 +1,25 @@
 -- Where a store was ready, both its devices hold just what was opened.
 use Rattle.std.proofs.Common.{List, None, Option, Some, [], ap, arith, false, get_or, replicate, subst, sym, ℕ, ◌+◌, ◌-◌, ◌∙◌, ◌≡◌}
 use Rattle.std.specs.Prelude.{IfSome}
-use Rattle.model_base.specs.Limits.{IsWithinLimits}
+use Rattle.model_base.specs.{IsWithinLimits}
 use Rattle.model_base.specs.declared.shape.Shape.{Shape}
-use Rattle.model_datadev.specs.Stored.{IsUpTo, Stored, read_as}
+use Rattle.model_datadev.specs.{IsUpTo, read_as}
+use Rattle.model_datadev.specs.Stored.{Stored}
 use Rattle.model_device.specs.Disk.{Disk}
-use Rattle.model_finish.specs.PageContents.{content_of}
-use Rattle.model_logdev.specs.Held.{IsLive}
-use Rattle.model_logdev.specs.Marks.{first_marks}
+use Rattle.model_finish.specs.{content_of}
+use Rattle.model_logdev.specs.{first_marks, IsLive}
 use Rattle.model_logdev.specs.declared.marks.LogMarks.{LogMarks}
-use Rattle.model_opening.specs.Opened.{start_of}
-use Rattle.model_page.specs.Blank.{blank_page}
+use Rattle.model_opening.specs.{start_of}
+use Rattle.model_page.specs.{blank_page}
 use Rattle.model_page.specs.declared.content.Content.{Content}
 use Rattle.model_run.proofs.Start.{start-live}
-use Rattle.model_run.specs.Start.{IsStart}
+use Rattle.model_run.specs.{IsStart}
 use Rattle.model_script.specs.declared.script.ScriptLine.{ScriptLine}
 use Rattle.model_store.specs.Reading.{Reading}
 use Rattle.redo_dataside.proofs.PartStarts.{opened_begins}
 use Rattle.redo_dataside.specs.DataPartSide as data_part
 use Rattle.redo_disk.specs.Seen.{Seen}
-use Rattle.redo_logdev.specs.Part.{DiskHolds}
+use Rattle.redo_logdev.specs.{DiskHolds}
 use Rattle.redo_logdev.specs.Part as log
 use Rattle.redo_logside.specs.LogPartSide as log_part
 use Rattle.redo_machine.proofs.StartWordsPages.{content_of-kept_page_of}

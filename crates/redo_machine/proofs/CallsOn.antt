@@ -1,8 +1,7 @@
 -- What calls were made of both devices, in one turn and then in others.
 use Rattle.std.proofs.Common.{None, Option, Some, refl, subst, sym, ◌∙◌, ◌≡◌}
 use Rattle.redo_disk.proofs.Made.{ends_then, none_ends}
-use Rattle.redo_disk.specs.Calls.{Call, EndWith}
-use Rattle.redo_disk.specs.Made.{MakesCalls}
+use Rattle.redo_disk.specs.{Call, EndWith, MakesCalls}
 use Rattle.redo_disk.specs.declared.error.DevError.{DevError}
 use Rattle.redo_machine.specs.Calls.{CallOnBoth, CallsOn}
 use Rattle.redo_machine.specs.declared.parts.Parts.{Parts}

@@ -2,27 +2,19 @@
 use Rattle.std.proofs.Common.{List, ℕ, ◌≡◌}
 use Rattle.model_core.specs.DataSide.{DataSide}
 use Rattle.model_core.specs.LogSide.{LogSide}
-use Rattle.model_core.specs.Lsn.{lsn}
+use Rattle.model_core.specs.{Core, lsn}
 use Rattle.model_core.specs.Setup.{Setup}
-use Rattle.model_core.specs.Turn.{Core}
 use Rattle.model_device.specs.Disk.{Disk}
 use Rattle.model_finish.proofs.ClosedStore.{closed_run}
 use Rattle.model_finish.proofs.FinishedPages.{finished_pages}
 use Rattle.model_finish.proofs.FinishedStore.{finished_store, stands_for_run}
-use Rattle.model_finish.specs.ClosedStore.{DataTells, LogTells}
-use Rattle.model_finish.specs.Finished.{CausesAreFailures}
-use Rattle.model_finish.specs.FinishedPages.{HasItsPages}
-use Rattle.model_finish.specs.History.{run_of}
-use Rattle.model_finish.specs.Script.{IsOfScript}
-use Rattle.model_history.specs.Legal.{IsLeft}
-use Rattle.model_log.specs.Lsn.{start_after}
-use Rattle.model_run.specs.Closed.{IsClosed}
-use Rattle.model_run.specs.Given.{AreGiven}
-use Rattle.model_running.specs.RunningStore.{IsRunning}
-use Rattle.model_running.specs.Schedule.{HaveEnded}
-use Rattle.model_running.specs.Seating.{AreSeated}
+use Rattle.model_finish.specs.{CausesAreFailures, DataTells, HasItsPages, IsOfScript, LogTells, run_of}
+use Rattle.model_history.specs.{IsLeft}
+use Rattle.model_log.specs.{start_after}
+use Rattle.model_run.specs.{AreGiven, IsClosed}
+use Rattle.model_running.specs.{AreSeated, HaveEnded, IsRunning}
 use Rattle.model_script.specs.declared.script.ScriptLine.{ScriptLine}
-use Rattle.model_theorem.specs.Values.{Opened}
+use Rattle.model_theorem.specs.{Opened}
 
 pub closed_as_told : (D : LogSide) (E : DataSide) (c : Setup) (script : List ScriptLine) (opened : Opened) (number failures : ℕ) (left : List (ℕ × ℕ)) (log_disk data_disk : Disk) (s : Core D E) (running : IsRunning D E c 0 s) → AreSeated c s.actors → HaveEnded s.actors
     → IsOfScript c script opened.shape.space → lsn c.base ≡ start_after opened.end → AreGiven script opened → HasItsPages c opened → LogTells D c opened.shape number s.log_part log_disk → DataTells E opened s.data_part data_disk → CausesAreFailures D E failures s.log_part s.data_part

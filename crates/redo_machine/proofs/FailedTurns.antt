@@ -3,21 +3,12 @@ use Rattle.std.proofs.Common.{Bool, List, ap, cond, false, get_or, inr, refl, su
 use Rattle.std.specs.Prelude.{slice_index}
 use lib.ListN.{get_elem?}
 use mathlib.Core.Option.{some}
-use Rattle.model_core.specs.Actors.{Actor}
+use Rattle.model_core.specs.{Actor, checkpointer_ending, checkpointer_took, checkpointer_waits, cleaner_ending, cleaner_took, cleaner_waits, closer_ending, closer_took, closer_waits, Core, flusher_ending, flusher_took, flusher_waits, heard, old_of, step_of, took, user_ending, user_took, user_waits, writer_ending, writer_took, writer_waits}
 use Rattle.model_core.specs.Actors as actor
-use Rattle.model_core.specs.Answers.{heard, old_of}
-use Rattle.model_core.specs.CheckpointerProgram.{checkpointer_took}
-use Rattle.model_core.specs.CleanerProgram.{cleaner_took}
-use Rattle.model_core.specs.CloserProgram.{closer_took}
 use Rattle.model_core.specs.DataSide.{DataSide}
-use Rattle.model_core.specs.FlusherProgram.{flusher_took}
 use Rattle.model_core.specs.LogSide.{LogSide}
-use Rattle.model_core.specs.Program.{took}
 use Rattle.model_core.specs.Setup.{Setup}
-use Rattle.model_core.specs.Turn.{Core, Turn}
-use Rattle.model_core.specs.UserProgram.{user_took}
-use Rattle.model_core.specs.Waiting.{checkpointer_ending, checkpointer_waits, cleaner_ending, cleaner_waits, closer_ending, closer_waits, flusher_ending, flusher_waits, step_of, user_ending, user_waits, writer_ending, writer_waits}
-use Rattle.model_core.specs.WriterProgram.{writer_took}
+use Rattle.model_core.specs.Turn.{Turn}
 use Rattle.model_core.specs.declared.ops.Answer.{Answer}
 use Rattle.model_core.specs.declared.ops.Step.{Step}
 use Rattle.model_core.specs.declared.ops.Step.TheVariants as step
@@ -35,10 +26,10 @@ use Rattle.model_core.specs.declared.steps.WriterStep.{WriterStep}
 use Rattle.model_core.specs.declared.steps.WriterStep.TheVariants as writer_step
 use Rattle.model_logcore.proofs.Frame.{set_at}
 use Rattle.model_logcore.specs.LogLaws.{LogLaws}
-use Rattle.model_logcore.specs.Watermarks.{HasMetFailure}
+use Rattle.model_logcore.specs.{HasMetFailure}
 use Rattle.model_pagecore.specs.DataLaws.{DataLaws}
 use Rattle.model_running.proofs.Watermarks.{has_watermarks}
-use Rattle.model_running.specs.RunningStore.{IsRunning}
+use Rattle.model_running.specs.{IsRunning}
 
 -- an actor has ended by a failure only at its last step
 user_ends : (n code : ℕ) (f : UserStep) → user_ending n f ≡ step.Failed code → f ≡ user_step.Failed

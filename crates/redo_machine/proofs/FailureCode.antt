@@ -1,7 +1,7 @@
 -- The code in FAILED has 32 bits.
 use Rattle.std.proofs.Common.{List, ap, arith, slice_index, ℕ, ⊎_elim, ◌<◌, ◌^◌, ◌∙◌, ◌≡◌}
 use native.Mathlib.Decide.{dec_le}
-use Rattle.model_core.specs.Layout.{index}
+use Rattle.model_core.specs.{index}
 use Rattle.model_core.specs.declared.words.Word.TheVariants as word
 use Rattle.redo_dataside.specs.DataPartSide as data_part
 use Rattle.redo_disk.specs.Seen.{Seen}

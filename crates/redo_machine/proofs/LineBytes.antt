@@ -7,16 +7,15 @@ use Rattle.std.specs.Int.{bytes_high_first}
 use Rattle.std.specs.List.{All, AllByRecursion}
 use Rattle.std.specs.Prelude.{slice_index}
 use native.Mathlib.Decide.{dec_le}
-use Rattle.model_base.specs.Overwrite.{overwritten}
+use Rattle.model_base.specs.{overwritten}
 use Rattle.model_base.specs.declared.limits.TheConstants.{USER_BYTES, USER_START}
-use Rattle.model_changes.specs.Changes.{after_from, cell_where_same, cells_of, change_on, changes_of, collected}
-use Rattle.model_core.specs.Groups.{CellWrite, PageChange}
-use Rattle.model_core.specs.UserProgram.{change_at}
+use Rattle.model_changes.specs.{after_from, cell_where_same, cells_of, change_on, changes_of, collected}
+use Rattle.model_core.specs.{CellWrite, change_at, PageChange}
 use Rattle.model_number.proofs.ByteLemmas.{AreBytes, AreBytes-append, AreBytes-cons, AreBytes-drop, AreBytes-of_number, AreBytes-take}
-use Rattle.model_record.specs.Record.{HasText, IsByte, page_of}
+use Rattle.model_record.specs.{HasText, IsByte, page_of}
 use Rattle.model_record.specs.declared.rec.Rec.{Rec}
 use Rattle.model_record.specs.declared.rec.Rec.TheVariants.{Init, Num, Text}
-use Rattle.model_store.specs.Apply.{touches, user_after, user_after_own}
+use Rattle.model_store.specs.{touches, user_after, user_after_own}
 
 -- what holds of each that is collected, and of a default, holds at each index
 pub collected_each : {A : Type 0} (P : A → Type 0) (f : ℕ → List A) (d : A) → P d → ((j i : ℕ) → P (get_or (f j) i d)) → (n i : ℕ) → P (get_or (collected f n) i d)

@@ -2,7 +2,7 @@
 use Rattle.std.proofs.Common.{List, [], add-one, ap, append_assoc, arith, drop, drop-cons, get_or, length, length-append, refl, slice_index, subst, suc, sym, ℕ, ◌++◌, ◌+◌, ◌<◌, ◌∙◌, ◌∷◌, ◌≡◌, ◌≤◌}
 use Rattle.std.proofs.lemmas.List.{append-nil, at_drop_all}
 use Rattle.std.proofs.lemmas.List.Concat.{flat_map-cons}
-use Rattle.model_core.specs.States.{UserState}
+use Rattle.model_core.specs.{UserState}
 use Rattle.model_history.specs.declared.entry.Entry.{Entry}
 use Rattle.model_history.specs.declared.entry.Marks.{Marks}
 use Rattle.redo_machine.specs.History.{all_listed, listed, listed_from, listed_group}

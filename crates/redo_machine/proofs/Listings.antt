@@ -4,10 +4,9 @@ use Rattle.std.specs.Prelude.{IsSome, find, not, option_map}
 use Rattle.std.proofs.lemmas.Bool.{eqb-true}
 use Rattle.std.proofs.lemmas.List.{get_or-set_other, get_or-set_same, length-set}
 use Rattle.std.proofs.lemmas.Grind.{get_or-set_at}
-use Rattle.model_core.specs.FlushLists.{Each, Listed, joined, oldest_end, oldest_of, without}
-use Rattle.model_core.specs.WordTurn.{lists_left}
+use Rattle.model_core.specs.{Each, joined, Listed, lists_left, oldest_end, oldest_of, without}
 use Rattle.model_core.specs.declared.ops.Op.TheVariants as op
-use Rattle.redo_flushlist.specs.Order.{Listing, first_oldest}
+use Rattle.redo_flushlist.specs.{first_oldest, Listing}
 use Rattle.redo_flushlist.specs.Order as own
 use Rattle.redo_flushlist.specs.declared.dirty.Dirty.{Dirty}
 use Rattle.redo_machine.specs.Lists.{AreLists, Listings, added, empty_lists, listed_of, listing_at, lists_of, no_list, removed, with_list}

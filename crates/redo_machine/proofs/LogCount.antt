@@ -3,12 +3,12 @@ use Rattle.std.proofs.Common.{Bool, List, [], ap, arith, cond, eqb, eqb-true, fa
 use lib.ListN.{get_elem?}
 use mathlib.Core.Option.{some}
 use native.Mathlib.Decide.{ℕ_discrete}
-use Rattle.model_core.specs.Groups.{Entry}
+use Rattle.model_core.specs.{Entry}
 use Rattle.model_core.specs.Setup.{Setup}
-use Rattle.model_finish.specs.Script.{IsOfScript}
-use Rattle.model_history.specs.Legal.{lines_of_user}
+use Rattle.model_finish.specs.{IsOfScript}
+use Rattle.model_history.specs.{lines_of_user}
 use Rattle.model_logcore.proofs.UserGroups.{none_of, one_of}
-use Rattle.model_logcore.specs.LogFacts.{Place, Tiled, count_of}
+use Rattle.model_logcore.specs.{count_of, Place, Tiled}
 use Rattle.model_script.specs.declared.script.ScriptLine.{ScriptLine}
 
 -- of each group that many of its user's come before as its rank says, and its rank is below the user's limit

@@ -9,35 +9,28 @@ use mathlib.Core.Option.{some}
 use native.Mathlib.Decide.{dec_le}
 use Rattle.model_base.specs.declared.limits.TheConstants.{LSN_LIMIT}
 use Rattle.model_base.specs.declared.shape.Shape.{Shape}
-use Rattle.model_changes.specs.Changes.{changes_of}
-use Rattle.model_core.specs.Actors.{Actor}
-use Rattle.model_core.specs.FlushLists.{Listed}
+use Rattle.model_changes.specs.{changes_of}
+use Rattle.model_core.specs.{Actor, change_at, Line, line_at, Listed, lsn}
 use Rattle.model_core.specs.DataSide.{DataSide}
 use Rattle.model_core.specs.LogSide.{LogSide}
-use Rattle.model_core.specs.Lsn.{lsn}
 use Rattle.model_core.specs.Setup.{Setup}
-use Rattle.model_core.specs.States.{Line}
-use Rattle.model_core.specs.UserProgram.{change_at, line_at}
 use Rattle.model_core.specs.Actors as actor
 use Rattle.model_device.specs.Disk.{Disk}
 use Rattle.model_finish.proofs.Groups.{line_below}
 use Rattle.model_finish.proofs.Scripted.{scripted}
-use Rattle.model_history.specs.Legal.{lines_of_user}
-use Rattle.model_logcore.specs.LogFacts.{sum_over_actors}
-use Rattle.model_logcore.specs.LogHalf.{left_to_reserve}
-use Rattle.model_logcore.specs.Start.{StartPart}
-use Rattle.model_logdev.specs.Marks.{first_marks}
+use Rattle.model_history.specs.{lines_of_user}
+use Rattle.model_logcore.specs.{left_to_reserve, StartPart, sum_over_actors}
+use Rattle.model_logdev.specs.{first_marks}
 use Rattle.model_logdev.specs.declared.marks.LogMarks.{LogMarks}
-use Rattle.model_opening.specs.Opened.{start_of}
-use Rattle.model_log.specs.Lsn.{IsAtDataStart, lsn_of, sn_of}
+use Rattle.model_opening.specs.{start_of}
+use Rattle.model_log.specs.{IsAtDataStart, lsn_of, sn_of}
 use Rattle.model_page.specs.declared.content.Content.{Content}
-use Rattle.model_run.specs.Start.{IsStart}
+use Rattle.model_run.specs.{IsStart}
 use Rattle.model_running.proofs.StartRunning.{store_starts}
-use Rattle.model_running.specs.RunningStore.{IsRunning, RunningStore}
-use Rattle.model_running.specs.Seating.{AreSeated}
+use Rattle.model_running.specs.{AreSeated, IsRunning}
+use Rattle.model_running.specs.RunningStore.{RunningStore}
 use Rattle.model_running.specs.StartStore.{StartStore}
-use Rattle.model_script.specs.Fit.{LineFits}
-use Rattle.model_script.specs.LineGroup.{group_of}
+use Rattle.model_script.specs.{group_of, LineFits}
 use Rattle.model_script.specs.declared.script.ScriptLine.{ScriptLine}
 use Rattle.model_store.specs.Reading.{Reading}
 use Rattle.redo_dataside.proofs.PartStarts as data_starting

@@ -4,36 +4,31 @@ use Rattle.std.specs.Prelude.{slice_index}
 use lib.ListN.{get_elem?}
 use mathlib.Core.Option.{some}
 use Rattle.model_core.proofs.Lsns.{lsn_le}
-use Rattle.model_base.specs.Limits.{IsWithinLimits}
+use Rattle.model_base.specs.{IsWithinLimits}
 use Rattle.model_base.specs.declared.shape.Shape.{Shape}
 use Rattle.model_core.specs.Actors as model
 use Rattle.model_core.specs.AnswerFits.{AnswerFits}
 use Rattle.model_core.specs.DataSide.{DataSide}
 use Rattle.model_core.specs.Fitting.{Fitting}
-use Rattle.model_core.specs.FlushLists.{Listed}
-use Rattle.model_core.specs.Groups.{KeptPage}
+use Rattle.model_core.specs.{answer_of, BatchPage, checkpointer_op, cleaner_op, closer_op, flusher_op, is_checking, KeptPage, lent, Listed, lsn, next, old_of, OpWords, own_op, shared_answer, user_fits, user_op, UserState, writer_op}
 use Rattle.model_core.specs.LogSide.{LogSide}
-use Rattle.model_core.specs.Lsn.{lsn}
-use Rattle.model_core.specs.Program.{is_checking, lent, next, own_op}
 use Rattle.model_core.specs.Setup.{Setup}
-use Rattle.model_core.specs.States.{BatchPage, UserState}
-use Rattle.model_core.specs.UserProgram.{user_op}
-use Rattle.model_core.specs.WordTurn.{OpWords, answer_of, shared_answer}
 use Rattle.model_core.specs.declared.ops.Answer.{Answer}
 use Rattle.model_core.specs.declared.ops.Op.{Op}
 use Rattle.model_core.specs.declared.ops.Op.TheVariants as op
 use Rattle.model_core.specs.declared.words.Word.TheVariants as word
 use Rattle.model_logcore.proofs.AnswersFit.{small_sn}
-use Rattle.model_logcore.specs.LogFacts.{LogGhost}
+use Rattle.model_logcore.specs.{CanLend, LogGhost}
 use Rattle.model_logcore.specs.LogLaws.{LogLaws}
-use Rattle.model_logcore.specs.Ready.{CanLend, Ready}
-use Rattle.model_pagecore.specs.DataLaws.{CanBatch, DataLaws}
+use Rattle.model_logcore.specs.Ready.{Ready}
+use Rattle.model_pagecore.specs.{CanBatch}
+use Rattle.model_pagecore.specs.DataLaws.{DataLaws}
 use Rattle.model_running.proofs.AnswersFitAll.{answer_fits}
 use Rattle.model_running.proofs.BothReady as both_ready
 use Rattle.model_running.proofs.FlatWords.{flat_answer}
 use Rattle.model_running.proofs.ListsReady.{list_ready}
 use Rattle.model_running.proofs.Turns.{next_words}
-use Rattle.model_running.specs.Bounds.{HaveSmallCodes}
+use Rattle.model_running.specs.{HaveSmallCodes}
 use Rattle.model_running.specs.DataReady as running
 use Rattle.model_running.specs.ListReady.{ListReady}
 use Rattle.redo_dataside.proofs.Lent.{lent_batch}
@@ -42,7 +37,7 @@ use Rattle.redo_dataside.specs.DataPartSide as data_part
 use Rattle.redo_disk.specs.Seen.{Seen}
 use Rattle.redo_disk.specs.declared.error.DevError.{DevError}
 use Rattle.redo_disk.specs.declared.error.DevError.TheVariants.{Failed, NoMemory}
-use Rattle.redo_logdev.specs.Part.{MayWrite}
+use Rattle.redo_logdev.specs.{MayWrite}
 use Rattle.redo_logdev.specs.Part as log
 use Rattle.redo_logside.proofs.MayCall.{may_checkpoint, may_sync, may_write}
 use Rattle.redo_logside.proofs.Outcome.{not_failed}
@@ -54,8 +49,7 @@ use Rattle.redo_machine.specs.Views.{views_of}
 use Rattle.redo_machine.specs.declared.actor.Actor.{Actor}
 use Rattle.redo_machine.specs.declared.parts.Parts.{Parts}
 use Rattle.redo_store.specs.Part as store
-use Rattle.redo_words.specs.Lending.{Lends}
-use Rattle.redo_words.specs.Plain.{HoldsSum}
+use Rattle.redo_words.specs.{HoldsSum, Lends}
 use Rattle.redo_words.specs.declared.lent.Lent.{Lent}
 use Rattle.redo_words.specs.declared.lent.Lent.TheVariants as lending
 use Rattle.model_core.specs.declared.steps.UserStep.{UserStep}
@@ -66,13 +60,6 @@ use Rattle.model_core.specs.declared.steps.CloserStep.TheVariants as closer_step
 use Rattle.model_core.specs.declared.steps.CleanerStep.TheVariants as cleaner_step
 use Rattle.model_core.specs.declared.steps.CheckpointerStep.TheVariants as checkpointer_step
 use Rattle.model_core.specs.States as states
-use Rattle.model_core.specs.Fitting.{user_fits}
-use Rattle.model_core.specs.Answers.{old_of}
-use Rattle.model_core.specs.WriterProgram.{writer_op}
-use Rattle.model_core.specs.FlusherProgram.{flusher_op}
-use Rattle.model_core.specs.CloserProgram.{closer_op}
-use Rattle.model_core.specs.CleanerProgram.{cleaner_op}
-use Rattle.model_core.specs.CheckpointerProgram.{checkpointer_op}
 use Rattle.model_core.specs.declared.steps.WriterStep.{WriterStep}
 use Rattle.model_core.specs.declared.steps.FlusherStep.{FlusherStep}
 use Rattle.model_core.specs.declared.steps.CloserStep.{CloserStep}

@@ -3,9 +3,7 @@ use Rattle.std.proofs.Common.{List, None, ap, cond, refl, subst, sym, ℕ, ◌%�
 use Rattle.std.specs.Prelude.{slice_set}
 use Rattle.model_core.specs.Actors as model
 use Rattle.model_core.specs.DataSide.{DataSide}
-use Rattle.model_core.specs.FlushLists.{oldest_end}
-use Rattle.model_core.specs.Turn.{DataServed, LogServed, list_word}
-use Rattle.model_core.specs.WordTurn.{OnWord, answer_of, list_answer, word_found, words_after, words_left}
+use Rattle.model_core.specs.{answer_of, DataServed, list_answer, list_word, LogServed, oldest_end, OnWord, word_found, words_after, words_left}
 use Rattle.model_core.specs.declared.ops.Answer.{Answer}
 use Rattle.model_core.specs.declared.ops.Answer.TheVariants as answer
 use Rattle.model_core.specs.declared.ops.Op.{Op}

@@ -4,33 +4,27 @@ use Rattle.std.specs.Prelude.{IfSome}
 use Rattle.model_base.specs.declared.shape.Shape.{Shape}
 use Rattle.model_core.specs.DataSide.{DataSide}
 use Rattle.model_core.specs.LogSide.{LogSide}
-use Rattle.model_core.specs.Lsn.{lsn}
+use Rattle.model_core.specs.{lsn}
 use Rattle.model_device.specs.Disk.{Disk}
 use Rattle.model_finish.proofs.Finished.{finished_losses, finished_run, marks_same}
 use Rattle.model_finish.proofs.OpenLines as open_lines
 use Rattle.model_finish.proofs.Seated.{seated_end, seated_seats}
-use Rattle.model_finish.specs.ClosedStore.{DataTells, LogTells}
-use Rattle.model_finish.specs.Finished.{CausesAreFailures, HasCause}
-use Rattle.model_finish.specs.FinishedPages.{HasItsPages}
-use Rattle.model_finish.specs.History.{run_of, word_marks}
-use Rattle.model_finish.specs.OpenLines.{LeavesOpen}
-use Rattle.model_finish.specs.Script.{IsOfScript}
-use Rattle.model_history.specs.Legal.{IsLeft}
+use Rattle.model_finish.specs.{CausesAreFailures, DataTells, HasCause, HasItsPages, IsOfScript, LeavesOpen, LogTells, run_of, word_marks}
+use Rattle.model_history.specs.{IsLeft}
 use Rattle.model_history.specs.declared.entry.Entry.{Entry}
 use Rattle.model_history.specs.declared.entry.Marks.{Marks}
-use Rattle.model_log.specs.Lsn.{start_after}
+use Rattle.model_log.specs.{start_after}
 use Rattle.model_page.specs.declared.content.Content.{Content}
 use Rattle.model_run.proofs.Start.{start-given}
-use Rattle.model_run.specs.Closed.{IsClosed}
-use Rattle.model_run.specs.Start.{IsStart, opened_as}
-use Rattle.model_running.specs.Schedule.{HaveEnded, IsDone, IsSpent}
+use Rattle.model_run.specs.{IsClosed, IsStart, opened_as}
+use Rattle.model_running.specs.{HaveEnded, IsDone, IsSpent}
 use Rattle.model_script.specs.declared.script.ScriptLine.{ScriptLine}
 use Rattle.model_store.specs.Reading.{Reading}
-use Rattle.model_theorem.specs.Run.{IsRun, LosesOnlyByFailure}
+use Rattle.model_theorem.specs.{IsRun, LosesOnlyByFailure}
 use Rattle.model_theorem.specs.Values as theorem
 use Rattle.redo_dataside.proofs.PartEnds.{data_tells}
 use Rattle.redo_dataside.specs.DataPartSide as data_part
-use Rattle.redo_disk.specs.Calls.{Call, failures}
+use Rattle.redo_disk.specs.{Call, failures}
 use Rattle.redo_disk.specs.Seen.{Seen}
 use Rattle.redo_disk.specs.declared.error.DevError.{DevError}
 use Rattle.redo_disk.specs.declared.error.DevError.TheVariants.{Failed, NoMemory}

@@ -5,12 +5,12 @@ use Rattle.model_core.specs.Actors as model
 use Rattle.model_core.specs.DataSide.{DataSide}
 use Rattle.model_core.specs.LogSide.{LogSide}
 use Rattle.model_core.specs.Setup.{Setup}
-use Rattle.model_core.specs.Turn.{Core, Turn}
+use Rattle.model_core.specs.{Core}
+use Rattle.model_core.specs.Turn.{Turn}
 use Rattle.model_core.specs.declared.ops.Step.{Step}
-use Rattle.model_running.specs.Schedule.{HaveEnded, LastTurn, TakesTurns, seat_of_turn}
-use Rattle.model_running.specs.Seating.{AreSeated}
-use Rattle.model_script.specs.Generator.{draw, first_state, next_state, state_after}
-use Rattle.redo_disk.specs.Calls.{Call}
+use Rattle.model_running.specs.{AreSeated, HaveEnded, LastTurn, seat_of_turn, TakesTurns}
+use Rattle.model_script.specs.{draw, first_state, next_state, state_after}
+use Rattle.redo_disk.specs.{Call}
 use Rattle.redo_disk.specs.Seen.{Seen}
 use Rattle.redo_machine.proofs.UserSeats.{first_is_least}
 use Rattle.redo_machine.proofs.Viewed.{length_views}

@@ -6,23 +6,18 @@ use Rattle.std.specs.List.{AllByRecursion, flat_map}
 use native.Mathlib.Decide.{ℕ_discrete}
 use Rattle.model_base.specs.declared.limits.TheConstants.{LSN_LIMIT}
 use Rattle.model_base.specs.declared.shape.Shape.{Shape}
-use Rattle.model_changes.specs.Changes.{collected}
-use Rattle.model_core.specs.Actors.{Actor}
+use Rattle.model_changes.specs.{collected}
+use Rattle.model_core.specs.{Actor, Line, lsn, new_flusher, new_user, new_writer, UserState}
 use Rattle.model_core.specs.Actors as actor
-use Rattle.model_core.specs.Lsn.{lsn}
-use Rattle.model_core.specs.NewActors.{new_flusher, new_user, new_writer}
-use Rattle.model_core.specs.States.{Line, UserState}
 use Rattle.model_finish.proofs.Places.{lsn_is}
-use Rattle.model_history.specs.Legal.{lines_of_user}
-use Rattle.model_log.specs.Lsn.{sn_of}
-use Rattle.model_logcore.specs.LogFacts.{sum_over_actors}
-use Rattle.model_logcore.specs.LogHalf.{left_to_reserve, lengths}
-use Rattle.model_record.specs.Group.{group_length, group_text, stream_of}
-use Rattle.model_script.specs.Fit.{LineFits, script_end}
-use Rattle.model_script.specs.LineGroup.{group_of}
+use Rattle.model_history.specs.{lines_of_user}
+use Rattle.model_log.specs.{sn_of}
+use Rattle.model_logcore.specs.{left_to_reserve, lengths, sum_over_actors}
+use Rattle.model_record.specs.{group_length, group_text, stream_of}
+use Rattle.model_script.specs.{group_of, LineFits, script_end}
 use Rattle.model_script.specs.declared.misfit.TheConstants.{MAX_USERS}
 use Rattle.model_script.specs.declared.script.ScriptLine.{ScriptLine}
-use Rattle.redo_useractor.specs.Lines.{lines_of}
+use Rattle.redo_useractor.specs.{lines_of}
 use Rattle.redo_machine.specs.Setups.{page_actors, programs_of, start_actors, users_below, users_of}
 
 -- the sum for each number below n

@@ -6,12 +6,10 @@ use lib.ListN.{get_elem?}
 use mathlib.Core.Option.{some, some-injective, some-ne-none}
 use native.Mathlib.Decide.{dec_le, ℕ_discrete}
 use Rattle.model_changes.proofs.Collected.{collected_next, collected_none}
-use Rattle.model_changes.specs.Changes.{collected}
+use Rattle.model_changes.specs.{collected}
 use Rattle.model_core.proofs.Lists.{at_last, at_longer}
-use Rattle.model_core.specs.Actors.{Actor}
+use Rattle.model_core.specs.{Actor, Line, new_user, UserState}
 use Rattle.model_core.specs.Actors as actor
-use Rattle.model_core.specs.NewActors.{new_user}
-use Rattle.model_core.specs.States.{Line, UserState}
 use Rattle.redo_machine.specs.Setups.{user_of, users_below}
 
 -- one element more: what stands there stood there before, or is the new one

@@ -4,11 +4,9 @@ use Rattle.std.specs.List.{flat_map}
 use Rattle.std.specs.Prelude.{map}
 use Rattle.model_base.specs.declared.shape.Shape.{Shape}
 use Rattle.model_core.specs.Actors as model
-use Rattle.model_core.specs.Groups.{KeptPage}
-use Rattle.model_core.specs.States.{BatchPage}
-use Rattle.model_core.specs.Turn.{DataServed, LogServed}
+use Rattle.model_core.specs.{BatchPage, DataServed, KeptPage, LogServed}
 use Rattle.model_core.specs.declared.ops.Op.TheVariants as op
-use Rattle.model_page.specs.Page.{user_part}
+use Rattle.model_page.specs.{user_part}
 use Rattle.redo_dataside.proofs.Lent.{lent_batch}
 use Rattle.redo_dataside.specs.DataPartSide as data_part
 use Rattle.redo_disk.specs.Seen.{Seen}
@@ -16,7 +14,7 @@ use Rattle.redo_logdev.specs.Part as log
 use Rattle.redo_logside.specs.LogPartSide as log_part
 use Rattle.redo_machine.specs.Playing.{HasWholePages}
 use Rattle.redo_store.specs.Part as store
-use Rattle.redo_words.specs.Lending.{Lends}
+use Rattle.redo_words.specs.{Lends}
 use Rattle.redo_words.specs.declared.lent.Lent.{Lent}
 use Rattle.redo_words.specs.declared.lent.Lent.TheVariants as lent
 

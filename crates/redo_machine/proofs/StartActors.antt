@@ -9,22 +9,16 @@ use native.Mathlib.Decide.{dec_le}
 use Rattle.model_base.specs.declared.limits.TheConstants.{MAX_GROUP}
 use Rattle.model_base.specs.declared.shape.Shape.{Shape}
 use Rattle.model_changes.proofs.Collected.{group_has_text}
-use Rattle.model_core.specs.Actors.{Actor}
+use Rattle.model_core.specs.{Actor, Line, line_at, lsn, new_checkpointer, new_cleaner, new_closer, new_flusher, new_user, new_writer, UserState}
 use Rattle.model_core.specs.Actors as actor
-use Rattle.model_core.specs.Lsn.{lsn}
-use Rattle.model_core.specs.NewActors.{new_checkpointer, new_cleaner, new_closer, new_flusher, new_user, new_writer}
 use Rattle.model_core.specs.Setup.{Setup}
-use Rattle.model_core.specs.States.{Line, UserState}
-use Rattle.model_core.specs.UserProgram.{line_at}
 use Rattle.model_finish.proofs.Groups.{line_below}
-use Rattle.model_history.specs.Legal.{lines_of_user}
-use Rattle.model_logcore.specs.Start.{StartActor, StartUser}
+use Rattle.model_history.specs.{lines_of_user}
+use Rattle.model_logcore.specs.{StartActor, StartUser}
 use Rattle.model_logdev.proofs.Bytes.{group-bytes}
 use Rattle.model_page.specs.declared.content.Content.{Content}
-use Rattle.model_running.specs.Seating.{ArePageActors, AreSeated}
-use Rattle.model_script.specs.Fit.{LineFits}
-use Rattle.model_script.specs.LineGroup.{group_of}
-use Rattle.model_script.specs.Ranges.{IsScriptLine}
+use Rattle.model_running.specs.{ArePageActors, AreSeated}
+use Rattle.model_script.specs.{group_of, IsScriptLine, LineFits}
 use Rattle.model_script.specs.declared.misfit.TheConstants.{MAX_USERS}
 use Rattle.model_script.specs.declared.script.ScriptLine.{ScriptLine}
 use Rattle.redo_machine.proofs.Seats.{HasSeat, ascend, at_either, has_seat, seated, user_at}

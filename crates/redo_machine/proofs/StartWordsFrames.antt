@@ -3,7 +3,7 @@ use Rattle.std.proofs.Common.{List, [], ap, arith, length, refl, set, subst, suc
 use Rattle.std.specs.Prelude.{slice_index, slice_set}
 use Rattle.std.proofs.lemmas.List.{ext_get_or, get_or-set_same, set-get_or, set-set}
 use Rattle.model_base.specs.declared.limits.TheConstants.{USER_BYTES, USER_START}
-use Rattle.model_core.specs.Layout.{PageWords, SharedWords, blank_words, page_words_at, with_page_words, wrote}
+use Rattle.model_core.specs.{blank_words, page_words_at, PageWords, SharedWords, with_page_words, wrote}
 use Rattle.model_core.specs.declared.words.Word.TheVariants as word
 use Rattle.redo_machine.proofs.StartWordsPages.{page_cells-length, page_cells-set, page_cells-zero}
 use Rattle.redo_machine.specs.StartWords.{AreNamed, IsBlankFrame, page_cells, with_frame}

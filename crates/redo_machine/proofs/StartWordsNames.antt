@@ -3,7 +3,7 @@ use Rattle.std.proofs.Common.{List, ap, arith, length, subst, sym, ℕ, ◌<◌,
 use Rattle.std.specs.Prelude.{slice_set}
 use Rattle.std.proofs.lemmas.Bool.{cases_eq}
 use Rattle.std.proofs.lemmas.List.{get_or-set_other, get_or-set_same, length-set}
-use Rattle.model_core.specs.Layout.{IsSized, IsWord, PageWords, SharedWords, blank_words, index, page_words_at, with_page_words, wrote}
+use Rattle.model_core.specs.{blank_words, index, IsSized, IsWord, page_words_at, PageWords, SharedWords, with_page_words, wrote}
 use Rattle.model_core.specs.declared.limits.TheConstants.{FRAME_CELLS}
 use Rattle.model_core.specs.declared.words.Word.{Word}
 use Rattle.model_core.specs.declared.words.Word.TheVariants as word

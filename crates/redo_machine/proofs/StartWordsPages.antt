@@ -4,19 +4,18 @@ use Rattle.std.specs.Prelude.{Some, slice_get, slice_index, slice_set}
 use Rattle.std.proofs.lemmas.Bool.{cases_lt}
 use Rattle.std.proofs.lemmas.List.{drop_at, get_or_past, length-replicate, set-append_left, set-append_right, take_at}
 use Rattle.std.proofs.lemmas.Option.{get_or_from_slice_get, slice_get-get_or, slice_get_within}
-use Rattle.model_base.specs.Limits.{IsWithinLimits}
+use Rattle.model_base.specs.{IsWithinLimits}
 use Rattle.model_base.specs.declared.limits.TheConstants.{USER_BYTES, USER_START}
 use Rattle.model_base.specs.declared.shape.Shape.{Shape}
-use Rattle.model_core.specs.Groups.{KeptPage}
+use Rattle.model_core.specs.{KeptPage}
 use Rattle.model_core.specs.Setup.{Setup}
 use Rattle.model_core.specs.declared.limits.TheConstants.{FRAME_CELLS}
-use Rattle.model_finish.specs.FinishedPages.{HasItsPages}
-use Rattle.model_finish.specs.PageContents.{content_of}
-use Rattle.model_page.specs.Page.{user_part}
+use Rattle.model_finish.specs.{content_of, HasItsPages}
+use Rattle.model_page.specs.{user_part}
 use Rattle.model_page.specs.declared.content.Content.{Content}
 use Rattle.model_page.specs.declared.page.TheConstants.{TRAILER_LENGTH}
-use Rattle.model_theorem.specs.Values.{Opened}
-use Rattle.redo_apply.specs.Fits.{ArePagesOf}
+use Rattle.model_theorem.specs.{Opened}
+use Rattle.redo_apply.specs.{ArePagesOf}
 use Rattle.redo_machine.specs.StartWords.{AreFullPages, HoldBytes, kept_page_of, opened_page, page_cells, unwritten_page}
 
 -- in so many zeros, and behind them, each number is 0

@@ -7,12 +7,10 @@ use Rattle.std.proofs.lemmas.Option.{slice_get-get_or}
 use Rattle.model_base.specs.declared.limits.TheConstants.{BLOCK_SIZE}
 use Rattle.model_core.proofs.Lists.{one_turn}
 use Rattle.model_core.proofs.Lsns.{lsn_block, lsn_offset}
-use Rattle.model_core.specs.Groups.{KeptPage}
-use Rattle.model_core.specs.Layout.{IsSized, PageWords, SharedWords, blank_words, page_words_at}
-use Rattle.model_core.specs.Lsn.{lsn}
+use Rattle.model_core.specs.{blank_words, IsSized, KeptPage, lsn, page_words_at, PageWords, SharedWords}
 use Rattle.model_core.specs.Setup.{Setup}
 use Rattle.model_core.specs.declared.limits.TheConstants.{BUFFER_BLOCKS}
-use Rattle.model_log.specs.Lsn.{IsAtDataStart, data_before, lsn_of, sn_of}
+use Rattle.model_log.specs.{data_before, IsAtDataStart, lsn_of, sn_of}
 use Rattle.model_log.specs.declared.layout.TheConstants.{BLOCK_DATA, BLOCK_HEADER}
 use Rattle.model_page.specs.declared.content.Content.{Content}
 use Rattle.redo_machine.proofs.StartWordsZero.{zero_page, zero_page_at, zero_words, zeros, zeros-length, zeros-zero}

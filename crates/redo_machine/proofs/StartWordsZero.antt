@@ -2,7 +2,7 @@
 use Rattle.std.proofs.Common.{List, [], ap, arith, length, refl, replicate, suc, sym, zero, ℕ, ◌*◌, ◌++◌, ◌+◌, ◌<◌, ◌∙◌, ◌∷◌, ◌≡◌}
 use Rattle.std.specs.Prelude.{slice_index}
 use Rattle.std.proofs.lemmas.List.{get_or-replicate, length-replicate}
-use Rattle.model_core.specs.Layout.{PageWords, SharedWords, blank_words, flat, flat_page_words, page_stride, page_words_at, word_count}
+use Rattle.model_core.specs.{blank_words, flat, flat_page_words, page_stride, page_words_at, PageWords, SharedWords, word_count}
 use Rattle.model_core.specs.declared.limits.TheConstants.{BUFFER_BLOCKS, CLOSED_LINKS, FLUSH_LISTS, FRAME_CELLS, LOG_BUFFER, WRITTEN_LINKS}
 use Rattle.redo_machine.specs.StartWords.{AreNamed}
 use Rattle.redo_words.specs.Plain.{Plain}

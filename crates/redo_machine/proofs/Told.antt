@@ -9,19 +9,14 @@ use Rattle.model_core.proofs.Groups.{tiles_at}
 use Rattle.model_core.proofs.Lsns.{lsn_less, sn_below}
 use Rattle.model_core.specs.Actors as model
 use Rattle.model_core.specs.DataSide.{DataSide}
-use Rattle.model_core.specs.Groups.{Tiles, end_of, sum_of}
+use Rattle.model_core.specs.{end_of, entries, entries_from, entry, Line, line_at, lsn, sum_of, Tiles, UserState}
 use Rattle.model_core.specs.Groups as core
 use Rattle.model_core.specs.LogSide.{LogSide}
-use Rattle.model_core.specs.Lsn.{lsn}
-use Rattle.model_core.specs.Program.{entries, entries_from, entry}
-use Rattle.model_core.specs.States.{Line, UserState}
-use Rattle.model_core.specs.UserProgram.{line_at}
-use Rattle.model_finish.specs.History.{entry_of, history_of, word_marks}
+use Rattle.model_finish.specs.{entry_of, history_of, word_marks}
 use Rattle.model_history.specs.declared.entry.Entry.{Entry}
 use Rattle.model_history.specs.declared.entry.Marks.{Marks}
 use Rattle.model_logcore.proofs.AnswersFit.{small_sn}
-use Rattle.model_logcore.specs.LogFacts.{LogGhost, sum_over_actors}
-use Rattle.model_logcore.specs.LogFits.{UserFits}
+use Rattle.model_logcore.specs.{LogGhost, sum_over_actors, UserFits}
 use Rattle.model_logcore.specs.LogHalf.{LogHalf}
 use Rattle.redo_disk.specs.Seen.{Seen}
 use Rattle.redo_machine.proofs.InOrder.{Rises, same_in_order, total, total_moved}

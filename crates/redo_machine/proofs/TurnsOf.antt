@@ -3,8 +3,7 @@ use Rattle.std.proofs.Common.{List, [], ap, get_or, length, set, subst, sym, tru
 use Rattle.std.proofs.lemmas.List.{map-set}
 use Rattle.model_core.specs.Actors as model
 use Rattle.model_core.specs.AnswerFits.{AnswerFits}
-use Rattle.model_core.specs.Program.{lent, next}
-use Rattle.model_core.specs.WordTurn.{answer_of}
+use Rattle.model_core.specs.{answer_of, lent, next}
 use Rattle.model_core.specs.declared.ops.Answer.{Answer}
 use Rattle.model_core.specs.declared.ops.Op.{Op}
 use Rattle.model_core.specs.declared.ops.Step.{Step}
@@ -13,7 +12,7 @@ use Rattle.model_pagecore.specs.DataLaws.{DataLaws}
 use Rattle.model_running.proofs.EachTurn.{turn_keeps}
 use Rattle.model_running.proofs.SeatsKeep.{turn_keeps_seats}
 use Rattle.redo_disk.specs.Seen.{Seen}
-use Rattle.redo_logside.specs.LogPartSide.{has_failed}
+use Rattle.redo_logside.specs.{has_failed}
 use Rattle.redo_machine.proofs.Viewed.{view_at}
 use Rattle.redo_machine.specs.Lists.{lists_of}
 use Rattle.redo_machine.specs.Playing.{HasSamePages, IsPlayed, RunOf, data_of, log_of}

@@ -7,20 +7,18 @@ use Rattle.std.specs.List.{AllByRecursion}
 use Rattle.std.specs.Option.{option_map}
 use native.Mathlib.Decide.{dec_le}
 use Rattle.model_base.specs.declared.shape.Shape.{Shape}
-use Rattle.model_changes.specs.Changes.{line_of}
-use Rattle.model_core.specs.States.{Line}
+use Rattle.model_changes.specs.{line_of}
+use Rattle.model_core.specs.{Line}
 use Rattle.model_finish.proofs.Groups.{line_below}
-use Rattle.model_finish.specs.Script.{IsOfScript}
-use Rattle.model_history.specs.Legal.{lines_of_user}
+use Rattle.model_finish.specs.{IsOfScript}
+use Rattle.model_history.specs.{lines_of_user}
 use Rattle.model_page.specs.declared.content.Content.{Content}
 use Rattle.model_record.specs.declared.rec.Rec.{Rec}
-use Rattle.model_script.specs.Fit.{LineFits}
-use Rattle.model_script.specs.LineGroup.{group_of}
-use Rattle.model_script.specs.Ranges.{IsScriptLine}
+use Rattle.model_script.specs.{group_of, IsScriptLine, LineFits}
 use Rattle.model_script.specs.declared.misfit.TheConstants.{MAX_USERS}
 use Rattle.model_script.specs.declared.script.ScriptLine.{ScriptLine}
 use Rattle.redo_machine.specs.Setups.{programs_of, setup_of, user_lines}
-use Rattle.redo_useractor.specs.Lines.{AreUserLines, IsUserLine}
+use Rattle.redo_useractor.specs.{AreUserLines, IsUserLine}
 
 -- what holds of each line of a script holds of a user's, which are its own
 pub of_user : (P : ScriptLine → Type 0) (script : List ScriptLine) (user k : ℕ) (one : ScriptLine) → AllByRecursion P script

@@ -2,11 +2,9 @@
 use Rattle.std.proofs.Common.{Bool, List, [], ap, arith, false, map, refl, subst, suc, sym, true, zero, ℕ, ◌++◌, ◌<◌, ◌∙◌, ◌∷◌, ◌≡◌, ◌≤◌}
 use native.Mathlib.Decide.{dec_le}
 use lib.ListN.{get_elem?}
-use Rattle.model_core.specs.Actors.{Actor}
+use Rattle.model_core.specs.{Actor, UserState}
 use Rattle.model_core.specs.Setup.{Setup}
-use Rattle.model_core.specs.States.{UserState}
-use Rattle.model_running.specs.Schedule.{HasEnded}
-use Rattle.model_running.specs.Seating.{ArePageActors, AreSeated}
+use Rattle.model_running.specs.{ArePageActors, AreSeated, HasEnded}
 use Rattle.redo_machine.specs.OpenUsers.{IsFirstOpen}
 use Rattle.model_core.specs.Actors as actor
 use mathlib.Core.Option as maybe

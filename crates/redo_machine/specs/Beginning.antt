@@ -2,17 +2,13 @@
 use Rattle.std.specs.Prelude.{Bool, IfSome, List, None, Option, Some, [], if◌then◌else◌, length, vec_capacity, ℕ, ◌+◌, ◌-◌, ◌≡◌, ◌≤◌}
 use Rattle.std.specs.List.{AllByRecursion}
 use Rattle.model_base.specs.declared.shape.Shape.{Shape}
-use Rattle.model_core.specs.FlushLists.{Listed}
-use Rattle.model_core.specs.Layout.{SharedWords, flat}
-use Rattle.model_core.specs.Lsn.{lsn}
-use Rattle.model_finish.specs.FinishedPages.{HasItsPages}
-use Rattle.model_finish.specs.Script.{IsOfScript}
+use Rattle.model_core.specs.{flat, Listed, lsn, SharedWords}
+use Rattle.model_finish.specs.{HasItsPages, IsOfScript}
 use Rattle.model_log.specs.declared.layout.TheConstants.{BLOCK_HEADER}
-use Rattle.model_opening.specs.Opened.{start_of}
-use Rattle.model_run.specs.Start.{IsStart}
+use Rattle.model_opening.specs.{start_of}
+use Rattle.model_run.specs.{IsStart}
 use Rattle.model_running.specs.StartStore.{StartStore}
-use Rattle.model_script.specs.Fit.{ScriptFits, round_end}
-use Rattle.model_script.specs.Ranges.{IsScriptLine}
+use Rattle.model_script.specs.{IsScriptLine, round_end, ScriptFits}
 use Rattle.model_script.specs.declared.script.ScriptLine.{ScriptLine}
 use Rattle.model_store.specs.Reading.{Reading}
 use Rattle.redo_dataside.specs.DataPartSide as data_part
@@ -23,7 +19,7 @@ use Rattle.redo_machine.specs.Playing.{RunOf, data_of, log_of}
 use Rattle.redo_machine.specs.Running.{RunsOn}
 use Rattle.redo_machine.specs.Views.{views_of}
 use Rattle.redo_machine.specs.declared.machine.Machine.{Machine}
-use Rattle.redo_pageactors.specs.Opened.{IsRunnable}
+use Rattle.redo_pageactors.specs.{IsRunnable}
 use Rattle.redo_pageactors.specs.declared.opened.Opened.{Opened}
 
 -- where the log runs alone, no checkpoint frees it, and the run has room for one round from its checkpoint on

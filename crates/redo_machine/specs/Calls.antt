@@ -1,7 +1,6 @@
 -- The device calls of a run.
 use Rattle.std.specs.Prelude.{None, Option, ◌≡◌, ◌⊎◌}
-use Rattle.redo_disk.specs.Calls.{Call, EndWith}
-use Rattle.redo_disk.specs.Made.{MakesCalls}
+use Rattle.redo_disk.specs.{Call, EndWith, MakesCalls}
 use Rattle.redo_disk.specs.declared.error.DevError.{DevError}
 use Rattle.redo_logdev.specs.Part as log
 use Rattle.redo_machine.specs.declared.parts.Parts.{Parts}

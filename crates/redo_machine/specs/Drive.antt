@@ -1,18 +1,15 @@
 -- A whole run by turns: from the opened store to the closed one.
 use Rattle.std.specs.Prelude.{IfSome, List, None, Some, slice_index, ℕ, ◌+◌, ◌<◌, ◌≡◌, ◌≢◌, ◌⊎◌}
-use Rattle.model_core.specs.Layout.{index}
+use Rattle.model_core.specs.{index}
 use Rattle.model_core.specs.declared.words.Word.TheVariants as word
-use Rattle.model_finish.specs.History.{history_of, marks_in, word_marks}
-use Rattle.model_finish.specs.OpenLines.{LeavesOpen}
-use Rattle.model_history.specs.Legal.{IsLeft}
-use Rattle.model_log.specs.Lsn.{start_after}
-use Rattle.model_run.specs.Closed.{IsClosed}
-use Rattle.model_run.specs.Start.{IsStart, opened_as}
+use Rattle.model_finish.specs.{history_of, LeavesOpen, marks_in, word_marks}
+use Rattle.model_history.specs.{IsLeft}
+use Rattle.model_log.specs.{start_after}
+use Rattle.model_run.specs.{IsClosed, IsStart, opened_as}
 use Rattle.model_script.specs.declared.script.ScriptLine.{ScriptLine}
 use Rattle.model_store.specs.Reading.{Reading}
-use Rattle.model_theorem.specs.Run.{IsRun, LosesOnlyByFailure}
-use Rattle.model_theorem.specs.Values.{Ran}
-use Rattle.redo_disk.specs.Calls.{Call, failures}
+use Rattle.model_theorem.specs.{IsRun, LosesOnlyByFailure, Ran}
+use Rattle.redo_disk.specs.{Call, failures}
 use Rattle.redo_disk.specs.Seen.{Seen}
 use Rattle.redo_disk.specs.declared.error.DevError.{DevError}
 use Rattle.redo_disk.specs.declared.error.DevError.TheVariants.{NoMemory}

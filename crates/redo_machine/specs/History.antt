@@ -3,10 +3,8 @@ use Rattle.std.specs.Prelude.{IsPermutation, List, [], length, map, slice_index,
 use Rattle.std.specs.List.{flat_map}
 use Rattle.std.specs.List.Sorted.{IsNonDecreasingBy}
 use Rattle.model_core.specs.Actors as model
-use Rattle.model_core.specs.Program.{entries_from, entry}
-use Rattle.model_core.specs.States.{UserState}
-use Rattle.model_core.specs.UserProgram.{line_at}
-use Rattle.model_finish.specs.History.{entry_of}
+use Rattle.model_core.specs.{entries_from, entry, line_at, UserState}
+use Rattle.model_finish.specs.{entry_of}
 use Rattle.model_history.specs.declared.entry.Entry.{Entry}
 use Rattle.model_history.specs.declared.entry.Marks.{Marks}
 use Rattle.redo_machine.specs.Views.{view_of}

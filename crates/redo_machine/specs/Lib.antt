@@ -11,3 +11,5 @@ pub mod Setups
 pub mod StartWords
 pub mod Turns
 pub mod Views
+pub use Rattle.redo_machine.specs.Beginning.{IsOpenedAs, room_from}
+pub use Rattle.redo_machine.specs.Drive.{ComesToRun, HasMemory, IsOwed, RunsByTurns, ran_of}

@@ -1,8 +1,8 @@
 -- The flush lists of a store.
 use Rattle.std.specs.Prelude.{List, [], get_or, length, map, slice_set, ℕ, ◌%◌, ◌++◌, ◌<◌, ◌∷◌, ◌≡◌}
-use Rattle.model_core.specs.FlushLists.{Listed}
+use Rattle.model_core.specs.{Listed}
 use Rattle.model_core.specs.declared.limits.TheConstants.{FLUSH_LISTS}
-use Rattle.redo_flushlist.specs.Order.{Listing, without}
+use Rattle.redo_flushlist.specs.{Listing, without}
 use Rattle.redo_flushlist.specs.declared.dirty.Dirty.{Dirty}
 
 -- the lists of a store with so many pages

@@ -3,8 +3,8 @@ use Rattle.std.specs.Prelude.{List, ℕ, ◌<◌, ◌≡◌}
 use lib.ListN.{get_elem?}
 use mathlib.Core.Option.{some}
 use Rattle.model_core.specs.Actors as model
-use Rattle.model_core.specs.States.{UserState}
-use Rattle.model_running.specs.Schedule.{HasEnded}
+use Rattle.model_core.specs.{UserState}
+use Rattle.model_running.specs.{HasEnded}
 
 -- an actor that is no user, or a user that has ended
 abbrev pub IsOver : model.Actor → Type 0

@@ -5,29 +5,25 @@ use mathlib.Core.Option.{some}
 use Rattle.model_base.specs.declared.shape.Shape.{Shape}
 use Rattle.model_core.specs.Actors as model
 use Rattle.model_core.specs.DataSide.{DataSide}
-use Rattle.model_core.specs.FlushLists.{Each, oldest_of}
+use Rattle.model_core.specs.{answer_of, BatchPage, DataServed, Each, list_word, lists_left, LogServed, lsn, oldest_of, OpWords, words_left}
 use Rattle.model_core.specs.LogSide.{LogSide}
-use Rattle.model_core.specs.Lsn.{lsn}
 use Rattle.model_core.specs.Setup.{Setup}
-use Rattle.model_core.specs.States.{BatchPage}
-use Rattle.model_core.specs.Turn.{DataServed, LogServed, list_word}
-use Rattle.model_core.specs.WordTurn.{OpWords, answer_of, lists_left, words_left}
 use Rattle.model_core.specs.declared.limits.TheConstants.{FLUSH_LISTS, FRAME_CELLS}
 use Rattle.model_core.specs.declared.ops.Answer.{Answer}
 use Rattle.model_core.specs.declared.ops.Op.{Op}
 use Rattle.model_core.specs.declared.ops.Op.TheVariants as op
-use Rattle.model_datadev.specs.Batch.{IsWritable}
-use Rattle.model_logdev.specs.Marks.{MayBeNext}
+use Rattle.model_datadev.specs.{IsWritable}
+use Rattle.model_logdev.specs.{MayBeNext}
 use Rattle.model_running.specs.ListReady.{ListReady}
 use Rattle.redo_dataside.specs.DataPartSide as data_part
 use Rattle.redo_disk.specs.Seen.{Seen}
-use Rattle.redo_logdev.specs.Part.{MayWrite}
+use Rattle.redo_logdev.specs.{MayWrite}
 use Rattle.redo_logdev.specs.Part as log
 use Rattle.redo_logside.specs.LogPartSide as log_part
 use Rattle.redo_machine.specs.Lists.{Listings, lists_of}
 use Rattle.redo_machine.specs.declared.parts.Parts.{Parts}
 use Rattle.redo_store.specs.Part as store
-use Rattle.redo_words.specs.Plain.{HoldsSum}
+use Rattle.redo_words.specs.{HoldsSum}
 use Rattle.redo_words.specs.declared.lent.Lent.{Lent}
 use Rattle.redo_words.specs.declared.lent.Lent.TheVariants as lent
 

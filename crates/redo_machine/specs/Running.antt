@@ -1,29 +1,24 @@
 -- A machine on its run.
 use Rattle.std.specs.Prelude.{List, slice_index, ℕ, ◌≡◌, ◌⊎◌}
-use Rattle.model_base.specs.Limits.{IsWithinLimits}
+use Rattle.model_base.specs.{IsWithinLimits}
 use Rattle.model_core.specs.Actors as model
 use Rattle.model_core.specs.AnswerFits.{AnswerFits}
 use Rattle.model_core.specs.DataSide.{DataSide}
-use Rattle.model_core.specs.Layout.{index}
+use Rattle.model_core.specs.{answer_of, Core, index, lent, next, step_of, took}
 use Rattle.model_core.specs.LogSide.{LogSide}
-use Rattle.model_core.specs.Program.{lent, next, took}
-use Rattle.model_core.specs.Turn.{Core, Turn}
-use Rattle.model_core.specs.Waiting.{step_of}
-use Rattle.model_core.specs.WordTurn.{answer_of}
+use Rattle.model_core.specs.Turn.{Turn}
 use Rattle.model_core.specs.declared.ops.Answer.{Answer}
 use Rattle.model_core.specs.declared.ops.Step.{Step}
 use Rattle.model_core.specs.declared.words.Word.TheVariants as word
-use Rattle.model_running.specs.Bounds.{HasBytes}
-use Rattle.model_running.specs.RunningStore.{IsRunning}
-use Rattle.model_running.specs.Seating.{AreSeated}
+use Rattle.model_running.specs.{AreSeated, HasBytes, IsRunning}
 use Rattle.redo_disk.specs.Seen.{Seen}
-use Rattle.redo_logside.specs.LogPartSide.{has_failed}
+use Rattle.redo_logside.specs.{has_failed}
 use Rattle.redo_machine.specs.Lists.{lists_of}
 use Rattle.redo_machine.specs.Playing.{HasSamePages, HasWholePages, IsPlayable, IsPlayed, RunOf, data_of, log_of}
 use Rattle.redo_machine.specs.Views.{view_of, views_of}
 use Rattle.redo_machine.specs.declared.actor.Actor.{Actor}
 use Rattle.redo_machine.specs.declared.parts.Parts.{Parts}
-use Rattle.redo_words.specs.Lending.{Lends}
+use Rattle.redo_words.specs.{Lends}
 use Rattle.redo_words.specs.declared.lent.Lent.{Lent}
 
 -- An actor may have its turn: what it asks for may be played, and any answer to it is one that it may take.

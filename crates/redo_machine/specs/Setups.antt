@@ -1,21 +1,19 @@
 -- What never changes in the run of a script on a store, and its actors as it begins.
 use Rattle.std.specs.Prelude.{Bool, List, [], cond, false, length, map, true, ℕ, ◌++◌, ◌+◌, ◌==◌, ◌∷◌}
 use Rattle.model_base.specs.declared.shape.Shape.{Shape}
-use Rattle.model_changes.specs.Changes.{collected}
-use Rattle.model_core.specs.Actors.{Actor}
+use Rattle.model_changes.specs.{collected}
+use Rattle.model_core.specs.{Actor, Line, new_checkpointer, new_cleaner, new_closer, new_flusher, new_user, new_writer, UserState}
 use Rattle.model_core.specs.Actors as actor
-use Rattle.model_core.specs.NewActors.{new_checkpointer, new_cleaner, new_closer, new_flusher, new_user, new_writer}
 use Rattle.model_core.specs.Setup.{Setup}
-use Rattle.model_core.specs.States.{Line, UserState}
-use Rattle.model_history.specs.Legal.{lines_of_user}
-use Rattle.model_log.specs.Lsn.{sn_of}
+use Rattle.model_history.specs.{lines_of_user}
+use Rattle.model_log.specs.{sn_of}
 use Rattle.model_page.specs.declared.content.Content.{Content}
 use Rattle.model_record.specs.declared.rec.Rec.{Rec}
-use Rattle.model_script.specs.LineGroup.{group_of}
+use Rattle.model_script.specs.{group_of}
 use Rattle.model_script.specs.declared.misfit.TheConstants.{MAX_USERS}
 use Rattle.model_script.specs.declared.script.ScriptLine.{ScriptLine}
 use Rattle.redo_machine.specs.StartWords.{opened_page}
-use Rattle.redo_useractor.specs.Lines.{lines_of}
+use Rattle.redo_useractor.specs.{lines_of}
 
 -- the lines of a user, each a mode and a group
 abbrev pub user_lines : (space : ℕ) → List ScriptLine → (user : ℕ) → List (ℕ × List Rec)

@@ -1,17 +1,15 @@
 -- The words of a store as a run begins on its pages.
 use Rattle.std.specs.Prelude.{List, Some, get_or, length, replicate, slice_get, slice_index, slice_set, ℕ, ◌%◌, ◌++◌, ◌-◌, ◌/◌, ◌<◌, ◌≡◌, ◌≤◌}
 use Rattle.model_base.specs.declared.limits.TheConstants.{BLOCK_SIZE, MAX_PAGES, USER_BYTES, USER_START}
-use Rattle.model_core.specs.Groups.{KeptPage}
-use Rattle.model_core.specs.Layout.{IsSized, SharedWords, flat, page_words_at, with_page_words}
-use Rattle.model_core.specs.Lsn.{lsn}
+use Rattle.model_core.specs.{flat, IsSized, KeptPage, lsn, page_words_at, SharedWords, with_page_words}
 use Rattle.model_core.specs.Setup.{Setup}
 use Rattle.model_core.specs.declared.limits.TheConstants.{BUFFER_BLOCKS}
-use Rattle.model_log.specs.Lsn.{sn_of}
+use Rattle.model_log.specs.{sn_of}
 use Rattle.model_log.specs.declared.layout.TheConstants.{BLOCK_HEADER}
-use Rattle.model_logcore.specs.Start.{StartWords}
+use Rattle.model_logcore.specs.{StartWords}
 use Rattle.model_page.specs.declared.content.Content.{Content}
 use Rattle.model_page.specs.declared.page.TheConstants.{TRAILER_LENGTH}
-use Rattle.model_running.specs.StartStore.{StartPageWords}
+use Rattle.model_running.specs.{StartPageWords}
 use Rattle.redo_words.specs.Plain.{Plain}
 
 -- the cells of a page's frame: its user bytes, and 0 before and behind them, where the running store keeps nothing

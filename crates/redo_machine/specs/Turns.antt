@@ -1,7 +1,7 @@
 -- The turns of a run.
 use Rattle.std.specs.Prelude.{List, ℕ, ◌/◌, ◌<◌, ◌≡◌}
-use Rattle.model_running.specs.Schedule.{IsDone, IsSpent}
-use Rattle.model_script.specs.Generator.{first_state, state_after}
+use Rattle.model_running.specs.{IsDone, IsSpent}
+use Rattle.model_script.specs.{first_state, state_after}
 use Rattle.redo_disk.specs.Seen.{Seen}
 use Rattle.redo_machine.specs.Playing.{RunOf, data_of, log_of}
 use Rattle.redo_machine.specs.Running.{core_of}

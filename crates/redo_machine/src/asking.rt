@@ -1,10 +1,9 @@
 // What all actors have in common.
 ghost use Rattle.std.specs.Prelude.{◌≡◌};
 ghost use Rattle.model_core.specs.AnswerFits.{AnswerFits};
-ghost use Rattle.model_core.specs.Program.{lent, next, took};
-ghost use Rattle.model_core.specs.Waiting.{step_of};
+ghost use Rattle.model_core.specs.{lent, next, step_of, took};
 ghost use Rattle.redo_machine.specs.Views.{view_of};
-ghost use Rattle.redo_words.specs.Lending.{Lends};
+ghost use Rattle.redo_words.specs.{Lends};
 
 use crate::actor::Actor;
 use redo_words::{Answer, Lent, Op, Step};

@@ -2,17 +2,15 @@
 ghost use Rattle.std.specs.Prelude.{◌≡◌, ◌==◌, if◌then◌else◌, ℕ};
 ghost use Rattle.model_base.specs.declared.shape.Shape.{Shape};
 ghost use Rattle.model_core.specs.Actors as model;
-ghost use Rattle.model_core.specs.Groups.{KeptPage};
-ghost use Rattle.model_core.specs.Turn.{DataServed, LogServed};
+ghost use Rattle.model_core.specs.{DataServed, KeptPage, LogServed};
 ghost use Rattle.model_core.specs.declared.ops.Op.TheVariants as op;
 ghost use Rattle.redo_dataside.specs.DataPartSide as data_part;
-ghost use Rattle.redo_disk.specs.Calls.{EndWith};
-ghost use Rattle.redo_disk.specs.Made.{MakesCalls};
+ghost use Rattle.redo_disk.specs.{EndWith, MakesCalls};
 ghost use Rattle.redo_logdev.specs.Part as log_dev;
 ghost use Rattle.redo_logside.specs.LogPartSide as log_part;
 ghost use Rattle.redo_machine.specs.Playing.{HasWholePages, MayBatchLent, MayWriteLent};
 ghost use Rattle.redo_store.specs.Part as store_dev;
-ghost use Rattle.redo_words.specs.Lending.{Lends};
+ghost use Rattle.redo_words.specs.{Lends};
 
 use redo_dataside::write_batch;
 use redo_disk::Sectors;

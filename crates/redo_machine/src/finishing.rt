@@ -1,9 +1,8 @@
 // A store behind its run.
 ghost use Rattle.std.specs.Prelude.{◌≡◌, ◌≤◌, [], length, slice_index, vec_capacity};
-ghost use Rattle.model_core.specs.Layout.{IsWord, index};
-ghost use Rattle.model_core.specs.Lsn.{lsn};
+ghost use Rattle.model_core.specs.{index, IsWord, lsn};
 ghost use Rattle.model_core.specs.declared.words.Word.TheVariants as word_is;
-ghost use Rattle.model_finish.specs.History.{history_of, marks_in, word_marks};
+ghost use Rattle.model_finish.specs.{history_of, marks_in, word_marks};
 ghost use Rattle.redo_machine.specs.Playing.{RunOf};
 ghost use Rattle.redo_machine.specs.Running.{IsOnRun, RunsOn};
 

@@ -1,6 +1,6 @@
 // The history of a run.
 ghost use Rattle.std.specs.Prelude.{ℕ, [], ◌++◌, ◌+◌, ◌≡◌, ◌<◌, ◌≤◌, if◌then◌else◌, length, nat_lt, slice_index, slice_index_or, vec_capacity};
-ghost use Rattle.model_history.specs.Answered.{state_by};
+ghost use Rattle.model_history.specs.{state_by};
 ghost use Rattle.model_history.specs.declared.entry.State.TheVariants as state;
 ghost use Rattle.redo_machine.specs.History.{HasGroups, HasReserved, ListsInOrder, all_listed, listed, listed_from, listed_group};
 ghost use Rattle.redo_machine.specs.Views.{view_of};

@@ -2,7 +2,7 @@
 // citing a function that does nothing.
 ghost use Rattle.std.specs.Prelude.{List, ℕ, ◌<◌};
 ghost use Rattle.model_core.specs.declared.ops.Step.{Step};
-ghost use Rattle.model_running.specs.Watermarks.{HasWatermarks};
+ghost use Rattle.model_running.specs.{HasWatermarks};
 ghost use Rattle.redo_machine.specs.Playing.{RunOf, data_of, log_of};
 ghost use Rattle.redo_machine.specs.Running.{RunsOn, TakesTurn, code_in, core_of};
 ghost use Rattle.redo_machine.specs.declared.actor.Actor.{Actor};

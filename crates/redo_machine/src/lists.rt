@@ -1,6 +1,6 @@
 // The flush lists of a store.
 ghost use Rattle.std.specs.Prelude.{◌≡◌, ◌<◌, ◌%◌, ◌+◌, IfOk};
-ghost use Rattle.model_core.specs.FlushLists.{Each, oldest_end, oldest_of};
+ghost use Rattle.model_core.specs.{Each, oldest_end, oldest_of};
 ghost use Rattle.model_core.specs.declared.limits.TheConstants.{CLOSED_LINKS};
 ghost use Rattle.redo_machine.specs.Lists.{AreLists, added, empty_lists, lists_of, removed};
 

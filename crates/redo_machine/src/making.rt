@@ -1,13 +1,12 @@
 // A store as its run begins.
 ghost use Rattle.std.specs.Prelude.{◌≡◌, ◌≤◌, ◌<◌, ◌+◌, ◌^◌, IfErr, IfOk};
 ghost use Rattle.std.specs.List.{AllByRecursion};
-ghost use Rattle.model_base.specs.Limits.{IsWithinLimits};
+ghost use Rattle.model_base.specs.{IsWithinLimits};
 ghost use Rattle.model_base.specs.declared.limits.TheConstants.{START_LSN};
-ghost use Rattle.model_log.specs.Lsn.{IsAtDataStart};
+ghost use Rattle.model_log.specs.{IsAtDataStart};
 ghost use Rattle.model_log.specs.declared.layout.TheConstants.{BLOCK_HEADER};
-ghost use Rattle.model_script.specs.Fit.{LineFits};
-ghost use Rattle.model_script.specs.Ranges.{IsScriptLine};
-ghost use Rattle.redo_apply.specs.Fits.{ArePagesOf};
+ghost use Rattle.model_script.specs.{IsScriptLine, LineFits};
+ghost use Rattle.redo_apply.specs.{ArePagesOf};
 ghost use Rattle.redo_machine.specs.Beginning.{BeginsRun, MayBegin};
 ghost use Rattle.redo_machine.specs.Making.{IsOwnOf};
 

@@ -1,6 +1,6 @@
 // Which user of a run hasn't ended.
 ghost use Rattle.std.specs.Prelude.{◌≡◌, MatchOption};
-ghost use Rattle.model_running.specs.Schedule.{HasEnded, HaveEnded};
+ghost use Rattle.model_running.specs.{HasEnded, HaveEnded};
 ghost use Rattle.redo_machine.specs.OpenUsers.{IsFirstOpen, IsOpen, IsOpenUser, IsOver};
 ghost use Rattle.redo_machine.specs.Views.{view_of, views_of};
 

@@ -1,18 +1,15 @@
 // Playing the Ops of an actor.
 ghost use Rattle.std.specs.Prelude.{◌≡◌, ◌==◌, ◌%◌, ◌<◌, ◌+◌, ℕ, if◌then◌else◌, slice_index, slice_set, None};
 ghost use Rattle.model_core.specs.Actors as model;
-ghost use Rattle.model_core.specs.FlushLists.{Each, oldest_end, oldest_of};
-ghost use Rattle.model_core.specs.Layout.{IsWord, index};
-ghost use Rattle.model_core.specs.Turn.{list_word};
-ghost use Rattle.model_core.specs.WordTurn.{answer_of, list_answer, words_left};
+ghost use Rattle.model_core.specs.{answer_of, Each, index, IsWord, list_answer, list_word, oldest_end, oldest_of, words_left};
 ghost use Rattle.model_core.specs.declared.limits.TheConstants.{CLOSED_LINKS};
 ghost use Rattle.model_core.specs.declared.ops.Op.TheVariants as op;
 ghost use Rattle.model_core.specs.declared.words.Word.TheVariants as word_is;
-ghost use Rattle.redo_logside.specs.LogPartSide.{has_failed};
+ghost use Rattle.redo_logside.specs.{has_failed};
 ghost use Rattle.redo_machine.specs.Calls.{CallOnBoth};
 ghost use Rattle.redo_machine.specs.Lists.{added, lists_of, removed};
 ghost use Rattle.redo_machine.specs.Playing.{HasSameDevices, HasSamePages, HasWholePages, IsPlayable, IsPlayed, RunOf};
-ghost use Rattle.redo_words.specs.Lending.{Lends};
+ghost use Rattle.redo_words.specs.{Lends};
 
 use crate::calling::{call_batch, call_write, called};
 use crate::parts::Parts;

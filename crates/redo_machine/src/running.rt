@@ -1,6 +1,6 @@
 // A run by turns.
 ghost use Rattle.std.specs.Prelude.{◌≡◌, ◌<◌, ◌+◌, ℕ};
-ghost use Rattle.model_running.specs.Schedule.{seat_of_turn};
+ghost use Rattle.model_running.specs.{seat_of_turn};
 ghost use Rattle.redo_machine.specs.Calls.{CallOnBoth};
 ghost use Rattle.redo_machine.specs.Playing.{RunOf};
 ghost use Rattle.redo_machine.specs.Running.{IsOnRun, RunsOn};

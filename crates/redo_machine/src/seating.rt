@@ -1,12 +1,11 @@
 // The actors of a run, in their seats.
 ghost use Rattle.std.specs.Prelude.{◌≡◌, ◌≤◌, ◌<◌, ◌^◌, IfOk, map};
 ghost use Rattle.std.specs.List.{AllByRecursion};
-ghost use Rattle.model_base.specs.Limits.{IsWithinLimits};
+ghost use Rattle.model_base.specs.{IsWithinLimits};
 ghost use Rattle.model_core.specs.Actors as actor;
-ghost use Rattle.model_log.specs.Lsn.{IsAtDataStart};
+ghost use Rattle.model_log.specs.{IsAtDataStart};
 ghost use Rattle.model_base.specs.declared.limits.TheConstants.{FIRST_DATA_LSN};
-ghost use Rattle.model_script.specs.Fit.{LineFits};
-ghost use Rattle.model_script.specs.Ranges.{IsScriptLine};
+ghost use Rattle.model_script.specs.{IsScriptLine, LineFits};
 ghost use Rattle.redo_machine.specs.Setups.{start_actors, user_lines, users_of};
 ghost use Rattle.redo_machine.specs.Views.{views_of};
 

@@ -1,8 +1,8 @@
 // The words of a store as a run begins.
 ghost use Rattle.std.specs.Prelude.{◌<◌, ◌≡◌, ◌≤◌, ℕ, IfOk, length, slice_index};
-ghost use Rattle.model_core.specs.Layout.{IsWord, SharedWords, wrote};
+ghost use Rattle.model_core.specs.{IsWord, SharedWords, wrote};
 ghost use Rattle.model_core.specs.Setup.{Setup};
-ghost use Rattle.model_log.specs.Lsn.{IsAtDataStart};
+ghost use Rattle.model_log.specs.{IsAtDataStart};
 ghost use Rattle.redo_machine.specs.StartWords.{AreFullPages, AreNamed, AreStartWords, HoldBytes, IsBlankFrame, StartsOn, page_cells, with_frame, with_log};
 
 use model_base::{BLOCK_SIZE, USER_BYTES, USER_START};

@@ -2,10 +2,9 @@
 use Rattle.std.proofs.Common.{◌≡◌, ◌+◌, ◌<◌, ℕ, List, [], ◌∷◌, length, get_or, take, refl, sym, ap, subst, ◌∙◌}
 use Rattle.std.proofs.lemmas.List.Elements.{All-head, All-tail, All-take, All-get_or, All-weaker}
 use Rattle.std.proofs.lemmas.List.Sums.{fold_more}
-use Rattle.model_device.specs.Disk.{after_write, after_writes}
-use Rattle.model_device.specs.Within.{AreSectorWrites, AreWithin, IsSectorWrite, IsWithin}
+use Rattle.model_device.specs.{after_write, after_writes, AreSectorWrites, AreWithin, IsSectorWrite, IsWithin}
 use Rattle.model_device.specs.declared.write.Write.{Write}
-use Rattle.redo_disk.specs.Seen.{HasSize}
+use Rattle.redo_disk.specs.{HasSize}
 use Rattle.model_device.proofs.Overwritten.{length-overwritten}
 
 pub length-after_writes : (row : List ℕ) (writes : List Write) → AreWithin (length row) writes → length (after_writes row writes) ≡ length row

@@ -1,12 +1,11 @@
 -- What calls through a fuse leave: one call, then calls in a row.
 use Rattle.std.proofs.Common.{ℕ, ◌≡◌, ◌≤◌, ◌<◌, ◌+◌, Bool, true, false, List, [], ◌∷◌, length, Option, Ok, Err, IsErrOf, refl, sym, ap, subst, ◌∙◌, inl, inr, ⊎_elim, arith}
 use Rattle.std.proofs.lemmas.Bool.{cases_lt}
-use Rattle.model_base.specs.Count.{HasRisen}
+use Rattle.model_base.specs.{HasRisen}
 use Rattle.model_device.specs.declared.write.Write.{Write}
 use Rattle.redo_disk.specs.declared.error.DevError.{DevError}
 use Rattle.redo_disk.specs.declared.error.DevError.TheVariants.{Failed, NoMemory}
-use Rattle.redo_disk.specs.Calls.{Answer, Call, Reads, Writes, Syncs, answer_of, changes, changing_calls, error_of, failed_calls, failures, EndWith, MayEndWith, ReadsEndWith, ReadsMayEndWith, Request, Serve}
-use Rattle.redo_disk.specs.Made.{Makes, MakesCalls}
+use Rattle.redo_disk.specs.{Answer, answer_of, Call, changes, changing_calls, EndWith, error_of, failed_calls, failures, Makes, MakesCalls, MayEndWith, Reads, ReadsEndWith, ReadsMayEndWith, Request, Serve, Syncs, Writes}
 use Rattle.redo_disk.specs.Seen.{Seen}
 use Rattle.redo_memdisk.specs.Counted.{CountsCalls, EndsThrough, KeepsBehind, ReadsEndThrough, Through, after_calls, after_one}
 use Rattle.redo_memdisk.specs.Fuse.{fails_next}

@@ -1,10 +1,10 @@
 -- What a fuse counts, one call and then the others.
 use Rattle.std.proofs.Common.{ℕ, zero, suc, ◌≡◌, ◌≤◌, ◌<◌, ◌+◌, ◌⊎◌, inl, inr, Bool, true, false, if◌then◌else◌, Option, Some, None, Ok, Err, IfSome, refl, sym, ap, subst, ◌∙◌, ⊎_elim, arith, zero-add}
 use Rattle.std.proofs.lemmas.Bool.{cases_lt, false≢true}
-use Rattle.model_base.specs.Count.{HasRisen, last_count}
-use Rattle.redo_io.specs.Plan.{next_count}
+use Rattle.model_base.specs.{HasRisen, last_count}
+use Rattle.redo_io.specs.{next_count}
 use Rattle.redo_disk.specs.declared.error.DevError.TheVariants.{Failed, NoMemory}
-use Rattle.redo_disk.specs.Calls.{Answer, failures, error_of}
+use Rattle.redo_disk.specs.{Answer, error_of, failures}
 use Rattle.redo_memdisk.specs.Counted.{CountsCalls, counted, before_arming, while_stopping, after_crash}
 use Rattle.redo_memdisk.specs.Fuse.{after_call, after_change, after_own, after_passed, fails_next, has_passed_all, is_failed, with_change}
 use Rattle.redo_memdisk.specs.declared.fuse.Fuse.{Fuse}

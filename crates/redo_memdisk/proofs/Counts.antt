@@ -1,10 +1,10 @@
 -- A count of faults that is made of two: a device's own, and that of the fuse round it.
 use Rattle.std.proofs.Common.{Bool, true, false, refl, ap, ◌∙◌, ◌≡◌, ◌+◌, ◌≤◌, ℕ, Result, inl, inr, ⊎_elim, arith}
 use Rattle.std.proofs.lemmas.Bool.{cases_lt}
-use Rattle.model_base.specs.Count.{HasRisen, last_count}
-use Rattle.redo_io.specs.Plan.{next_count}
+use Rattle.model_base.specs.{HasRisen, last_count}
+use Rattle.redo_io.specs.{next_count}
 use Rattle.redo_disk.specs.declared.error.DevError.{DevError}
-use Rattle.redo_disk.specs.Seen.{HasCause}
+use Rattle.redo_disk.specs.{HasCause}
 use Rattle.redo_memdisk.specs.declared.fuse.Fuse.{Fuse}
 use Rattle.redo_memdisk.specs.Fuse.{after_call, after_change, after_passed, fails_next, with_change}
 use Rattle.redo_memdisk.specs.declared.fuse.Stage.{Stage}

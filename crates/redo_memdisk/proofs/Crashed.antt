@@ -1,13 +1,11 @@
 -- What a device in memory means after a call.
 use Rattle.std.proofs.Common.{◌≡◌, ◌++◌, [], ◌∷◌, ℕ, List, length, Option, Some, refl, sym, ap, subst, ◌∙◌, arith}
 use Rattle.std.proofs.lemmas.List.Sums.{fold-append}
-use Rattle.model_device.specs.Disk.{Disk, after_write}
-use Rattle.model_device.specs.Calls.{Crashes, FailsWrite, written}
-use Rattle.model_device.specs.Crash.{crash_image, crashed}
-use Rattle.model_device.specs.Within.{AreSectorWrites}
+use Rattle.model_device.specs.{after_write, AreSectorWrites, crash_image, crashed, Crashes, FailsWrite, written}
+use Rattle.model_device.specs.Disk.{Disk}
 use Rattle.model_device.specs.declared.write.Write.{Write}
 use Rattle.model_device.proofs.CrashParts.{IsImage-crash_image}
-use Rattle.redo_disk.specs.Seen.{CrashStep, IsRange, write_at}
+use Rattle.redo_disk.specs.{CrashStep, IsRange, write_at}
 use Rattle.redo_memdisk.specs.Memory.{pending_disk}
 use Rattle.redo_memdisk.proofs.Applied.{HasSize-sectors}
 use Rattle.redo_memdisk.proofs.Writes.{FailsWrite-written}

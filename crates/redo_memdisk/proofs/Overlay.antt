@@ -1,8 +1,8 @@
 -- What a part of a row shows of a write into the row.
 use Rattle.std.proofs.Common.{◌≡◌, ◌+◌, ◌-◌, ◌<◌, ◌≤◌, ℕ, List, length, get_or, take, drop, max, min, ap, ◌∙◌, arith, rules}
 use Rattle.std.proofs.lemmas.List.{places, same_lists, get_or-take, get_or-drop}
-use Rattle.model_base.specs.Overwrite.{overwritten}
-use Rattle.redo_disk.specs.Seen.{part}
+use Rattle.model_base.specs.{overwritten}
+use Rattle.redo_disk.specs.{part}
 use borrow.Rule.Slice.PartMut.{put_mid}
 
 -- the part and the write have something in common, from one offset up to another

@@ -5,11 +5,10 @@ use Rattle.std.proofs.lemmas.List.{drop-drop, length-take-le, append-nil}
 use Rattle.std.proofs.lemmas.Bool.{ne_eqb}
 use Rattle.std.proofs.lemmas.Grind.{flat_map-append}
 use Rattle.std.proofs.lemmas.List.Sums.{fold-append}
-use Rattle.model_base.specs.Overwrite.{overwritten}
+use Rattle.model_base.specs.{overwritten}
 use Rattle.model_base.specs.declared.limits.TheConstants.{BLOCK_SIZE}
 use Rattle.model_device.specs.declared.write.Write.{Write}
-use Rattle.model_device.specs.Disk.{after_write, after_writes}
-use Rattle.model_device.specs.Crash.{sectors_from, sector_writes, survives, survivors}
+use Rattle.model_device.specs.{after_write, after_writes, sector_writes, sectors_from, survives, survivors}
 
 -- one sector of a write as a write
 abbrev pub sector_write : ℕ → ℕ → List ℕ → Write

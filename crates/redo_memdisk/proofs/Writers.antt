@@ -3,7 +3,7 @@ use Rattle.std.proofs.Common.{◌≡◌, ℕ, zero, suc, ◌<◌, inl, inr, Bool
 use Rattle.std.specs.List.{HoldsAt, AllWithin}
 use Rattle.std.proofs.lemmas.Bool.{false≢true}
 use Rattle.model_device.specs.declared.write.Write.{Write}
-use Rattle.model_device.specs.Disk.{Covers, written_sector, IsWrittenBy}
+use Rattle.model_device.specs.{Covers, IsWrittenBy, written_sector}
 
 -- the write puts these bytes into the sector
 abbrev pub Puts : ℕ → List ℕ → Write → Type 0

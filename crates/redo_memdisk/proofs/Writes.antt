@@ -1,12 +1,11 @@
 -- A write that is done when the call says that it failed.
 use Rattle.std.proofs.Common.{ℕ, List, length, refl, inl, inr, ⊎_elim, arith}
-use Rattle.model_device.specs.Disk.{Disk, after_write}
-use Rattle.model_device.specs.Calls.{written, FailsWrite, IsMixed}
-use Rattle.model_device.specs.Within.{IsSectorWrite}
+use Rattle.model_device.specs.{after_write, FailsWrite, IsMixed, IsSectorWrite, written}
+use Rattle.model_device.specs.Disk.{Disk}
 use Rattle.model_device.specs.declared.write.Write.{Write}
 use Rattle.model_device.proofs.Images.{sector-after_write}
 use Rattle.model_device.proofs.Overwritten.{length-overwritten}
-use Rattle.redo_disk.specs.Seen.{IsRange, HasSize, write_at}
+use Rattle.redo_disk.specs.{HasSize, IsRange, write_at}
 
 -- a write that is done whole changes the sectors that it covers
 IsMixed-after_write : (write : Write) (old : List ℕ) → IsSectorWrite (length old) write → IsMixed write old (after_write old write)

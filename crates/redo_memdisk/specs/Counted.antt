@@ -1,8 +1,8 @@
 -- What a fuse tells after calls through it.
 use Rattle.std.specs.Prelude.{ℕ, zero, suc, ◌≡◌, ◌≤◌, ◌<◌, ◌+◌, ◌⊎◌, List, [], ◌∷◌, length, Option, IsTrue, IfSome}
-use Rattle.model_base.specs.Count.{HasRisen}
-use Rattle.redo_io.specs.Plan.{next_count}
-use Rattle.redo_disk.specs.Calls.{Call, Reads, Writes, Syncs, changing_calls, failed_calls, failures}
+use Rattle.model_base.specs.{HasRisen}
+use Rattle.redo_io.specs.{next_count}
+use Rattle.redo_disk.specs.{Call, changing_calls, failed_calls, failures, Reads, Syncs, Writes}
 use Rattle.redo_disk.specs.Seen.{Seen}
 use Rattle.redo_disk.specs.declared.error.DevError.{DevError}
 use Rattle.redo_memdisk.specs.Fuse.{after_call, after_change, fails_next, is_failed}

@@ -1,6 +1,6 @@
 -- A fuse lets so many calls of a device through and fails those after them, from when it is armed to the crash.
 use Rattle.std.specs.Prelude.{ℕ, nat_le, Bool, true, false, if◌then◌else◌, Option, Some, None, Result, Ok, Err}
-use Rattle.redo_io.specs.Plan.{next_count, next_count_if}
+use Rattle.redo_io.specs.{next_count, next_count_if}
 use Rattle.redo_disk.specs.declared.error.DevError.{DevError}
 use Rattle.redo_disk.specs.declared.error.DevError.TheVariants.{Failed, NoMemory}
 use Rattle.redo_memdisk.specs.declared.fuse.Fuse.{Fuse}

@@ -5,9 +5,8 @@ use Rattle.std.specs.Prelude.{ℕ, ◌≡◌, ◌<◌, ◌+◌, List, length, fa
 use Rattle.std.specs.Option.{option_map, option_and_then}
 use Rattle.model_device.specs.Disk.{Disk}
 use Rattle.model_device.specs.declared.write.Write.{Write}
-use Rattle.redo_disk.specs.Calls.{Call, Reads, Writes, Syncs}
-use Rattle.redo_disk.specs.Made.{MakesCall}
-use Rattle.redo_disk.specs.Seen.{Seen, ReadStep, WriteStep, SyncStep, CrashStep}
+use Rattle.redo_disk.specs.{Call, CrashStep, MakesCall, Reads, ReadStep, Syncs, SyncStep, Writes, WriteStep}
+use Rattle.redo_disk.specs.Seen.{Seen}
 use Rattle.redo_disk.specs.declared.error.DevError.{DevError}
 use Rattle.redo_disk.specs.declared.error.DevError.TheVariants.{Failed}
 use Rattle.redo_memdisk.specs.Fuse.{after_call, after_change, crashed_with, fails_next, is_failed}

@@ -1,12 +1,11 @@
 -- A device in memory: what it means, and what its calls do to it.
 use Rattle.std.specs.Prelude.{ℕ, ◌≡◌, if◌then◌else◌, List, length, Option, Some, Result, Ok, Err, OnOk, OnErr}
-use Rattle.model_device.specs.Disk.{Disk, after_writes}
-use Rattle.model_device.specs.Calls.{written, synced}
-use Rattle.model_device.specs.Crash.{crashed}
+use Rattle.model_device.specs.{after_writes, crashed, synced, written}
+use Rattle.model_device.specs.Disk.{Disk}
 use Rattle.model_device.specs.declared.write.Write.{Write}
-use Rattle.redo_io.specs.Plan.{Planned, after_call, fails_now}
-use Rattle.redo_disk.specs.Calls.{Call, Reads, Writes, Syncs}
-use Rattle.redo_disk.specs.Seen.{Seen, part}
+use Rattle.redo_io.specs.{after_call, fails_now, Planned}
+use Rattle.redo_disk.specs.{Call, part, Reads, Syncs, Writes}
+use Rattle.redo_disk.specs.Seen.{Seen}
 use Rattle.redo_disk.specs.declared.error.DevError.{DevError}
 use Rattle.redo_disk.specs.declared.error.DevError.TheVariants.{Failed, NoMemory}
 

@@ -1,11 +1,9 @@
 // Writes that are put into a row of bytes, and a crash that keeps some of their sectors.
 ghost use Rattle.std.specs.Prelude.{ℕ, List, ◌≡◌, ◌+◌, ◌≤◌, ◌<◌, ◌^◌, ◌%◌, length, IfOk};
 ghost use Rattle.std.specs.List.{flat_map};
-ghost use Rattle.model_base.specs.Overwrite.{overwritten};
-ghost use Rattle.model_device.specs.Crash.{sector_writes, survivors};
-ghost use Rattle.model_device.specs.Disk.{after_write, after_writes};
-ghost use Rattle.model_device.specs.Within.{AreWithin, IsWithin};
-ghost use Rattle.redo_disk.specs.Seen.{part};
+ghost use Rattle.model_base.specs.{overwritten};
+ghost use Rattle.model_device.specs.{after_write, after_writes, AreWithin, IsWithin, sector_writes, survivors};
+ghost use Rattle.redo_disk.specs.{part};
 
 use crate::SECTOR;
 use model_device::Write;

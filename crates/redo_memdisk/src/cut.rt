@@ -1,9 +1,7 @@
 // A write that a stop cuts.
 ghost use Rattle.std.specs.Prelude.{◌≡◌, length, Result};
-ghost use Rattle.model_device.specs.Calls.{FailsWrite};
-ghost use Rattle.redo_disk.specs.Calls.{Writes};
-ghost use Rattle.redo_disk.specs.Made.{MakesCall};
-ghost use Rattle.redo_disk.specs.Seen.{IsRange, OnTold, WriteStep, write_at};
+ghost use Rattle.model_device.specs.{FailsWrite};
+ghost use Rattle.redo_disk.specs.{IsRange, MakesCall, OnTold, write_at, Writes, WriteStep};
 ghost use Rattle.redo_disk.specs.declared.error.DevError.{DevError};
 
 use redo_disk::Sectors;

@@ -1,6 +1,6 @@
 // A device in a file.
 ghost use Rattle.std.specs.Prelude.{◌≡◌};
-ghost use Rattle.redo_disk.specs.Seen.{HasCause};
+ghost use Rattle.redo_disk.specs.{HasCause};
 ghost use Rattle.redo_memdisk.specs.File.{file_faults, file_seen};
 
 use redo_disk::{DevError, Sectors};

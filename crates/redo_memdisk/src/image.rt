@@ -1,6 +1,6 @@
 // Whether a crash may leave these bytes: the definition of an image, tried out.
 ghost use Rattle.std.specs.Prelude.{◌≡◌, ◌+◌, ◌*◌, ◌^◌, ◌≤◌, ◌<◌, ◌⊎◌, ◌↔◌, length, take, drop, IsTrue};
-ghost use Rattle.model_device.specs.Disk.{sector, Covers, written_sector, IsWrittenBy, IsImage};
+ghost use Rattle.model_device.specs.{Covers, IsImage, IsWrittenBy, sector, written_sector};
 
 use crate::SECTOR;
 use model_device::Write;

@@ -1,7 +1,6 @@
 // What calls through a fuse leave, whatever code made them. Each law is the contract of a function that does nothing.
 ghost use Rattle.std.specs.Prelude.{◌≡◌, List, length};
-ghost use Rattle.redo_disk.specs.Calls.{Call, changing_calls, failed_calls};
-ghost use Rattle.redo_disk.specs.Made.{Makes};
+ghost use Rattle.redo_disk.specs.{Call, changing_calls, failed_calls, Makes};
 ghost use Rattle.redo_memdisk.specs.Counted.{CountsCalls, KeepsBehind, after_calls};
 ghost use Rattle.redo_memdisk.specs.Fused.{CallsThrough, fuse_of};
 ghost use Rattle.redo_memdisk.specs.declared.fused.Fused.{Fused};

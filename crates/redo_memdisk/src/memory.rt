@@ -1,10 +1,8 @@
 // A device in memory.
 ghost use Rattle.std.specs.Prelude.{◌≡◌, ◌%◌, [], length, replicate, IfOk, None};
-ghost use Rattle.model_device.specs.Disk.{settled};
-ghost use Rattle.redo_io.specs.Plan.{unused};
-ghost use Rattle.redo_disk.specs.Calls.{Reads, Writes, Syncs};
-ghost use Rattle.redo_disk.specs.Made.{MakesCall};
-ghost use Rattle.redo_disk.specs.Seen.{IsRange, ReadStep, WriteStep, SyncStep, CrashStep, write_at};
+ghost use Rattle.model_device.specs.{settled};
+ghost use Rattle.redo_io.specs.{unused};
+ghost use Rattle.redo_disk.specs.{CrashStep, IsRange, MakesCall, Reads, ReadStep, Syncs, SyncStep, write_at, Writes, WriteStep};
 ghost use Rattle.redo_memdisk.specs.Memory.{CrashesMemory, MemGives, mem_seen};
 
 use crate::apply::{apply_all, apply_survivors, read_through};
@@ -32,7 +30,7 @@ pub struct MemDisk {
 impl Model for MemDisk {
     ghost use Rattle.std.specs.Prelude.{length};
     ghost use Rattle.std.specs.Option.{option_map};
-    ghost use Rattle.model_device.specs.Within.{AreSectorWrites};
+    ghost use Rattle.model_device.specs.{AreSectorWrites};
     ghost use Rattle.redo_memdisk.specs.Memory.{MemState, pending_disk};
 
     ghost Value = { MemState };

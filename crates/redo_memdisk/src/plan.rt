@@ -1,7 +1,7 @@
 // The calls of a device that are planned to fail.
 ghost use Rattle.std.specs.Prelude.{◌≡◌};
-ghost use Rattle.redo_io.specs.Plan.{after_call};
-ghost use Rattle.redo_disk.specs.Seen.{HasCause};
+ghost use Rattle.redo_io.specs.{after_call};
+ghost use Rattle.redo_disk.specs.{HasCause};
 ghost use Rattle.redo_memdisk.specs.Memory.{next_answer};
 
 use redo_disk::DevError;

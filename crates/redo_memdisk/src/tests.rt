@@ -1,7 +1,7 @@
 // Crashes, stops and failures of small devices, call by call.
 ghost use Rattle.std.specs.Prelude.{◌≡◌, ◌+◌, ◌*◌, ◌≤◌, length};
 ghost use Rattle.std.specs.Bool.{OnTrue};
-ghost use Rattle.model_device.specs.Within.{AreWithin};
+ghost use Rattle.model_device.specs.{AreWithin};
 
 mod counted_file;
 

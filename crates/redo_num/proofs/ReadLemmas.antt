@@ -7,8 +7,7 @@ use Rattle.std.specs.Int.{bytes_high_first}
 use Rattle.model_number.specs.declared.got.Got.{Got}
 use Rattle.model_number.specs.declared.got.Got.TheVariants.{Value, Short, Bad}
 use Rattle.model_number.specs.declared.table.Row.{Row}
-use Rattle.model_number.specs.Spelling.{spelling32, Spells32, IsFrontOf, BeginsWith, Gives}
-use Rattle.model_number.specs.Table.{SpellsIn, IsRow, HasAllFrom, BeginsNone}
+use Rattle.model_number.specs.{BeginsNone, BeginsWith, Gives, HasAllFrom, IsFrontOf, IsRow, spelling32, Spells32, SpellsIn}
 use Rattle.model_number.proofs.ByteLemmas.{AreBytes, AreBytes-of_number, AreBytes-back, AreBytes-take, bytes-number, bytes-parts, length-bytes_high_first, number_onto, number-append, number-bytes, number-lt, pow256_le, pow256_pos}
 use Rattle.model_number.proofs.SpellingLemmas.{length-spelling_in, length-spelling32, slice_index-append}
 

@@ -1,8 +1,6 @@
 // Reading a number's spelling off the front of bytes.
 ghost use Rattle.std.specs.Prelude.{◌≡◌, ◌≤◌, ◌<◌, length};
-ghost use Rattle.model_number.specs.Number.{number_from_bytes};
-ghost use Rattle.model_number.specs.Spelling.{Spells32, Spells64, Gives};
-ghost use Rattle.model_number.specs.Table.{IsRow, SpellsIn};
+ghost use Rattle.model_number.specs.{Gives, IsRow, number_from_bytes, Spells32, Spells64, SpellsIn};
 
 use crate::HALF;
 use crate::table::row_beginning_with;

@@ -1,22 +1,20 @@
 -- The calls of the data part, as they end.
 use Rattle.std.proofs.Common.{◌≡◌, ◌++◌, ℕ, List, [], ◌∷◌, Option, Some, None, Ok, Err, sym, ap, subst}
 use Rattle.model_base.specs.declared.shape.Shape.{Shape}
-use Rattle.redo_disk.specs.Calls.{Call, Reads, Writes, Syncs, EndWith, MayEndWith}
-use Rattle.redo_disk.specs.Made.{MakesCalls}
+use Rattle.redo_disk.specs.{Call, EndWith, MakesCalls, MayEndWith, Reads, Syncs, Writes}
 use Rattle.redo_disk.specs.declared.error.DevError.{DevError}
 use Rattle.redo_disk.specs.declared.error.DevError.TheVariants as device
 use Rattle.redo_disk.proofs.Calls.{MayEndWith-append, MayEndWith-no_memory}
 use Rattle.redo_disk.proofs.Made.{joined_calls, weaker_calls, out_of_memory}
 use Rattle.redo_logdev.specs.Part.{Part as Log}
 use Rattle.redo_open.specs.Opening.{Answer, IsStarted, OpensLog, log_left, data_left, log_error_in, data_error_in}
-use Rattle.redo_recover.specs.Calls.{BeginWithHeader, ReadsLog, ReadsPieces, log_error, data_error}
-use Rattle.redo_recover.specs.Devices.{log_fault_of, data_fault_of}
+use Rattle.redo_recover.specs.{BeginWithHeader, data_error, data_fault_of, log_error, log_fault_of, ReadsLog, ReadsPieces}
 use Rattle.redo_recover.specs.declared.fault.RecFault.{RecFault}
 use Rattle.redo_recover.specs.declared.fault.RecFault.TheVariants.{SmallLog, NotFormatted, BadFormat, SmallData, NoCheckpoint, BadRecord, PageLost, PageAhead, LogDev, DataDev, NoMemory}
 use Rattle.redo_open.specs.Mend.{IsPageFault}
 use Rattle.redo_recover.specs.declared.recovered.Recovered.{Recovered}
 use Rattle.redo_store.specs.Part.{Part}
-use Rattle.redo_store.specs.Requests.{RepairCalls}
+use Rattle.redo_store.specs.{RepairCalls}
 
 pub repair_ends : {D : Type 0} {gives : D → Call → D → Type 0} {old new : D} {shape : Shape} {page : ℕ} {error : Option DevError}
     → MakesCalls gives old new (RepairCalls shape page error) → MakesCalls gives old new (EndWith error)

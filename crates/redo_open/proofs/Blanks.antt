@@ -1,24 +1,21 @@
 -- Formatting, step by step.
 use Rattle.std.proofs.Common.{◌≡◌, ◌≤◌, ◌+◌, ◌*◌, ℕ, inl, inr, List, length, refl, sym, ap, subst, ◌∙◌, ⊎_elim, arith, lit≤, lit<}
-use Rattle.model_base.specs.Limits.{IsWithinLimits}
+use Rattle.model_base.specs.{IsWithinLimits}
 use Rattle.model_base.specs.declared.shape.Shape.{Shape}
-use Rattle.model_device.specs.Calls.{written, FailsWrite, synced}
-use Rattle.model_device.specs.Disk.{Disk, sector, IsImage, after_write, settled}
-use Rattle.model_device.specs.MayHold.{Adds, MayHold}
-use Rattle.model_device.specs.Within.{IsSectorWrite}
+use Rattle.model_device.specs.{Adds, after_write, FailsWrite, IsImage, IsSectorWrite, sector, settled, synced, written}
+use Rattle.model_device.specs.Disk.{Disk}
+use Rattle.model_device.specs.MayHold.{MayHold}
 use Rattle.model_device.specs.declared.write.Write.{Write}
 use Rattle.model_device.proofs.Images.{sector-after_write, settled_images}
 use Rattle.model_device.proofs.MayHold.{adds-written, adds-failed}
 use Rattle.model_device.proofs.Overwritten.{length-overwritten, part-overwritten_inside}
-use Rattle.model_log.specs.Device.{log_device_length}
-use Rattle.model_log.specs.Head.{head_text}
-use Rattle.model_log.specs.Lsn.{offset_of}
-use Rattle.model_logdev.specs.Held.{sector_of}
+use Rattle.model_log.specs.{head_text, log_device_length, offset_of}
+use Rattle.model_logdev.specs.{sector_of}
 use Rattle.model_logdev.proofs.Images.{sector-log_block}
 use Rattle.model_logdev.proofs.Places.{HasBlocks, sector-place, place-within, place-from}
-use Rattle.model_opening.specs.Cleared.{zero_block}
-use Rattle.model_page.specs.Copies.{data_device_length}
-use Rattle.redo_disk.specs.Seen.{HasSize}
+use Rattle.model_opening.specs.{zero_block}
+use Rattle.model_page.specs.{data_device_length}
+use Rattle.redo_disk.specs.{HasSize}
 use Rattle.redo_open.specs.Blank.{LosesHead, IsHeadless, HasNoHead, HasNoBlocks, MayHaveHead, HasHeadNow, HasBlankPages}
 use Rattle.redo_open.specs.Erase.{IsIn, Erases, HasErased}
 use Rattle.redo_open.specs.Mark.{IsSettledLog}

@@ -2,14 +2,12 @@
 use Rattle.std.proofs.Common.{◌≡◌, ◌≤◌, ◌+◌, ◌∙◌, ℕ, inl, List, length, Option, Some, None, refl, sym, ap, ap₂, subst, arith, lit<}
 use Rattle.std.specs.Prelude.{IfSome}
 use Rattle.model_device.specs.Disk.{Disk}
-use Rattle.model_log.specs.Checkpoint.{read_checkpoint}
-use Rattle.model_log.specs.Device.{log_device_length, newer, newest_checkpoint}
-use Rattle.model_store.specs.Reading.{Reading, IsOrderly}
-use Rattle.model_opening.specs.Cleared.{IsCleared, HasSameHeaders}
-use Rattle.model_opening.specs.Opened.{IsOpenable, KeepsOpened, start_of, start_block}
-use Rattle.model_opening.specs.Ready.{IsReady}
+use Rattle.model_log.specs.{log_device_length, newer, newest_checkpoint, read_checkpoint}
+use Rattle.model_store.specs.{IsOrderly}
+use Rattle.model_store.specs.Reading.{Reading}
+use Rattle.model_opening.specs.{HasSameHeaders, IsCleared, IsOpenable, IsReady, KeepsOpened, start_block, start_of}
 use Rattle.model_opening.proofs.Keeping.{openable-keeps, rewriting-keeps, marking-keeps, opened-ready}
-use Rattle.redo_disk.specs.Seen.{OnTold}
+use Rattle.redo_disk.specs.{OnTold}
 use Rattle.redo_open.specs.Clear.{IsClearable, ClearsBlocks, HasCleared}
 use Rattle.redo_open.specs.Devices.{HasSameCheckpoint, IsFrom, WhereBothTell}
 use Rattle.redo_open.specs.Mark.{IsSettledLog, MarksLog, HasMarked}

@@ -1,20 +1,19 @@
 -- The faults of opening and formatting, with their causes.
 use Rattle.std.proofs.Common.{◌≡◌, ℕ, inl, inr, Option, Some, None, Err, refl, sym, subst}
 use Rattle.std.specs.Prelude.{IfSome, IsErrOf}
-use Rattle.model_base.specs.Count.{HasRisen}
+use Rattle.model_base.specs.{HasRisen}
 use Rattle.model_base.specs.declared.shape.Shape.{Shape}
 use Rattle.model_device.specs.Disk.{Disk}
 use Rattle.model_store.specs.Reading.{Reading}
-use Rattle.redo_disk.specs.Calls.{Call}
-use Rattle.redo_disk.specs.Seen.{Seen, HasCause}
+use Rattle.redo_disk.specs.{Call, HasCause}
+use Rattle.redo_disk.specs.Seen.{Seen}
 use Rattle.redo_disk.specs.declared.error.DevError.{DevError}
 use Rattle.redo_disk.specs.declared.error.DevError.TheVariants as device
 use Rattle.redo_open.specs.Devices.{IsOpenFault}
 use Rattle.redo_open.specs.Formatting.{FormatCalls, HasFormatCause, MakesBoth}
 use Rattle.redo_open.specs.Mend.{IsMendFault, IsPageFault}
 use Rattle.redo_open.proofs.Endings.{any-known}
-use Rattle.redo_recover.specs.Devices.{log_fault_of, data_fault_of}
-use Rattle.redo_recover.specs.Start.{IsLengthFault}
+use Rattle.redo_recover.specs.{data_fault_of, IsLengthFault, log_fault_of}
 use Rattle.redo_recover.specs.declared.fault.RecFault.{RecFault}
 use Rattle.redo_recover.specs.declared.fault.RecFault.TheVariants.{SmallLog, NotFormatted, BadFormat, SmallData, NoCheckpoint, BadRecord, PageLost, PageAhead, LogDev, DataDev, NoMemory}
 

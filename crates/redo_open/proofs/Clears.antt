@@ -4,21 +4,18 @@ use Rattle.std.specs.Prelude.{replicate}
 use Rattle.std.proofs.lemmas.Bool.{cases_lt}
 use Rattle.std.proofs.lemmas.List.{take-replicate, drop-replicate, length-replicate}
 use Rattle.model_base.specs.declared.shape.Shape.{Shape}
-use Rattle.model_device.specs.Calls.{written, FailsWrite, synced}
-use Rattle.model_device.specs.Disk.{Disk, sector, IsImage, Covers, written_sector, after_write, settled}
-use Rattle.model_device.specs.MayHold.{Adds, MayHold}
-use Rattle.model_device.specs.Within.{IsSectorWrite}
+use Rattle.model_device.specs.{Adds, after_write, Covers, FailsWrite, IsImage, IsSectorWrite, sector, settled, synced, written, written_sector}
+use Rattle.model_device.specs.Disk.{Disk}
+use Rattle.model_device.specs.MayHold.{MayHold}
 use Rattle.model_device.specs.declared.write.Write.{Write}
 use Rattle.model_device.proofs.Images.{sector-after_write, settled_images}
 use Rattle.model_device.proofs.MayHold.{adds-written, adds-failed, holds-sector, one-sector}
 use Rattle.model_device.proofs.Overwritten.{length-overwritten, part-overwritten_inside}
-use Rattle.model_log.specs.Device.{log_block, log_device_length}
-use Rattle.model_log.specs.Lsn.{block_of, offset_of}
-use Rattle.model_logdev.specs.Held.{IsInRound, sector_of}
+use Rattle.model_log.specs.{block_of, log_block, log_device_length, offset_of}
+use Rattle.model_logdev.specs.{IsInRound, sector_of}
 use Rattle.model_logdev.proofs.Images.{sector-log_block}
 use Rattle.model_logdev.proofs.Places.{HasBlocks, sector-place, place-within, place-from, place-on, one-place_each}
-use Rattle.model_opening.specs.Cleared.{IsOutside, IsClearing, HasSameHeaders, zero_block}
-use Rattle.model_opening.specs.Opened.{IsAtRest}
+use Rattle.model_opening.specs.{HasSameHeaders, IsAtRest, IsClearing, IsOutside, zero_block}
 use Rattle.model_opening.proofs.Next.{cleared-clearing}
 use Rattle.redo_open.specs.Clear.{MayStart, IsPiece, ClearsBlocks, HasCleared, MayKeep, IsClearedTo, IsClearingTo}
 

@@ -1,18 +1,19 @@
 -- How a step on the data part ends.
 use Rattle.std.proofs.Common.{◌≡◌, ◌≤◌, ℕ, Option, Some, None, Ok, Err, refl, sym, subst, ◌∙◌, arith}
 use Rattle.std.specs.Prelude.{IfSome, IsErrOf}
-use Rattle.model_base.specs.Count.{HasRisen}
+use Rattle.model_base.specs.{HasRisen}
 use Rattle.model_base.specs.declared.shape.Shape.{Shape}
-use Rattle.model_datadev.specs.Repair.{KeepsAll}
+use Rattle.model_datadev.specs.{KeepsAll}
 use Rattle.model_device.specs.Disk.{Disk}
-use Rattle.redo_disk.specs.Seen.{Seen, OnTold}
+use Rattle.redo_disk.specs.{OnTold}
+use Rattle.redo_disk.specs.Seen.{Seen}
 use Rattle.redo_disk.specs.declared.error.DevError.{DevError}
 use Rattle.redo_disk.specs.declared.error.DevError.TheVariants as device
 use Rattle.redo_open.specs.Mend.{IsMended, AreMended, IsMendFault, IsPageFault}
 use Rattle.redo_open.specs.Store.{MendStep}
 use Rattle.redo_open.proofs.Mends.{keeps-behind, fault-before}
 use Rattle.redo_open.proofs.Told.{told-then, told-back, risen-since}
-use Rattle.redo_recover.specs.Devices.{data_fault_of}
+use Rattle.redo_recover.specs.{data_fault_of}
 use Rattle.redo_recover.specs.declared.fault.RecFault.{RecFault}
 use Rattle.redo_recover.specs.declared.fault.RecFault.TheVariants.{DataDev, PageLost}
 use Rattle.redo_store.specs.Part.{Part}

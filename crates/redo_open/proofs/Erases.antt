@@ -3,16 +3,15 @@ use Rattle.std.proofs.Common.{◌≡◌, ◌≤◌, ◌+◌, ◌-◌, ◌*◌, �
 use Rattle.std.specs.Prelude.{replicate}
 use Rattle.std.proofs.lemmas.List.{take-replicate, drop-replicate, length-replicate}
 use Rattle.std.proofs.lemmas.Bool.{cases_lt}
-use Rattle.model_device.specs.Calls.{written, FailsWrite}
-use Rattle.model_device.specs.Disk.{Disk, Covers, written_sector}
-use Rattle.model_device.specs.MayHold.{Adds, MayHold}
-use Rattle.model_device.specs.Within.{IsSectorWrite}
+use Rattle.model_device.specs.{Adds, Covers, FailsWrite, IsSectorWrite, written, written_sector}
+use Rattle.model_device.specs.Disk.{Disk}
+use Rattle.model_device.specs.MayHold.{MayHold}
 use Rattle.model_device.specs.declared.write.Write.{Write}
 use Rattle.model_device.proofs.Images.{sector-after_write}
 use Rattle.model_device.proofs.Overwritten.{part-overwritten_inside}
 use Rattle.model_device.proofs.MayHold.{adds-written, adds-failed}
-use Rattle.model_opening.specs.Cleared.{zero_block}
-use Rattle.redo_disk.specs.Seen.{HasSize, IsRange, write_at}
+use Rattle.model_opening.specs.{zero_block}
+use Rattle.redo_disk.specs.{HasSize, IsRange, write_at}
 use Rattle.redo_disk.proofs.Sizes.{HasSize-written, HasSize-FailsWrite}
 use Rattle.redo_open.specs.Erase.{IsIn, Erases, HasErased}
 

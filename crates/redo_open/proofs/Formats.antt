@@ -1,22 +1,18 @@
 -- Both devices at the exits of formatting.
 use Rattle.std.proofs.Common.{◌≡◌, ◌≢◌, ◌≤◌, ◌<◌, ◌+◌, ◌*◌, ◌%◌, ◌⊎◌, ℕ, inl, inr, List, length, Option, Some, None, refl, sym, ap, subst, ◌∙◌, ⊎_elim, arith, lit<}
 use Rattle.std.specs.Prelude.{IfSome}
-use Rattle.model_base.specs.Limits.{IsWithinLimits}
+use Rattle.model_base.specs.{IsWithinLimits}
 use Rattle.model_base.specs.declared.shape.Shape.{Shape}
-use Rattle.model_device.specs.Disk.{Disk, sector, IsImage, settled}
+use Rattle.model_device.specs.{IsImage, sector, settled}
+use Rattle.model_device.specs.Disk.{Disk}
 use Rattle.model_device.proofs.Images.{settled_images}
-use Rattle.model_log.specs.Checkpoint.{checkpoint_text}
-use Rattle.model_log.specs.Device.{header_block, log_block, log_device_length}
-use Rattle.model_log.specs.Head.{head_text}
-use Rattle.model_log.specs.Lsn.{offset_of}
-use Rattle.model_logdev.specs.Held.{sector_of}
+use Rattle.model_log.specs.{checkpoint_text, head_text, header_block, log_block, log_device_length, offset_of}
+use Rattle.model_logdev.specs.{sector_of}
 use Rattle.model_logdev.proofs.Images.{sector-log_block}
 use Rattle.model_logdev.proofs.Places.{HasBlocks, sector-place, place-within, place-from}
-use Rattle.model_opening.specs.Cleared.{zero_block}
-use Rattle.model_opening.specs.Formatted.{IsFormattedLog, IsFormattedData, IsFormatted, KeepsNoStore}
-use Rattle.model_opening.specs.Opened.{IsAtRest}
+use Rattle.model_opening.specs.{IsAtRest, IsFormatted, IsFormattedData, IsFormattedLog, KeepsNoStore, zero_block}
 use Rattle.model_opening.proofs.Formatted.{zeros-refused, formatted-orderly}
-use Rattle.redo_disk.specs.Seen.{HasSize, OnTold}
+use Rattle.redo_disk.specs.{HasSize, OnTold}
 use Rattle.redo_open.specs.Blank.{LosesHead, IsHeadless, HasNoHead, HasNoBlocks, HasFirstCheckpoint, MayHaveHead, HasHeadNow, HasBlankPages}
 use Rattle.redo_open.specs.Devices.{WhereBothTell}
 use Rattle.redo_open.specs.Mark.{IsSettledLog, MarksLog, HasMarked}

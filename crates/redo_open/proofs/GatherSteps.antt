@@ -2,8 +2,8 @@
 use Rattle.std.proofs.Common.{◌≡◌, ◌≤◌, ◌<◌, ◌+◌, ◌∙◌, length, ℕ, [], List, false, Bool, None, sym, ap, subst}
 use Rattle.std.specs.Prelude.{IfSome, Err, Ok, OnOk, Result, is_some}
 use Rattle.model_base.specs.declared.shape.Shape.{Shape}
-use Rattle.model_datadev.specs.Batch.{Fresh, after_batch, batch_of}
-use Rattle.model_datadev.specs.Stored.{IsLater, IsUpTo, Keeps, Stored}
+use Rattle.model_datadev.specs.{after_batch, batch_of, Fresh, IsLater, IsUpTo, Keeps}
+use Rattle.model_datadev.specs.Stored.{Stored}
 use Rattle.model_page.specs.declared.content.Content.{Content}
 use Rattle.redo_disk.specs.Seen.{Seen}
 use Rattle.redo_disk.specs.declared.error.DevError.{DevError}
@@ -12,7 +12,8 @@ use Rattle.redo_open.proofs.Told.{cause-since}
 use Rattle.redo_open.proofs.Writings.{PageRead, live-ok, on-ok-both}
 use Rattle.redo_open.specs.Gather.{AreGathered, Gathered, GatherStep, IsGatheredTo}
 use Rattle.redo_open.specs.Rewrite.{AreTop, IsWrittenTo, KeepsWritten, WriteStep}
-use Rattle.redo_store.specs.Part.{Part, PartKeeps, PartStep, PartStores}
+use Rattle.redo_store.specs.{PartKeeps, PartStep, PartStores}
+use Rattle.redo_store.specs.Part.{Part}
 
 -- the batch was given to `write_batch`
 pub wrote-step : {D : Type 0} (seen : D → Seen) (pages : List Content) (count : ℕ) (old new : Part D) (batch after : Gathered) (pairs : List (ℕ × ℕ)) (users : List ℕ)

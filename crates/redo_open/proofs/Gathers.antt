@@ -8,12 +8,11 @@ use Rattle.std.proofs.lemmas.List.{drop-append-le, drop_at, length-append, lengt
 use Rattle.std.proofs.lemmas.Option.{slice_get_within}
 use Rattle.model_base.specs.declared.shape.Shape.{Shape}
 use Rattle.model_datadev.proofs.Joined.{IsPairAt, batch-at, pair-at}
-use Rattle.model_datadev.specs.Batch.{Fresh, batch_of, IsNew, IsWritable, after_batch}
-use Rattle.model_datadev.specs.Stored.{IsUpTo, IsLater, Keeps, Stored}
+use Rattle.model_datadev.specs.{after_batch, batch_of, Fresh, IsLater, IsNew, IsUpTo, IsWritable, Keeps}
+use Rattle.model_datadev.specs.Stored.{Stored}
 use Rattle.model_device.specs.Disk.{Disk}
 use Rattle.model_page.proofs.Kept.{same_content}
-use Rattle.model_page.specs.Copies.{place_lsn_by, place_bytes}
-use Rattle.model_page.specs.Page.{page_check, user_part}
+use Rattle.model_page.specs.{page_check, place_bytes, place_lsn_by, user_part}
 use Rattle.model_page.specs.declared.content.Content.{Content}
 use Rattle.redo_open.proofs.Writings.{PageRead, any-known, below-next, kept-in_place, known-as}
 use Rattle.redo_open.specs.Gather.{AreGathered, Gathered, IsAmong, IsGatheredTo}

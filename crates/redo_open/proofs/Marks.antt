@@ -2,21 +2,18 @@
 use Rattle.std.proofs.Common.{◌≡◌, ◌≢◌, ◌≤◌, ◌<◌, ◌+◌, ◌-◌, ◌*◌, ◌⊎◌, ℕ, inl, inr, List, length, take, drop, refl, sym, ap, subst, ◌∙◌, ⊎_elim, arith}
 use Rattle.std.proofs.lemmas.List.{take_all}
 use Rattle.model_base.specs.declared.shape.Shape.{Shape}
-use Rattle.model_device.specs.Calls.{written, FailsWrite, synced}
-use Rattle.model_device.specs.Disk.{Disk, sector, IsImage, Covers, written_sector, after_write}
-use Rattle.model_device.specs.MayHold.{Adds, MayHold}
-use Rattle.model_device.specs.Within.{IsSectorWrite}
+use Rattle.model_device.specs.{Adds, after_write, Covers, FailsWrite, IsImage, IsSectorWrite, sector, synced, written, written_sector}
+use Rattle.model_device.specs.Disk.{Disk}
+use Rattle.model_device.specs.MayHold.{MayHold}
 use Rattle.model_device.specs.declared.write.Write.{Write}
 use Rattle.model_device.proofs.Images.{sector-after_write, settled_images}
 use Rattle.model_device.proofs.MayHold.{adds-written, adds-failed, holds-sector}
 use Rattle.model_device.proofs.Overwritten.{length-overwritten, part-overwritten_inside}
-use Rattle.model_log.specs.Checkpoint.{place_of, checkpoint_text}
-use Rattle.model_log.specs.Device.{log_device_length}
-use Rattle.model_log.specs.Lsn.{offset_of}
-use Rattle.model_logdev.specs.Held.{sector_of}
+use Rattle.model_log.specs.{checkpoint_text, log_device_length, offset_of, place_of}
+use Rattle.model_logdev.specs.{sector_of}
 use Rattle.model_logdev.proofs.Images.{sector-log_block, place-cases}
 use Rattle.model_logdev.proofs.Places.{HasBlocks, sector-place, place-within, place-from}
-use Rattle.model_opening.specs.Next.{IsMarking, IsMarked}
+use Rattle.model_opening.specs.{IsMarked, IsMarking}
 use Rattle.redo_open.specs.Mark.{IsSettledLog, MarksLog, HasMarked}
 
 pub header-place : (number : ℕ) → (1 ≤ place_of number) × (place_of number < 4)

@@ -2,13 +2,13 @@
 use Rattle.std.proofs.Common.{◌≡◌, ◌≢◌, ◌<◌, ◌⊎◌, ℕ, suc, inl, inr, List, Option, Some, None, refl, sym, ap, subst, ◌∙◌, ⊎_elim, arith}
 use Rattle.std.proofs.lemmas.Bool.{cases_lt}
 use Rattle.model_base.specs.declared.shape.Shape.{Shape}
-use Rattle.model_device.specs.Disk.{Disk, IsImage, settled}
+use Rattle.model_device.specs.{IsImage, settled}
+use Rattle.model_device.specs.Disk.{Disk}
 use Rattle.model_device.proofs.Images.{settled_images}
-use Rattle.model_page.specs.Copies.{IsBestCopy, HasNoCopy, place_lsn, place_lsn_by, place_bytes, slot_bytes}
-use Rattle.model_page.specs.Page.{page_check}
-use Rattle.model_datadev.specs.Repair.{KeepsSame, KeepsAll, IsRepaired, IsRepairable}
+use Rattle.model_page.specs.{HasNoCopy, IsBestCopy, page_check, place_bytes, place_lsn, place_lsn_by, slot_bytes}
+use Rattle.model_datadev.specs.{IsRepairable, IsRepaired, KeepsAll, KeepsSame}
 use Rattle.model_datadev.proofs.Kept.{same-place_lsn, same-copy}
-use Rattle.model_store.specs.Fair.{IsFair}
+use Rattle.model_store.specs.{IsFair}
 use Rattle.model_store.proofs.Fairness.{base-fair}
 use Rattle.redo_open.specs.Mend.{IsSettledData, StaysKept, IsMended, AreMended, IsMendFault}
 use Rattle.redo_recover.specs.declared.fault.RecFault.{RecFault}

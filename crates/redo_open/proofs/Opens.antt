@@ -3,22 +3,21 @@ use Rattle.std.proofs.Common.{◌≡◌, ◌<◌, ◌⊎◌, ℕ, inl, inr, fals
 use Rattle.std.specs.Prelude.{IfSome}
 use Rattle.std.specs.List.{slice_get}
 use Rattle.model_base.specs.declared.shape.Shape.{Shape}
-use Rattle.model_base.specs.Limits.{IsWithinLimits}
-use Rattle.model_datadev.specs.Batch.{Fresh, IsNew}
-use Rattle.model_datadev.specs.Repair.{KeepsAll}
-use Rattle.model_datadev.specs.Stored.{Stored, Keeps, IsUpTo, ImageHolds, KeepsPage, read_as}
+use Rattle.model_base.specs.{IsWithinLimits}
+use Rattle.model_datadev.specs.{Fresh, ImageHolds, IsNew, IsUpTo, Keeps, KeepsAll, KeepsPage, read_as}
+use Rattle.model_datadev.specs.Stored.{Stored}
 use Rattle.model_datadev.proofs.Orderly.{orderly-opened}
 use Rattle.model_datadev.proofs.Parts.{opened-stored}
-use Rattle.model_device.specs.Disk.{Disk, settled}
-use Rattle.model_opening.specs.Mended.{IsRepaired, AreHeld}
-use Rattle.model_opening.specs.Rewritten.{IsRewriting}
-use Rattle.model_opening.specs.Written.{IsWrittenOver}
+use Rattle.model_device.specs.{settled}
+use Rattle.model_device.specs.Disk.{Disk}
+use Rattle.model_opening.specs.{AreHeld, IsRepaired, IsRewriting, IsWrittenOver}
 use Rattle.model_opening.proofs.Mended.{repaired-orderly, held_at, repaired-held, blank-held}
 use Rattle.model_opening.proofs.Pages.{read-page, repairing-image, writing-image}
-use Rattle.model_page.specs.Copies.{IsKept, IsInPlace}
+use Rattle.model_page.specs.{IsInPlace, IsKept}
 use Rattle.model_page.specs.declared.content.Content.{Content}
-use Rattle.model_store.specs.Reading.{Reading, IsOrderly}
-use Rattle.redo_disk.specs.Seen.{OnTold}
+use Rattle.model_store.specs.{IsOrderly}
+use Rattle.model_store.specs.Reading.{Reading}
+use Rattle.redo_disk.specs.{OnTold}
 use Rattle.redo_open.proofs.Mends.{settled-keeps}
 use Rattle.redo_open.specs.Mend.{AreMended, IsSettledData}
 use Rattle.redo_open.specs.Places.{IsReadAs, KeepsPlaces, HoldsPlaces, MayBeWritten}

@@ -2,31 +2,30 @@
 use Rattle.std.proofs.Common.{◌≡◌, ◌≤◌, ◌<◌, ◌+◌, ◌*◌, ◌%◌, ◌^◌, ◌∙◌, ℕ, List, Option, Some, None, Ok, Err, refl, sym, ap, subst, ⊎_elim, arith}
 use Rattle.std.specs.Prelude.{IfSome}
 use Rattle.std.proofs.lemmas.Bool.{cases_lt}
-use Rattle.model_base.specs.Limits.{IsWithinLimits}
+use Rattle.model_base.specs.{IsWithinLimits}
 use Rattle.model_base.specs.declared.shape.Shape.{Shape}
-use Rattle.model_device.specs.Disk.{Disk, settled}
+use Rattle.model_device.specs.{settled}
+use Rattle.model_device.specs.Disk.{Disk}
 use Rattle.model_device.proofs.Images.{settled_images}
-use Rattle.model_log.specs.Lsn.{start_after, IsAtDataStart}
-use Rattle.model_logdev.specs.Marks.{first_marks, next_number}
-use Rattle.model_opening.specs.Opened.{IsOpenable, KeepsOpened}
-use Rattle.model_opening.specs.Ready.{IsReady}
+use Rattle.model_log.specs.{IsAtDataStart, start_after}
+use Rattle.model_logdev.specs.{first_marks, next_number}
+use Rattle.model_opening.specs.{IsOpenable, IsReady, KeepsOpened}
 use Rattle.model_opening.proofs.Keeping.{openable-keeps}
 use Rattle.model_page.specs.declared.content.Content.{Content}
 use Rattle.model_record.specs.declared.group.Whole.{Whole}
-use Rattle.model_store.specs.Reading.{Reading, IsOrderly}
+use Rattle.model_store.specs.{IsOrderly}
+use Rattle.model_store.specs.Reading.{Reading}
 use Rattle.model_store.proofs.Ending.{StartsBehind, starts-behind}
-use Rattle.redo_apply.specs.Fits.{ArePagesOf}
+use Rattle.redo_apply.specs.{ArePagesOf}
 use Rattle.redo_disk.specs.Seen.{Seen}
 use Rattle.redo_logdev.specs.Part.{Part as Log}
 use Rattle.redo_open.specs.Clear.{MayStart}
 use Rattle.redo_open.specs.Devices.{DevicesStep, IsFrom, IsOpenFault, IsSameDevice, WhereBothTell}
 use Rattle.redo_open.specs.Opening.{Answer, IsOpenedAs, IsRunOn, IsStarted, OpensRecovered}
 use Rattle.redo_open.proofs.Endings.{any-known}
-use Rattle.redo_pageactors.specs.Opened.{IsRunnable}
+use Rattle.redo_pageactors.specs.{IsRunnable}
 use Rattle.redo_pageactors.specs.declared.opened.Opened.{Opened}
-use Rattle.redo_recover.specs.Groups.{IsEndOf}
-use Rattle.redo_recover.specs.Pages.{AreNotAhead}
-use Rattle.redo_recover.specs.Reading.{reading_of}
+use Rattle.redo_recover.specs.{AreNotAhead, IsEndOf, reading_of}
 use Rattle.redo_recover.specs.declared.fault.RecFault.{RecFault}
 use Rattle.redo_recover.specs.declared.fault.RecFault.TheVariants.{NoMemory}
 use Rattle.redo_recover.specs.declared.recovered.Recovered.{Recovered}

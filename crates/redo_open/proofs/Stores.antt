@@ -1,24 +1,26 @@
 -- A store that is opened, from what its devices told at first.
 use Rattle.std.proofs.Common.{◌≡◌, ◌≤◌, ◌<◌, ℕ, List, Option, Some, None, Ok, Err, refl, sym, ap, subst, arith}
 use Rattle.std.specs.Prelude.{IfErr, IfSome}
-use Rattle.model_base.specs.Count.{HasRisen}
-use Rattle.model_device.specs.Calls.{synced}
-use Rattle.model_device.specs.Disk.{Disk, settled}
-use Rattle.model_opening.specs.Opened.{IsOpenable, KeepsOpened}
-use Rattle.model_page.specs.Copies.{IsLost}
+use Rattle.model_base.specs.{HasRisen}
+use Rattle.model_device.specs.{settled, synced}
+use Rattle.model_device.specs.Disk.{Disk}
+use Rattle.model_opening.specs.{IsOpenable, KeepsOpened}
+use Rattle.model_page.specs.{IsLost}
 use Rattle.model_page.proofs.Kept.{kept-not_lost}
 use Rattle.model_record.proofs.Several.{one_group}
-use Rattle.model_store.specs.Reading.{Reading, IsReading, IsReadPage, IsOrderly}
+use Rattle.model_store.specs.{IsOrderly, IsReading, IsReadPage}
+use Rattle.model_store.specs.Reading.{Reading}
 use Rattle.model_store.proofs.OneReading.{same_reading}
 use Rattle.model_store.proofs.Places.{has_place}
-use Rattle.redo_disk.specs.Seen.{Seen, HasCause, OnTold}
+use Rattle.redo_disk.specs.{HasCause, OnTold}
+use Rattle.redo_disk.specs.Seen.{Seen}
 use Rattle.redo_disk.specs.declared.error.DevError.{DevError}
 use Rattle.redo_disk.specs.declared.error.DevError.TheVariants as device
 use Rattle.redo_open.specs.Devices.{HasSameCheckpoint, IsFrom, IsOpenFault, IsSameDevice, WhereBothTell}
 use Rattle.redo_open.specs.Opening.{Answer, HasFaultCause, log_left, data_left}
 use Rattle.redo_open.proofs.Both.{openable-both, unmoved-rests}
 use Rattle.redo_open.proofs.Told.{risen-since}
-use Rattle.redo_recover.specs.Devices.{HasCauseIn, HasLengthCause, OnContents, data_fault_of, refusal_of}
+use Rattle.redo_recover.specs.{data_fault_of, HasCauseIn, HasLengthCause, OnContents, refusal_of}
 use Rattle.redo_recover.specs.declared.fault.RecFault.{RecFault}
 use Rattle.redo_recover.specs.declared.fault.RecFault.TheVariants.{SmallLog, NotFormatted, BadFormat, SmallData, NoCheckpoint, BadRecord, PageLost, PageAhead, LogDev, DataDev, NoMemory}
 

@@ -2,9 +2,9 @@
 use Rattle.std.proofs.Common.{◌≡◌, ◌≤◌, ℕ, inl, inr, Option, Some, None, sym, subst, ◌∙◌, ⊎_elim, arith}
 use Rattle.std.specs.Prelude.{Result, Ok, Err, OnOk, OnErr, IfSome}
 use Rattle.std.proofs.lemmas.Bool.{cases_lt}
-use Rattle.model_base.specs.Count.{HasRisen, last_count}
+use Rattle.model_base.specs.{HasRisen, last_count}
 use Rattle.model_device.specs.Disk.{Disk}
-use Rattle.redo_disk.specs.Seen.{OnTold, HasCause}
+use Rattle.redo_disk.specs.{HasCause, OnTold}
 use Rattle.redo_disk.specs.declared.error.DevError.{DevError}
 
 -- two calls, one behind the other

@@ -4,17 +4,17 @@ use Rattle.std.specs.Prelude.{IfSome, Result, Ok, Err, OnOk}
 use Rattle.std.specs.List.{slice_get}
 use Rattle.std.proofs.lemmas.Bool.{cases_lt}
 use Rattle.model_base.specs.declared.shape.Shape.{Shape}
-use Rattle.model_base.specs.Limits.{IsWithinLimits}
-use Rattle.model_datadev.specs.Stored.{IsUpTo, Stored}
+use Rattle.model_base.specs.{IsWithinLimits}
+use Rattle.model_datadev.specs.{IsUpTo}
+use Rattle.model_datadev.specs.Stored.{Stored}
 use Rattle.model_device.specs.Disk.{Disk}
 use Rattle.model_page.proofs.Kept.{same_content}
-use Rattle.model_page.specs.Copies.{place_lsn_by, place_bytes}
-use Rattle.model_page.specs.Page.{page_check, user_part}
+use Rattle.model_page.specs.{page_check, place_bytes, place_lsn_by, user_part}
 use Rattle.model_page.specs.declared.content.Content.{Content}
 use Rattle.model_store.proofs.Places.{has_place}
-use Rattle.redo_apply.specs.Fits.{ArePagesOf}
+use Rattle.redo_apply.specs.{ArePagesOf}
 use Rattle.redo_disk.specs.declared.error.DevError.{DevError}
-use Rattle.redo_disk.specs.Calls.{error_of}
+use Rattle.redo_disk.specs.{error_of}
 
 pub known-as : (told : Option Disk) (P Q : Disk → Type 0) → ((a : Disk) → P a → Q a) → IfSome told P → IfSome told Q
 known-as None P Q step known = tt

@@ -2,13 +2,11 @@
 use Rattle.std.specs.Prelude.{ℕ, ◌≡◌, ◌≢◌, ◌≤◌, ◌<◌, ◌%◌, ◌*◌, ◌⊎◌, List, length}
 use Rattle.model_base.specs.declared.limits.TheConstants.{BLOCK_SIZE, START_LSN}
 use Rattle.model_base.specs.declared.shape.Shape.{Shape}
-use Rattle.model_device.specs.Disk.{Disk, IsImage, sector, settled}
-use Rattle.model_log.specs.Checkpoint.{checkpoint_text}
-use Rattle.model_log.specs.Device.{header_block, log_block}
-use Rattle.model_log.specs.Head.{head_text}
+use Rattle.model_device.specs.{IsImage, sector, settled}
+use Rattle.model_device.specs.Disk.{Disk}
+use Rattle.model_log.specs.{checkpoint_text, head_text, header_block, log_block}
 use Rattle.model_log.specs.declared.layout.TheConstants.{HEADER_BYTES}
-use Rattle.model_opening.specs.Cleared.{zero_block}
-use Rattle.model_opening.specs.Formatted.{IsFormattedData}
+use Rattle.model_opening.specs.{IsFormattedData, zero_block}
 
 -- each image is one of before, or its header is zeros
 pub record LosesHead (old new : Disk) : Type 0 where

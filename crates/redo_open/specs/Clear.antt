@@ -1,16 +1,15 @@
 -- The log device while its blocks outside the kept range are cleared away, piece by piece.
 use Rattle.std.specs.Prelude.{ℕ, ◌≡◌, ◌≤◌, ◌<◌, ◌+◌, ◌%◌, ◌⊎◌, List, length}
-use Rattle.model_base.specs.Limits.{IsWithinLimits}
+use Rattle.model_base.specs.{IsWithinLimits}
 use Rattle.model_base.specs.declared.limits.TheConstants.{BLOCK_SIZE, START_LSN, LSN_LIMIT}
 use Rattle.model_base.specs.declared.shape.Shape.{Shape}
-use Rattle.model_device.specs.Disk.{Disk, IsImage, sector, settled}
+use Rattle.model_device.specs.{IsImage, sector, settled}
+use Rattle.model_device.specs.Disk.{Disk}
 use Rattle.model_device.specs.MayHold.{MayHold}
-use Rattle.model_log.specs.Device.{log_block, log_device_length}
-use Rattle.model_log.specs.Lsn.{block_of, offset_of, IsAtDataStart}
+use Rattle.model_log.specs.{block_of, IsAtDataStart, log_block, log_device_length, offset_of}
 use Rattle.model_log.specs.declared.layout.TheConstants.{BLOCK_HEADER}
-use Rattle.model_logdev.specs.Held.{round_of, sector_of}
-use Rattle.model_opening.specs.Cleared.{IsKept, IsOutside, IsClearing, IsCleared, HasSameHeaders, zero_block}
-use Rattle.model_opening.specs.Opened.{IsAtRest}
+use Rattle.model_logdev.specs.{round_of, sector_of}
+use Rattle.model_opening.specs.{HasSameHeaders, IsAtRest, IsCleared, IsClearing, IsKept, IsOutside, zero_block}
 
 -- where a run may start: behind the end of a log that is read from the checkpoint on
 pub record MayStart (shape : Shape) (ckpt start : ℕ) : Type 0 where

@@ -1,11 +1,12 @@
 -- Both devices while a store that was recovered is opened.
 use Rattle.std.specs.Prelude.{ℕ, ◌≡◌, ◌≤◌, List, Option, Some, Result, OnOk, OnErr, IfErr, IfSome, IsErrOf}
-use Rattle.model_base.specs.Count.{HasRisen}
-use Rattle.model_device.specs.Disk.{Disk, settled}
-use Rattle.model_log.specs.Device.{newest_checkpoint}
-use Rattle.model_opening.specs.Opened.{IsAtRest, KeepsOpened}
-use Rattle.model_opening.specs.Ready.{IsReady}
-use Rattle.model_store.specs.Reading.{Reading, IsOrderly}
+use Rattle.model_base.specs.{HasRisen}
+use Rattle.model_device.specs.{settled}
+use Rattle.model_device.specs.Disk.{Disk}
+use Rattle.model_log.specs.{newest_checkpoint}
+use Rattle.model_opening.specs.{IsAtRest, IsReady, KeepsOpened}
+use Rattle.model_store.specs.{IsOrderly}
+use Rattle.model_store.specs.Reading.{Reading}
 use Rattle.redo_disk.specs.Seen.{Seen}
 use Rattle.redo_open.specs.Mend.{IsMendFault, IsPageFault}
 use Rattle.redo_recover.specs.declared.fault.RecFault.{RecFault}

@@ -1,10 +1,11 @@
 -- A stretch of a device while it is filled with zeros.
 use Rattle.std.specs.Prelude.{ℕ, ◌≡◌, ◌≤◌, ◌<◌, ◌*◌, ◌⊎◌, List}
 use Rattle.model_base.specs.declared.limits.TheConstants.{BLOCK_SIZE}
-use Rattle.model_device.specs.Disk.{Disk, sector}
+use Rattle.model_device.specs.{sector}
+use Rattle.model_device.specs.Disk.{Disk}
 use Rattle.model_device.specs.MayHold.{MayHold}
-use Rattle.model_opening.specs.Cleared.{zero_block}
-use Rattle.redo_disk.specs.Seen.{HasSize}
+use Rattle.model_opening.specs.{zero_block}
+use Rattle.redo_disk.specs.{HasSize}
 
 -- the sector is one of those from the one offset up to the other
 pub record IsIn (from end k : ℕ) : Type 0 where

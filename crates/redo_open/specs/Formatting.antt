@@ -1,15 +1,14 @@
 -- Formatting both devices: how it may end.
 use Rattle.std.specs.Prelude.{ℕ, ◌≡◌, ◌≤◌, ◌<◌, ◌⊎◌, Option, Some, None, Result, Ok, Err}
-use Rattle.model_base.specs.Count.{HasRisen}
+use Rattle.model_base.specs.{HasRisen}
 use Rattle.model_base.specs.declared.shape.Shape.{Shape}
-use Rattle.model_log.specs.Device.{log_device_length}
-use Rattle.model_page.specs.Copies.{data_device_length}
-use Rattle.redo_disk.specs.Calls.{Call, EndWith}
-use Rattle.redo_disk.specs.Made.{MakesCalls}
+use Rattle.model_log.specs.{log_device_length}
+use Rattle.model_page.specs.{data_device_length}
+use Rattle.redo_disk.specs.{Call, EndWith, MakesCalls}
 use Rattle.redo_disk.specs.Seen.{Seen}
 use Rattle.redo_disk.specs.declared.error.DevError.{DevError}
 use Rattle.redo_disk.specs.declared.error.DevError.TheVariants as device
-use Rattle.redo_recover.specs.Start.{IsLengthFault}
+use Rattle.redo_recover.specs.{IsLengthFault}
 use Rattle.redo_recover.specs.declared.fault.RecFault.{RecFault}
 use Rattle.redo_recover.specs.declared.fault.RecFault.TheVariants.{SmallLog, SmallData, LogDev, DataDev, NoMemory}
 

@@ -2,10 +2,12 @@
 use Rattle.std.specs.Prelude.{ℕ, ◌≡◌, ◌≤◌, ◌<◌, ◌*◌, ◌⊎◌, false, List, [], length, take, drop, Option, None, Some, Result, OnOk, IfSome, slice_get}
 use Rattle.model_base.specs.declared.limits.TheConstants.{SLOTS, USER_BYTES}
 use Rattle.model_base.specs.declared.shape.Shape.{Shape}
-use Rattle.model_datadev.specs.Stored.{IsUpTo, Stored}
+use Rattle.model_datadev.specs.{IsUpTo}
+use Rattle.model_datadev.specs.Stored.{Stored}
 use Rattle.model_device.specs.Disk.{Disk}
 use Rattle.model_page.specs.declared.content.Content.{Content}
-use Rattle.redo_disk.specs.Seen.{Seen, HasCause}
+use Rattle.redo_disk.specs.{HasCause}
+use Rattle.redo_disk.specs.Seen.{Seen}
 use Rattle.redo_disk.specs.declared.error.DevError.{DevError}
 use Rattle.redo_open.specs.Rewrite.{AreTop, KeepsWritten}
 use Rattle.redo_store.specs.Part.{Part}

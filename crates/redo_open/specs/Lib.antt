@@ -11,3 +11,6 @@ pub mod Places
 pub mod Rewrite
 pub mod Store
 pub mod Zeros
+pub use Rattle.redo_open.specs.Devices.{HasSameCheckpoint, WhereBothTell}
+pub use Rattle.redo_open.specs.Formatting.{FormatCalls, HasFormatCause, JudgesLengths}
+pub use Rattle.redo_open.specs.Opening.{HasFaultCause, IsOpenedReady, IsOpeningOf, OpensLog}

@@ -1,9 +1,10 @@
 -- The log device while the next checkpoint is written.
 use Rattle.std.specs.Prelude.{ℕ, ◌≡◌, ◌≤◌, List, length}
 use Rattle.model_base.specs.declared.shape.Shape.{Shape}
-use Rattle.model_device.specs.Disk.{Disk, IsImage, settled}
-use Rattle.model_log.specs.Device.{log_device_length}
-use Rattle.model_opening.specs.Next.{IsMarking, IsMarked}
+use Rattle.model_device.specs.{IsImage, settled}
+use Rattle.model_device.specs.Disk.{Disk}
+use Rattle.model_log.specs.{log_device_length}
+use Rattle.model_opening.specs.{IsMarked, IsMarking}
 
 -- nothing is pending on the device, which is as long as the shape asks
 pub record IsSettledLog (shape : Shape) (disk : Disk) : Type 0 where

@@ -1,9 +1,10 @@
 -- The data device while the places that don't pass are repaired.
 use Rattle.std.specs.Prelude.{ℕ, ◌≡◌, ◌≢◌, ◌≤◌, ◌<◌, List, length, None}
 use Rattle.model_base.specs.declared.shape.Shape.{Shape}
-use Rattle.model_device.specs.Disk.{Disk, settled}
-use Rattle.model_datadev.specs.Repair.{KeepsSame}
-use Rattle.model_page.specs.Copies.{IsLost, place_lsn, slot_bytes, data_device_length}
+use Rattle.model_device.specs.{settled}
+use Rattle.model_device.specs.Disk.{Disk}
+use Rattle.model_datadev.specs.{KeepsSame}
+use Rattle.model_page.specs.{data_device_length, IsLost, place_lsn, slot_bytes}
 use Rattle.redo_recover.specs.declared.fault.RecFault.{RecFault}
 use Rattle.redo_recover.specs.declared.fault.RecFault.TheVariants.{PageLost, DataDev, NoMemory}
 

@@ -1,22 +1,21 @@
 -- Opening a store off two devices that are handed in: what is opened, and what is left of the devices.
 use Rattle.std.specs.Prelude.{ℕ, ◌≡◌, ◌≢◌, ◌≤◌, ◌<◌, ◌+◌, List, Option, Some, None, Result, Ok, Err, IfOk, IfErr, IfSome}
-use Rattle.model_base.specs.Count.{HasRisen}
+use Rattle.model_base.specs.{HasRisen}
 use Rattle.model_base.specs.declared.limits.TheConstants.{LSN_LIMIT}
 use Rattle.model_log.specs.declared.layout.TheConstants.{HEADER_BYTES}
-use Rattle.model_logdev.specs.Marks.{first_marks, next_number}
-use Rattle.model_device.specs.Disk.{settled}
-use Rattle.model_opening.specs.Opened.{KeepsOpened, start_of}
-use Rattle.model_opening.specs.Ready.{IsReady}
-use Rattle.model_store.specs.Reading.{Reading, IsReading, IsOrderly}
-use Rattle.redo_disk.specs.Calls.{Call, MayEndWith}
+use Rattle.model_logdev.specs.{first_marks, next_number}
+use Rattle.model_device.specs.{settled}
+use Rattle.model_opening.specs.{IsReady, KeepsOpened, start_of}
+use Rattle.model_store.specs.{IsOrderly, IsReading}
+use Rattle.model_store.specs.Reading.{Reading}
+use Rattle.redo_disk.specs.{Call, MayEndWith}
 use Rattle.redo_disk.specs.Seen.{Seen}
 use Rattle.redo_disk.specs.declared.error.DevError.{DevError}
 use Rattle.redo_store.specs.Part.{Part}
 use Rattle.redo_open.specs.Devices.{HasSameCheckpoint, IsFrom, IsOpenFault, IsSameDevice, WhereBothTell}
-use Rattle.redo_pageactors.specs.Opened.{IsRunnable}
+use Rattle.redo_pageactors.specs.{IsRunnable}
 use Rattle.redo_pageactors.specs.declared.opened.Opened.{Opened}
-use Rattle.redo_recover.specs.Calls.{BeginWithHeader, log_error, data_error}
-use Rattle.redo_recover.specs.Devices.{HasCauseIn, HasLengthCause, refusal_of}
+use Rattle.redo_recover.specs.{BeginWithHeader, data_error, HasCauseIn, HasLengthCause, log_error, refusal_of}
 use Rattle.redo_recover.specs.declared.recovered.Recovered.{Recovered}
 use Rattle.redo_recover.specs.declared.fault.RecFault.{RecFault}
 use Rattle.redo_recover.specs.declared.fault.RecFault.TheVariants.{LogDev, DataDev, NoMemory}

@@ -1,14 +1,16 @@
 -- The data device while its part is opened: places repaired, then pages written.
 use Rattle.std.specs.Prelude.{ℕ, ◌≡◌, ◌≤◌, ◌<◌, ◌⊎◌, false, List, [], Option, None, Result, OnOk, IfErr, IfSome, IsErrOf}
-use Rattle.model_base.specs.Count.{HasRisen}
+use Rattle.model_base.specs.{HasRisen}
 use Rattle.model_base.specs.declared.shape.Shape.{Shape}
-use Rattle.model_datadev.specs.Stored.{Stored, IsUpTo, read_as}
-use Rattle.model_device.specs.Disk.{Disk, settled}
-use Rattle.model_opening.specs.Rewritten.{IsRewriting}
-use Rattle.model_page.specs.Copies.{IsKept}
+use Rattle.model_datadev.specs.{IsUpTo, read_as}
+use Rattle.model_datadev.specs.Stored.{Stored}
+use Rattle.model_device.specs.{settled}
+use Rattle.model_device.specs.Disk.{Disk}
+use Rattle.model_opening.specs.{IsRewriting}
+use Rattle.model_page.specs.{IsKept}
 use Rattle.model_page.specs.declared.content.Content.{Content}
-use Rattle.model_store.specs.Fair.{IsFair}
-use Rattle.model_store.specs.Reading.{Reading, IsOrderly}
+use Rattle.model_store.specs.{IsFair, IsOrderly}
+use Rattle.model_store.specs.Reading.{Reading}
 use Rattle.redo_disk.specs.Seen.{Seen}
 use Rattle.redo_open.specs.Mend.{IsMendFault, IsPageFault}
 use Rattle.redo_open.specs.Rewrite.{AreTop, IsWrittenTo}

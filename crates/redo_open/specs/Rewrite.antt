@@ -1,11 +1,12 @@
 -- The data device while pages are written as they were read, one after another.
 use Rattle.std.specs.Prelude.{ℕ, ◌≡◌, ◌<◌, ◌⊎◌, false, List, [], Option, None, Some, Result, OnOk, IfSome, slice_get}
 use Rattle.model_base.specs.declared.shape.Shape.{Shape}
-use Rattle.model_datadev.specs.Batch.{Fresh, IsNew}
-use Rattle.model_datadev.specs.Stored.{IsUpTo, Keeps, Stored}
+use Rattle.model_datadev.specs.{Fresh, IsNew, IsUpTo, Keeps}
+use Rattle.model_datadev.specs.Stored.{Stored}
 use Rattle.model_device.specs.Disk.{Disk}
 use Rattle.model_page.specs.declared.content.Content.{Content}
-use Rattle.redo_disk.specs.Seen.{Seen, HasCause}
+use Rattle.redo_disk.specs.{HasCause}
+use Rattle.redo_disk.specs.Seen.{Seen}
 use Rattle.redo_disk.specs.declared.error.DevError.{DevError}
 use Rattle.redo_store.specs.Part.{Part}
 

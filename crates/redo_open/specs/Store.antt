@@ -1,10 +1,11 @@
 -- What a step of opening on the data part leaves, whatever it answers.
 use Rattle.std.specs.Prelude.{◌≡◌, ◌≤◌, None, Result, OnOk, IfErr, IfSome, IsErrOf}
-use Rattle.model_base.specs.Count.{HasRisen}
+use Rattle.model_base.specs.{HasRisen}
 use Rattle.model_base.specs.declared.shape.Shape.{Shape}
-use Rattle.model_datadev.specs.Repair.{KeepsAll}
+use Rattle.model_datadev.specs.{KeepsAll}
 use Rattle.model_device.specs.Disk.{Disk}
-use Rattle.redo_disk.specs.Seen.{Seen, OnTold}
+use Rattle.redo_disk.specs.{OnTold}
+use Rattle.redo_disk.specs.Seen.{Seen}
 use Rattle.redo_open.specs.Mend.{IsMendFault, IsPageFault}
 use Rattle.redo_recover.specs.declared.fault.RecFault.{RecFault}
 use Rattle.redo_recover.specs.declared.fault.RecFault.TheVariants.{DataDev}

@@ -1,12 +1,10 @@
 // The steps of formatting before the checkpoint and the header are written.
 ghost use Rattle.std.specs.Prelude.{◌≡◌, ◌≤◌, OnOk, OnErr};
-ghost use Rattle.model_base.specs.Limits.{IsWithinLimits};
+ghost use Rattle.model_base.specs.{IsWithinLimits};
 ghost use Rattle.model_base.specs.declared.limits.TheConstants.{BLOCK_SIZE};
-ghost use Rattle.model_log.specs.Device.{log_device_length};
-ghost use Rattle.model_page.specs.Copies.{data_device_length};
-ghost use Rattle.redo_disk.specs.Calls.{EndWith, error_of};
-ghost use Rattle.redo_disk.specs.Made.{MakesCalls};
-ghost use Rattle.redo_disk.specs.Seen.{HasCause, HasSize, OnTold};
+ghost use Rattle.model_log.specs.{log_device_length};
+ghost use Rattle.model_page.specs.{data_device_length};
+ghost use Rattle.redo_disk.specs.{EndWith, error_of, HasCause, HasSize, MakesCalls, OnTold};
 ghost use Rattle.redo_open.specs.Blank.{LosesHead, HasNoHead, HasNoBlocks, HasBlankPages, IsHeadless};
 
 use crate::zeros::erase;

@@ -1,12 +1,9 @@
 // Clearing away what stands on the log outside the kept range.
 ghost use Rattle.std.specs.Prelude.{◌≡◌, ◌≤◌, ◌+◌, ◌<◌, ◌%◌, ◌^◌, OnOk};
 ghost use Rattle.model_base.specs.declared.limits.TheConstants.{BLOCK_SIZE, START_LSN};
-ghost use Rattle.model_base.specs.Limits.{IsWithinLimits};
-ghost use Rattle.model_log.specs.Device.{log_device_length};
-ghost use Rattle.model_log.specs.Lsn.{offset_of};
-ghost use Rattle.redo_disk.specs.Calls.{EndWith, error_of};
-ghost use Rattle.redo_disk.specs.Made.{MakesCalls};
-ghost use Rattle.redo_disk.specs.Seen.{HasCause, OnTold};
+ghost use Rattle.model_base.specs.{IsWithinLimits};
+ghost use Rattle.model_log.specs.{log_device_length, offset_of};
+ghost use Rattle.redo_disk.specs.{EndWith, error_of, HasCause, MakesCalls, OnTold};
 ghost use Rattle.redo_open.specs.Clear.{MayStart, IsClearable, ClearsBlocks, HasCleared};
 
 use crate::PIECE;

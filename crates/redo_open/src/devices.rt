@@ -1,16 +1,13 @@
 // Opening both devices.
 ghost use Rattle.std.specs.Prelude.{◌≡◌, ◌≤◌, ◌<◌, ◌^◌, ℕ, None, Some, IfSome, OnOk, slice_get};
-ghost use Rattle.model_log.specs.Device.{log_device_length};
-ghost use Rattle.model_log.specs.Lsn.{start_after};
+ghost use Rattle.model_log.specs.{log_device_length, start_after};
 ghost use Rattle.model_page.specs.declared.content.Content.{Content};
-ghost use Rattle.redo_apply.specs.Fits.{ArePagesOf};
-ghost use Rattle.redo_disk.specs.Calls.{MayEndWith};
-ghost use Rattle.redo_disk.specs.Made.{MakesCalls};
+ghost use Rattle.redo_apply.specs.{ArePagesOf};
+ghost use Rattle.redo_disk.specs.{MakesCalls, MayEndWith};
 ghost use Rattle.redo_open.specs.Clear.{MayStart};
 ghost use Rattle.redo_open.specs.Devices.{DevicesStep};
 ghost use Rattle.redo_open.specs.Mend.{IsSettledData};
-ghost use Rattle.redo_recover.specs.Calls.{data_error_of, log_error_of};
-ghost use Rattle.redo_recover.specs.Reading.{reading_of};
+ghost use Rattle.redo_recover.specs.{data_error_of, log_error_of, reading_of};
 
 use crate::clear::clear;
 use crate::faults::log_fault;

@@ -1,6 +1,6 @@
 // The faults of a store whose devices failed.
 ghost use Rattle.std.specs.Prelude.{◌≡◌};
-ghost use Rattle.redo_recover.specs.Devices.{log_fault_of, data_fault_of};
+ghost use Rattle.redo_recover.specs.{data_fault_of, log_fault_of};
 
 use redo_disk::DevError;
 use redo_recover::RecFault;

@@ -1,13 +1,13 @@
 // Formatting both devices of a store.
 ghost use Rattle.std.specs.Prelude.{◌≤◌, OnOk, IfErr, IfSome};
-ghost use Rattle.model_base.specs.Limits.{IsWithinLimits};
-ghost use Rattle.model_log.specs.Device.{log_device_length};
-ghost use Rattle.model_opening.specs.Formatted.{IsFormatted, KeepsNoStore};
-ghost use Rattle.model_page.specs.Copies.{data_device_length};
-ghost use Rattle.redo_disk.specs.Seen.{HasSize};
+ghost use Rattle.model_base.specs.{IsWithinLimits};
+ghost use Rattle.model_log.specs.{log_device_length};
+ghost use Rattle.model_opening.specs.{IsFormatted, KeepsNoStore};
+ghost use Rattle.model_page.specs.{data_device_length};
+ghost use Rattle.redo_disk.specs.{HasSize};
 ghost use Rattle.redo_open.specs.Devices.{IsSameDevice, WhereBothTell};
 ghost use Rattle.redo_open.specs.Formatting.{FormatCalls, JudgesLengths, HasFormatCause};
-ghost use Rattle.redo_recover.specs.Start.{IsLengthFault};
+ghost use Rattle.redo_recover.specs.{IsLengthFault};
 
 use crate::blank::{clear_blocks, clear_head, clear_pages};
 use crate::faults::{data_fault, log_fault};

@@ -1,11 +1,9 @@
 // The next checkpoint, and the header.
 ghost use Rattle.std.specs.Prelude.{◌≡◌, ◌≤◌, ◌<◌, ◌^◌, OnOk, OnErr};
-ghost use Rattle.model_base.specs.Limits.{IsWithinLimits};
+ghost use Rattle.model_base.specs.{IsWithinLimits};
 ghost use Rattle.model_base.specs.declared.limits.TheConstants.{START_LSN};
-ghost use Rattle.model_log.specs.Device.{log_device_length};
-ghost use Rattle.redo_disk.specs.Calls.{EndWith, error_of};
-ghost use Rattle.redo_disk.specs.Made.{MakesCalls};
-ghost use Rattle.redo_disk.specs.Seen.{HasCause, OnTold};
+ghost use Rattle.model_log.specs.{log_device_length};
+ghost use Rattle.redo_disk.specs.{EndWith, error_of, HasCause, MakesCalls, OnTold};
 ghost use Rattle.redo_open.specs.Blank.{MayHaveHead, HasHeadNow};
 ghost use Rattle.redo_open.specs.Mark.{IsSettledLog, MarksLog, HasMarked};
 

@@ -1,11 +1,10 @@
 // Repairing the places of pages that don't pass.
 ghost use Rattle.std.specs.Prelude.{◌≡◌, ◌<◌, length, None, IfSome};
 ghost use Rattle.model_base.specs.declared.limits.TheConstants.{PAGE_SIZE};
-ghost use Rattle.redo_disk.specs.Calls.{EndWith};
-ghost use Rattle.redo_disk.specs.Made.{MakesCalls};
+ghost use Rattle.redo_disk.specs.{EndWith, MakesCalls};
 ghost use Rattle.redo_open.specs.Mend.{IsSettledData, IsMended, AreMended};
 ghost use Rattle.redo_open.specs.Store.{MendStep};
-ghost use Rattle.redo_recover.specs.Calls.{data_error_of};
+ghost use Rattle.redo_recover.specs.{data_error_of};
 
 use crate::faults::data_fault;
 use model_base::Shape;

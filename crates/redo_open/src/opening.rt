@@ -1,18 +1,15 @@
 // Opening a store.
 ghost use Rattle.std.specs.Prelude.{◌≡◌, ◌≢◌, ◌≤◌, ◌<◌, ◌^◌, IfOk, IfErr, IfSome, None};
 ghost use Rattle.model_base.specs.declared.limits.TheConstants.{MIN_LOG_BLOCKS, MAX_LOG_BLOCKS};
-ghost use Rattle.model_log.specs.Device.{log_device_length};
-ghost use Rattle.model_log.specs.Lsn.{IsAtDataStart};
-ghost use Rattle.model_opening.specs.Opened.{IsOpenable, KeepsOpened};
+ghost use Rattle.model_log.specs.{IsAtDataStart, log_device_length};
+ghost use Rattle.model_opening.specs.{IsOpenable, KeepsOpened};
 ghost use Rattle.model_store.specs.Reading.{Reading};
-ghost use Rattle.redo_disk.specs.Calls.{MayEndWith};
-ghost use Rattle.redo_disk.specs.Made.{MakesCalls};
+ghost use Rattle.redo_disk.specs.{MakesCalls, MayEndWith};
 ghost use Rattle.redo_open.specs.Devices.{HasSameCheckpoint, IsSameDevice, WhereBothTell};
 ghost use Rattle.redo_open.specs.Mend.{IsSettledData};
 ghost use Rattle.redo_open.specs.Opening.{log_left, data_left, log_error_in, data_error_in, HasFaultCause, IsOpeningOf, IsOpenedReady, IsStarted, OpensLog, OpensRecovered};
-ghost use Rattle.redo_pageactors.specs.Opened.{IsRunnable};
-ghost use Rattle.redo_recover.specs.Devices.{OnContents};
-ghost use Rattle.redo_recover.specs.Reading.{IsOfDevices, reading_of};
+ghost use Rattle.redo_pageactors.specs.{IsRunnable};
+ghost use Rattle.redo_recover.specs.{IsOfDevices, OnContents, reading_of};
 
 use crate::devices::open_devices;
 use crate::faults::data_fault;

@@ -1,13 +1,12 @@
 // Opening the data device.
 ghost use Rattle.std.specs.Prelude.{◌≡◌, ◌<◌, ◌^◌, ℕ, None, Some, IfSome, slice_get};
-ghost use Rattle.model_base.specs.Limits.{IsWithinLimits};
+ghost use Rattle.model_base.specs.{IsWithinLimits};
 ghost use Rattle.model_page.specs.declared.content.Content.{Content};
-ghost use Rattle.redo_apply.specs.Fits.{ArePagesOf};
-ghost use Rattle.redo_disk.specs.Calls.{MayEndWith};
-ghost use Rattle.redo_disk.specs.Made.{MakesCalls};
+ghost use Rattle.redo_apply.specs.{ArePagesOf};
+ghost use Rattle.redo_disk.specs.{MakesCalls, MayEndWith};
 ghost use Rattle.redo_open.specs.Mend.{IsSettledData};
 ghost use Rattle.redo_open.specs.Places.{PlacesStep};
-ghost use Rattle.redo_recover.specs.Calls.{data_error_of};
+ghost use Rattle.redo_recover.specs.{data_error_of};
 
 use crate::batch::Batch;
 use crate::faults::data_fault;

@@ -1,15 +1,13 @@
 // Writing the pages as they were read, where their places hold something else.
 ghost use Rattle.std.specs.Prelude.{◌≡◌, ◌≤◌, ◌<◌, ◌^◌, ◌+◌, ℕ, List, [], length, None, Some, OnOk, slice_get};
-ghost use Rattle.model_base.specs.Limits.{IsWithinLimits};
+ghost use Rattle.model_base.specs.{IsWithinLimits};
 ghost use Rattle.std.specs.Bool.{OnTrue};
 ghost use Rattle.model_base.specs.declared.limits.TheConstants.{SLOTS};
-ghost use Rattle.model_datadev.specs.Batch.{IsWritable};
-ghost use Rattle.model_page.specs.Copies.{place_lsn_by};
-ghost use Rattle.model_page.specs.Page.{frame_length, page_check, user_part};
+ghost use Rattle.model_datadev.specs.{IsWritable};
+ghost use Rattle.model_page.specs.{frame_length, page_check, place_lsn_by, user_part};
 ghost use Rattle.model_page.specs.declared.content.Content.{Content};
-ghost use Rattle.redo_apply.specs.Fits.{ArePagesOf};
-ghost use Rattle.redo_disk.specs.Calls.{EndWith, error_of};
-ghost use Rattle.redo_disk.specs.Made.{MakesCalls};
+ghost use Rattle.redo_apply.specs.{ArePagesOf};
+ghost use Rattle.redo_disk.specs.{EndWith, error_of, MakesCalls};
 ghost use Rattle.redo_open.specs.Gather.{AreGathered, GatherStep};
 ghost use Rattle.redo_open.specs.Rewrite.{WriteStep};
 

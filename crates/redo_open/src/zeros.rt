@@ -1,9 +1,7 @@
 // Writing zeros.
 ghost use Rattle.std.specs.Prelude.{◌≡◌, ◌≤◌, ◌%◌, None, OnOk, OnErr, replicate};
 ghost use Rattle.model_base.specs.declared.limits.TheConstants.{BLOCK_SIZE};
-ghost use Rattle.redo_disk.specs.Calls.{EndWith, Writes, error_of};
-ghost use Rattle.redo_disk.specs.Made.{MakesCall, MakesCalls};
-ghost use Rattle.redo_disk.specs.Seen.{HasCause, HasSize, IsRange, OnTold, WriteStep, write_at};
+ghost use Rattle.redo_disk.specs.{EndWith, error_of, HasCause, HasSize, IsRange, MakesCall, MakesCalls, OnTold, write_at, Writes, WriteStep};
 ghost use Rattle.redo_open.specs.Erase.{Erases, HasErased};
 ghost use Rattle.redo_open.specs.Zeros.{zeros};
 

@@ -1,9 +1,7 @@
 // Which bytes of an image of the data device a page's content is read from.
 ghost use Rattle.std.specs.Prelude.{◌≡◌, ◌+◌, ◌*◌, ◌≤◌, ◌<◌, length, IfOk, MatchOption};
-ghost use Rattle.model_base.specs.Limits.{IsWithinLimits};
-ghost use Rattle.model_page.specs.Copies.{data_device_length, stretch_at, IsBestCopy, HasNoCopy};
-ghost use Rattle.model_page.specs.Copies.{IsKept, IsLost};
-ghost use Rattle.model_page.specs.Page.{frame_length, user_part};
+ghost use Rattle.model_base.specs.{IsWithinLimits};
+ghost use Rattle.model_page.specs.{data_device_length, frame_length, HasNoCopy, IsBestCopy, IsKept, IsLost, stretch_at, user_part};
 
 use crate::state::{copy_lsn, place_lsn};
 use model_base::{Bytes, Shape, USER_START};

@@ -1,8 +1,7 @@
 // What the check of a page's bytes finds, and whether they count as a page's place or as a copy of it.
 ghost use Rattle.std.specs.Prelude.{◌≡◌, ◌+◌, ◌≤◌, length};
-ghost use Rattle.model_number.specs.Field.{field};
-ghost use Rattle.model_page.specs.Copies.{place_lsn_by, copy_lsn_by};
-ghost use Rattle.model_page.specs.Page.{frame_length, is_blank, is_sound, page_check};
+ghost use Rattle.model_number.specs.{field};
+ghost use Rattle.model_page.specs.{copy_lsn_by, frame_length, is_blank, is_sound, page_check, place_lsn_by};
 
 use byteorder::{BigEndian, ByteOrder};
 use model_base::Shape;

@@ -1,6 +1,6 @@
 // The fields and the checksums of a page, put round its user bytes.
 ghost use Rattle.std.specs.Prelude.{◌≡◌, ◌≤◌, ◌+◌, ◌++◌, ℕ, length, take, drop};
-ghost use Rattle.model_page.specs.Page.{frame_length, page_text, user_part};
+ghost use Rattle.model_page.specs.{frame_length, page_text, user_part};
 
 use model_page::{NUMBER_START, TRAILER_LENGTH};
 use redo_crc::crc32c;

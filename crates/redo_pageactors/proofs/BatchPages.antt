@@ -4,9 +4,8 @@ use Rattle.std.proofs.Math.Seq.{drop-append_seam, take-append_seam, take-length}
 use Rattle.std.proofs.lemmas.List.{drop-append-le, length-take-le, take-append-drop, take-append-le}
 use Rattle.std.specs.Prelude.{map}
 use Rattle.std.specs.List.{flat_map}
-use Rattle.model_core.specs.CleanerProgram.{no_page}
-use Rattle.model_core.specs.States.{BatchPage}
-use Rattle.model_page.specs.Page.{user_part}
+use Rattle.model_core.specs.{BatchPage, no_page}
+use Rattle.model_page.specs.{user_part}
 use Rattle.redo_pageactors.specs.CleanerView.{batch_pages, page_bytes}
 
 take-all : (n : ℕ) (l : List ℕ) → length l ≡ n → take n l ≡ l

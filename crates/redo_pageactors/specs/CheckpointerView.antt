@@ -1,6 +1,6 @@
 -- What the fields of the checkpointer stand for.
 use Rattle.std.specs.Prelude.{ℕ, ◌<◌}
-use Rattle.model_core.specs.States.{CheckpointerState}
+use Rattle.model_core.specs.{CheckpointerState}
 use Rattle.model_core.specs.declared.steps.CheckpointerStep.{CheckpointerStep}
 use Rattle.model_core.specs.declared.steps.CheckpointerStep.TheVariants as checkpointer_step
 use Rattle.model_core.specs.declared.limits.TheConstants.{FLUSH_LISTS}

@@ -1,11 +1,11 @@
 -- What the fields of the cleaner stand for.
 use Rattle.std.specs.Prelude.{List, [], drop, length, take, vec_capacity, ℕ, ◌*◌, ◌++◌, ◌<◌, ◌∷◌, ◌≡◌, ◌≤◌}
 use Rattle.model_base.specs.declared.limits.TheConstants.{USER_BYTES, USER_START}
-use Rattle.model_core.specs.States.{BatchPage, CleanerState}
+use Rattle.model_core.specs.{BatchPage, CleanerState}
 use Rattle.model_core.specs.declared.limits.TheConstants.{BATCH_PAGES, FRAME_CELLS}
 use Rattle.model_core.specs.declared.steps.CleanerStep.{CleanerStep}
 use Rattle.model_core.specs.declared.steps.CleanerStep.TheVariants as cleaner_step
-use Rattle.model_page.specs.Page.{frame_length}
+use Rattle.model_page.specs.{frame_length}
 use Rattle.redo_pageactors.specs.declared.cleaner.Cleaner.TheInside.{Inside}
 
 -- a page's bytes of its user bytes and the others: those stand before and behind

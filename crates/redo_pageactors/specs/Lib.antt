@@ -1,3 +1,4 @@
 pub mod CheckpointerView
 pub mod CleanerView
 pub mod Opened
+pub use Rattle.redo_pageactors.specs.Opened.{IsRunnable}

@@ -1,12 +1,12 @@
 -- When a run can start on an opened store, whatever its devices tell.
 use Rattle.std.specs.Prelude.{ℕ, ◌≡◌, ◌≤◌, ◌<◌, ◌+◌, ◌^◌, None, Some, slice_get}
-use Rattle.model_base.specs.Limits.{IsWithinLimits}
+use Rattle.model_base.specs.{IsWithinLimits}
 use Rattle.model_base.specs.declared.limits.TheConstants.{START_LSN}
-use Rattle.model_log.specs.Lsn.{IsAtDataStart}
+use Rattle.model_log.specs.{IsAtDataStart}
 use Rattle.model_log.specs.declared.layout.TheConstants.{BLOCK_HEADER}
 use Rattle.model_page.specs.declared.content.Content.{Content}
-use Rattle.model_logdev.specs.Marks.{first_marks}
-use Rattle.redo_apply.specs.Fits.{ArePagesOf}
+use Rattle.model_logdev.specs.{first_marks}
+use Rattle.redo_apply.specs.{ArePagesOf}
 use Rattle.redo_pageactors.specs.declared.opened.Opened.{Opened}
 
 -- It starts at the first data byte of a block, the pages and both parts are of the store's shape, no page is ahead of the

@@ -17,7 +17,7 @@ pub struct Checkpointer {
 }
 
 impl Model for Checkpointer {
-    ghost use Rattle.model_core.specs.States.{CheckpointerState};
+    ghost use Rattle.model_core.specs.{CheckpointerState};
     ghost use Rattle.redo_pageactors.specs.CheckpointerView.{checkpointer_view, IsCheckpointer};
 
     ghost Value = { CheckpointerState };

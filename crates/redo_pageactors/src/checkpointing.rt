@@ -2,12 +2,9 @@
 ghost use Rattle.std.specs.Prelude.{◌≡◌, ◌<◌, ◌^◌, ◌==◌, if◌then◌else◌, true, List, Option};
 ghost use Rattle.model_core.specs.Actors as actor;
 ghost use Rattle.model_core.specs.AnswerFits.{AnswerFits};
-ghost use Rattle.model_core.specs.Answers.{has_taken, oldest_in};
-ghost use Rattle.model_core.specs.CheckpointerProgram.{candidate, checkpointer_next, checkpointer_after, checkpointer_checked, checkpointer_took, is_above, lowered};
-ghost use Rattle.model_core.specs.Program.{lent};
-ghost use Rattle.model_core.specs.Waiting.{checkpointer_ending, step_of};
+ghost use Rattle.model_core.specs.{candidate, checkpointer_after, checkpointer_checked, checkpointer_ending, checkpointer_next, checkpointer_took, has_taken, is_above, lent, lowered, oldest_in, step_of};
 ghost use Rattle.redo_pageactors.specs.CheckpointerView.{IsAtList};
-ghost use Rattle.redo_words.specs.Lending.{Lends};
+ghost use Rattle.redo_words.specs.{Lends};
 
 use crate::checkpointer::Checkpointer;
 use model_base::BLOCK_SIZE;

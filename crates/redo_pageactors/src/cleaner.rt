@@ -22,7 +22,7 @@ pub struct Cleaner {
 }
 
 impl Model for Cleaner {
-    ghost use Rattle.model_core.specs.States.{CleanerState};
+    ghost use Rattle.model_core.specs.{CleanerState};
     ghost use Rattle.redo_pageactors.specs.CleanerView.{cleaner_view, IsCleaner};
 
     ghost Value = { CleanerState };

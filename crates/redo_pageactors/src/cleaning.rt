@@ -1,9 +1,8 @@
 // What the cleaner asks for.
 ghost use Rattle.std.specs.Prelude.{◌≡◌, ◌<◌, length};
 ghost use Rattle.model_core.specs.Actors as actor;
-ghost use Rattle.model_core.specs.CleanerProgram.{cleaner_next, first_of_batch};
-ghost use Rattle.model_core.specs.Program.{lent};
-ghost use Rattle.redo_words.specs.Lending.{Lends};
+ghost use Rattle.model_core.specs.{cleaner_next, first_of_batch, lent};
+ghost use Rattle.redo_words.specs.{Lends};
 
 use crate::cleaner::Cleaner;
 use model_core::{CleanerStep, FLUSH_LISTS};

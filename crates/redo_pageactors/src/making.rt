@@ -1,7 +1,7 @@
 // The actors of the pages as a run begins.
 ghost use Rattle.std.specs.Prelude.{◌≡◌, IfOk};
-ghost use Rattle.model_base.specs.Limits.{IsWithinLimits};
-ghost use Rattle.model_core.specs.NewActors.{new_checkpointer, new_cleaner};
+ghost use Rattle.model_base.specs.{IsWithinLimits};
+ghost use Rattle.model_core.specs.{new_checkpointer, new_cleaner};
 
 use crate::batch::{PAGE, RIM, USERS};
 use crate::checkpointer::Checkpointer;

@@ -2,9 +2,7 @@
 ghost use Rattle.std.specs.Prelude.{◌≡◌, ◌<◌, ◌^◌, ◌==◌, ◌+◌, ◌++◌, ◌∷◌, [], if◌then◌else◌, length, true};
 ghost use Rattle.model_core.specs.Actors as actor;
 ghost use Rattle.model_core.specs.AnswerFits.{AnswerFits};
-ghost use Rattle.model_core.specs.Answers.{has_taken, old_of};
-ghost use Rattle.model_core.specs.CleanerProgram.{cleaner_after, cleaner_checked, cleaner_took, next_in_round};
-ghost use Rattle.model_core.specs.Waiting.{finds_none, step_of};
+ghost use Rattle.model_core.specs.{cleaner_after, cleaner_checked, cleaner_took, finds_none, has_taken, next_in_round, old_of, step_of};
 
 use crate::batch::{RIM, USERS, drop_bytes, drop_page, split_page};
 use crate::cleaner::Cleaner;

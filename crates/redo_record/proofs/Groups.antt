@@ -3,10 +3,8 @@ use Rattle.std.proofs.Common.{◌≡◌, ◌≢◌, ℕ, ◌-◌, ◌<◌, ◌�
 use Rattle.std.specs.List.{AllByRecursion}
 use Rattle.std.proofs.lemmas.List.{append-nil, take_rest}
 use Rattle.std.proofs.lemmas.List.Concat.{flat_map-append}
-use Rattle.model_record.specs.Record.{record_text, single_text, HasText}
-use Rattle.model_record.specs.Group.{group_text, IsGroup, IsGroupText}
+use Rattle.model_record.specs.{group_text, HasText, IsGroup, IsGroupText, IsRecord, record_text, single_text}
 use Rattle.redo_record.specs.Reading.{Begins, IsPartOf, IsNone, Stops}
-use Rattle.model_record.specs.Bodies.{IsRecord}
 use Rattle.model_record.specs.declared.rec.Rec.{Rec}
 use Rattle.model_record.specs.declared.rec.Rec.TheVariants.{Init}
 use Rattle.redo_record.specs.declared.stop.Stop.{Stop}

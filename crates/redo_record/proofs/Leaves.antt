@@ -3,10 +3,9 @@ use Rattle.std.proofs.Common.{◌≡◌, ℕ, ◌+◌, ◌-◌, ◌*◌, ◌/◌
 use Rattle.std.specs.Int.{bytes_high_first}
 use Rattle.std.proofs.lemmas.List.{take_at, length-replicate, take-append-drop, length-take}
 use Rattle.std.proofs.lemmas.List.Elements.{All-append, All-replicate, All-from_get_or, All-take}
-use Rattle.model_number.specs.Spelling.{spelling32, BeginsWith, IsFrontOf}
-use Rattle.model_record.specs.Record.{IsByte}
+use Rattle.model_number.specs.{BeginsWith, IsFrontOf, spelling32}
+use Rattle.model_record.specs.{IsBody, IsByte, IsLength, IsRecord, IsShort}
 use Rattle.redo_record.specs.Reading.{Begins, IsPartOf, IsNone}
-use Rattle.model_record.specs.Bodies.{IsShort, IsLength, IsBody, IsRecord}
 use Rattle.model_record.specs.declared.rec.Rec.TheVariants.{Init}
 use Rattle.model_record.proofs.Records.{IsNothing}
 use Rattle.redo_record.proofs.Sequence.{front_cases}

@@ -1,8 +1,7 @@
 // The parts of a record's text. Each reader takes one off the front, and gives the bytes that are left.
 ghost use Rattle.std.specs.Prelude.{Ok};
-ghost use Rattle.model_record.specs.Record.{IsWidth};
+ghost use Rattle.model_record.specs.{IsAfterType, IsPlace, IsRecord, IsSpot, IsString, IsWidth};
 ghost use Rattle.redo_record.specs.Reading.{Reads};
-ghost use Rattle.model_record.specs.Bodies.{IsPlace, IsSpot, IsString, IsAfterType, IsRecord};
 
 use crate::fields::{read_body, read_length, read_number32, read_short, read_value};
 use crate::stop::Stop;

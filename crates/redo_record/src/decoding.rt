@@ -1,6 +1,6 @@
 // Reading the text of a group.
 ghost use Rattle.std.specs.Prelude.{◌≡◌, ◌↔◌, ◌≤◌, ◌<◌, slice_index, IsTrue, IfOk, Ok};
-ghost use Rattle.model_record.specs.Group.{IsGroupText, GivesGroup};
+ghost use Rattle.model_record.specs.{GivesGroup, IsGroupText};
 ghost use Rattle.redo_record.specs.Reading.{Reads};
 
 use crate::bodies::read_record;

@@ -2,9 +2,8 @@
 ghost use Rattle.std.specs.Prelude.{◌≡◌, ◌+◌, ◌≤◌, ◌<◌, ◌^◌, ◌∷◌, ◌++◌, length, OnOk, IfOk};
 ghost use Rattle.std.specs.Int.{bytes_high_first};
 ghost use Rattle.std.specs.List.{AllByRecursion, flat_map};
-ghost use Rattle.model_number.specs.Spelling.{spelling32, spelling64};
-ghost use Rattle.model_record.specs.Record.{HasText, HasSpelling, after_type, record_text, type_of, value_text};
-ghost use Rattle.model_record.specs.Group.{IsGroup, group_length, group_text};
+ghost use Rattle.model_number.specs.{spelling32, spelling64};
+ghost use Rattle.model_record.specs.{after_type, group_length, group_text, HasSpelling, HasText, IsGroup, record_text, type_of, value_text};
 
 use crate::measuring::Length;
 use crate::types::{END_MARK, SINGLE, type_byte};

@@ -1,6 +1,6 @@
 // When a group may be applied to the pages of a store.
 ghost use Rattle.std.specs.Prelude.{◌↔◌, ◌<◌, ◌^◌, IsTrue};
-ghost use Rattle.model_record.specs.Fits.{IsUserWrite, IsPage, RecordFits, GroupFits};
+ghost use Rattle.model_record.specs.{GroupFits, IsPage, IsUserWrite, RecordFits};
 
 use model_base::USER_START;
 use model_record::{Group, Rec};

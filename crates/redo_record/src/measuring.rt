@@ -2,9 +2,8 @@
 ghost use Rattle.std.specs.Prelude.{◌≡◌, ◌≤◌, ◌<◌, ◌+◌, ◌^◌, length};
 ghost use Rattle.std.specs.List.{flat_map};
 ghost use Rattle.std.specs.Option.{SomeIff};
-ghost use Rattle.model_number.specs.Spelling.{spelling32};
-ghost use Rattle.model_record.specs.Record.{record_text, value_text};
-ghost use Rattle.model_record.specs.Group.{IsGroup, group_length};
+ghost use Rattle.model_number.specs.{spelling32};
+ghost use Rattle.model_record.specs.{group_length, IsGroup, record_text, value_text};
 
 use model_record::{Group, Rec};
 

@@ -1,7 +1,6 @@
 // Which groups have a text.
 ghost use Rattle.std.specs.Prelude.{◌↔◌, ◌<◌, ◌^◌, ◌≤◌, All, IsTrue, length};
-ghost use Rattle.model_record.specs.Record.{HasText, IsWidth, HasSpelling, IsByte};
-ghost use Rattle.model_record.specs.Group.{IsGroup};
+ghost use Rattle.model_record.specs.{HasSpelling, HasText, IsByte, IsGroup, IsWidth};
 
 use model_record::{Group, Rec};
 

@@ -1,6 +1,6 @@
 // The bytes that tell what a record is, and where a group ends.
 ghost use Rattle.std.specs.Prelude.{◌≡◌, ◌<◌};
-ghost use Rattle.model_record.specs.Record.{HasText, type_of};
+ghost use Rattle.model_record.specs.{HasText, type_of};
 
 use model_record::Rec;
 

@@ -6,13 +6,10 @@ use Rattle.model_base.specs.declared.shape.Shape.{Shape}
 use Rattle.model_number.specs.declared.got.Got.TheVariants.{Value, Bad}
 use Rattle.model_record.specs.declared.rec.Rec.{Rec}
 use Rattle.model_record.specs.declared.group.Whole.{Whole}
-use Rattle.model_record.specs.Record.{single_text, record_text}
-use Rattle.model_record.specs.Fits.{GroupFits}
-use Rattle.model_record.specs.Group.{end_mark, group_text, group_length, stream_of, groups_of, BeginsWithGroup, GivesGroup}
-use Rattle.model_log.specs.Lsn.{lsn_of, sn_of}
-use Rattle.model_log.specs.Run.{end_of, spans_of}
+use Rattle.model_record.specs.{BeginsWithGroup, end_mark, GivesGroup, group_length, group_text, GroupFits, groups_of, record_text, single_text, stream_of}
+use Rattle.model_log.specs.{end_of, lsn_of, sn_of, spans_of}
 use Rattle.model_log.proofs.Runs.{run-none, run-push}
-use Rattle.model_store.specs.Scan.{IsStorable, AreGroups}
+use Rattle.model_store.specs.{AreGroups, IsStorable}
 use Rattle.redo_recover.specs.Groups.{GivesStorable}
 use Rattle.model_store.proofs.OneScan.{OneGroup, unfinished-not_whole}
 

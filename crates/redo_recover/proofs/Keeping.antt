@@ -2,13 +2,11 @@
 use Rattle.std.proofs.Common.{◌≡◌, ℕ, ◌+◌, ◌-◌, ◌*◌, ◌<◌, ◌≤◌, inl, inr, List, length, take, drop, Option, Some, None, arith, sym, ap, subst, ◌∙◌}
 use Rattle.std.proofs.lemmas.List.{drop-take, length-drop, length-take, length-take-le, take-take}
 use Rattle.model_base.specs.declared.shape.Shape.{Shape}
-use Rattle.model_page.specs.Blank.{user_length}
-use Rattle.model_page.specs.Copies.{HasNoCopy, IsBestCopy, IsKept, IsLost, copy_lsn, copy_lsn_by, place_bytes, place_lsn_by, slot_bytes, stretch_at}
-use Rattle.model_page.specs.Page.{page_check, user_part}
+use Rattle.model_page.specs.{copy_lsn, copy_lsn_by, HasNoCopy, IsBestCopy, IsKept, IsLost, page_check, place_bytes, place_lsn_by, slot_bytes, stretch_at, user_length, user_part}
 use Rattle.model_page.specs.declared.content.Content.{Content}
 use Rattle.model_device.specs.Disk.{Disk}
-use Rattle.redo_apply.specs.Fits.{ArePagesOf}
-use Rattle.redo_disk.specs.Seen.{part}
+use Rattle.redo_apply.specs.{ArePagesOf}
+use Rattle.redo_disk.specs.{part}
 use Rattle.redo_recover.proofs.Contents.{content-any, content-both, content-weaker}
 use Rattle.redo_recover.proofs.Paging.{AreKeptFirst, all-kept, first_lost, kept-put}
 use Rattle.redo_recover.specs.Devices.{OnContent}

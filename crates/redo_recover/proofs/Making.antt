@@ -3,8 +3,7 @@ use Rattle.std.proofs.Common.{◌≡◌, ◌≤◌, ◌++◌, ℕ, List, [], ◌
 use Rattle.std.specs.Prelude.{IsErrOf}
 use Rattle.std.specs.List.{AllByRecursion}
 use Rattle.model_base.specs.declared.shape.Shape.{Shape}
-use Rattle.redo_disk.specs.Calls.{Answer, Call, Reads, Writes, Syncs, error_of}
-use Rattle.redo_disk.specs.Made.{MakesCall, MakesCalls}
+use Rattle.redo_disk.specs.{Answer, Call, error_of, MakesCall, MakesCalls, Reads, Syncs, Writes}
 use Rattle.redo_disk.specs.declared.error.DevError.{DevError}
 use Rattle.redo_disk.specs.declared.error.DevError.TheVariants as device
 use Rattle.redo_disk.proofs.Calls.{MayEndWith-append, MayEndWith-ends, MayEndWith-no_memory}

@@ -7,14 +7,12 @@ use Rattle.std.proofs.lemmas.Option.{slice_get_within}
 use Rattle.model_base.specs.declared.shape.Shape.{Shape}
 use Rattle.model_record.specs.declared.group.Whole.{Whole}
 use Rattle.model_page.proofs.Kept.{same_kept}
-use Rattle.model_page.specs.Copies.{IsKept, IsLost}
+use Rattle.model_page.specs.{IsKept, IsLost}
 use Rattle.model_page.specs.declared.content.Content.{Content}
-use Rattle.model_store.specs.Apply.{page_after}
-use Rattle.model_store.specs.Reading.{replayed, IsKeptAt, AreReadPages}
+use Rattle.model_store.specs.{AreReadPages, IsKeptAt, page_after, replayed}
 use Rattle.model_store.specs.declared.refusal.Refusal.TheVariants as refusal
 use Rattle.model_store.proofs.Places.{has_place}
-use Rattle.redo_apply.specs.Fits.{ArePagesOf}
-use Rattle.redo_apply.specs.Replay.{AreAfterWhere, HaveLsns}
+use Rattle.redo_apply.specs.{AreAfterWhere, ArePagesOf, HaveLsns}
 use Rattle.redo_recover.specs.Pages.{AreKept, AreNotAhead, AreReplayed, IsFirstLost, IsFirstAhead, RefusesPages}
 use Rattle.redo_recover.proofs.Setting.{if_some-is, slice_get-set}
 

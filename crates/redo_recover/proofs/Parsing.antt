@@ -4,11 +4,10 @@ use Rattle.std.specs.List.{All, AllByRecursion}
 use Rattle.std.proofs.lemmas.List.Elements.{All-nil, All-cons}
 use Rattle.model_base.specs.declared.shape.Shape.{Shape}
 use Rattle.model_record.specs.declared.group.Whole.{Whole}
-use Rattle.model_record.specs.Fits.{GroupFits}
-use Rattle.model_record.specs.Group.{groups_of}
-use Rattle.model_log.specs.Lsn.{sn_of}
+use Rattle.model_record.specs.{GroupFits, groups_of}
+use Rattle.model_log.specs.{sn_of}
 use Rattle.model_log.specs.declared.block.BlockView.{BlockView}
-use Rattle.model_store.specs.Scan.{IsStorable, IsScan, AreGroups, AreGroupsOf, groups_start}
+use Rattle.model_store.specs.{AreGroups, AreGroupsOf, groups_start, IsScan, IsStorable}
 use Rattle.redo_recover.specs.Blocks.{AreBlocksOf}
 use Rattle.redo_recover.specs.Groups.{AreParsed, IsParseFault, IsBreakFault, IsScanFault}
 use Rattle.redo_recover.specs.declared.fault.RecFault.{RecFault}

@@ -4,11 +4,9 @@ use Rattle.std.specs.List.{slice_get}
 use Rattle.std.proofs.lemmas.List.{length_push, append-nil, length-take}
 use Rattle.model_base.specs.declared.limits.TheConstants.{BLOCK_SIZE, LSN_LIMIT}
 use Rattle.model_base.specs.declared.shape.Shape.{Shape}
-use Rattle.model_log.specs.Block.{is_full, read_block, data_of}
-use Rattle.model_log.specs.Device.{log_block, sector_at}
-use Rattle.model_log.specs.Lsn.{offset_of}
+use Rattle.model_log.specs.{data_of, is_full, log_block, offset_of, read_block, sector_at}
 use Rattle.model_log.specs.declared.block.BlockView.{BlockView}
-use Rattle.model_store.specs.Scan.{view_at, data_at, lsn_at, joined}
+use Rattle.model_store.specs.{data_at, joined, lsn_at, view_at}
 use Rattle.model_store.proofs.Places.{push_place, place_push}
 use Rattle.model_store.proofs.Taking.{view_at-is, data_at-some}
 use Rattle.redo_recover.specs.Blocks.{AreBlocksOf}

@@ -3,18 +3,15 @@ use Rattle.std.proofs.Common.{◌≡◌, ℕ, ◌+◌, ◌-◌, ◌*◌, ◌≤�
 use Rattle.std.proofs.lemmas.List.{drop-take, take-take, drop-drop}
 use Rattle.model_base.specs.declared.limits.TheConstants.{BLOCK_SIZE}
 use Rattle.model_base.specs.declared.shape.Shape.{Shape}
-use Rattle.model_log.specs.Device.{header_block, newer, newest_checkpoint, sector_at}
-use Rattle.model_log.specs.Checkpoint.{read_checkpoint}
+use Rattle.model_log.specs.{header_block, log_device_length, newer, newest_checkpoint, read_checkpoint, read_head, sector_at}
 use Rattle.model_log.specs.declared.layout.TheConstants.{HEADER_BYTES}
-use Rattle.model_log.specs.Device.{log_device_length}
-use Rattle.model_log.specs.Head.{read_head}
 use Rattle.model_log.specs.declared.head.Head.TheVariants.{Good, OtherFormat, Unformatted}
-use Rattle.model_page.specs.Copies.{data_device_length}
+use Rattle.model_page.specs.{data_device_length}
 use Rattle.model_device.specs.Disk.{Disk}
 use Rattle.std.specs.Prelude.{IfSome}
-use Rattle.model_store.specs.Reading.{HasDevices, HasHead, Refuses}
+use Rattle.model_store.specs.{HasDevices, HasHead, Refuses}
 use Rattle.model_store.specs.declared.refusal.Refusal.TheVariants as refusal
-use Rattle.redo_disk.specs.Seen.{part, HasSize}
+use Rattle.redo_disk.specs.{HasSize, part}
 use Rattle.redo_recover.specs.Devices.{OnContent, OnContents, HasCauseIn}
 use Rattle.redo_recover.specs.Start.{IsHeadFault, IsLengthFault, IsStart}
 use Rattle.redo_recover.specs.declared.fault.RecFault.{RecFault}

@@ -3,7 +3,7 @@ use Rattle.std.specs.Prelude.{ℕ, ◌≡◌, ◌≢◌, ◌≤◌, ◌<◌, ◌
 use Rattle.model_base.specs.declared.shape.Shape.{Shape}
 use Rattle.model_log.specs.declared.layout.TheConstants.{BLOCK_HEADER, BLOCK_DATA, BLOCK_DATA_END}
 use Rattle.model_log.specs.declared.block.BlockView.{BlockView}
-use Rattle.model_store.specs.Scan.{AreBlocks, joined}
+use Rattle.model_store.specs.{AreBlocks, joined}
 
 -- these are the blocks of the log from the checkpoint on, and their data joined
 pub record AreBlocksOf (shape : Shape) (ckpt : ℕ) (views : List BlockView) (bytes content : List ℕ) : Type 0 where

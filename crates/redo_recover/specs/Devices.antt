@@ -1,7 +1,7 @@
 -- What recovery says of the devices that it reads, and of the ways in which it may end.
 use Rattle.std.specs.Prelude.{ℕ, ◌≡◌, ◌≤◌, ◌<◌, List, Option, Some, None, IfSome}
 use Rattle.model_device.specs.Disk.{Disk}
-use Rattle.model_store.specs.Reading.{Refuses}
+use Rattle.model_store.specs.{Refuses}
 use Rattle.model_store.specs.declared.refusal.Refusal.{Refusal}
 use Rattle.model_store.specs.declared.refusal.Refusal.TheVariants as refusal
 use Rattle.redo_disk.specs.Seen.{Seen}

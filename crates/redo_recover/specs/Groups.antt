@@ -5,15 +5,14 @@ use Rattle.model_base.specs.declared.limits.TheConstants.{BLOCK_SIZE}
 use Rattle.model_base.specs.declared.shape.Shape.{Shape}
 use Rattle.model_number.specs.declared.got.Got.{Got}
 use Rattle.model_number.specs.declared.got.Got.TheVariants.{Value, Short, Bad}
-use Rattle.model_record.specs.Group.{group_text, IsFront}
+use Rattle.model_record.specs.{group_text, IsFront}
 use Rattle.model_record.specs.declared.rec.Rec.{Rec}
 use Rattle.model_record.specs.declared.group.Whole.{Whole}
-use Rattle.model_log.specs.Lsn.{sn_of, IsDataLsn}
+use Rattle.model_log.specs.{end_of, IsDataLsn, sn_of, spans_of}
 use Rattle.model_log.specs.declared.layout.TheConstants.{BLOCK_HEADER}
-use Rattle.model_store.specs.Scan.{IsStorable, AreGroups, HasNoStorable, IsBadRecord, lsn_at}
+use Rattle.model_store.specs.{AreGroups, HasNoStorable, IsBadRecord, IsStorable, lsn_at}
 use Rattle.redo_recover.specs.declared.fault.RecFault.{RecFault}
 use Rattle.redo_recover.specs.declared.fault.RecFault.TheVariants.{BadRecord, LogDev, NoMemory}
-use Rattle.model_log.specs.Run.{end_of, spans_of}
 
 -- Off the front of the bytes: a group that fits the store and the length of its text, or that less than a whole one
 -- stands there, or that neither does.

@@ -3,9 +3,9 @@ use Rattle.std.specs.Prelude.{ℕ, ◌≡◌, ◌≤◌, ◌<◌, ◌*◌, List,
 use Rattle.model_device.specs.Disk.{Disk}
 use Rattle.model_base.specs.declared.shape.Shape.{Shape}
 use Rattle.model_record.specs.declared.group.Whole.{Whole}
-use Rattle.model_page.specs.Copies.{IsKept, IsLost}
+use Rattle.model_page.specs.{IsKept, IsLost}
 use Rattle.model_page.specs.declared.content.Content.{Content}
-use Rattle.model_store.specs.Reading.{AreKeptBelow, AreNotAheadBelow, IsKeptAt, replayed}
+use Rattle.model_store.specs.{AreKeptBelow, AreNotAheadBelow, IsKeptAt, replayed}
 use Rattle.model_store.specs.declared.refusal.Refusal.{Refusal}
 use Rattle.model_store.specs.declared.refusal.Refusal.TheVariants as refusal
 use Rattle.redo_recover.specs.Devices.{OnContent, refusal_of}

@@ -1,7 +1,7 @@
 -- A stretch of a device that was read.
 use Rattle.std.specs.Prelude.{ℕ, ◌≡◌, ◌≤◌, ◌+◌, List, length}
 use Rattle.model_base.specs.declared.limits.TheConstants.{BLOCK_SIZE}
-use Rattle.redo_disk.specs.Seen.{part}
+use Rattle.redo_disk.specs.{part}
 use Rattle.redo_recover.specs.declared.piece.Piece.{Piece}
 
 -- its bytes are those of the device from its offset on

@@ -1,11 +1,11 @@
 -- A reading as the program gives it.
 use Rattle.std.specs.Prelude.{ℕ, ◌≡◌, ◌≤◌, ◌<◌, ◌%◌, length}
-use Rattle.model_base.specs.Limits.{IsWithinLimits}
+use Rattle.model_base.specs.{IsWithinLimits}
 use Rattle.model_base.specs.declared.limits.TheConstants.{BLOCK_SIZE, START_LSN, LSN_LIMIT}
-use Rattle.model_log.specs.Device.{log_device_length}
-use Rattle.model_page.specs.Copies.{data_device_length}
+use Rattle.model_log.specs.{log_device_length}
+use Rattle.model_page.specs.{data_device_length}
 use Rattle.model_store.specs.Reading.{Reading}
-use Rattle.redo_apply.specs.Fits.{ArePagesOf}
+use Rattle.redo_apply.specs.{ArePagesOf}
 use Rattle.redo_recover.specs.Groups.{IsEndOf}
 use Rattle.redo_recover.specs.Pages.{AreNotAhead}
 use Rattle.redo_recover.specs.declared.recovered.Recovered.{Recovered}

@@ -1,13 +1,12 @@
 -- Where recovery starts: what the header of a log device says.
 use Rattle.std.specs.Prelude.{ℕ, ◌≡◌, ◌≤◌, ◌<◌, ◌%◌, List, Some}
-use Rattle.model_base.specs.Limits.{IsWithinLimits}
+use Rattle.model_base.specs.{IsWithinLimits}
 use Rattle.model_base.specs.declared.limits.TheConstants.{BLOCK_SIZE, START_LSN, LSN_LIMIT}
 use Rattle.model_base.specs.declared.shape.Shape.{Shape}
-use Rattle.model_log.specs.Device.{header_block, newest_checkpoint, log_device_length}
-use Rattle.model_log.specs.Head.{read_head}
+use Rattle.model_log.specs.{header_block, log_device_length, newest_checkpoint, read_head}
 use Rattle.model_log.specs.declared.head.Head.TheVariants.{OtherFormat, Unformatted}
-use Rattle.model_page.specs.Copies.{data_device_length}
-use Rattle.model_store.specs.Reading.{HasDevices}
+use Rattle.model_page.specs.{data_device_length}
+use Rattle.model_store.specs.{HasDevices}
 use Rattle.redo_recover.specs.declared.fault.RecFault.{RecFault}
 use Rattle.redo_recover.specs.declared.fault.RecFault.TheVariants.{SmallLog, SmallData, NotFormatted, BadFormat}
 use Rattle.redo_recover.specs.declared.start.Start.{Start}

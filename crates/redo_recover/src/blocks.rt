@@ -1,13 +1,9 @@
 // The blocks of a log from a checkpoint on, read off the log device.
 ghost use Rattle.std.specs.Prelude.{◌≡◌, ◌≤◌, ◌<◌, ◌+◌, ◌*◌, ◌%◌, ◌^◌, length, IfOk, IfSome, IsErrOf, None, nat_lt, if◌then◌else◌};
-ghost use Rattle.model_base.specs.Count.{HasRisen};
-ghost use Rattle.model_base.specs.Limits.{IsWithinLimits};
-ghost use Rattle.model_log.specs.Block.{is_full, read_block};
-ghost use Rattle.model_log.specs.Device.{log_device_length};
-ghost use Rattle.model_log.specs.Lsn.{offset_of};
-ghost use Rattle.model_store.specs.Scan.{groups_start};
-ghost use Rattle.redo_disk.specs.Calls.{error_of};
-ghost use Rattle.redo_disk.specs.Made.{MakesCalls};
+ghost use Rattle.model_base.specs.{HasRisen, IsWithinLimits};
+ghost use Rattle.model_log.specs.{is_full, log_device_length, offset_of, read_block};
+ghost use Rattle.model_store.specs.{groups_start};
+ghost use Rattle.redo_disk.specs.{error_of, MakesCalls};
 ghost use Rattle.redo_disk.specs.declared.error.DevError.{DevError};
 ghost use Rattle.redo_recover.specs.Blocks.{AreBlocksOf, AreFew, HasFirst, HaveFirsts};
 ghost use Rattle.redo_recover.specs.Calls.{ReadsPieces};

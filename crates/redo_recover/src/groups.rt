@@ -1,9 +1,9 @@
 // The groups in the data of a log.
 ghost use Rattle.std.specs.Prelude.{◌≡◌, ◌+◌, ◌-◌, ◌≤◌, ◌<◌, ◌%◌, ◌^◌, length, drop, IfOk, IfErr};
-ghost use Rattle.model_base.specs.Limits.{IsWithinLimits};
-ghost use Rattle.model_record.specs.Group.{group_text};
-ghost use Rattle.model_log.specs.Lsn.{sn_of};
-ghost use Rattle.model_store.specs.Scan.{groups_start};
+ghost use Rattle.model_base.specs.{IsWithinLimits};
+ghost use Rattle.model_record.specs.{group_text};
+ghost use Rattle.model_log.specs.{sn_of};
+ghost use Rattle.model_store.specs.{groups_start};
 ghost use Rattle.redo_recover.specs.Blocks.{AreFew, HaveFirsts};
 ghost use Rattle.redo_recover.specs.Groups.{GivesStorable, EndAt, IsBreakFault, AreParsed, IsEndOf, IsParseFault};
 

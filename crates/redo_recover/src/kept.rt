@@ -1,12 +1,9 @@
 // Kept pages, read off the data device place by place.
 ghost use Rattle.std.specs.Prelude.{List, ℕ, ◌≡◌, ◌≤◌, ◌<◌, ◌+◌, ◌*◌, length, take, OnOk, IfOk, IfErr, IfSome, IsErrOf, MatchOption};
-ghost use Rattle.model_base.specs.Count.{HasRisen};
-ghost use Rattle.model_base.specs.Limits.{IsWithinLimits};
-ghost use Rattle.model_page.specs.Blank.{user_length};
-ghost use Rattle.model_page.specs.Copies.{IsKept, IsLost, data_device_length, place_bytes};
-ghost use Rattle.model_page.specs.Page.{frame_length, user_part};
-ghost use Rattle.redo_apply.specs.Fits.{ArePagesOf};
-ghost use Rattle.redo_disk.specs.Made.{MakesCalls};
+ghost use Rattle.model_base.specs.{HasRisen, IsWithinLimits};
+ghost use Rattle.model_page.specs.{data_device_length, frame_length, IsKept, IsLost, place_bytes, user_length, user_part};
+ghost use Rattle.redo_apply.specs.{ArePagesOf};
+ghost use Rattle.redo_disk.specs.{MakesCalls};
 ghost use Rattle.redo_recover.specs.Calls.{ReadsPieces, data_error_of};
 ghost use Rattle.redo_recover.specs.Devices.{IsUnchanged, OnContent};
 ghost use Rattle.redo_recover.specs.Pages.{AreKept, HoldsSlots, IsFirstLostFault, IsLostFault, PutsKept};

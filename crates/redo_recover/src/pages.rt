@@ -1,15 +1,13 @@
 // The pages of a store: as they are kept, judged, and with the scanned groups applied.
 ghost use Rattle.std.specs.Prelude.{ℕ, ◌≤◌, ◌<◌, length, All, IfOk, IfErr, IsErrOf};
-ghost use Rattle.model_base.specs.Count.{HasRisen};
-ghost use Rattle.model_base.specs.Limits.{IsWithinLimits};
-ghost use Rattle.model_page.specs.Copies.{data_device_length};
-ghost use Rattle.model_record.specs.Fits.{GroupFits};
+ghost use Rattle.model_base.specs.{HasRisen, IsWithinLimits};
+ghost use Rattle.model_page.specs.{data_device_length};
+ghost use Rattle.model_record.specs.{GroupFits};
 ghost use Rattle.model_record.specs.declared.group.Whole.{Whole};
 ghost use Rattle.std.specs.List.{AllByRecursion};
-ghost use Rattle.model_store.specs.Reading.{AreReadPages};
-ghost use Rattle.redo_apply.specs.Fits.{ArePagesOf};
-ghost use Rattle.redo_apply.specs.Replay.{HaveLsns};
-ghost use Rattle.redo_disk.specs.Made.{MakesCalls};
+ghost use Rattle.model_store.specs.{AreReadPages};
+ghost use Rattle.redo_apply.specs.{ArePagesOf, HaveLsns};
+ghost use Rattle.redo_disk.specs.{MakesCalls};
 ghost use Rattle.redo_recover.specs.Calls.{ReadsPieces, data_error_of};
 ghost use Rattle.redo_recover.specs.Devices.{HasLengthCause, IsUnchanged, OnContent};
 ghost use Rattle.redo_recover.specs.Pages.{AreNotAhead, IsAheadFault, AreReplayed, HasPageCause};

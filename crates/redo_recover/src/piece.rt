@@ -1,10 +1,8 @@
 // Stretches of a device, read in pieces.
 ghost use Rattle.std.specs.Prelude.{◌≡◌, ◌≤◌, ◌<◌, ◌+◌, ◌-◌, ◌%◌, length, take, IfOk, IsErrOf, IsTrue, ◌↔◌, ◌^◌};
-ghost use Rattle.model_base.specs.Count.{HasRisen};
-ghost use Rattle.model_log.specs.Device.{sector_at};
-ghost use Rattle.redo_disk.specs.Calls.{error_of};
-ghost use Rattle.redo_disk.specs.Made.{MakesCalls};
-ghost use Rattle.redo_disk.specs.Seen.{IsRange, part};
+ghost use Rattle.model_base.specs.{HasRisen};
+ghost use Rattle.model_log.specs.{sector_at};
+ghost use Rattle.redo_disk.specs.{error_of, IsRange, MakesCalls, part};
 ghost use Rattle.redo_disk.specs.declared.error.DevError.{DevError};
 ghost use Rattle.redo_recover.specs.Calls.{ReadsPieces};
 ghost use Rattle.redo_recover.specs.Devices.{IsUnchanged, OnContent};

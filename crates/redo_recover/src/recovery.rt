@@ -1,9 +1,8 @@
 // Recovery.
 ghost use Rattle.std.specs.Prelude.{◌≡◌, IfOk, IfErr, IfSome, IsErrOf};
-ghost use Rattle.model_base.specs.Count.{HasRisen};
-ghost use Rattle.model_store.specs.Reading.{IsReading};
-ghost use Rattle.redo_disk.specs.Seen.{HasSize};
-ghost use Rattle.redo_disk.specs.Made.{MakesCalls};
+ghost use Rattle.model_base.specs.{HasRisen};
+ghost use Rattle.model_store.specs.{IsReading};
+ghost use Rattle.redo_disk.specs.{HasSize, MakesCalls};
 ghost use Rattle.redo_recover.specs.Calls.{ReadsLog, ReadsPieces, data_error_of, log_error_of};
 ghost use Rattle.redo_recover.specs.Devices.{HasCauseIn, HasLengthCause, IsUnchanged, OnContents};
 ghost use Rattle.redo_recover.specs.Reading.{IsOfDevices, reading_of};

@@ -1,11 +1,10 @@
 // The scan of a log from a checkpoint on.
 ghost use Rattle.std.specs.Prelude.{ℕ, ◌≡◌, ◌≤◌, ◌<◌, ◌^◌, ◌%◌, length, All, IfOk, IfErr, IsErrOf};
-ghost use Rattle.model_base.specs.Count.{HasRisen};
-ghost use Rattle.model_base.specs.Limits.{IsWithinLimits};
-ghost use Rattle.model_log.specs.Device.{log_device_length};
-ghost use Rattle.model_record.specs.Fits.{GroupFits};
-ghost use Rattle.model_store.specs.Scan.{IsScan};
-ghost use Rattle.redo_disk.specs.Made.{MakesCalls};
+ghost use Rattle.model_base.specs.{HasRisen, IsWithinLimits};
+ghost use Rattle.model_log.specs.{log_device_length};
+ghost use Rattle.model_record.specs.{GroupFits};
+ghost use Rattle.model_store.specs.{IsScan};
+ghost use Rattle.redo_disk.specs.{MakesCalls};
 ghost use Rattle.redo_recover.specs.Calls.{ReadsPieces, log_error_of};
 ghost use Rattle.redo_recover.specs.Devices.{HasLengthCause, IsUnchanged, OnContent};
 ghost use Rattle.redo_recover.specs.Groups.{IsEndOf, IsScanFault};

@@ -1,12 +1,9 @@
 // Where recovery starts: the sizes of the store and its newest checkpoint, off the header of the log device.
 ghost use Rattle.std.specs.Prelude.{◌≡◌, ◌≤◌, ◌<◌, ◌*◌, length, None, Some, IfOk, IfErr, IfSome, IsErrOf, MatchOption};
-ghost use Rattle.model_base.specs.Count.{HasRisen};
-ghost use Rattle.model_base.specs.Limits.{IsWithinLimits};
-ghost use Rattle.model_log.specs.Device.{header_block, newer, newest_checkpoint, log_device_length};
-ghost use Rattle.model_log.specs.Head.{read_head};
-ghost use Rattle.model_page.specs.Copies.{data_device_length};
-ghost use Rattle.redo_disk.specs.Seen.{HasSize};
-ghost use Rattle.redo_disk.specs.Made.{MakesCalls};
+ghost use Rattle.model_base.specs.{HasRisen, IsWithinLimits};
+ghost use Rattle.model_log.specs.{header_block, log_device_length, newer, newest_checkpoint, read_head};
+ghost use Rattle.model_page.specs.{data_device_length};
+ghost use Rattle.redo_disk.specs.{HasSize, MakesCalls};
 ghost use Rattle.redo_recover.specs.Calls.{ReadsLog, log_error_of};
 ghost use Rattle.redo_recover.specs.Devices.{HasCauseIn, HasLengthCause, IsUnchanged, OnContents};
 ghost use Rattle.redo_recover.specs.Start.{IsHeadFault, IsLengthFault, IsStart, IsUsable};

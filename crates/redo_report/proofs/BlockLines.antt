@@ -3,7 +3,7 @@ use Rattle.std.proofs.Common.{ℕ, ◌≡◌, ◌+◌, ◌<◌, ◌≤◌, List,
 use Rattle.std.proofs.lemmas.List.{at_drop_more, at_drop_all}
 use Rattle.model_base.specs.declared.limits.TheConstants.{BLOCK_SIZE}
 use Rattle.model_log.specs.declared.block.BlockView.{BlockView}
-use Rattle.model_report.specs.Listing.{block_line, block_lines}
+use Rattle.model_report.specs.{block_line, block_lines}
 
 pub block_lines_more : (text : List ℕ) (views : List BlockView) (i lsn : ℕ) (view : BlockView) → i < length views → view ≡ get_or views i view
     → text ++ block_lines lsn (drop i views) ≡ (text ++ block_line lsn view) ++ block_lines (lsn + BLOCK_SIZE) (drop (i + 1) views)

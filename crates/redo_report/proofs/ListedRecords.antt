@@ -1,13 +1,11 @@
 -- The records of a store that is read, as a script's operations.
 use Rattle.std.proofs.Common.{ℕ, ◌≡◌, List, [], ◌∷◌, map, refl, ap, ◌∙◌}
 use Rattle.model_base.specs.declared.shape.Shape.{Shape}
-use Rattle.model_record.specs.Fits.{RecordFits}
-use Rattle.model_record.specs.Record.{HasText}
+use Rattle.model_record.specs.{HasText, RecordFits}
 use Rattle.model_record.specs.declared.rec.Rec.{Rec}
 use Rattle.model_record.specs.declared.rec.Rec.TheVariants as rec
-use Rattle.model_report.specs.Listing.{item_of_record}
-use Rattle.model_script.specs.LineGroup.{group_of, record_of}
-use Rattle.model_script.specs.Ranges.{IsInRange}
+use Rattle.model_report.specs.{item_of_record}
+use Rattle.model_script.specs.{group_of, IsInRange, record_of}
 use Rattle.model_script.specs.declared.item.Item.{Item}
 use Rattle.model_script.specs.declared.item.Item.TheVariants.{Num, Text, Init}
 use Rattle.model_script.specs.declared.script.ScriptLine.{ScriptLine}

@@ -1,7 +1,7 @@
 -- The lines of pages, one page on.
 use Rattle.std.proofs.Common.{ℕ, ◌≡◌, ◌+◌, ◌<◌, ◌≤◌, List, ◌∷◌, ◌++◌, length, drop, get_or, ap, sym, ◌∙◌, append-nil, append_assoc, rules, tests}
 use Rattle.std.proofs.lemmas.List.{at_drop_more, at_drop_all}
-use Rattle.model_report.specs.Pages.{page_line, page_lines_from}
+use Rattle.model_report.specs.{page_line, page_lines_from}
 use Rattle.model_page.specs.declared.content.Content.{Content}
 
 lines_of_page : (p : ℕ) (page : Content) (pages : List Content) → 0 < page.lsn → page_lines_from p (page ∷ pages) ≡ page_line p page ++ page_lines_from (p + 1) pages

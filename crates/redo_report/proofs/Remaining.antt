@@ -6,7 +6,7 @@ use Rattle.std.specs.BTreeMap.{is_at}
 use Rattle.std.specs.Option.{unwrap_or}
 use Rattle.std.specs.Ordering.{nat_cmp}
 use Rattle.model_script.specs.declared.script.ScriptLine.{ScriptLine}
-use Rattle.model_history.specs.Legal.{lines_of_user, entries_of_user}
+use Rattle.model_history.specs.{entries_of_user, lines_of_user}
 use Rattle.model_history.specs.declared.entry.Entry.{Entry}
 
 -- a user's lines among the first ones, with one more

@@ -1,7 +1,7 @@
 -- The zeros at the end of bytes.
 use Rattle.std.proofs.Common.{ℕ, ◌≡◌, ◌≢◌, ◌+◌, ◌<◌, List, [], ◌∷◌, ◌++◌, length, take, get_or, refl, ap, sym, ◌∙◌, rules, tests}
 use Rattle.std.proofs.lemmas.List.{take_more}
-use Rattle.model_report.specs.Pages.{trimmed, onto_trimmed}
+use Rattle.model_report.specs.{onto_trimmed, trimmed}
 
 trimmed-push_zero : (xs : List ℕ) → trimmed (xs ++ 0 ∷ []) ≡ trimmed xs
 trimmed-push_zero [] = refl

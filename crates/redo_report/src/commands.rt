@@ -1,7 +1,6 @@
 // The texts of `recover`, `format` and `gen --run`.
 ghost use Rattle.std.specs.Prelude.{◌≡◌, ◌++◌, IfOk};
-ghost use Rattle.model_report.specs.Listing.{format_text, read_line, summary_text};
-ghost use Rattle.model_report.specs.Pages.{page_lines};
+ghost use Rattle.model_report.specs.{format_text, page_lines, read_line, summary_text};
 
 use crate::pages::{pages_text, push_pages};
 use model_base::START_LSN;

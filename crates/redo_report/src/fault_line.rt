@@ -1,8 +1,7 @@
 // The line of a fault, written in a buffer that is there already: it is printed also when memory is short.
 ghost use Rattle.std.specs.Prelude.{◌≡◌, ◌+◌, ◌++◌, ◌∷◌, [], ◌≤◌, length, take, codes};
 ghost use Rattle.std.specs.Fmt.{decimal};
-ghost use Rattle.model_report.specs.Line.{line_text};
-ghost use Rattle.model_report.specs.FaultLine.{fault_line, misfit_words, quantity_word, refusal_words, status_of};
+ghost use Rattle.model_report.specs.{fault_line, line_text, misfit_words, quantity_word, refusal_words, status_of};
 
 use model_report::Fault;
 use model_script::{Misfit, Quantity};

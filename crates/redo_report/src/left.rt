@@ -1,6 +1,6 @@
 // What is left of a script.
 ghost use Rattle.std.specs.Prelude.{◌≡◌, ℕ, ◌-◌, List, IfOk, OnOk, filter, nat_lt};
-ghost use Rattle.model_history.specs.Legal.{IsLeft};
+ghost use Rattle.model_history.specs.{IsLeft};
 ghost use Rattle.model_script.specs.declared.script.ScriptLine.{ScriptLine};
 ghost use Rattle.std.specs.BTreeMap.{IsOrdered};
 ghost use Rattle.std.specs.Ordering.{nat_cmp};

@@ -1,7 +1,7 @@
 // The lines of pages.
 ghost use Rattle.std.specs.Prelude.{◌≡◌, ◌++◌, OnOk, IfOk};
 ghost use Rattle.std.specs.String.{string_bytes};
-ghost use Rattle.model_report.specs.Pages.{trimmed, hex_word, page_line, page_lines};
+ghost use Rattle.model_report.specs.{hex_word, page_line, page_lines, trimmed};
 
 use model_page::Content;
 use redo_io::Text;

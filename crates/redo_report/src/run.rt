@@ -2,7 +2,7 @@
 ghost use Rattle.std.specs.Prelude.{◌≡◌, ◌++◌, OnOk, IfOk};
 ghost use Rattle.std.specs.List.{flat_map};
 ghost use Rattle.std.specs.String.{string_bytes};
-ghost use Rattle.model_report.specs.Report.{group_line, left_line, recovered_line, report_text};
+ghost use Rattle.model_report.specs.{group_line, left_line, recovered_line, report_text};
 ghost use Rattle.redo_report.specs.Read.{read_of};
 
 use crate::pages::push_pages;

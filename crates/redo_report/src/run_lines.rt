@@ -1,7 +1,7 @@
 // The lines of a report, each written at the end of a text.
 ghost use Rattle.std.specs.Prelude.{◌≡◌, ◌++◌, OnOk};
 ghost use Rattle.std.specs.String.{string_bytes};
-ghost use Rattle.model_report.specs.Report.{state_word, open_line, group_line, left_line, marks_line};
+ghost use Rattle.model_report.specs.{group_line, left_line, marks_line, open_line, state_word};
 
 use model_history::{Entry, Marks, State};
 use std::alloc::AllocError;

@@ -2,8 +2,7 @@
 use Rattle.std.proofs.Common.{ℕ, suc, ◌≡◌, ◌≢◌, ◌+◌, ◌-◌, ◌%◌, ◌<◌, ◌≤◌, List, [], ◌∷◌, ◌++◌, refl, ap, sym, ◌∙◌, append_assoc, append-nil, arith}
 use Rattle.std.proofs.lemmas.Bool.{ne_eqb}
 use Rattle.std.proofs.lemmas.Bool.Decides.{nat_tests}
-use Rattle.model_script.specs.Generator.{bytes_at, draw, item_at, item_draws, items_at, kind_at, length_at, line_at, lines_at, next_state, offset_at, page_at, state_after, state_after_items, state_after_line}
-use Rattle.model_script.specs.Spelling.{script_line_text, script_text}
+use Rattle.model_script.specs.{bytes_at, draw, item_at, item_draws, items_at, kind_at, length_at, line_at, lines_at, next_state, offset_at, page_at, script_line_text, script_text, state_after, state_after_items, state_after_line}
 use Rattle.model_script.specs.declared.item.Item.{Item}
 use Rattle.model_script.specs.declared.item.Item.TheVariants.{Text}
 

@@ -2,7 +2,7 @@
 use Rattle.std.proofs.Common.{ℕ, ◌≡◌, ◌+◌, ◌^◌, ◌<◌, List, [], ◌∷◌, ◌++◌, Option, Some, None, Bor, length, refl, ap, sym, ◌∙◌, append_assoc, append-nil, length-append, arith}
 use Rattle.std.specs.Option.{option_and_then}
 use Rattle.redo_script.specs.Cut.{IsCut}
-use Rattle.model_script.specs.Grammar.{item_of, items_of, words_of, line_from, number_below, mode_of}
+use Rattle.model_script.specs.{item_of, items_of, line_from, mode_of, number_below, words_of}
 use Rattle.redo_script.specs.Progress.{after_items, left_after}
 use Rattle.model_script.specs.declared.item.Item.{Item}
 use Rattle.model_script.specs.declared.script.ScriptLine.{ScriptLine}

@@ -1,7 +1,7 @@
 -- Operations that are printed.
 use Rattle.std.proofs.Common.{ℕ, ◌≡◌, List, [], ◌∷◌, ◌++◌, ap, sym, ◌∙◌, append_assoc, append-nil}
 use Rattle.std.specs.List.{flat_map}
-use Rattle.model_script.specs.Spelling.{item_text, items_text}
+use Rattle.model_script.specs.{item_text, items_text}
 use Rattle.model_script.specs.declared.item.Item.{Item}
 
 items_text_apart : (first : Item) (others : List Item) → items_text (first ∷ others) ≡ item_text first ++ flat_map (λ item. 59 ∷ item_text item) others

@@ -8,7 +8,7 @@ use Rattle.std.proofs.lemmas.Fmt.{decimal_by_steps}
 use Rattle.std.proofs.lemmas.List.Elements.{All-append, All-cons, All-nil, All-push, All-weaker}
 use Rattle.hex.specs.Hex.{IsBytes, encode_lower, is_hex_digit}
 use Rattle.hex.proofs.HexLemmas.{decode_of-encode_lower, decode_of-ok}
-use Rattle.model_script.specs.Spelling.{mode_name, number_name}
+use Rattle.model_script.specs.{mode_name, number_name}
 use Rattle.redo_script.specs.Cut.{Lacks}
 
 -- a byte of a word: no space, `#`, line feed or carriage return, and no semicolon

@@ -2,9 +2,7 @@
 use Rattle.std.proofs.Common.{ℕ, ◌≡◌, ◌≢◌, ◌==◌, ◌^◌, ◌<◌, ◌⊎◌, inl, inr, false, List, [], ◌∷◌, ◌++◌, map, Option, Some, None, refl, ap, sym, ◌∙◌, append_assoc, arith}
 use Rattle.std.specs.List.{AllByRecursion, join_with_byte}
 use Rattle.std.specs.Fmt.{decimal}
-use Rattle.model_script.specs.Grammar.{line_of_parts, mode_of, operations_of, script_line_of, words_of}
-use Rattle.model_script.specs.Ranges.{IsInRange, IsScriptLine}
-use Rattle.model_script.specs.Spelling.{item_text, item_words, items_text, mode_name, script_line_text, spaced}
+use Rattle.model_script.specs.{IsInRange, IsScriptLine, item_text, item_words, items_text, line_of_parts, mode_name, mode_of, operations_of, script_line_of, script_line_text, spaced, words_of}
 use Rattle.model_script.specs.declared.item.Item.{Item}
 use Rattle.model_script.specs.declared.item.Item.TheVariants.{Num, Text, Init}
 use Rattle.model_script.specs.declared.script.ScriptLine.{ScriptLine}

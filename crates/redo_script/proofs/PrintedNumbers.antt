@@ -6,7 +6,7 @@ use Rattle.std.specs.Fmt.{decimal}
 use Rattle.std.proofs.lemmas.Bool.Decides.{nat_tests}
 use Rattle.std.proofs.lemmas.Fmt.{decimal_nonempty, digits_decimal, digits_value-decimal, length-decimal-le}
 use Rattle.std.proofs.lemmas.Str.Parse.{IsNumeralModel, numerals_by_fold}
-use Rattle.model_script.specs.Grammar.{digits_value, is_number, number_below}
+use Rattle.model_script.specs.{digits_value, is_number, number_below}
 
 -- the grammar's words for digits and their value
 own_words : IsNumeralModel (λ text. list_all is_ascii_digit text ≡ true) digits_value

@@ -2,10 +2,8 @@
 use Rattle.std.proofs.Common.{ℕ, ◌≡◌, ◌==◌, ◌+◌, false, List, [], ◌∷◌, ◌++◌, map, Some, Ok, refl, ap, ◌∙◌, append_assoc, arith}
 use Rattle.std.specs.List.{AllByRecursion, enumerate_from}
 use Rattle.std.proofs.lemmas.List.Elements.{All-head, All-tail}
-use Rattle.model_base.specs.Lines.{fed_lines, lines_of, without_return}
-use Rattle.model_script.specs.Grammar.{is_skipped, script_from, script_line_of, script_of}
-use Rattle.model_script.specs.Ranges.{IsScriptLine}
-use Rattle.model_script.specs.Spelling.{script_line_text, script_text}
+use Rattle.model_base.specs.{fed_lines, lines_of, without_return}
+use Rattle.model_script.specs.{is_skipped, IsScriptLine, script_from, script_line_of, script_line_text, script_of, script_text}
 use Rattle.model_script.specs.declared.script.ScriptLine.{ScriptLine}
 use Rattle.redo_script.proofs.PlainBytes.{apart_below}
 use Rattle.redo_script.proofs.PrintedLines.{lacks_line_text, script_line_of-text}

@@ -1,6 +1,6 @@
 -- The lines of a script, one on.
 use Rattle.std.proofs.Common.{ℕ, ◌≡◌, true, false, List, [], ◌∷◌, ◌++◌, Some, None, Result, Ok, Err, refl, ap, sym, append_assoc, append-nil}
-use Rattle.model_script.specs.Grammar.{is_skipped, script_line_of, with_line, script_from}
+use Rattle.model_script.specs.{is_skipped, script_from, script_line_of, with_line}
 use Rattle.redo_script.specs.Progress.{after_lines}
 use Rattle.model_script.specs.declared.script.ScriptLine.{ScriptLine}
 

@@ -1,7 +1,7 @@
 -- Words that are no operation.
 use Rattle.std.proofs.Common.{ℕ, ◌≡◌, Bool, true, false, cond, List, [], ◌∷◌, None, refl}
 use Rattle.std.specs.List.{slice_split, onto_first}
-use Rattle.model_script.specs.Grammar.{item_of}
+use Rattle.model_script.specs.{item_of}
 
 item_of-more : (name page offset value : List ℕ) (words : List (List ℕ)) (byte : ℕ) → item_of (name ∷ page ∷ offset ∷ value ∷ onto_first byte words) ≡ None
 unfolding item_of

@@ -1,7 +1,7 @@
 -- Why a script, or some lines of one, may not be run on a store.
 use Rattle.std.specs.Prelude.{ℕ, ◌≡◌, List, map, Option, Some}
 use Rattle.model_base.specs.declared.shape.Shape.{Shape}
-use Rattle.model_script.specs.Fit.{first_misfit, first_misfit_of, line_misfit}
+use Rattle.model_script.specs.{first_misfit, first_misfit_of, line_misfit}
 use Rattle.model_script.specs.declared.script.ScriptLine.{ScriptLine}
 use Rattle.redo_script.specs.declared.unfit.Unfit.{Unfit}
 use Rattle.redo_script.specs.declared.unfit.Unfit.TheVariants.{Misfit, NoMemory}

@@ -1,6 +1,6 @@
 // The draws of a seed.
 ghost use Rattle.std.specs.Prelude.{◌≡◌, ◌<◌, ◌^◌};
-ghost use Rattle.model_script.specs.Generator.{draw, first_state, next_state};
+ghost use Rattle.model_script.specs.{draw, first_state, next_state};
 
 use std::marker::Model;
 

@@ -1,6 +1,6 @@
 // The group that a line logs.
 ghost use Rattle.std.specs.Prelude.{◌≡◌, map, IfOk};
-ghost use Rattle.model_script.specs.LineGroup.{group_of, record_of};
+ghost use Rattle.model_script.specs.{group_of, record_of};
 
 use model_base::Bytes;
 use model_record::{Group, Rec};

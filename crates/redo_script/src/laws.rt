@@ -1,10 +1,7 @@
 // What holds of scripts. A caller learns it by calling a function that does nothing.
 ghost use Rattle.std.specs.Prelude.{◌≡◌, ◌≤◌, ℕ, List, Some, Ok};
 ghost use Rattle.std.specs.List.{AllByRecursion};
-ghost use Rattle.model_script.specs.Generator.{generated_lines, generated_text};
-ghost use Rattle.model_script.specs.Grammar.{item_of, script_line_of, script_of, words_of};
-ghost use Rattle.model_script.specs.Ranges.{IsInRange, IsScriptLine};
-ghost use Rattle.model_script.specs.Spelling.{item_text, script_line_text, script_text};
+ghost use Rattle.model_script.specs.{generated_lines, generated_text, IsInRange, IsScriptLine, item_of, item_text, script_line_of, script_line_text, script_of, script_text, words_of};
 ghost use Rattle.model_script.specs.declared.item.Item.{Item};
 ghost use Rattle.model_script.specs.declared.misfit.TheConstants.{MAX_USERS};
 ghost use Rattle.model_script.specs.declared.script.ScriptLine.{ScriptLine};

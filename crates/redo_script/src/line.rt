@@ -1,7 +1,7 @@
 // One line of a script.
 ghost use Rattle.std.specs.Prelude.{◌≡◌, IfOk};
 ghost use Rattle.redo_script.specs.Cut.{parts_behind};
-ghost use Rattle.model_script.specs.Grammar.{items_of, line_from, script_line_of, mode_of, words_of};
+ghost use Rattle.model_script.specs.{items_of, line_from, mode_of, script_line_of, words_of};
 ghost use Rattle.redo_script.specs.Progress.{after_items};
 
 use crate::cut::cut;

@@ -1,7 +1,7 @@
 // The operations of a script line.
 ghost use Rattle.std.specs.Prelude.{◌≡◌, ◌+◌, ◌^◌, ◌∷◌, [], IfSome, IfOk};
-ghost use Rattle.model_record.specs.Record.{IsWidth};
-ghost use Rattle.model_script.specs.Grammar.{hex_bytes, width_of, number_item, text_item, item_of, words_of};
+ghost use Rattle.model_record.specs.{IsWidth};
+ghost use Rattle.model_script.specs.{hex_bytes, item_of, number_item, text_item, width_of, words_of};
 
 use crate::cut::cut;
 use crate::number::{number_up_to, small_number_up_to};

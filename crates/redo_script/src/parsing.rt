@@ -1,6 +1,6 @@
 // The script that a text is.
 ghost use Rattle.std.specs.Prelude.{◌≡◌, Ok, IfOk, IfErr};
-ghost use Rattle.model_script.specs.Grammar.{is_skipped, script_of};
+ghost use Rattle.model_script.specs.{is_skipped, script_of};
 ghost use Rattle.redo_script.specs.Fault.{IsFaultOf};
 
 use crate::ScriptFault;

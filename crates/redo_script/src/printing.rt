@@ -2,7 +2,7 @@
 ghost use Rattle.std.specs.Prelude.{◌≡◌, ◌∷◌, ◌++◌, OnOk};
 ghost use Rattle.std.specs.List.{flat_map};
 ghost use Rattle.std.specs.String.{string_bytes};
-ghost use Rattle.model_script.specs.Spelling.{item_text, items_text, mode_name, script_line_text};
+ghost use Rattle.model_script.specs.{item_text, items_text, mode_name, script_line_text};
 ghost use Rattle.model_script.specs.declared.item.Item.TheVariants.{Num, Text, Init};
 
 use model_script::{Item, ScriptLine};

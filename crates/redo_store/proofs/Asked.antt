@@ -3,8 +3,7 @@ use Rattle.std.proofs.Common.{◌≡◌, ◌+◌, ℕ, zero, suc, List, [], ◌�
 use Rattle.std.specs.List.{slice_get}
 use Rattle.std.proofs.lemmas.List.{map-append, take-append-drop}
 use Rattle.model_device.specs.declared.write.Write.{Write}
-use Rattle.redo_disk.specs.Calls.{Answer, Call, Writes, Request, ToWrite, Serve, error_of}
-use Rattle.redo_disk.specs.Made.{MakesCall, MakesCalls}
+use Rattle.redo_disk.specs.{Answer, Call, error_of, MakesCall, MakesCalls, Request, Serve, ToWrite, Writes}
 use Rattle.redo_disk.specs.declared.error.DevError.{DevError}
 use Rattle.redo_disk.proofs.Made.{call_serves, serves_then, serves_cut}
 

@@ -1,21 +1,18 @@
 -- What the texts of a batch in the buffer make of the calls.
 use Rattle.std.proofs.Common.{◌≡◌, ◌≤◌, ◌<◌, ◌++◌, IfSome, arith, ℕ, Bool, false, List, length, take, drop, Option, None, is_some, sym, ap, subst, ◌∙◌, get_or}
 use Rattle.std.proofs.lemmas.List.{take_at}
-use Rattle.model_base.specs.Limits.{IsWithinLimits}
+use Rattle.model_base.specs.{IsWithinLimits}
 use Rattle.model_base.specs.declared.shape.Shape.{Shape}
 use Rattle.model_page.specs.declared.content.Content.{Content}
-use Rattle.model_device.specs.Calls.{written, synced}
+use Rattle.model_device.specs.{synced, written}
 use Rattle.model_device.specs.Disk.{Disk}
 use Rattle.model_device.specs.declared.write.Write.{Write}
-use Rattle.model_datadev.specs.Batch.{Fresh, IsBatch, IsWritable, batch_of, batch_text, slots_write, place_writes}
-use Rattle.model_datadev.specs.Steps.{IsPutOrNot, after_both, FailsBoth}
-use Rattle.model_datadev.specs.Stored.{Stored, IsUpTo}
+use Rattle.model_datadev.specs.{after_both, batch_of, batch_text, FailsBoth, Fresh, IsBatch, IsPutOrNot, IsUpTo, IsWritable, place_writes, slots_write}
+use Rattle.model_datadev.specs.Stored.{Stored}
 use Rattle.model_datadev.proofs.Joined.{batch-from}
-use Rattle.model_page.specs.Copies.{data_device_length}
+use Rattle.model_page.specs.{data_device_length}
 use Rattle.redo_dblwr.proofs.Tells.{told-both}
-use Rattle.redo_disk.specs.Calls.{Call, Serve, put_requests}
-use Rattle.redo_disk.specs.Made.{MakesCalls}
-use Rattle.redo_disk.specs.Seen.{HasSize, write_at}
+use Rattle.redo_disk.specs.{Call, HasSize, MakesCalls, put_requests, Serve, write_at}
 use Rattle.redo_disk.specs.declared.error.DevError.{DevError}
 use Rattle.redo_store.specs.Places.{text_writes}
 use Rattle.redo_store.specs.Requests.{all_put, batch_requests}

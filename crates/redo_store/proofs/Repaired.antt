@@ -3,20 +3,15 @@ use Rattle.std.proofs.Common.{◌≡◌, ◌≤◌, IfSome, ◌+◌, ◌-◌, �
 use Rattle.model_base.specs.declared.shape.Shape.{Shape}
 use Rattle.model_datadev.proofs.Repairs.{same-best}
 use Rattle.model_datadev.proofs.Stretches.{stretch-piece}
-use Rattle.model_datadev.specs.Batch.{place_at}
-use Rattle.model_datadev.specs.Repair.{SameSlots, IsRepairable, IsPutBack, FailsPutBack, repair_write}
-use Rattle.model_datadev.specs.Stored.{HasNothingPending}
-use Rattle.model_datadev.specs.Steps.{IsPutOrNot}
-use Rattle.model_device.specs.Calls.{written, synced}
+use Rattle.model_datadev.specs.{FailsPutBack, HasNothingPending, IsPutBack, IsPutOrNot, IsRepairable, place_at, repair_write, SameSlots}
+use Rattle.model_device.specs.{synced, written}
 use Rattle.model_device.specs.Disk.{Disk}
 use Rattle.model_device.specs.declared.write.Write.{Write}
-use Rattle.model_page.specs.Copies.{IsBestCopy, HasNoCopy, slot_bytes, data_device_length}
-use Rattle.redo_dblwr.specs.Requests.{slots_read}
+use Rattle.model_page.specs.{data_device_length, HasNoCopy, IsBestCopy, slot_bytes}
+use Rattle.redo_dblwr.specs.{slots_read}
 use Rattle.redo_disk.proofs.Calls.{EndWith-append}
 use Rattle.redo_disk.proofs.Made.{EndWith-one, call_serves}
-use Rattle.redo_disk.specs.Calls.{Answer, Call, Reads, ToRead, Serve, error_of, put_requests}
-use Rattle.redo_disk.specs.Made.{MakesCall, MakesCalls}
-use Rattle.redo_disk.specs.Seen.{HasSize, write_at}
+use Rattle.redo_disk.specs.{Answer, Call, error_of, HasSize, MakesCall, MakesCalls, put_requests, Reads, Serve, ToRead, write_at}
 use Rattle.redo_disk.specs.declared.error.DevError.{DevError}
 use Rattle.redo_store.specs.Requests.{RepairCalls}
 

@@ -4,7 +4,7 @@ use Rattle.std.specs.List.{slice_get}
 use Rattle.std.proofs.lemmas.List.{take_at, drop_at, drop-drop}
 use Rattle.model_base.specs.declared.shape.Shape.{Shape}
 use Rattle.model_device.specs.declared.write.Write.{Write}
-use Rattle.model_datadev.specs.Batch.{Fresh, IsFreshPage, batch_of, new_text, batch_text, place_at, place_write, place_writes}
+use Rattle.model_datadev.specs.{batch_of, batch_text, Fresh, IsFreshPage, new_text, place_at, place_write, place_writes}
 use Rattle.model_datadev.proofs.Batches.{length-new_text}
 use Rattle.redo_store.specs.Places.{text_writes}
 use Rattle.model_datadev.proofs.Joined.{fresh_of}

@@ -1,3 +1,5 @@
 pub mod Part
 pub mod Places
 pub mod Requests
+pub use Rattle.redo_store.specs.Part.{PartKeeps, PartStep, PartStores}
+pub use Rattle.redo_store.specs.Requests.{RepairCalls}

@@ -1,13 +1,13 @@
 -- What a data part is to its callers, and what its device holds.
 use Rattle.std.specs.Prelude.{ℕ, ◌≡◌, ◌≤◌, ◌*◌, List, Option, Result, IfSome, is_some}
-use Rattle.model_base.specs.Limits.{IsWithinLimits}
+use Rattle.model_base.specs.{IsWithinLimits}
 use Rattle.model_base.specs.declared.shape.Shape.{Shape}
-use Rattle.model_page.specs.Copies.{data_device_length}
+use Rattle.model_page.specs.{data_device_length}
 use Rattle.model_page.specs.declared.content.Content.{Content}
-use Rattle.model_datadev.specs.Batch.{Fresh}
-use Rattle.model_datadev.specs.Stored.{Keeps, Stored, IsUpTo}
-use Rattle.redo_disk.specs.Calls.{error_of}
-use Rattle.redo_disk.specs.Seen.{Seen, HasCause}
+use Rattle.model_datadev.specs.{Fresh, IsUpTo, Keeps}
+use Rattle.model_datadev.specs.Stored.{Stored}
+use Rattle.redo_disk.specs.{error_of, HasCause}
+use Rattle.redo_disk.specs.Seen.{Seen}
 use Rattle.redo_disk.specs.declared.error.DevError.{DevError}
 
 -- a data part: its device, the sizes of the store, and what the call answered that failed

@@ -1,11 +1,10 @@
 -- What the calls of a data part ask of its device, and in which order.
 use Rattle.std.specs.Prelude.{ℕ, ◌≡◌, ◌*◌, ◌⊎◌, List, [], ◌∷◌, ◌++◌, length, map, Option, OnOk}
 use Rattle.model_base.specs.declared.shape.Shape.{Shape}
-use Rattle.model_datadev.specs.Batch.{Fresh, slots_write, place_writes}
-use Rattle.model_datadev.specs.Repair.{repair_write}
+use Rattle.model_datadev.specs.{Fresh, place_writes, repair_write, slots_write}
 use Rattle.model_device.specs.declared.write.Write.{Write}
-use Rattle.model_page.specs.Copies.{IsBestCopy, HasNoCopy, slot_bytes}
-use Rattle.redo_disk.specs.Calls.{Answer, Call, Reads, Request, ToWrite, ToSync, EndWith, Serve, put_requests}
+use Rattle.model_page.specs.{HasNoCopy, IsBestCopy, slot_bytes}
+use Rattle.redo_disk.specs.{Answer, Call, EndWith, put_requests, Reads, Request, Serve, ToSync, ToWrite}
 use Rattle.redo_disk.specs.declared.error.DevError.{DevError}
 
 -- writes in their order, and a sync behind them

@@ -1,12 +1,10 @@
 // The copies of a page, and its repair: the copy that counts is put into its place.
 ghost use Rattle.std.specs.Prelude.{◌≡◌, ◌≤◌, ◌<◌, ◌*◌, [], ◌∷◌, length, IfOk, IfSome, MatchOption, OnOk, OnErr};
-ghost use Rattle.model_base.specs.Limits.{IsWithinLimits};
-ghost use Rattle.model_datadev.specs.Repair.{IsPutBack, FailsPutBack};
-ghost use Rattle.model_page.specs.Copies.{data_device_length, IsBestCopy, HasNoCopy};
-ghost use Rattle.redo_dblwr.specs.Requests.{slots_read};
-ghost use Rattle.redo_disk.specs.Calls.{Serve, error_of};
-ghost use Rattle.redo_disk.specs.Made.{MakesCalls};
-ghost use Rattle.redo_disk.specs.Seen.{HasCause, OnTold};
+ghost use Rattle.model_base.specs.{IsWithinLimits};
+ghost use Rattle.model_datadev.specs.{FailsPutBack, IsPutBack};
+ghost use Rattle.model_page.specs.{data_device_length, HasNoCopy, IsBestCopy};
+ghost use Rattle.redo_dblwr.specs.{slots_read};
+ghost use Rattle.redo_disk.specs.{error_of, HasCause, MakesCalls, OnTold, Serve};
 ghost use Rattle.redo_store.specs.Requests.{RepairCalls};
 
 use crate::places::PAGE;

@@ -1,16 +1,12 @@
 // The data part.
 ghost use Rattle.std.specs.Prelude.{◌≡◌, ◌≤◌, ◌<◌, ◌*◌, ℕ, ◌+◌, List, [], ◌∷◌, length, None, IfOk, MatchResult, MatchOption, IfSome, OnOk, vec_len};
-ghost use Rattle.model_base.specs.Limits.{IsWithinLimits};
-ghost use Rattle.model_datadev.specs.Batch.{Fresh, batch_of, after_batch, slots_write, IsWritable};
-ghost use Rattle.model_datadev.specs.Repair.{IsCopyPut, IsRepairable, KeepsAll, IsRepaired};
-ghost use Rattle.model_datadev.specs.Stored.{HasNothingPending, IsLater, IsOpened, IsBefore, IsSteady, KeepsPages};
-ghost use Rattle.model_device.specs.Calls.{written, synced};
-ghost use Rattle.model_page.specs.Copies.{data_device_length, place_bytes, IsBestCopy, HasNoCopy};
+ghost use Rattle.model_base.specs.{IsWithinLimits};
+ghost use Rattle.model_datadev.specs.{after_batch, batch_of, Fresh, HasNothingPending, IsBefore, IsCopyPut, IsLater, IsOpened, IsRepairable, IsRepaired, IsSteady, IsWritable, KeepsAll, KeepsPages, slots_write};
+ghost use Rattle.model_device.specs.{synced, written};
+ghost use Rattle.model_page.specs.{data_device_length, HasNoCopy, IsBestCopy, place_bytes};
 ghost use Rattle.model_page.specs.declared.content.Content.{Content};
-ghost use Rattle.redo_dblwr.specs.Requests.{slots_read, stretch_read};
-ghost use Rattle.redo_disk.specs.Calls.{Serve, error_of, put_requests};
-ghost use Rattle.redo_disk.specs.Made.{MakesCalls};
-ghost use Rattle.redo_disk.specs.Seen.{OnTold};
+ghost use Rattle.redo_dblwr.specs.{slots_read, stretch_read};
+ghost use Rattle.redo_disk.specs.{error_of, MakesCalls, OnTold, put_requests, Serve};
 ghost use Rattle.redo_store.specs.Part.{PartStep, PartStores, PartKeeps};
 ghost use Rattle.redo_store.specs.Requests.{RepairCalls, batch_requests};
 

@@ -1,12 +1,10 @@
 // The writes of a batch: its slots, and once they stay there each page's place.
 ghost use Rattle.std.specs.Prelude.{◌≡◌, ◌≤◌, ◌<◌, ◌*◌, ℕ, ◌++◌, length, map, Some, OnOk, OnErr, slice_get};
-ghost use Rattle.model_base.specs.Limits.{IsWithinLimits};
-ghost use Rattle.model_datadev.specs.Steps.{ArePutOrNot, FailsBoth, FailsOne, after_both, written_all};
-ghost use Rattle.model_device.specs.Calls.{synced};
-ghost use Rattle.model_page.specs.Copies.{data_device_length};
-ghost use Rattle.redo_disk.specs.Calls.{Serve, ToWrite, error_of, put_requests};
-ghost use Rattle.redo_disk.specs.Made.{MakesCalls};
-ghost use Rattle.redo_disk.specs.Seen.{HasCause, OnTold, write_at};
+ghost use Rattle.model_base.specs.{IsWithinLimits};
+ghost use Rattle.model_datadev.specs.{after_both, ArePutOrNot, FailsBoth, FailsOne, written_all};
+ghost use Rattle.model_device.specs.{synced};
+ghost use Rattle.model_page.specs.{data_device_length};
+ghost use Rattle.redo_disk.specs.{error_of, HasCause, MakesCalls, OnTold, put_requests, Serve, ToWrite, write_at};
 ghost use Rattle.redo_store.specs.Places.{text_writes};
 ghost use Rattle.redo_store.specs.Requests.{all_put};
 

@@ -1,6 +1,6 @@
 // A data part over devices that fail and crash as they are told.
 ghost use Rattle.std.specs.Prelude.{◌≡◌, ◌≤◌, ◌+◌, ◌<◌, ◌*◌, length, None, IfOk, OnOk};
-ghost use Rattle.model_base.specs.Limits.{default_shape};
+ghost use Rattle.model_base.specs.{default_shape};
 
 use crate::DataPart;
 use model_base::{LSN_LIMIT, PAGE_SIZE, Shape, USER_BYTES};

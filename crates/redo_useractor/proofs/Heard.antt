@@ -1,6 +1,6 @@
 -- What a user hears is the number in the answer, or 1.
 use Rattle.std.proofs.Common.{arith, ◌+◌, ◌≤◌}
-use Rattle.model_core.specs.Answers.{heard, old_of}
+use Rattle.model_core.specs.{heard, old_of}
 use Rattle.model_core.specs.declared.ops.Answer.{Answer}
 use Rattle.model_core.specs.declared.ops.Answer.TheVariants as answer
 

@@ -1,7 +1,6 @@
 -- How a step of a user ends.
 use Rattle.std.specs.Prelude.{Bool, cond, false, true, ℕ}
-use Rattle.model_core.specs.States.{UserState}
-use Rattle.model_core.specs.Waiting.{user_ending, user_waits}
+use Rattle.model_core.specs.{user_ending, user_waits, UserState}
 use Rattle.model_core.specs.declared.ops.Step.{Step}
 use Rattle.model_core.specs.declared.ops.Step.TheVariants as step
 use Rattle.model_core.specs.declared.steps.UserStep.{UserStep}

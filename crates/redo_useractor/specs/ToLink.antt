@@ -1,7 +1,6 @@
 -- How many Ops a user has to go up to the store of its group's link, where none of them waits.
 use Rattle.std.specs.Prelude.{cond, length, nat_lt, ℕ, ◌+◌, ◌-◌, ◌/◌}
-use Rattle.model_core.specs.States.{UserState}
-use Rattle.model_core.specs.UserProgram.{group_bytes, group_end}
+use Rattle.model_core.specs.{group_bytes, group_end, UserState}
 use Rattle.model_core.specs.declared.steps.UserStep.{UserStep}
 use Rattle.model_core.specs.declared.steps.UserStep.TheVariants as user_step
 use Rattle.model_log.specs.declared.layout.TheConstants.{BLOCK_DATA}

@@ -1,8 +1,6 @@
 -- What the fields of a user stand for.
 use Rattle.std.specs.Prelude.{length, vec_capacity, vec_len, ℕ, ◌+◌, ◌<◌, ◌≡◌, ◌≤◌}
-use Rattle.model_core.specs.Fitting.{answer_limit}
-use Rattle.model_core.specs.States.{UserState}
-use Rattle.model_core.specs.UserProgram.{cells_of, changes, group_bytes, group_end, line_at}
+use Rattle.model_core.specs.{answer_limit, cells_of, changes, group_bytes, group_end, line_at, UserState}
 use Rattle.model_core.specs.declared.steps.UserStep.{UserStep}
 use Rattle.model_core.specs.declared.steps.UserStep.TheVariants as user_step
 use Rattle.redo_useractor.specs.declared.actor.UserActor.TheInside.{Inside}

@@ -14,7 +14,7 @@ pub struct Marks {
 }
 
 impl Model for Marks {
-    ghost use Rattle.model_core.specs.States.{LoadedMarks};
+    ghost use Rattle.model_core.specs.{LoadedMarks};
 
     ghost Value = { LoadedMarks };
 
@@ -41,7 +41,7 @@ pub struct UserActor {
 }
 
 impl Model for UserActor {
-    ghost use Rattle.model_core.specs.States.{UserState};
+    ghost use Rattle.model_core.specs.{UserState};
     ghost use Rattle.redo_useractor.specs.UserView.{user_view, IsUser};
 
     ghost Value = { UserState };

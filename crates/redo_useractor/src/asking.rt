@@ -1,11 +1,9 @@
 // What a user asks for.
 ghost use Rattle.std.specs.Prelude.{◌≡◌, ◌<◌, ◌≤◌, ◌-◌, ◌%◌, ◌/◌, ◌^◌, length, nat_lt};
 ghost use Rattle.model_core.specs.Actors as actor;
-ghost use Rattle.model_core.specs.Lsn.{lsn};
-ghost use Rattle.model_core.specs.Program.{lent};
-ghost use Rattle.model_core.specs.UserProgram.{cells_of, change_at, changes, group_bytes, group_end, line, page_of, put_of, user_next, user_op};
+ghost use Rattle.model_core.specs.{cells_of, change_at, changes, group_bytes, group_end, lent, line, lsn, page_of, put_of, user_next, user_op};
 ghost use Rattle.redo_useractor.specs.ToLink.{first_stores, to_link};
-ghost use Rattle.redo_words.specs.Lending.{Lends};
+ghost use Rattle.redo_words.specs.{Lends};
 ghost use Rattle.redo_useractor.specs.UserView.{end_limit};
 
 use crate::actor::UserActor;

@@ -2,10 +2,10 @@
 // two alike, it has written.
 ghost use Rattle.std.specs.Prelude.{◌≡◌, ◌<◌, ◌+◌, ◌++◌, ◌∷◌, ◌==◌, [], if◌then◌else◌, length, replicate, IfOk, OnOk};
 ghost use Rattle.std.specs.List.{AllByRecursion};
-ghost use Rattle.model_changes.specs.Changes.{after_from, cell_where_same, cells_of, change_on, changes_of, collected};
-ghost use Rattle.model_record.specs.Record.{page_of};
-ghost use Rattle.model_store.specs.Apply.{touches, user_after, user_after_own};
-ghost use Rattle.redo_apply.specs.Fits.{WritesWithin};
+ghost use Rattle.model_changes.specs.{after_from, cell_where_same, cells_of, change_on, changes_of, collected};
+ghost use Rattle.model_record.specs.{page_of};
+ghost use Rattle.model_store.specs.{touches, user_after, user_after_own};
+ghost use Rattle.redo_apply.specs.{WritesWithin};
 
 use crate::line::{Cell, ChangedPage};
 use model_base::{USER_BYTES, USER_START};

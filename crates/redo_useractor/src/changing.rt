@@ -1,6 +1,6 @@
 // What a user makes of the answers while it changes the pages of its group.
 ghost use Rattle.std.specs.Prelude.{◌≡◌, ◌<◌, ◌+◌, ◌==◌, false, length};
-ghost use Rattle.model_core.specs.UserProgram.{change_at, changes, group_end, to_next_page, user_took};
+ghost use Rattle.model_core.specs.{change_at, changes, group_end, to_next_page, user_took};
 ghost use Rattle.redo_useractor.specs.Ending.{step_end};
 ghost use Rattle.redo_useractor.specs.UserView.{end_limit};
 

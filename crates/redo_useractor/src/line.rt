@@ -10,7 +10,7 @@ pub struct Cell {
 }
 
 impl Model for Cell {
-    ghost use Rattle.model_core.specs.Groups.{CellWrite};
+    ghost use Rattle.model_core.specs.{CellWrite};
 
     ghost Value = { CellWrite };
 
@@ -25,7 +25,7 @@ pub struct ChangedPage {
 }
 
 impl Model for ChangedPage {
-    ghost use Rattle.model_core.specs.Groups.{PageChange};
+    ghost use Rattle.model_core.specs.{PageChange};
 
     ghost Value = { PageChange };
 
@@ -41,7 +41,7 @@ pub struct UserLine {
 }
 
 impl Model for UserLine {
-    ghost use Rattle.model_core.specs.States.{Line};
+    ghost use Rattle.model_core.specs.{Line};
 
     ghost Value = { Line };
 

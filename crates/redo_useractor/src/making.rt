@@ -1,10 +1,9 @@
 // A user as a run begins.
 ghost use Rattle.std.specs.Prelude.{◌≡◌, ◌≤◌, length, IfOk};
-ghost use Rattle.model_base.specs.Limits.{IsWithinLimits};
-ghost use Rattle.model_changes.specs.Changes.{line_of};
-ghost use Rattle.model_core.specs.NewActors.{new_user};
-ghost use Rattle.model_record.specs.Fits.{GroupFits};
-ghost use Rattle.model_record.specs.Group.{IsGroup, group_length};
+ghost use Rattle.model_base.specs.{IsWithinLimits};
+ghost use Rattle.model_changes.specs.{line_of};
+ghost use Rattle.model_core.specs.{new_user};
+ghost use Rattle.model_record.specs.{group_length, GroupFits, IsGroup};
 ghost use Rattle.redo_useractor.specs.Lines.{AreUserLines, lines_of};
 
 use crate::actor::{Marks, UserActor};

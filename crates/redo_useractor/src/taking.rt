@@ -2,10 +2,7 @@
 ghost use Rattle.std.specs.Prelude.{◌≡◌, ◌<◌, ◌+◌, ◌^◌, ◌==◌, if◌then◌else◌, length, true};
 ghost use Rattle.model_core.specs.Actors as actor;
 ghost use Rattle.model_core.specs.AnswerFits.{AnswerFits};
-ghost use Rattle.model_core.specs.Fitting.{answer_limit};
-ghost use Rattle.model_core.specs.Program.{took};
-ghost use Rattle.model_core.specs.UserProgram.{after_link, answered, group_bytes, group_end, has_space, user_checked, user_took};
-ghost use Rattle.model_core.specs.Waiting.{step_of, user_ending};
+ghost use Rattle.model_core.specs.{after_link, answer_limit, answered, group_bytes, group_end, has_space, step_of, took, user_checked, user_ending, user_took};
 ghost use Rattle.redo_useractor.specs.Ending.{step_end};
 ghost use Rattle.redo_useractor.specs.UserView.{end_limit};
 

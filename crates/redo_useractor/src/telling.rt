@@ -1,6 +1,6 @@
 // What a user tells of its groups.
 ghost use Rattle.std.specs.Prelude.{◌≡◌, ◌<◌, ◌||◌, length, slice_index};
-ghost use Rattle.model_core.specs.UserProgram.{line_at};
+ghost use Rattle.model_core.specs.{line_at};
 ghost use Rattle.redo_useractor.specs.Ending.{has_ended};
 
 use crate::actor::UserActor;

@@ -2,8 +2,8 @@
 use Rattle.std.specs.Prelude.{map, ◌≡◌}
 use Rattle.std.specs.List.{flat_map}
 use Rattle.model_core.specs.Actors as model
-use Rattle.model_core.specs.States.{BatchPage}
-use Rattle.model_page.specs.Page.{user_part}
+use Rattle.model_core.specs.{BatchPage}
+use Rattle.model_page.specs.{user_part}
 use Rattle.redo_words.specs.declared.lent.Lent.{Lent}
 use Rattle.redo_words.specs.declared.lent.Lent.TheVariants as lent
 

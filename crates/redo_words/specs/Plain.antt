@@ -1,6 +1,6 @@
 -- The words of a store in one list, and when an Op may be played on them.
 use Rattle.std.specs.Prelude.{List, slice_index, ℕ, ◌+◌, ◌<◌, ◌^◌}
-use Rattle.model_core.specs.Layout.{index}
+use Rattle.model_core.specs.{index}
 use Rattle.model_core.specs.declared.ops.Op.{Op}
 use Rattle.model_core.specs.declared.ops.Op.TheVariants as op
 

@@ -1,6 +1,6 @@
 // What actors read off an answer.
 ghost use Rattle.std.specs.Prelude.{◌≡◌};
-ghost use Rattle.model_core.specs.Answers.{old_of, code_of, heard};
+ghost use Rattle.model_core.specs.{code_of, heard, old_of};
 
 use model_core::Answer;
 

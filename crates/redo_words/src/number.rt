@@ -1,6 +1,6 @@
 // The numbers of words.
 ghost use Rattle.std.specs.Prelude.{◌≡◌};
-ghost use Rattle.model_core.specs.Layout.{index, word_count};
+ghost use Rattle.model_core.specs.{index, word_count};
 ghost use Rattle.model_core.specs.declared.words.Word.TheVariants as word;
 
 use crate::{Layout, Word};

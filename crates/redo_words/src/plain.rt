@@ -1,7 +1,6 @@
 // The words on the heap of one thread.
 ghost use Rattle.std.specs.Prelude.{◌≡◌, ℕ, length, slice_index, slice_set, IfOk};
-ghost use Rattle.model_core.specs.Layout.{index, IsWord, word_count};
-ghost use Rattle.model_core.specs.WordTurn.{OnWord, OpWords, words_after, word_found};
+ghost use Rattle.model_core.specs.{index, IsWord, OnWord, OpWords, word_count, word_found, words_after};
 ghost use Rattle.model_core.specs.declared.ops.Answer.TheVariants as answer;
 ghost use Rattle.redo_words.specs.Plain.{HoldsSum};
 
@@ -22,7 +21,7 @@ pub struct PlainWords {
 
 impl Model for PlainWords {
     ghost use Rattle.std.specs.Prelude.{◌≡◌, length};
-    ghost use Rattle.model_core.specs.Layout.{word_count};
+    ghost use Rattle.model_core.specs.{word_count};
     ghost use Rattle.redo_words.specs.Plain.{Plain};
 
     ghost Value = { Plain };

@@ -1,9 +1,8 @@
 // The next checkpoint.
 ghost use Rattle.std.specs.Prelude.{◌≡◌, None, OnOk, OnErr};
-ghost use Rattle.model_log.specs.Checkpoint.{place_of};
-ghost use Rattle.model_logdev.specs.Marks.{MayBeNext, next_number, after_checkpoint, after_asked};
-ghost use Rattle.redo_disk.specs.Calls.{Serve, error_of, put_requests};
-ghost use Rattle.redo_disk.specs.Made.{MakesCalls};
+ghost use Rattle.model_log.specs.{place_of};
+ghost use Rattle.model_logdev.specs.{after_asked, after_checkpoint, MayBeNext, next_number};
+ghost use Rattle.redo_disk.specs.{error_of, MakesCalls, put_requests, Serve};
 ghost use Rattle.redo_logdev.specs.Calls.{checkpoint_write};
 ghost use Rattle.redo_logdev.specs.Part.{Stays, KeepsNumbered};
 

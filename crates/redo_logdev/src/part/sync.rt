@@ -1,8 +1,7 @@
 // Making stable what is written.
 ghost use Rattle.std.specs.Prelude.{◌≡◌, [], ◌∷◌, None, OnOk, OnErr};
-ghost use Rattle.model_logdev.specs.Marks.{after_synced};
-ghost use Rattle.redo_disk.specs.Calls.{Serve, ToSync, error_of};
-ghost use Rattle.redo_disk.specs.Made.{MakesCalls};
+ghost use Rattle.model_logdev.specs.{after_synced};
+ghost use Rattle.redo_disk.specs.{error_of, MakesCalls, Serve, ToSync};
 ghost use Rattle.redo_logdev.specs.Part.{Stays, KeepsHolding};
 
 use crate::LogPart;

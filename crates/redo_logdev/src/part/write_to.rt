@@ -1,10 +1,8 @@
 // Writing the blocks of a run.
 ghost use Rattle.std.specs.Prelude.{◌≡◌, ◌%◌, ◌^◌, OnOk, OnErr};
-ghost use Rattle.model_logdev.specs.Marks.{after_given, after_written};
-ghost use Rattle.model_log.specs.Boundary.{framed};
-ghost use Rattle.model_log.specs.Lsn.{block_of};
-ghost use Rattle.redo_disk.specs.Calls.{Serve, error_of};
-ghost use Rattle.redo_disk.specs.Made.{MakesCalls};
+ghost use Rattle.model_logdev.specs.{after_given, after_written};
+ghost use Rattle.model_log.specs.{block_of, framed};
+ghost use Rattle.redo_disk.specs.{error_of, MakesCalls, Serve};
 ghost use Rattle.redo_logdev.specs.Calls.{round_writes};
 ghost use Rattle.redo_logdev.specs.Part.{MayWrite, Stays, KeepsWriting};
 

@@ -1,6 +1,6 @@
 // Stores that were just formatted, how others begin, and how damaged ones are refused.
 ghost use Rattle.std.specs.Prelude.{IfOk};
-ghost use Rattle.redo_pageactors.specs.Opened.{IsRunnable};
+ghost use Rattle.redo_pageactors.specs.{IsRunnable};
 
 use super::store::Store;
 use super::{SHAPE, formatted, read_back};

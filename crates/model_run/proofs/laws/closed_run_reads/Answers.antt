@@ -1,5 +1,5 @@
 use Rattle.std.proofs.Common.{subst, Some}
-use Rattle.model_theorem.specs.Run.{IsPrefixRead, ReadsPrefix}
+use Rattle.model_theorem.specs.{IsPrefixRead, ReadsPrefix}
 use Rattle.model_run.proofs.Closing.{reads-prefix}
 use Rattle.model_run.proofs.laws.closed_run_reads.Goals as goal
 

@@ -1,9 +1,6 @@
 use Rattle.std.proofs.Common.{◌≡◌, ap, subst, sym}
 use Rattle.model_base.specs.declared.shape.Shape.{Shape}
-use Rattle.model_theorem.specs.Crash.{failures_of}
-use Rattle.model_theorem.specs.Opening.{HeldOlder, IsOpenedBefore}
-use Rattle.model_theorem.specs.Run.{RunSafe}
-use Rattle.model_theorem.specs.Values.{RunResult}
+use Rattle.model_theorem.specs.{failures_of, HeldOlder, IsOpenedBefore, RunResult, RunSafe}
 use Rattle.model_run.proofs.laws.crash_of_closed_run.Goals as goal
 
 pub returns : goal.returns

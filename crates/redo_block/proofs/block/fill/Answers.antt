@@ -1,7 +1,6 @@
 use Rattle.std.proofs.Common.{◌≡◌, ◌++◌, length, take, refl, ◌∙◌}
 use Rattle.std.specs.Int.{bytes_high_first}
-use Rattle.model_log.specs.Lsn.{block_number}
-use Rattle.model_log.specs.Block.{length_of}
+use Rattle.model_log.specs.{block_number, length_of}
 use Rattle.model_log.proofs.Blocks.{block_text-from}
 use Rattle.redo_block.proofs.block.fill.Goals as goal
 

@@ -1,6 +1,6 @@
 -- One block more each turn.
 use Rattle.std.proofs.Common.{◌≡◌, ◌+◌, ◌*◌, ◌++◌, length, take, drop}
-use Rattle.model_log.specs.Boundary.{framed}
+use Rattle.model_log.specs.{framed}
 use Rattle.redo_block.specs.Framing.{AreFirsts}
 use Rattle.redo_block.proofs.filling.frame_into.Given as goal
 

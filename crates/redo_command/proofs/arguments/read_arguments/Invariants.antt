@@ -1,6 +1,6 @@
 use Rattle.std.proofs.Common.{◌≡◌, drop, map}
 use Rattle.std.specs.String.{string_bytes}
-use Rattle.model_command.specs.Words.{said_from}
+use Rattle.model_command.specs.{said_from}
 use Rattle.model_command.specs.declared.words.Expected.TheVariants.{Any}
 use Rattle.redo_command.specs.Progress.{said_after}
 use Rattle.redo_command.proofs.arguments.read_arguments.Given as goal

@@ -1,5 +1,5 @@
 use Rattle.std.proofs.Common.{◌≡◌, length}
-use Rattle.model_command.specs.Commands.{are_different}
+use Rattle.model_command.specs.{are_different}
 use Rattle.redo_command.proofs.options.are_different.Given as goal
 
 abbrev pub invariant-loop-first : goal.invariant-loop-first

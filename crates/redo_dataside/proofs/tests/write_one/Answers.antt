@@ -1,8 +1,8 @@
 use Rattle.std.proofs.Common.{List, Some, [], ap, arith, length, subst, suc, sym, zero, ℕ, ◌<◌, ◌^◌, ◌∷◌, ◌≡◌}
 use Rattle.std.specs.List.{slice_get}
-use Rattle.model_base.specs.Limits.{default_shape}
+use Rattle.model_base.specs.{default_shape}
 use Rattle.model_base.specs.declared.shape.Shape.{Shape}
-use Rattle.model_datadev.specs.Batch.{IsWritable}
+use Rattle.model_datadev.specs.{IsWritable}
 use Rattle.redo_dataside.proofs.tests.write_one.Goals as goal
 
 abbrev one : ℕ → List (ℕ × ℕ)

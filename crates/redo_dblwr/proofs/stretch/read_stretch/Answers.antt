@@ -1,6 +1,5 @@
 use Rattle.std.proofs.Common.{◌≡◌, ◌*◌, ◌∙◌, [], ◌∷◌, length, ap, sym, subst}
-use Rattle.redo_disk.specs.Calls.{Request, ToRead, Serve, error_of}
-use Rattle.redo_disk.specs.Made.{MakesCalls}
+use Rattle.redo_disk.specs.{error_of, MakesCalls, Request, Serve, ToRead}
 use Rattle.redo_disk.proofs.Made.{call_serves}
 use Rattle.redo_dblwr.specs.Requests.{stretch_read}
 use Rattle.redo_dblwr.proofs.stretch.read_stretch.Goals as goal

@@ -1,7 +1,7 @@
 use Rattle.std.proofs.Common.{◌≡◌, ◌-◌, ℕ, List, ◌++◌, length, take, drop, ap, refl, ◌∙◌, length-take-le, length-append, length-drop, arith}
 use Rattle.std.proofs.lemmas.List.{take_at, drop_at}
 use borrow.Rule.Slice.PartMut.{put_mid}
-use Rattle.model_page.specs.Page.{page_text, user_part}
+use Rattle.model_page.specs.{page_text, user_part}
 use Rattle.redo_dblwr.proofs.texts.fill_page.Goals as goal
 
 -- bytes that were put in the user bytes' place are the user bytes

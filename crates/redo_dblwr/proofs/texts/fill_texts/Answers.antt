@@ -1,7 +1,7 @@
 use Rattle.std.proofs.Common.{◌≡◌, ◌≤◌, ◌+◌, ◌-◌, ◌*◌, length, take, drop, sym, ap, ◌∙◌, get_or, length-take, length-drop, arith}
 use Rattle.std.proofs.lemmas.Option.{slice_get-get_or}
 use Rattle.std.proofs.lemmas.List.{take_all}
-use Rattle.model_datadev.specs.Batch.{batch_of, batch_text}
+use Rattle.model_datadev.specs.{batch_of, batch_text}
 use Rattle.redo_dblwr.proofs.SideBySide.{texts-more, length-put}
 use Rattle.model_datadev.proofs.Joined.{length-batch_of}
 use Rattle.model_datadev.proofs.Batches.{length-page_text}

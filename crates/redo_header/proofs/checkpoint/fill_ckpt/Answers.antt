@@ -1,5 +1,5 @@
 use Rattle.std.proofs.Common.{◌≡◌, take, refl, ◌∙◌}
-use Rattle.model_log.specs.Lsn.{offset_of}
+use Rattle.model_log.specs.{offset_of}
 use Rattle.model_log.proofs.Checkpoints.{checkpoint_fields, checkpoint_text-from}
 use Rattle.redo_header.proofs.checkpoint.fill_ckpt.Goals as goal
 

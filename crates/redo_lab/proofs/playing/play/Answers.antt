@@ -1,7 +1,7 @@
 -- The lines of a script on an opened store.
-use Rattle.model_script.specs.Fit.{ScriptFits}
-use Rattle.redo_machine.specs.Beginning.{room_from}
-use Rattle.redo_memdisk.specs.Fused.{CallsThrough, seen_through}
+use Rattle.model_script.specs.{ScriptFits}
+use Rattle.redo_machine.specs.{room_from}
+use Rattle.redo_memdisk.specs.{CallsThrough, seen_through}
 use Rattle.redo_lab.proofs.LinesRun.{lines-run}
 use Rattle.redo_lab.proofs.Turned.{driven-to}
 use Rattle.redo_lab.proofs.playing.play.Goals as goal

@@ -1,8 +1,8 @@
 -- Both devices are prepared for a run.
 use Rattle.std.proofs.Common.{◌≤◌, arith}
-use Rattle.model_base.specs.Limits.{default_shape}
+use Rattle.model_base.specs.{default_shape}
 use Rattle.model_log.specs.declared.layout.TheConstants.{HEADER_BYTES}
-use Rattle.redo_memdisk.specs.Fused.{seen_through}
+use Rattle.redo_memdisk.specs.{seen_through}
 use Rattle.redo_lab.proofs.Formatting.{format-fault}
 use Rattle.redo_lab.proofs.Preparing.{prepared-formatted, prepared-in-use, read-first, unprepared-formatted, unprepared-read}
 use Rattle.redo_lab.proofs.prepare.prepare.Goals as goal

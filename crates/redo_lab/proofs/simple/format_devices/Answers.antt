@@ -1,6 +1,6 @@
 use Rattle.std.proofs.Common.{refl}
 use Rattle.redo_disk.specs.Seen.{Seen}
-use Rattle.redo_memdisk.specs.Fused.{seen_through}
+use Rattle.redo_memdisk.specs.{seen_through}
 use Rattle.redo_lab.specs.Answer.{shape_of}
 use Rattle.redo_lab.proofs.Behind.{entered, format-leaves, formats-both}
 use Rattle.redo_lab.proofs.Formatting.{IsFormatFault, format-ends, format-fails, format-fault}

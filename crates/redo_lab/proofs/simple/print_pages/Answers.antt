@@ -1,7 +1,6 @@
 use Rattle.std.proofs.Common.{refl}
-use Rattle.model_store.specs.Reading.{IsReading}
-use Rattle.redo_recover.specs.Devices.{HasCauseIn, HasLengthCause, OnContents}
-use Rattle.redo_recover.specs.Reading.{reading_of}
+use Rattle.model_store.specs.{IsReading}
+use Rattle.redo_recover.specs.{HasCauseIn, HasLengthCause, OnContents, reading_of}
 use Rattle.redo_disk.specs.Seen.{Seen}
 use Rattle.redo_lab.proofs.Behind.{entered, log-behind, pieces-behind}
 use Rattle.redo_lab.proofs.PlainEnds.{recover-ends, recover-fails}

@@ -1,7 +1,7 @@
 -- The machine begins the run, its turns lead to the end, and what `finish` tells of that end is what the run comes to.
 use Rattle.std.proofs.Common.{arith, length, rules, sym, ◌∙◌, ◌≡◌, ◌≤◌}
 use Rattle.std.specs.Prelude.{vec_capacity}
-use Rattle.model_core.specs.Lsn.{lsn}
+use Rattle.model_core.specs.{lsn}
 use Rattle.redo_machine.proofs.LogCount.{log_within_script}
 use Rattle.redo_machine.proofs.RunLeft.{comes_to_run, is_owed}
 use Rattle.redo_machine.proofs.drive.run_by_turns.Goals as goal

@@ -1,8 +1,7 @@
 use Rattle.std.proofs.Common.{ap, arith, length, slice_index, sym, ◌+◌, ◌∙◌, ◌≡◌}
-use Rattle.model_core.specs.Lsn.{lsn}
-use Rattle.model_core.specs.UserProgram.{line_at}
+use Rattle.model_core.specs.{line_at, lsn}
 use Rattle.model_finish.proofs.Places.{lsn_is}
-use Rattle.model_log.specs.Lsn.{lsn_of}
+use Rattle.model_log.specs.{lsn_of}
 use Rattle.redo_machine.proofs.history.entry_of.Goals as goal
 
 pub returns : goal.returns

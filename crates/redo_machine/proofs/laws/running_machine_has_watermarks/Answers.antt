@@ -1,4 +1,4 @@
-use Rattle.model_core.specs.Lsn.{lsn}
+use Rattle.model_core.specs.{lsn}
 use Rattle.model_running.proofs.Watermarks.{has_watermarks}
 use Rattle.redo_machine.specs.Playing.{data_of, log_of}
 use Rattle.redo_machine.specs.Running.{core_of}

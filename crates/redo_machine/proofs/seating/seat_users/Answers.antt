@@ -3,8 +3,7 @@ use Rattle.std.proofs.lemmas.Bool.{eqb-false, eqb-true}
 use Rattle.std.proofs.lemmas.List.{map-append}
 use native.Mathlib.Decide.{dec_le}
 use Rattle.model_core.specs.Actors as actor
-use Rattle.model_core.specs.NewActors.{new_user}
-use Rattle.model_core.specs.States.{Line, UserState}
+use Rattle.model_core.specs.{Line, new_user, UserState}
 use Rattle.model_record.specs.declared.rec.Rec.{Rec}
 use Rattle.redo_machine.proofs.Seats.{none_first, none_seated, one_seated}
 use Rattle.redo_machine.proofs.UserLines.{are_user_lines, no_program, program_length}
@@ -12,7 +11,7 @@ use Rattle.redo_machine.specs.Setups.{programs_of, user_lines}
 use Rattle.redo_machine.specs.Views.{view_of, views_of}
 use Rattle.redo_machine.specs.declared.actor.Actor.{Actor}
 use Rattle.redo_machine.specs.declared.actor.Actor.TheVariants as own
-use Rattle.redo_useractor.specs.Lines.{AreUserLines, lines_of}
+use Rattle.redo_useractor.specs.{AreUserLines, lines_of}
 use Rattle.redo_machine.proofs.seating.seat_users.Goals.{then-not-is_empty+in_ok-actor+in_ok-push, else-not-is_empty}
 use Rattle.redo_machine.proofs.seating.seat_users.Goals as goal
 

@@ -1,6 +1,6 @@
 use Rattle.std.proofs.Common.{add-one, ap, arith, length, sym, ◌<◌, ◌∙◌}
 use Rattle.std.proofs.lemmas.Option.{slice_get-get_or}
-use Rattle.model_core.specs.Layout.{word_count}
+use Rattle.model_core.specs.{word_count}
 use Rattle.redo_machine.proofs.StartWordsPages.{opened_pages-bytes}
 use Rattle.redo_machine.proofs.StartWordsStore.{set_all, set_more, set_none}
 use Rattle.redo_machine.proofs.StartWordsZero.{zero_named}

@@ -1,5 +1,5 @@
 use Rattle.std.proofs.Common.{◌≡◌, length, take}
-use Rattle.model_device.specs.Disk.{after_writes}
+use Rattle.model_device.specs.{after_writes}
 use Rattle.redo_memdisk.proofs.apply.apply_all.Given as goal
 
 abbrev pub invariant-loop-write : goal.invariant-loop-write

@@ -1,8 +1,7 @@
 use Rattle.std.proofs.Common.{◌≡◌, ◌<◌, ◌+◌, ◌/◌, ◌%◌, length, ap, ◌∙◌, arith}
 use Rattle.std.proofs.lemmas.List.{take_all}
 use Rattle.model_base.specs.declared.limits.TheConstants.{BLOCK_SIZE}
-use Rattle.model_device.specs.Crash.{sector_writes, survivors}
-use Rattle.model_device.specs.Disk.{after_writes}
+use Rattle.model_device.specs.{after_writes, sector_writes, survivors}
 use Rattle.redo_memdisk.proofs.Survivors.{after_writes-survivors_kept, after_writes-survivors_lost, length-sector_writes}
 use Rattle.redo_memdisk.proofs.apply.apply_sectors.Goals as goal
 use Rattle.redo_memdisk.proofs.apply.apply_sectors.Goals.{then-pick-next-eq1, else-pick-next-eq1}

@@ -1,6 +1,5 @@
 use Rattle.std.proofs.Common.{◌≡◌, ◌+◌, ◌%◌, take}
-use Rattle.model_device.specs.Crash.{sector_writes, survivors}
-use Rattle.model_device.specs.Disk.{after_writes}
+use Rattle.model_device.specs.{after_writes, sector_writes, survivors}
 use Rattle.redo_memdisk.proofs.apply.apply_sectors.Given as goal
 
 abbrev pub invariant-loop-k : goal.invariant-loop-k

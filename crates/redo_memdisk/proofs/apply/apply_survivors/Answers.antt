@@ -1,8 +1,7 @@
 use Rattle.std.proofs.Common.{◌≡◌, ◌+◌, ◌%◌, [], ◌∷◌, ◌++◌, length, take, ap, sym, ◌∙◌, arith}
 use Rattle.std.specs.List.{flat_map}
 use Rattle.std.proofs.lemmas.List.{take_more}
-use Rattle.model_device.specs.Crash.{sector_writes, survivors}
-use Rattle.model_device.specs.Disk.{after_writes}
+use Rattle.model_device.specs.{after_writes, sector_writes, survivors}
 use Rattle.redo_memdisk.proofs.Survivors.{after_writes-crash_more, length-flat_map_push}
 use Rattle.redo_memdisk.proofs.apply.apply_survivors.Goals as goal
 

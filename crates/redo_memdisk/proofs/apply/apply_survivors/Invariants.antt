@@ -1,7 +1,6 @@
 use Rattle.std.proofs.Common.{◌≡◌, ◌%◌, length, take}
 use Rattle.std.specs.List.{flat_map}
-use Rattle.model_device.specs.Crash.{sector_writes, survivors}
-use Rattle.model_device.specs.Disk.{after_writes}
+use Rattle.model_device.specs.{after_writes, sector_writes, survivors}
 use Rattle.redo_memdisk.proofs.apply.apply_survivors.Given as goal
 
 abbrev pub invariant-loop-write : goal.invariant-loop-write

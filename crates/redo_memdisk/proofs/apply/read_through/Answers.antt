@@ -1,5 +1,5 @@
 use Rattle.std.proofs.Common.{◌≡◌, ◌+◌, ◌≤◌, length, take, refl, ◌∙◌, arith}
-use Rattle.model_device.specs.Disk.{after_writes}
+use Rattle.model_device.specs.{after_writes}
 use Rattle.redo_memdisk.proofs.Applied.{IsWithin-item, after_writes_more, length-after_first_writes}
 use Rattle.redo_memdisk.proofs.apply.read_through.Goals as goal
 

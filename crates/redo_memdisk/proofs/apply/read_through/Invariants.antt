@@ -1,6 +1,6 @@
 use Rattle.std.proofs.Common.{◌≡◌, length, take}
-use Rattle.model_device.specs.Disk.{after_writes}
-use Rattle.redo_disk.specs.Seen.{part}
+use Rattle.model_device.specs.{after_writes}
+use Rattle.redo_disk.specs.{part}
 use Rattle.redo_memdisk.proofs.apply.read_through.Given as goal
 
 abbrev pub invariant-loop-write : goal.invariant-loop-write

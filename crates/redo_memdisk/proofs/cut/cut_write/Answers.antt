@@ -1,6 +1,6 @@
 use Rattle.std.proofs.Common.{◌≡◌}
-use Rattle.model_device.specs.Calls.{written, FailsWrite}
-use Rattle.redo_disk.specs.Seen.{HasSize, OnTold, write_at}
+use Rattle.model_device.specs.{FailsWrite, written}
+use Rattle.redo_disk.specs.{HasSize, OnTold, write_at}
 use Rattle.redo_disk.proofs.Told.{OnTold-weaker}
 use Rattle.redo_memdisk.proofs.Answered.{at_either}
 use Rattle.redo_memdisk.proofs.Writes.{FailsWrite-written}

@@ -1,5 +1,5 @@
 use Rattle.std.proofs.Common.{◌≡◌, ℕ, ◌<◌, ◌⊎◌}
-use Rattle.model_device.specs.Disk.{sector, IsWrittenBy}
+use Rattle.model_device.specs.{IsWrittenBy, sector}
 use Rattle.redo_memdisk.proofs.image.is_image.Given as goal
 
 abbrev pub invariant-loop-k : goal.invariant-loop-k

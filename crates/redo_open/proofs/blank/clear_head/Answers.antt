@@ -1,9 +1,9 @@
 -- The first block is erased, and a sync makes that stay.
 use Rattle.std.proofs.Common.{◌≡◌, refl, sym, subst}
 use Rattle.std.proofs.lemmas.Result.{err_from_is_err_and, on_ok_weaker}
-use Rattle.model_device.specs.Calls.{synced}
+use Rattle.model_device.specs.{synced}
 use Rattle.model_device.specs.Disk.{Disk}
-use Rattle.redo_disk.specs.Seen.{HasSize}
+use Rattle.redo_disk.specs.{HasSize}
 use Rattle.redo_disk.proofs.Made.{call_ends, ends_then}
 use Rattle.redo_open.specs.Blank.{HasNoHead, LosesHead}
 use Rattle.redo_open.specs.Erase.{Erases, HasErased}

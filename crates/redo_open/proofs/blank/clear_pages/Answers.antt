@@ -1,10 +1,10 @@
 -- The slots and places are erased, and a sync makes that stay.
 use Rattle.std.proofs.Common.{◌≡◌, ◌*◌, sym, subst, arith}
 use Rattle.std.proofs.lemmas.Result.{err_from_is_err_and, on_ok_weaker}
-use Rattle.model_device.specs.Calls.{synced}
+use Rattle.model_device.specs.{synced}
 use Rattle.model_device.specs.Disk.{Disk}
-use Rattle.model_page.specs.Copies.{data_device_length}
-use Rattle.redo_disk.specs.Seen.{HasSize}
+use Rattle.model_page.specs.{data_device_length}
+use Rattle.redo_disk.specs.{HasSize}
 use Rattle.redo_disk.proofs.Made.{call_ends, ends_then}
 use Rattle.redo_open.specs.Blank.{HasBlankPages}
 use Rattle.redo_open.specs.Erase.{HasErased}

@@ -2,13 +2,13 @@
 use Rattle.std.proofs.Common.{◌≡◌, ◌≤◌, ◌+◌, ◌*◌, ℕ, Err, refl, sym, ap, subst, ◌∙◌, arith}
 use Rattle.std.specs.Prelude.{replicate}
 use Rattle.std.proofs.lemmas.Result.{err_from_is_err_and, on_ok_weaker}
-use Rattle.model_device.specs.Calls.{written, FailsWrite, synced}
+use Rattle.model_device.specs.{FailsWrite, synced, written}
 use Rattle.model_device.specs.Disk.{Disk}
 use Rattle.model_device.specs.declared.write.Write.{Write}
-use Rattle.model_log.specs.Lsn.{block_of}
+use Rattle.model_log.specs.{block_of}
 use Rattle.model_logdev.proofs.Places.{sector-place}
 use Rattle.redo_disk.proofs.Made.{call_ends, ends_then, none_ends}
-use Rattle.redo_disk.specs.Seen.{write_at, HasCause}
+use Rattle.redo_disk.specs.{HasCause, write_at}
 use Rattle.redo_open.specs.Clear.{IsPiece, IsClearable, IsClearingTo, ClearsBlocks, HasCleared}
 use Rattle.redo_open.proofs.Clears.{zeros_at, cleared-clears, clearing-begins, clearing-goes_on, clearing-fails, clearing-synced, clears-blocks}
 use Rattle.redo_open.proofs.Told.{told-then, told-same, cause-since, either-way}

@@ -1,9 +1,7 @@
 -- The blocks below the lsn are cleared, and no call has failed.
 use Rattle.std.proofs.Common.{◌-◌, ◌≡◌, ◌≤◌, ◌%◌, None}
-use Rattle.model_log.specs.Lsn.{block_of}
-use Rattle.redo_disk.specs.Calls.{EndWith}
-use Rattle.redo_disk.specs.Made.{MakesCalls}
-use Rattle.redo_disk.specs.Seen.{OnTold}
+use Rattle.model_log.specs.{block_of}
+use Rattle.redo_disk.specs.{EndWith, MakesCalls, OnTold}
 use Rattle.redo_open.specs.Clear.{IsClearable, IsClearingTo}
 use Rattle.redo_open.proofs.clear.clear.Given as goal
 

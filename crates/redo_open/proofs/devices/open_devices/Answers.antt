@@ -1,7 +1,8 @@
 -- The steps, one behind the other, on both devices.
 use Rattle.std.proofs.Common.{◌≡◌, ◌+◌, ◌-◌, ◌%◌, ◌∙◌, ℕ, List, Err, refl, ap, arith}
-use Rattle.model_opening.specs.Opened.{start_block}
-use Rattle.model_store.specs.Reading.{Reading, IsOrderly}
+use Rattle.model_opening.specs.{start_block}
+use Rattle.model_store.specs.{IsOrderly}
+use Rattle.model_store.specs.Reading.{Reading}
 use Rattle.redo_open.specs.Places.{IsReadAs}
 use Rattle.redo_disk.proofs.Made.{ends_then, may_end, none_may_end}
 use Rattle.redo_open.proofs.Asked.{log_ends, beside_log, beside_pages}
@@ -9,7 +10,7 @@ use Rattle.redo_open.proofs.Both.{log-clears, log-cleared, cleared-known, rewrit
 use Rattle.redo_open.proofs.Causes.{log-cause, places-cause, log-risen, log-not_data, places-not_log}
 use Rattle.redo_open.proofs.Opens.{unchanged-keeps}
 use Rattle.redo_open.proofs.Told.{cause-since}
-use Rattle.redo_recover.specs.Reading.{reading_of}
+use Rattle.redo_recover.specs.{reading_of}
 use Rattle.redo_open.proofs.devices.open_devices.Goals as goal
 
 read-as : (log_bytes data_bytes : List ℕ) (opened : Reading) → IsOrderly log_bytes data_bytes opened → IsReadAs opened.shape opened.pages log_bytes data_bytes opened

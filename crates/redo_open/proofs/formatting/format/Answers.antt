@@ -1,5 +1,5 @@
 use Rattle.std.proofs.Common.{ℕ, subst}
-use Rattle.redo_recover.specs.Start.{IsLengthFault}
+use Rattle.redo_recover.specs.{IsLengthFault}
 use Rattle.redo_open.proofs.Causes.{length-calls, length-cause}
 use Rattle.redo_open.proofs.formatting.format.Goals as goal
 

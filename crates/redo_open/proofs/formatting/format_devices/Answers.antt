@@ -1,7 +1,7 @@
 -- The steps, one behind the other, on both devices.
 use Rattle.std.proofs.Common.{Err, refl, arith}
 use Rattle.std.specs.Prelude.{IfSome}
-use Rattle.redo_disk.specs.Seen.{HasSize}
+use Rattle.redo_disk.specs.{HasSize}
 use Rattle.redo_disk.proofs.Made.{ends_then, none_ends}
 use Rattle.redo_open.specs.Blank.{HasNoHead, HasNoBlocks, HasFirstCheckpoint, HasBlankPages}
 use Rattle.redo_open.specs.Mark.{IsSettledLog}

@@ -1,13 +1,13 @@
 -- The write of one sector, and a sync behind it.
 use Rattle.std.proofs.Common.{◌≡◌, ◌*◌, ℕ, List, length, refl, sym, ap, subst, ◌∙◌, arith}
 use Rattle.std.proofs.lemmas.Result.{err_from_is_err_and, on_ok_weaker, on_err_weaker}
-use Rattle.model_device.specs.Calls.{written, FailsWrite, synced}
+use Rattle.model_device.specs.{FailsWrite, synced, written}
 use Rattle.model_device.specs.Disk.{Disk}
 use Rattle.model_device.specs.declared.write.Write.{Write}
-use Rattle.model_log.specs.Checkpoint.{place_of, checkpoint_text}
+use Rattle.model_log.specs.{checkpoint_text, place_of}
 use Rattle.model_logdev.proofs.Places.{HasBlocks}
 use Rattle.redo_disk.proofs.Made.{call_ends, ends_then}
-use Rattle.redo_disk.specs.Seen.{write_at, OnTold}
+use Rattle.redo_disk.specs.{OnTold, write_at}
 use Rattle.redo_open.specs.Mark.{IsSettledLog, MarksLog, HasMarked}
 use Rattle.redo_open.proofs.Marks.{header-place, IsOneSector, failed-marks, written-marks, synced-marked, marked-marks}
 use Rattle.redo_open.proofs.Told.{told-then, told-as, told-same, cause-since, either-way, on-err}

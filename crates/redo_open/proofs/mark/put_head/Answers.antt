@@ -1,12 +1,12 @@
 -- The write of the first sector, and a sync behind it.
 use Rattle.std.proofs.Common.{◌≡◌, length, refl, sym, ap, subst, ◌∙◌, arith}
 use Rattle.std.proofs.lemmas.Result.{err_from_is_err_and, on_ok_weaker}
-use Rattle.model_device.specs.Calls.{written, FailsWrite, synced}
+use Rattle.model_device.specs.{FailsWrite, synced, written}
 use Rattle.model_device.specs.Disk.{Disk}
 use Rattle.model_device.specs.declared.write.Write.{Write}
-use Rattle.model_log.specs.Head.{head_text}
+use Rattle.model_log.specs.{head_text}
 use Rattle.redo_disk.proofs.Made.{call_ends, ends_then}
-use Rattle.redo_disk.specs.Seen.{write_at}
+use Rattle.redo_disk.specs.{write_at}
 use Rattle.redo_open.specs.Blank.{MayHaveHead, HasHeadNow}
 use Rattle.redo_open.specs.Mark.{IsSettledLog}
 use Rattle.redo_open.proofs.Blanks.{failed-head, written-head, synced-head, head-kept}

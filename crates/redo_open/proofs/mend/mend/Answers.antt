@@ -1,7 +1,7 @@
 -- One page after another.
 use Rattle.std.proofs.Common.{◌+◌, ◌∙◌, ℕ, Err, refl, sym, subst, add-one, arith}
 use Rattle.std.proofs.lemmas.Result.{err_from_is_err_and}
-use Rattle.model_datadev.specs.Repair.{KeepsAll}
+use Rattle.model_datadev.specs.{KeepsAll}
 use Rattle.redo_open.specs.Mend.{IsSettledData, IsMended, AreMended}
 use Rattle.redo_open.specs.Store.{MendStep}
 use Rattle.redo_disk.proofs.Made.{ends_then, none_ends}

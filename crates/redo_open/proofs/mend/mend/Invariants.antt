@@ -1,8 +1,6 @@
 -- The places of all pages so far pass, and no call has failed.
 use Rattle.std.proofs.Common.{◌≡◌, ◌≤◌, None}
-use Rattle.redo_disk.specs.Calls.{EndWith}
-use Rattle.redo_disk.specs.Made.{MakesCalls}
-use Rattle.redo_disk.specs.Seen.{OnTold}
+use Rattle.redo_disk.specs.{EndWith, MakesCalls, OnTold}
 use Rattle.redo_open.specs.Mend.{AreMended}
 use Rattle.redo_open.proofs.mend.mend.Given as goal
 

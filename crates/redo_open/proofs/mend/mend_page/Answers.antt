@@ -2,11 +2,10 @@
 use Rattle.std.proofs.Common.{◌≡◌, ◌∙◌, ℕ, Option, Some, None, Err, sym, ap, subst, arith}
 use Rattle.std.specs.Prelude.{IfSome, MatchOption}
 use Rattle.model_base.specs.declared.shape.Shape.{Shape}
-use Rattle.model_datadev.specs.Repair.{KeepsAll, IsRepairable, IsRepaired}
-use Rattle.model_datadev.specs.Stored.{HasNothingPending}
+use Rattle.model_datadev.specs.{HasNothingPending, IsRepairable, IsRepaired, KeepsAll}
 use Rattle.model_device.specs.Disk.{Disk}
-use Rattle.model_page.specs.Copies.{IsBestCopy, HasNoCopy, place_bytes}
-use Rattle.redo_disk.specs.Seen.{OnTold}
+use Rattle.model_page.specs.{HasNoCopy, IsBestCopy, place_bytes}
+use Rattle.redo_disk.specs.{OnTold}
 use Rattle.redo_disk.specs.declared.error.DevError.{DevError}
 use Rattle.redo_open.specs.Mend.{IsSettledData, IsMended, IsMendFault}
 use Rattle.redo_disk.proofs.Made.{ends_then, serves_end}

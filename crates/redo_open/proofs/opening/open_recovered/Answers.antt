@@ -1,19 +1,16 @@
 -- The steps, and then the run.
 use Rattle.std.proofs.Common.{◌≡◌, ◌∙◌, Some, None, Ok, Err, sym, ap, subst}
 use Rattle.model_store.specs.Reading.{Reading}
-use Rattle.redo_disk.specs.Calls.{MayEndWith}
-use Rattle.redo_disk.specs.Made.{MakesCalls}
+use Rattle.redo_disk.specs.{MakesCalls, MayEndWith}
 use Rattle.redo_disk.specs.Seen.{Seen}
 use Rattle.redo_disk.specs.declared.error.DevError.TheVariants as device
 use Rattle.redo_disk.proofs.Made.{none_may_end, out_of_memory}
 use Rattle.redo_open.proofs.Asked.{started_log, started_data}
-use Rattle.redo_recover.specs.Calls.{data_error}
+use Rattle.redo_recover.specs.{AreNotAhead, data_error, reading_of}
 use Rattle.redo_open.specs.Clear.{MayStart}
 use Rattle.redo_open.specs.Devices.{DevicesStep}
 use Rattle.redo_open.specs.Opening.{OpensRecovered}
 use Rattle.redo_open.proofs.Recovered.{IsStartable, may-start, not-ahead-of-start, recovered-none, recovered-failed, recovered-started}
-use Rattle.redo_recover.specs.Pages.{AreNotAhead}
-use Rattle.redo_recover.specs.Reading.{reading_of}
 use Rattle.redo_recover.specs.declared.fault.RecFault.TheVariants.{NoMemory}
 use Rattle.redo_store.specs.Part.{Part}
 use Rattle.redo_open.proofs.opening.open_recovered.Goals as goal

@@ -1,7 +1,7 @@
 -- The store is read and opened.
 use Rattle.std.proofs.Common.{◌≢◌, ◌∙◌, Err, ap, arith}
 use Rattle.std.specs.Prelude.{IfOk, IfErr, IfSome}
-use Rattle.model_opening.specs.Opened.{KeepsOpened}
+use Rattle.model_opening.specs.{KeepsOpened}
 use Rattle.model_store.specs.Reading.{Reading}
 use Rattle.redo_open.specs.Devices.{HasSameCheckpoint, WhereBothTell}
 use Rattle.redo_open.specs.Opening.{log_left, data_left, IsOpenedReady}
@@ -9,9 +9,8 @@ use Rattle.redo_disk.proofs.Made.{call_ends, may_end, may_end_then}
 use Rattle.redo_open.proofs.Asked.{data_ends, opens_beside, opens_reads, opens_then, reads_ends}
 use Rattle.redo_open.proofs.Stores.{openable-same, opened-read, opening-cause, both-err, kept-same, sync-cause, where-refused}
 use Rattle.redo_open.proofs.Told.{cause-since}
-use Rattle.redo_recover.specs.Devices.{refusal_of}
+use Rattle.redo_recover.specs.{reading_of, refusal_of}
 use Rattle.redo_recover.specs.declared.fault.RecFault.{RecFault}
-use Rattle.redo_recover.specs.Reading.{reading_of}
 use Rattle.redo_recover.specs.declared.fault.RecFault.TheVariants.{NoMemory}
 use Rattle.redo_open.proofs.opening.open_store.Goals as goal
 

@@ -7,9 +7,8 @@ use Rattle.redo_disk.specs.Seen.{Seen}
 use Rattle.redo_open.specs.Mend.{IsSettledData}
 use Rattle.redo_recover.specs.declared.fault.RecFault.TheVariants.{NoMemory}
 use Rattle.redo_store.specs.Part.{Part}
-use Rattle.model_datadev.specs.Repair.{KeepsAll}
-use Rattle.model_datadev.specs.Stored.{read_as}
-use Rattle.model_device.specs.Disk.{settled}
+use Rattle.model_datadev.specs.{KeepsAll, read_as}
+use Rattle.model_device.specs.{settled}
 use Rattle.redo_disk.specs.declared.error.DevError.{DevError}
 use Rattle.redo_open.specs.Places.{KeepsPlaces, MayBeWritten, PlacesStep}
 use Rattle.redo_disk.proofs.Made.{ends_then, may_end, none_may_end, out_of_memory}
@@ -17,7 +16,7 @@ use Rattle.redo_open.proofs.Asked.{data_ends}
 use Rattle.redo_open.proofs.Endings.{any-known, device-cause, device-own, device-failed}
 use Rattle.redo_open.proofs.Opens.{repair-keeps, mended-may_write, unchanged-keeps, write-keeps, all-written}
 use Rattle.redo_open.proofs.Told.{told-step, risen-since}
-use Rattle.redo_recover.specs.Devices.{data_fault_of}
+use Rattle.redo_recover.specs.{data_fault_of}
 use Rattle.redo_recover.specs.declared.fault.RecFault.{RecFault}
 use Rattle.redo_open.proofs.places.open_places.Goals as goal
 

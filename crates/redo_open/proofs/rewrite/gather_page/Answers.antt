@@ -3,8 +3,8 @@ use Rattle.std.proofs.lemmas.Result.{err_from_is_err_and}
 use Rattle.std.proofs.Common.{◌≡◌, ◌+◌, ◌∙◌, Err, Ok, sym, subst, arith}
 use Rattle.std.specs.Prelude.{IfSome}
 use Rattle.model_base.specs.declared.shape.Shape.{Shape}
-use Rattle.model_datadev.specs.Batch.{IsWritable}
-use Rattle.model_page.specs.Copies.{place_bytes}
+use Rattle.model_datadev.specs.{IsWritable}
+use Rattle.model_page.specs.{place_bytes}
 use Rattle.redo_disk.proofs.Made.{ends_then, serves_end}
 use Rattle.redo_open.proofs.Gathers.{added, blank-gathered, gathered-more, gathered-writable, held-gathered}
 use Rattle.redo_open.proofs.GatherSteps.{added-step, after-read, failed-step, kept-step}

@@ -2,7 +2,7 @@
 use Rattle.std.proofs.Common.{◌≡◌, ◌∙◌, sym, subst, arith}
 use Rattle.std.proofs.lemmas.Result.{err_from_is_err_and}
 use Rattle.model_base.specs.declared.shape.Shape.{Shape}
-use Rattle.model_datadev.specs.Batch.{IsWritable}
+use Rattle.model_datadev.specs.{IsWritable}
 use Rattle.redo_disk.proofs.Made.{ends_then}
 use Rattle.redo_open.proofs.Gathers.{gathered-writable}
 use Rattle.redo_open.proofs.GatherSteps.{written-step}

@@ -1,8 +1,7 @@
 -- The pages so far are written or gathered, and no call has failed.
 use Rattle.std.proofs.Common.{◌≡◌, ◌≤◌, ℕ, None}
 use Rattle.model_page.specs.declared.content.Content.{Content}
-use Rattle.redo_disk.specs.Calls.{EndWith}
-use Rattle.redo_disk.specs.Made.{MakesCalls}
+use Rattle.redo_disk.specs.{EndWith, MakesCalls}
 use Rattle.redo_open.specs.Gather.{AreGathered, IsGatheredTo}
 use Rattle.redo_open.specs.Rewrite.{AreTop, IsWrittenTo}
 use Rattle.redo_open.proofs.rewrite.rewrite.Given as goal

@@ -1,9 +1,9 @@
 -- One write behind the other.
 use Rattle.std.proofs.Common.{◌≡◌, ◌+◌, ◌∙◌, ℕ, Err, refl, sym, subst, arith}
 use Rattle.std.proofs.lemmas.Result.{err_from_is_err_and}
-use Rattle.model_device.specs.Calls.{written, FailsWrite}
+use Rattle.model_device.specs.{FailsWrite, written}
 use Rattle.model_device.specs.Disk.{Disk}
-use Rattle.redo_disk.specs.Seen.{HasCause, HasSize, OnTold}
+use Rattle.redo_disk.specs.{HasCause, HasSize, OnTold}
 use Rattle.redo_disk.proofs.Made.{call_ends, ends_then, none_ends}
 use Rattle.redo_open.specs.Erase.{Erases, HasErased}
 use Rattle.redo_open.proofs.Erases.{IsPart, zeros_write, erases-failed, erased-none, erased-more}

@@ -1,8 +1,6 @@
 -- The sectors below the offset are zeros, and no call has failed.
 use Rattle.std.proofs.Common.{◌-◌, ◌≡◌, ◌≤◌, ◌%◌, None}
-use Rattle.redo_disk.specs.Calls.{EndWith}
-use Rattle.redo_disk.specs.Made.{MakesCalls}
-use Rattle.redo_disk.specs.Seen.{HasSize, OnTold}
+use Rattle.redo_disk.specs.{EndWith, HasSize, MakesCalls, OnTold}
 use Rattle.redo_open.specs.Erase.{HasErased}
 use Rattle.redo_open.proofs.zeros.erase.Given as goal
 

@@ -1,8 +1,6 @@
 -- A front of the piece is as many zeros.
 use Rattle.std.proofs.Common.{ℕ, List, sym, subst}
-use Rattle.redo_disk.specs.Calls.{Writes}
-use Rattle.redo_disk.specs.Made.{MakesCall}
-use Rattle.redo_disk.specs.Seen.{IsRange, WriteStep, write_at}
+use Rattle.redo_disk.specs.{IsRange, MakesCall, write_at, Writes, WriteStep}
 use Rattle.redo_open.proofs.Rows.{front-of, length-front}
 use Rattle.redo_open.proofs.zeros.write_zeros.Goals as goal
 

@@ -1,5 +1,5 @@
 use Rattle.std.proofs.Common.{take, refl, subst, arith}
-use Rattle.model_record.specs.Group.{IsGroupText}
+use Rattle.model_record.specs.{IsGroupText}
 use Rattle.redo_record.specs.Reading.{Stops}
 use Rattle.model_record.proofs.Several.{one_group}
 use Rattle.redo_record.proofs.Limit.{front_none, too_long}

@@ -1,6 +1,6 @@
 use Rattle.std.proofs.Common.{◌≡◌, ◌++◌, length}
 use Rattle.std.specs.List.{AllByRecursion}
-use Rattle.model_record.specs.Record.{HasText}
+use Rattle.model_record.specs.{HasText}
 use Rattle.model_record.proofs.Several.{texts}
 use Rattle.redo_record.proofs.decoding.read_several.Given as goal
 

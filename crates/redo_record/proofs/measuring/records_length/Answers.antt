@@ -1,6 +1,6 @@
 use Rattle.std.proofs.Common.{◌≡◌, ℕ, zero, suc, ◌+◌, ◌<◌, ◌≤◌, ◌^◌, List, [], ◌∷◌, length, length-append, get_or, take, arith}
 use Rattle.std.specs.List.{flat_map}
-use Rattle.model_record.specs.Record.{record_text}
+use Rattle.model_record.specs.{record_text}
 use Rattle.model_record.specs.declared.rec.Rec.{Rec}
 use Rattle.redo_record.proofs.measuring.records_length.Goals as goal
 

@@ -1,5 +1,5 @@
 use Rattle.std.proofs.Common.{◌≡◌, ◌+◌, ◌*◌, drop}
-use Rattle.model_store.specs.Scan.{groups_start}
+use Rattle.model_store.specs.{groups_start}
 use Rattle.redo_recover.proofs.blocks.groups_start.Given as goal
 
 abbrev pub invariant-loop-view : goal.invariant-loop-view

@@ -1,5 +1,5 @@
 use Rattle.std.proofs.Common.{◌≡◌, ◌≤◌, ◌*◌, length, None}
-use Rattle.redo_disk.specs.Made.{MakesCalls}
+use Rattle.redo_disk.specs.{MakesCalls}
 use Rattle.redo_recover.specs.Blocks.{HaveFirsts}
 use Rattle.redo_recover.specs.Calls.{ReadsPieces}
 use Rattle.redo_recover.specs.Devices.{IsUnchanged, OnContent}

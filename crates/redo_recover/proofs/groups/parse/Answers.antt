@@ -1,7 +1,7 @@
 use Rattle.std.proofs.lemmas.Result.{IfOk-weaker}
 use Rattle.std.proofs.Common.{◌∙◌, ◌-◌, ℕ, drop, List, Some, sym, ap, subst}
-use Rattle.model_log.specs.Lsn.{sn_of}
-use Rattle.model_store.specs.Scan.{groups_start}
+use Rattle.model_log.specs.{sn_of}
+use Rattle.model_store.specs.{groups_start}
 use Rattle.redo_recover.specs.Groups.{EndAt, IsEndOf}
 use Rattle.redo_recover.proofs.Bounds.{parsed-end}
 use Rattle.redo_recover.proofs.groups.parse.Goals as goal

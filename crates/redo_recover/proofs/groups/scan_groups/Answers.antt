@@ -1,6 +1,6 @@
 use Rattle.std.proofs.Common.{◌+◌, ap, subst, sym, ◌∙◌}
 use Rattle.std.proofs.lemmas.List.{take_rest}
-use Rattle.model_log.specs.Lsn.{lsn_of}
+use Rattle.model_log.specs.{lsn_of}
 use Rattle.redo_recover.specs.Groups.{GivesStorable}
 use Rattle.redo_recover.proofs.Grouping.{AreGroupsSoFar, AreGroupsSoFar-none, AreGroupsSoFar-push, rest-shorter, taken-some}
 use Rattle.redo_recover.proofs.groups.scan_groups.Goals as goal

@@ -1,7 +1,7 @@
 -- The place is read, and judged beside the slots.
 use Rattle.std.proofs.Common.{◌≡◌, ◌∙◌, ◌*◌, ◌+◌, refl}
-use Rattle.model_page.specs.Copies.{IsLost}
-use Rattle.redo_disk.specs.Seen.{part}
+use Rattle.model_page.specs.{IsLost}
+use Rattle.redo_disk.specs.{part}
 use Rattle.redo_recover.proofs.Contents.{content-both}
 use Rattle.redo_recover.proofs.Keeping.{part-is}
 use Rattle.redo_recover.specs.Pages.{HoldsSlots, PutsKept}

@@ -1,7 +1,7 @@
 -- The pages so far are as they are kept.
 use Rattle.std.proofs.Common.{None}
-use Rattle.redo_apply.specs.Fits.{ArePagesOf}
-use Rattle.redo_disk.specs.Made.{MakesCalls}
+use Rattle.redo_apply.specs.{ArePagesOf}
+use Rattle.redo_disk.specs.{MakesCalls}
 use Rattle.redo_recover.proofs.Paging.{AreKeptFirst}
 use Rattle.redo_recover.specs.Calls.{ReadsPieces}
 use Rattle.redo_recover.specs.Devices.{IsUnchanged, OnContent}

@@ -1,7 +1,6 @@
 -- The place passes, or a copy counts.
 use Rattle.std.proofs.Common.{◌∙◌, MatchOption, ap, length, subst, sym}
-use Rattle.model_page.specs.Copies.{HasNoCopy, IsBestCopy, slot_bytes}
-use Rattle.model_page.specs.Page.{user_part}
+use Rattle.model_page.specs.{HasNoCopy, IsBestCopy, slot_bytes, user_part}
 use Rattle.redo_recover.proofs.Keeping.{lost-off, slice-is, slot-off, slot-size, user-size}
 use Rattle.redo_recover.proofs.kept.kept_in.Goals as goal
 

@@ -1,7 +1,7 @@
 -- The slots are read and then each place, and the kept pages are judged and replayed.
 use Rattle.std.proofs.Common.{rules}
 use Rattle.std.proofs.lemmas.Result.{err_from_is_err_and}
-use Rattle.model_store.specs.Reading.{AreReadPages}
+use Rattle.model_store.specs.{AreReadPages}
 use Rattle.redo_recover.proofs.Bounds.{replayed-not_ahead}
 use Rattle.redo_recover.proofs.Contents.{content-weaker}
 use Rattle.redo_recover.proofs.Fronts.{ahead-cause, ahead-own}

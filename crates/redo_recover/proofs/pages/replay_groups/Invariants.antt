@@ -1,4 +1,4 @@
-use Rattle.redo_apply.specs.Fits.{ArePagesOf}
+use Rattle.redo_apply.specs.{ArePagesOf}
 use Rattle.redo_recover.proofs.Paging.{AreReplaying}
 use Rattle.redo_recover.proofs.pages.replay_groups.Given as goal
 

@@ -1,5 +1,5 @@
 use Rattle.std.proofs.Common.{length}
-use Rattle.model_store.specs.Scan.{groups_start}
+use Rattle.model_store.specs.{groups_start}
 use Rattle.redo_recover.proofs.Parsing.{parsed-fit}
 use Rattle.redo_recover.proofs.scan.scan_log.Goals as goal
 

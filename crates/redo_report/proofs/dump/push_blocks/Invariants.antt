@@ -1,7 +1,7 @@
 use Rattle.std.proofs.Common.{◌≡◌, ◌+◌, ◌*◌, ◌++◌, drop}
 use Rattle.std.specs.String.{string_bytes}
 use Rattle.model_base.specs.declared.limits.TheConstants.{BLOCK_SIZE}
-use Rattle.model_report.specs.Listing.{block_lines}
+use Rattle.model_report.specs.{block_lines}
 use Rattle.redo_report.proofs.dump.push_blocks.Given as goal
 
 abbrev pub invariant-loop-view : goal.invariant-loop-view

@@ -1,7 +1,7 @@
 use Rattle.std.proofs.Common.{◌≡◌, ◌++◌, take}
 use Rattle.std.specs.List.{flat_map}
 use Rattle.std.specs.String.{string_bytes}
-use Rattle.model_report.specs.Listing.{record_line}
+use Rattle.model_report.specs.{record_line}
 use Rattle.redo_report.proofs.dump.push_records.Given as goal
 
 abbrev pub invariant-loop-rec : goal.invariant-loop-rec

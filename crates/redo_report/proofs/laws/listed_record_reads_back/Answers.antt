@@ -1,6 +1,6 @@
 use Rattle.std.proofs.Common.{refl}
-use Rattle.model_report.specs.Listing.{item_of_record}
-use Rattle.model_script.specs.Spelling.{item_text}
+use Rattle.model_report.specs.{item_of_record}
+use Rattle.model_script.specs.{item_text}
 use Rattle.redo_report.proofs.ListedRecords.{items_of-group, ranged}
 use Rattle.redo_report.proofs.laws.listed_record_reads_back.Goals as goal
 

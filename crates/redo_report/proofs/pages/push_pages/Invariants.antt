@@ -1,6 +1,6 @@
 use Rattle.std.proofs.Common.{◌≡◌, ◌++◌, drop}
 use Rattle.std.specs.String.{string_bytes}
-use Rattle.model_report.specs.Pages.{page_lines_from}
+use Rattle.model_report.specs.{page_lines_from}
 use Rattle.redo_report.proofs.pages.push_pages.Given as goal
 
 abbrev pub invariant-loop-number : goal.invariant-loop-number

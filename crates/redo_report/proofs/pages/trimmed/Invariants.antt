@@ -1,5 +1,5 @@
 use Rattle.std.proofs.Common.{◌≡◌, ◌≤◌, length, take}
-use Rattle.model_report.specs.Pages.{trimmed}
+use Rattle.model_report.specs.{trimmed}
 use Rattle.redo_report.proofs.pages.trimmed.Given as goal
 
 abbrev pub invariant-loop-used : goal.invariant-loop-used

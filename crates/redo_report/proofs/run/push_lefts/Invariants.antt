@@ -1,7 +1,7 @@
 use Rattle.std.proofs.Common.{◌≡◌, ◌++◌, take}
 use Rattle.std.specs.List.{flat_map}
 use Rattle.std.specs.String.{string_bytes}
-use Rattle.model_report.specs.Report.{left_line}
+use Rattle.model_report.specs.{left_line}
 use Rattle.redo_report.proofs.run.push_lefts.Given as goal
 
 abbrev pub invariant-loop-pair : goal.invariant-loop-pair

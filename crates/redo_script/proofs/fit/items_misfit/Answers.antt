@@ -1,5 +1,5 @@
 use Rattle.std.proofs.Common.{sym, ◌∙◌}
-use Rattle.model_script.specs.Fit.{item_misfit}
+use Rattle.model_script.specs.{item_misfit}
 use Rattle.redo_script.proofs.Misfits.{first-here, none-more}
 use Rattle.redo_script.proofs.fit.items_misfit.Goals as goal
 

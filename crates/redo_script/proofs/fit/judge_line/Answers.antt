@@ -1,7 +1,7 @@
 use Rattle.std.proofs.Common.{◌∙◌, sym, ap, map}
 use Rattle.std.specs.Prelude.{nat_lt}
 use Rattle.model_base.specs.declared.limits.TheConstants.{MAX_GROUP}
-use Rattle.model_script.specs.Fit.{first_misfit_of, item_misfit, misfit_if, user_misfit}
+use Rattle.model_script.specs.{first_misfit_of, item_misfit, misfit_if, user_misfit}
 use Rattle.model_script.specs.declared.script.ScriptLine.{ScriptLine}
 use Rattle.model_script.specs.declared.misfit.Quantity.TheVariants.{Group}
 use Rattle.redo_script.proofs.Misfits.{line-group, line-items}

@@ -1,5 +1,5 @@
 use Rattle.std.proofs.Common.{refl, arith}
-use Rattle.model_script.specs.Fit.{line_misfit}
+use Rattle.model_script.specs.{line_misfit}
 use Rattle.redo_script.proofs.Misfits.{length-more, length-none, none-more, unfit-here}
 use Rattle.redo_script.proofs.fit.judge_lines.Goals as goal
 

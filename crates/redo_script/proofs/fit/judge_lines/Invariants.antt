@@ -1,7 +1,6 @@
 use Rattle.std.proofs.Common.{◌≡◌, map, take, length, None}
-use Rattle.model_record.specs.Group.{stream_of}
-use Rattle.model_script.specs.Fit.{first_misfit_of, line_misfit}
-use Rattle.model_script.specs.LineGroup.{group_of}
+use Rattle.model_record.specs.{stream_of}
+use Rattle.model_script.specs.{first_misfit_of, group_of, line_misfit}
 use Rattle.redo_script.proofs.fit.judge_lines.Given as goal
 
 abbrev pub invariant-loop-line : goal.invariant-loop-line

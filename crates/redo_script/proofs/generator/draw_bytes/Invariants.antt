@@ -1,5 +1,5 @@
 use Rattle.std.proofs.Common.{◌≡◌, ◌-◌, ◌++◌}
-use Rattle.model_script.specs.Generator.{bytes_at, state_after}
+use Rattle.model_script.specs.{bytes_at, state_after}
 use Rattle.redo_script.proofs.generator.draw_bytes.Given as goal
 
 abbrev pub invariant-loop : goal.invariant-loop

@@ -1,5 +1,5 @@
 use Rattle.std.proofs.Common.{◌≡◌, ◌-◌, ◌++◌}
-use Rattle.model_script.specs.Generator.{items_at, state_after_items}
+use Rattle.model_script.specs.{items_at, state_after_items}
 use Rattle.redo_script.proofs.generator.draw_items.Given as goal
 
 abbrev pub invariant-loop : goal.invariant-loop

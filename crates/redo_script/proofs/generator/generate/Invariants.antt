@@ -1,7 +1,6 @@
 use Rattle.std.proofs.Common.{◌≡◌, ◌-◌, ◌++◌}
 use Rattle.std.specs.String.{string_bytes}
-use Rattle.model_script.specs.Generator.{first_state, lines_at}
-use Rattle.model_script.specs.Spelling.{script_text}
+use Rattle.model_script.specs.{first_state, lines_at, script_text}
 use Rattle.redo_script.proofs.generator.generate.Given as goal
 
 abbrev pub invariant-loop-number : goal.invariant-loop-number

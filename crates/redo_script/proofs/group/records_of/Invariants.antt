@@ -1,5 +1,5 @@
 use Rattle.std.proofs.Common.{◌≡◌, map, take}
-use Rattle.model_script.specs.LineGroup.{record_of}
+use Rattle.model_script.specs.{record_of}
 use Rattle.redo_script.proofs.group.records_of.Given as goal
 
 abbrev pub invariant-loop-item : goal.invariant-loop-item

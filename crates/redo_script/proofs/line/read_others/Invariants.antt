@@ -1,6 +1,6 @@
 use Rattle.std.proofs.Common.{◌≡◌}
 use Rattle.redo_script.specs.Cut.{parts_behind}
-use Rattle.model_script.specs.Grammar.{items_of}
+use Rattle.model_script.specs.{items_of}
 use Rattle.redo_script.specs.Progress.{after_items, left_after}
 use Rattle.redo_script.proofs.line.read_others.Given as goal
 

@@ -1,5 +1,5 @@
 use Rattle.std.proofs.Common.{◌≡◌, ◌<◌, ◌^◌, take}
-use Rattle.model_script.specs.Grammar.{digits_value}
+use Rattle.model_script.specs.{digits_value}
 use Rattle.redo_script.proofs.number.value_of.Given as goal
 
 abbrev pub invariant-loop-digit : goal.invariant-loop-digit

@@ -1,5 +1,5 @@
 use Rattle.std.proofs.Common.{◌≡◌, length}
-use Rattle.model_script.specs.Grammar.{script_from}
+use Rattle.model_script.specs.{script_from}
 use Rattle.redo_script.specs.Progress.{after_lines}
 use Rattle.redo_script.proofs.parsing.parse.Given as goal
 

@@ -1,7 +1,7 @@
 use Rattle.std.proofs.Common.{◌≡◌, ◌∷◌, ◌++◌, take}
 use Rattle.std.specs.List.{flat_map}
 use Rattle.std.specs.String.{string_bytes}
-use Rattle.model_script.specs.Spelling.{item_text}
+use Rattle.model_script.specs.{item_text}
 use Rattle.redo_script.proofs.printing.push_others.Given as goal
 
 abbrev pub invariant-loop-item : goal.invariant-loop-item

@@ -1,12 +1,10 @@
 use Rattle.std.proofs.Common.{◌≡◌, ◌+◌, ◌-◌, ◌*◌, ℕ, List, take, drop, Option, subst}
 use Rattle.std.proofs.lemmas.Result.{err_from_is_err_and, on_ok_weaker, on_err_weaker}
-use Rattle.model_datadev.specs.Repair.{SameSlots, IsPutBack, FailsPutBack}
-use Rattle.model_datadev.specs.Steps.{IsPutOrNot}
-use Rattle.model_device.specs.Calls.{written, synced}
+use Rattle.model_datadev.specs.{FailsPutBack, IsPutBack, IsPutOrNot, SameSlots}
+use Rattle.model_device.specs.{synced, written}
 use Rattle.model_device.specs.Disk.{Disk}
 use Rattle.redo_disk.proofs.Told.{OnTold-weaker}
-use Rattle.redo_disk.specs.Calls.{error_of}
-use Rattle.redo_disk.specs.Seen.{OnTold, write_at}
+use Rattle.redo_disk.specs.{error_of, OnTold, write_at}
 use Rattle.redo_store.proofs.Repaired.{slot-part, put-back, put-failed, repair-unread, repair-none, repair-put}
 use Rattle.redo_store.proofs.mend.put_back.Goals as goal
 

@@ -4,13 +4,11 @@ use Rattle.std.proofs.lemmas.List.{take_all}
 use Rattle.std.proofs.lemmas.Result.{err_from_is_err_and}
 use Rattle.std.proofs.lemmas.Option.{slice_get-get_or}
 use Rattle.model_device.specs.Disk.{Disk}
-use Rattle.model_device.specs.Calls.{written, FailsWrite}
+use Rattle.model_device.specs.{FailsWrite, written}
 use Rattle.model_device.specs.declared.write.Write.{Write}
-use Rattle.redo_disk.specs.Calls.{Serve, ToWrite}
-use Rattle.redo_disk.specs.Made.{MakesCalls}
-use Rattle.redo_disk.specs.Seen.{write_at}
+use Rattle.redo_disk.specs.{MakesCalls, Serve, ToWrite, write_at}
 use Rattle.redo_store.specs.Places.{text_writes}
-use Rattle.model_datadev.specs.Steps.{written_all, FailsOne}
+use Rattle.model_datadev.specs.{FailsOne, written_all}
 use Rattle.redo_disk.proofs.Told.{OnTold-then}
 use Rattle.redo_dblwr.proofs.Tells.{told-as, on-err}
 use Rattle.model_datadev.proofs.Written.{written-one_more}

@@ -1,10 +1,8 @@
 use Rattle.std.proofs.Common.{◌≡◌, ◌≤◌, map, take, None}
 use Rattle.model_device.specs.Disk.{Disk}
-use Rattle.redo_disk.specs.Calls.{Serve, ToWrite}
-use Rattle.redo_disk.specs.Made.{MakesCalls}
-use Rattle.redo_disk.specs.Seen.{OnTold}
+use Rattle.redo_disk.specs.{MakesCalls, OnTold, Serve, ToWrite}
 use Rattle.redo_store.specs.Places.{text_writes}
-use Rattle.model_datadev.specs.Steps.{written_all}
+use Rattle.model_datadev.specs.{written_all}
 use Rattle.redo_store.proofs.places.write_texts.Given as goal
 
 abbrev pub invariant-loop-i : goal.invariant-loop-i

@@ -1,11 +1,11 @@
 -- A page that is found broken, with a copy that passes, may be repaired.
 use Rattle.std.proofs.Common.{◌≡◌, ◌≤◌, ℕ, List, Option, Some, None, IfSome, MatchOption, length, sym, ap, subst, ◌∙◌}
 use Rattle.model_base.specs.declared.shape.Shape.{Shape}
-use Rattle.model_page.specs.Copies.{IsBestCopy, HasNoCopy, place_bytes, place_lsn_by, data_device_length}
-use Rattle.model_page.specs.Page.{page_check}
+use Rattle.model_page.specs.{data_device_length, HasNoCopy, IsBestCopy, page_check, place_bytes, place_lsn_by}
 use Rattle.model_page.specs.declared.page.PageState.TheVariants.{Broken}
-use Rattle.model_device.specs.Disk.{Disk, settled}
-use Rattle.model_datadev.specs.Repair.{IsRepairable}
+use Rattle.model_device.specs.{settled}
+use Rattle.model_device.specs.Disk.{Disk}
+use Rattle.model_datadev.specs.{IsRepairable}
 use Rattle.redo_store.proofs.tests.repair_broken.Goals as goal
 
 repairable : (shape : Shape) (page : ℕ) (told : Option Disk) (out : List ℕ) (best : ℕ × ℕ)

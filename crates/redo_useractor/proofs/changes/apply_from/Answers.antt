@@ -1,5 +1,5 @@
 use Rattle.std.proofs.Common.{ap, replicate, ℕ, ◌∙◌}
-use Rattle.model_store.specs.Apply.{user_after}
+use Rattle.model_store.specs.{user_after}
 use Rattle.redo_useractor.proofs.changes.apply_from.Goals as goal
 
 pub returns : goal.returns

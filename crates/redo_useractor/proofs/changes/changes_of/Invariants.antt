@@ -1,5 +1,5 @@
 use Rattle.std.proofs.Common.{◌≡◌}
-use Rattle.model_changes.specs.Changes.{change_on, collected}
+use Rattle.model_changes.specs.{change_on, collected}
 use Rattle.redo_useractor.proofs.changes.changes_of.Given as goal
 
 abbrev pub invariant-loop-page : goal.invariant-loop-page

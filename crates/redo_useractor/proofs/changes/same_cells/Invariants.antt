@@ -1,5 +1,5 @@
 use Rattle.std.proofs.Common.{◌≡◌}
-use Rattle.model_changes.specs.Changes.{cell_where_same, collected}
+use Rattle.model_changes.specs.{cell_where_same, collected}
 use Rattle.redo_useractor.proofs.changes.same_cells.Given as goal
 
 abbrev pub invariant-loop-j : goal.invariant-loop-j

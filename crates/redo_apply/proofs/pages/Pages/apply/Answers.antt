@@ -1,8 +1,8 @@
 use Rattle.std.proofs.Common.{◌≡◌, ◌∙◌, ap, sym, length, Option, IfSome, arith, subst, drop, []}
 use Rattle.std.proofs.lemmas.List.{drop_all}
-use Rattle.model_record.specs.Fits.{RecordFits}
+use Rattle.model_record.specs.{RecordFits}
 use Rattle.model_page.specs.declared.content.Content.{Content}
-use Rattle.model_store.specs.Apply.{applied}
+use Rattle.model_store.specs.{applied}
 use Rattle.redo_apply.specs.Fits.{WritesWithin}
 use Rattle.redo_apply.proofs.Records.{applied-none}
 use Rattle.redo_apply.proofs.Grouped.{item-at, fits-at, page-below, page-of, within-page, under-way-more, same-shape}

@@ -1,12 +1,11 @@
 use Rattle.std.proofs.Common.{◌≡◌, ◌*◌, ◌+◌, ◌∙◌, Some, ap, subst, sym, ⊎_elim, arith}
 use Rattle.model_device.specs.Disk.{Disk}
-use Rattle.model_device.specs.Calls.{written, synced}
-use Rattle.model_log.specs.Checkpoint.{checkpoint_text}
-use Rattle.model_logdev.specs.Held.{other_place}
-use Rattle.model_logdev.specs.Marks.{MayBeNext, HasNextNumber, next_number, after_checkpoint, after_asked}
+use Rattle.model_device.specs.{synced, written}
+use Rattle.model_log.specs.{checkpoint_text}
+use Rattle.model_logdev.specs.{after_asked, after_checkpoint, HasNextNumber, MayBeNext, next_number, other_place}
 use Rattle.model_logdev.proofs.Checkpoints.{WritesSector}
 use Rattle.model_logdev.proofs.Places.{HasBlocks}
-use Rattle.redo_disk.specs.Seen.{write_at}
+use Rattle.redo_disk.specs.{write_at}
 use Rattle.redo_logdev.specs.Calls.{IsPutOrNot}
 use Rattle.redo_logdev.specs.Part.{Part, PartHolds, DiskHolds}
 use Rattle.redo_logdev.proofs.Told.{told-step}

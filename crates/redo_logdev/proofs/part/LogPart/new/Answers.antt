@@ -1,6 +1,5 @@
 use Rattle.std.proofs.Common.{[], None}
-use Rattle.model_logdev.specs.Fresh.{IsFresh}
-use Rattle.model_logdev.specs.Marks.{first_marks}
+use Rattle.model_logdev.specs.{first_marks, IsFresh}
 use Rattle.redo_logdev.specs.Part.{DiskHolds}
 use Rattle.redo_logdev.proofs.Told.{told-weaker}
 use Rattle.redo_logdev.proofs.Parts.{fresh-part}

@@ -1,12 +1,11 @@
 use Rattle.std.proofs.Common.{◌≡◌, [], ◌∷◌, Some, None, ap, subst, sym, ◌∙◌}
 use Rattle.model_device.specs.Disk.{Disk}
-use Rattle.model_device.specs.Calls.{synced}
-use Rattle.model_logdev.specs.Marks.{after_synced}
+use Rattle.model_device.specs.{synced}
+use Rattle.model_logdev.specs.{after_synced}
 use Rattle.redo_logdev.specs.Part.{Part, PartHolds, DiskHolds}
 use Rattle.redo_logdev.proofs.Told.{told-step}
 use Rattle.redo_logdev.proofs.Parts.{sync-ok}
-use Rattle.redo_disk.specs.Calls.{Serve, ToSync}
-use Rattle.redo_disk.specs.Made.{MakesCalls}
+use Rattle.redo_disk.specs.{MakesCalls, Serve, ToSync}
 use Rattle.redo_disk.proofs.Made.{call_serves}
 use Rattle.redo_logdev.proofs.part.LogPart.sync.Goals as goal
 

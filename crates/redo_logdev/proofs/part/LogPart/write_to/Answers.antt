@@ -1,9 +1,8 @@
 use Rattle.std.proofs.Common.{◌≡◌, ◌≤◌, ◌<◌, ◌+◌, ◌*◌, ◌%◌, ◌^◌, ℕ, List, length, take, Some, ap, subst, sym, ◌∙◌, length-take, arith}
 use Rattle.std.proofs.lemmas.List.{take_at}
 use Rattle.model_device.specs.Disk.{Disk}
-use Rattle.model_log.specs.Lsn.{block_of}
-use Rattle.model_log.specs.Boundary.{framed, IsGivenTo}
-use Rattle.model_logdev.specs.Marks.{after_given, after_written}
+use Rattle.model_log.specs.{block_of, framed, IsGivenTo}
+use Rattle.model_logdev.specs.{after_given, after_written}
 use Rattle.redo_logdev.specs.Calls.{written_round, FailsRound}
 use Rattle.redo_logdev.specs.Part.{Part, MayWrite, PartHolds, DiskHolds}
 use Rattle.redo_logdev.proofs.Told.{told-step}

@@ -1,7 +1,7 @@
 use Rattle.std.proofs.Common.{List, None, arith, subst, sym, ◌%◌, ◌+◌, ◌<◌, ◌∙◌, ◌≡◌}
 use Rattle.std.specs.Prelude.{All}
-use Rattle.model_core.specs.FlushLists.{Each, Listed, oldest_of}
-use Rattle.redo_flushlist.specs.Order.{Listing, MayFollow}
+use Rattle.model_core.specs.{Each, Listed, oldest_of}
+use Rattle.redo_flushlist.specs.{Listing, MayFollow}
 use Rattle.redo_flushlist.specs.Order as own
 use Rattle.redo_flushlist.specs.declared.dirty.Dirty.{Dirty}
 use Rattle.redo_machine.proofs.Listings.{any_default, may_follow, none_there}

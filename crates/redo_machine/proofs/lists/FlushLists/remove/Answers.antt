@@ -1,7 +1,7 @@
 use Rattle.std.proofs.Common.{List, arith, subst, sym, ◌%◌, ◌<◌, ◌∙◌, ◌≡◌}
 use Rattle.std.specs.Prelude.{IsSome}
-use Rattle.model_core.specs.FlushLists.{oldest_of}
-use Rattle.redo_flushlist.specs.Order.{Listing}
+use Rattle.model_core.specs.{oldest_of}
+use Rattle.redo_flushlist.specs.{Listing}
 use Rattle.redo_flushlist.specs.Order as own
 use Rattle.redo_machine.proofs.Listings.{any_default, some_there}
 use Rattle.redo_machine.specs.Lists.{Listings, listing_at, lists_of, no_list}

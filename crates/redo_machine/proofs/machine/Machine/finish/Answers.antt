@@ -1,9 +1,9 @@
 -- Where the vector has room for all groups, what the users tell in lsn order is the history of each run that this machine is on.
 use Rattle.std.proofs.Common.{List, ap, arith, get_or, length, slice_index, subst, sym, ℕ, ◌<◌, ◌∙◌, ◌≡◌}
-use Rattle.model_core.specs.Layout.{index}
+use Rattle.model_core.specs.{index}
 use Rattle.model_core.specs.declared.words.Word.TheVariants as word
 use Rattle.model_finish.proofs.Finished.{marks_same}
-use Rattle.model_finish.specs.History.{word_marks}
+use Rattle.model_finish.specs.{word_marks}
 use Rattle.model_history.specs.declared.entry.Marks.{Marks}
 use Rattle.redo_machine.proofs.FailureCode.{small_code}
 use Rattle.redo_machine.proofs.Told.{as_many, have_groups, history_is}

@@ -1,6 +1,6 @@
 use Rattle.std.proofs.Common.{List, ℕ, ap, arith, refl, subst, sym, ◌∙◌}
 use Rattle.std.specs.Prelude.{not}
-use Rattle.model_running.specs.Schedule.{HaveEnded}
+use Rattle.model_running.specs.{HaveEnded}
 use Rattle.redo_machine.proofs.CallsOn.{both_then, none_called}
 use Rattle.redo_machine.proofs.Ended.{none_open, one_open}
 use Rattle.redo_machine.proofs.Runs.{InRun, ends_done, ends_spent, goes_on, starts_run}

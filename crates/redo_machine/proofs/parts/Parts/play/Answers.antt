@@ -1,7 +1,6 @@
 use Rattle.std.proofs.Common.{rules, subst}
 use Rattle.model_core.specs.Actors as model
-use Rattle.model_core.specs.Lsn.{lsn}
-use Rattle.model_core.specs.WordTurn.{OnWord}
+use Rattle.model_core.specs.{lsn, OnWord}
 use Rattle.model_core.specs.declared.ops.Op.{Op}
 use Rattle.redo_machine.proofs.Played as played
 use Rattle.redo_machine.specs.Playing.{HasWholePages}

@@ -1,5 +1,5 @@
 use Rattle.std.proofs.Common.{subst, sym}
-use Rattle.model_core.specs.Program.{lent}
+use Rattle.model_core.specs.{lent}
 use Rattle.model_core.specs.declared.ops.Op.{Op}
 use Rattle.redo_machine.proofs.TurnsOf.{answer_fits, some_run}
 use Rattle.redo_machine.specs.Playing.{HasWholePages}

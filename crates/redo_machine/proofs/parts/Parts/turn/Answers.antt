@@ -1,5 +1,5 @@
 use Rattle.std.proofs.Common.{set, subst, sym}
-use Rattle.model_core.specs.Lsn.{lsn}
+use Rattle.model_core.specs.{lsn}
 use Rattle.redo_machine.proofs.FailedTurns.{failed_turn_has_cause}
 use Rattle.redo_machine.proofs.MayTurn.{may_serve}
 use Rattle.redo_machine.proofs.TurnsOf.{runs_on, takes_turn}

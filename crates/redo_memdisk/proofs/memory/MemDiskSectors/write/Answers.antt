@@ -1,7 +1,7 @@
 use Rattle.std.proofs.Common.{◌≡◌, ◌∷◌, [], ◌++◌, length, refl, ap, sym, subst, ◌∙◌, arith}
 use Rattle.std.proofs.lemmas.Grind.{common_steps}
-use Rattle.model_device.specs.Calls.{FailsWrite}
-use Rattle.redo_disk.specs.Seen.{IsRange, write_at}
+use Rattle.model_device.specs.{FailsWrite}
+use Rattle.redo_disk.specs.{IsRange, write_at}
 use Rattle.redo_memdisk.specs.Memory.{MemState, pending_disk}
 use Rattle.redo_memdisk.proofs.Crashed.{FailsWrite-pending, written_is}
 use Rattle.redo_memdisk.proofs.Answered.{OnErr-always, OnOk-always}

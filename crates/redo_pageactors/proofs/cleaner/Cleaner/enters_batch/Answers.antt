@@ -1,6 +1,6 @@
 -- The page's bytes, split, are those that the batch has for it.
 use Rattle.std.proofs.Common.{List, [], ap, drop, length, subst, sym, take, ℕ, ◌++◌, ◌∙◌, ◌∷◌, ◌≡◌}
-use Rattle.model_core.specs.States.{CleanerState}
+use Rattle.model_core.specs.{CleanerState}
 use Rattle.redo_pageactors.proofs.BatchPages.{batch_pages_enter}
 use Rattle.redo_pageactors.specs.CleanerView.{batch_pages}
 use Rattle.redo_pageactors.proofs.cleaner.Cleaner.enters_batch.Goals as goal

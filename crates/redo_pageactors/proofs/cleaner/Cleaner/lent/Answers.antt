@@ -2,8 +2,8 @@
 use Rattle.std.proofs.Common.{List, subst, ℕ, ◌∙◌, ◌≡◌}
 use Rattle.std.specs.Prelude.{map}
 use Rattle.std.specs.List.{flat_map}
-use Rattle.model_core.specs.States.{BatchPage, CleanerState}
-use Rattle.model_page.specs.Page.{user_part}
+use Rattle.model_core.specs.{BatchPage, CleanerState}
+use Rattle.model_page.specs.{user_part}
 use Rattle.redo_pageactors.proofs.BatchPages.{pairs_batch_pages, users_batch_pages}
 use Rattle.redo_pageactors.proofs.cleaner.Cleaner.lent.Goals as goal
 

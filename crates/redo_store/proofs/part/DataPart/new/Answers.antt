@@ -1,5 +1,6 @@
 use Rattle.std.proofs.Common.{[], false}
-use Rattle.model_datadev.specs.Stored.{Stored, IsUpTo, IsOpened}
+use Rattle.model_datadev.specs.{IsOpened, IsUpTo}
+use Rattle.model_datadev.specs.Stored.{Stored}
 use Rattle.model_datadev.proofs.Parts.{opened-stored}
 use Rattle.redo_dblwr.proofs.Tells.{told-weaker}
 use Rattle.redo_store.proofs.part.DataPart.new.Goals as goal

@@ -1,10 +1,9 @@
 use Rattle.std.proofs.Common.{◌≡◌, ◌*◌, ℕ, List, [], length, take, None, true, is_some, sym, subst, arith}
 use Rattle.model_device.specs.Disk.{Disk}
-use Rattle.model_device.specs.Calls.{written, synced}
-use Rattle.redo_disk.specs.Seen.{write_at}
-use Rattle.model_datadev.specs.Batch.{Fresh, IsWritable, batch_of}
-use Rattle.model_datadev.specs.Steps.{IsPutOrNot}
-use Rattle.model_datadev.specs.Stored.{Stored, IsUpTo}
+use Rattle.model_device.specs.{synced, written}
+use Rattle.redo_disk.specs.{write_at}
+use Rattle.model_datadev.specs.{batch_of, Fresh, IsPutOrNot, IsUpTo, IsWritable}
+use Rattle.model_datadev.specs.Stored.{Stored}
 use Rattle.redo_dblwr.proofs.Tells.{told-step}
 use Rattle.model_datadev.proofs.Parts.{tied-put, tied-put_failed}
 use Rattle.redo_store.specs.Part.{Part, PartStores}

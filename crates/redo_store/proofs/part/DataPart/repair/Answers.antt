@@ -1,9 +1,8 @@
 use Rattle.std.proofs.Common.{◌<◌, IfSome, sym, subst}
 use Rattle.model_datadev.proofs.Repairs.{copy-put, copy-put_done, put-back_failed}
-use Rattle.model_datadev.specs.Repair.{IsRepairable, IsPutBack, FailsPutBack, KeepsAll, IsRepaired}
-use Rattle.model_datadev.specs.Stored.{HasNothingPending}
+use Rattle.model_datadev.specs.{FailsPutBack, HasNothingPending, IsPutBack, IsRepairable, IsRepaired, KeepsAll}
 use Rattle.redo_disk.proofs.Told.{OnTold-weaker}
-use Rattle.redo_disk.specs.Seen.{OnTold}
+use Rattle.redo_disk.specs.{OnTold}
 use Rattle.redo_store.proofs.Repaired.{IsMendable, mendable}
 use Rattle.redo_store.specs.Part.{Part}
 use Rattle.redo_store.proofs.part.DataPart.repair.Goals as goal

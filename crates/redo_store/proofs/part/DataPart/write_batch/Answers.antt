@@ -1,13 +1,10 @@
 use Rattle.std.proofs.Common.{◌≡◌, ◌≤◌, ◌*◌, ℕ, List, [], length, take, Some, None, IfSome, is_some, sym, subst, arith}
 use Rattle.model_device.specs.Disk.{Disk}
-use Rattle.model_page.specs.Copies.{data_device_length}
-use Rattle.redo_disk.specs.Calls.{Serve}
-use Rattle.redo_disk.specs.Made.{MakesCalls}
-use Rattle.redo_disk.specs.Seen.{write_at}
-use Rattle.model_datadev.specs.Batch.{Fresh, IsWritable, batch_of, after_batch}
+use Rattle.model_page.specs.{data_device_length}
+use Rattle.redo_disk.specs.{MakesCalls, Serve, write_at}
+use Rattle.model_datadev.specs.{after_batch, after_both, batch_of, FailsBoth, Fresh, IsBefore, IsSteady, IsUpTo, IsWritable, Keeps, KeepsPages}
 use Rattle.redo_store.specs.Places.{text_writes}
-use Rattle.model_datadev.specs.Steps.{after_both, FailsBoth}
-use Rattle.model_datadev.specs.Stored.{Keeps, Stored, IsUpTo, IsBefore, IsSteady, KeepsPages}
+use Rattle.model_datadev.specs.Stored.{Stored}
 use Rattle.redo_dblwr.proofs.Tells.{told-step}
 use Rattle.model_datadev.proofs.Parts.{tied-write, tied-keeps, tied-failed, before-done, before-keeps, before-failed}
 use Rattle.redo_store.specs.Part.{Part, PartStores}

@@ -1,8 +1,7 @@
 -- Each line has bytes, and a user that has a line begins with the first.
 use Rattle.std.proofs.Common.{List, arith, length, subst, sym, ℕ, ◌<◌}
 use Rattle.std.proofs.lemmas.Grind.{common_steps}
-use Rattle.model_core.specs.States.{Line}
-use Rattle.model_core.specs.UserProgram.{line_at}
+use Rattle.model_core.specs.{Line, line_at}
 use Rattle.model_record.specs.declared.rec.Rec.{Rec}
 use Rattle.redo_useractor.proofs.Texts.{some_texts}
 use Rattle.redo_useractor.specs.Lines.{AreUserLines}
