@@ -76,6 +76,20 @@ module _ (D : LogSide) (c : Setup) where
     taken = taken;
   }
 
+  -- the same where it holds what it held, and its groups stay
+  pub moved_on : (spare : ℕ) (m m' : SharedWords) (g g' : LogGhost) (p p' : D.Part) (actors : List Actor) (seat : ℕ) (a b : Actor) → LogHalf D c spare m g p actors → get_elem? actors seat ≡ some a
+      → IsSized c.pages m' → LogFacts D c m' g' p' → Fits D c m' g' p' seat b
+      → ((j : ℕ) (x : Actor) → j ≢ seat → get_elem? actors j ≡ some x → Fits D c m' g' p' j x)
+      → m'.device ≡ m.device → g'.holder ≡ g.holder → g'.log ≡ g.log → m'.sn ≡ m.sn
+      → holds b ≡ holds a → ◌≡◌ {A = List Entry} (entries b) (entries a) → left_to_reserve b ≤ left_to_reserve a
+      → LogHalf D c spare m' g' p' (set actors seat b)
+  moved_on spare m m' g g' p p' actors seat a b before at sized global mine others device holder log sn keep same le = moved spare m m' g g' p p' actors seat b before sized global mine others
+      (λ e. let t = before.turns seat a at (sym keep ∙ e) in (device ∙ t.0, t.1 ∙ sym holder))
+      (λ j x n e h. let t = before.turns j x e h in (device ∙ t.0, t.1 ∙ sym holder))
+      (subst (λ (l : List Entry). Counted (set actors seat b) l) (sym log) (counted_same actors g.log seat a b at same before.counted))
+      (subst (λ (n : ℕ). lsn (n + sum_over_actors left_to_reserve (set actors seat b) + spare) < LSN_LIMIT) (sym sn) (budget_same actors seat spare m.sn a b at le before.room))
+      (λ d. subst (λ (k : ℕ). HasTaker (set actors seat b) k) (sym holder) (taken_same actors seat a b g.holder at (λ e. keep ∙ e) (before.taken (sym device ∙ d))))
+
   -- what a step leaves to the users at other seats
   pub record Later (m : SharedWords) (g : LogGhost) (m' : SharedWords) (g' : LogGhost) (seat : ℕ) : Type 0 where
     pub write : m.write ≤ m'.write

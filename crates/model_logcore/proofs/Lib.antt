@@ -1,5 +1,7 @@
+pub mod AnswerSteps
 pub mod AnswersFit
 pub mod DeviceSteps
+pub mod FlusherSteps
 pub mod Frame
 pub mod GroupEnds
 pub mod Joins
@@ -9,10 +11,13 @@ pub mod LogKeeps
 pub mod NewUser
 pub mod NewUsers
 pub mod Ready
+pub mod ReserveSteps
 pub mod RingSteps
+pub mod Same
 pub mod StartHolds
 pub mod UserGroups
 pub mod UserSteps
 pub mod Watermarks
 pub mod WriterCells
 pub mod WriterSteps
+pub mod WriterStores

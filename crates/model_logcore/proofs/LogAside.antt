@@ -1,13 +1,12 @@
 -- Steps of the page actors, as the log half sees them.
-use Rattle.std.proofs.Common.{Bool, List, ap, arith, cond, eqb, false, get_or-set_other, get_or-set_same, length, length-set, refl, set, subst, sym, true, ℕ, ◌<◌, ◌∙◌, ◌≡◌, ◌≤◌}
+use Rattle.std.proofs.Common.{Bool, List, ap, arith, cond, eqb, false, refl, set, sym, true, ℕ, ◌<◌, ◌∙◌, ◌≡◌, ◌≤◌}
 use Rattle.std.proofs.lemmas.Bool.{eqb-false}
-use Rattle.std.specs.Prelude.{slice_set}
 use lib.ListN.{get_elem?}
-use native.Mathlib.Decide.{ℕ_discrete}
-use Rattle.model_core.specs.{Actor, blank_words, checkpointer_holds, checkpointer_took, CheckpointerState, entries, Entry, holds, IsSized, page_words_at, PageWords, SharedWords, with_page_words}
+use Rattle.model_core.specs.{Actor, checkpointer_holds, checkpointer_took, CheckpointerState, entries, Entry, holds, IsSized, PageWords, SharedWords}
 use Rattle.model_core.specs.LogSide.{LogSide}
 use Rattle.model_core.specs.Setup.{Setup}
-use Rattle.model_logcore.proofs.Frame.{budget_same, counted_same, moved, others_later, others_pointer, taken_same}
+use Rattle.model_logcore.proofs.Frame.{others_later, others_pointer, moved_on}
+use Rattle.model_logcore.proofs.Same.{facts_same, later_marks, part_kept, part_same, still_same}
 use Rattle.model_logcore.specs.LogFacts.{LogGhost}
 use Rattle.model_logcore.specs.LogFits.{Fits, CheckpointerFits}
 use Rattle.model_logcore.specs.LogHalf.{LogHalf, left_to_reserve}
@@ -26,68 +25,15 @@ module _ (D : LogSide) (c : Setup) (spare : ℕ) (m : SharedWords) (g : LogGhost
   page_aside lists clinks page_words ctail ckpt failed b sized up low fails f keep same le =
       let m' : SharedWords = record m { lists = lists; clinks = clinks; page_words = page_words; ctail = ctail; ckpt = ckpt; failed = failed } in
       let G = before.global in let P = G.part in
-      moved D c spare m m' g g p p actors seat b before sized
-      (record {
-        tiled = G.tiled;
-        order = G.order;
-        ring_cells = G.ring_cells;
-        first_offsets = G.first_offsets;
-        written_links = G.written_links;
-        commits = G.commits;
-        part = record {
-          holds = P.holds;
-          written = P.written;
-          stable = P.stable;
-          written_is = P.written_is;
-          stable_is = P.stable_is;
-          written_bound = P.written_bound;
-          stable_bound = P.stable_bound;
-          write_written = P.write_written;
-          written_wtail = P.written_wtail;
-          given_wtail = P.given_wtail;
-          flushed_stable = P.flushed_stable;
-          stable_written = P.stable_written;
-          ckpt_part = low;
-          written_given = P.written_given;
-          ckpt_asked = P.ckpt_asked;
-          asked_stable = P.asked_stable;
-          turn_word = P.turn_word;
-        };
-      })
+      moved_on D c spare m m' g g p p actors seat a b before at sized
+      (facts_same D c m g p (part_same D c m g p P P.write_written P.given_wtail P.flushed_stable low P.turn_word) G)
       f
       (λ j x n e. others_later D c m m' g g p p seat G
-      (record { write = omega arith; wtail = omega arith; ckpt = up; flushed = omega arith; failed = fails; logs = λ i y z. z; places = λ y _ _. refl; states = λ y _ _. refl; linked = λ _ _ two. two; firsts = λ y z. z; seats = λ y. refl; counts = λ y _. refl; answers = λ y _. refl })
-      (record { writer = refl; gwrite = refl; gwtail = refl; tail = refl; read = refl; entered = refl; write = refl; ckpt = up; failed = fails; link = λ _. refl; bytes = λ y _ _. refl; firsts = λ y _. refl; written = refl })
+      (later_marks D c m g p (omega arith) (omega arith) up (omega arith) fails)
+      (still_same D c m g p up fails refl)
       (record { flushed = omega arith; failed = fails; point = refl })
       j x n (λ _. refl) (before.each j x e))
-      (λ e. before.turns seat a at (sym keep ∙ e))
-      (λ j x n e h. before.turns j x e h)
-      (counted_same actors g.log seat a b at same before.counted)
-      (budget_same actors seat spare m.sn a b at le before.room)
-      (λ d. taken_same actors seat a b g.holder at (λ e. keep ∙ e) (before.taken d))
-
-  pub leaves_sized : (p : ℕ) (w : PageWords) → length w.frame ≡ length (page_words_at m.page_words p).frame → IsSized c.pages (with_page_words m p w)
-  leaves_sized p w e = record {
-    lists = before.sized.lists;
-    wlinks = before.sized.wlinks;
-    clinks = before.sized.clinks;
-    cells = before.sized.cells;
-    firsts = before.sized.firsts;
-    page_words = length-set m.page_words p w ∙ before.sized.page_words;
-    frames = λ q l. elim (ℕ_discrete q p) [
-      | yes z ↦ subst (λ (r : ℕ). length (page_words_at (set m.page_words p w) r).frame ≡ 4096) (sym z) (ap (λ (x : PageWords). length x.frame) (get_or-set_same m.page_words p w blank_words (let k = before.sized.page_words in omega arith)) ∙ e ∙ ap (λ (r : ℕ). length (page_words_at m.page_words r).frame) (sym z) ∙ before.sized.frames q l)
-      | no n ↦ ap (λ (x : PageWords). length x.frame) (get_or-set_other m.page_words p q w blank_words n) ∙ before.sized.frames q l
-    ];
-  }
-
-  pub links_sized : (i x : ℕ) → IsSized c.pages (record m { clinks = slice_set m.clinks i x })
-  links_sized i x = record { lists = before.sized.lists; wlinks = before.sized.wlinks; clinks = length-set m.clinks i x ∙ before.sized.clinks; cells = before.sized.cells; firsts = before.sized.firsts; page_words = before.sized.page_words; frames = before.sized.frames }
-
-  pub lists_sized : (i x : ℕ) → IsSized c.pages (record m { lists = slice_set m.lists i x })
-  lists_sized i x = record { lists = length-set m.lists i x ∙ before.sized.lists; wlinks = before.sized.wlinks; clinks = before.sized.clinks; cells = before.sized.cells; firsts = before.sized.firsts; page_words = before.sized.page_words; frames = before.sized.frames }
-
-  pub words_sized : (ctail ckpt failed : ℕ) → IsSized c.pages (record m { ctail = ctail; ckpt = ckpt; failed = failed })
-  words_sized ctail ckpt failed = record { lists = before.sized.lists; wlinks = before.sized.wlinks; clinks = before.sized.clinks; cells = before.sized.cells; firsts = before.sized.firsts; page_words = before.sized.page_words; frames = before.sized.frames }
+      refl refl refl refl keep same le
 
 -- a checkpoint is written, or fails
 module _ (D : LogSide) (c : Setup) (spare : ℕ) (m : SharedWords) (g : LogGhost) (p : D.Part) (actors : List Actor) (seat : ℕ) (t : CheckpointerState) (before : LogHalf D c spare m g p actors) (at : get_elem? actors seat ≡ maybe.some (actor.Checkpointer t)) where
@@ -99,7 +45,7 @@ module _ (D : LogSide) (c : Setup) (spare : ℕ) (m : SharedWords) (g : LogGhost
   points_by q code b b_is is own more below A =
       let G = before.global in let P = G.part in
       let held : checkpointer_holds t.step ≡ true = ap checkpointer_holds is in
-      let w1 = A.written in let w2 = A.stable in let w3 = A.given in
+      let w3 = A.given in
       let keep : (b : Bool) → holds (actor.Checkpointer (checkpointer_took t (cond b (answer.Called 0) (answer.Failed code)) checkpointer_step.Checkpoint)) ≡ true = λ b. elim b as (λ (x : Bool). holds (actor.Checkpointer (checkpointer_took t (cond x (answer.Called 0) (answer.Failed code)) checkpointer_step.Checkpoint)) ≡ true) [ true ↦ refl | false ↦ refl ] in
       let never : t.checks ≡ true → ⊥ = λ z. let y = his.no_device_while_checking z in let x : true ≡ false = sym held ∙ y in cc in
       let ckpt_by : (b : Bool) → eqb code 0 ≡ b → D.ckpt q ≡ cond b t.to (D.ckpt p) = λ b e. A.ckpt ∙ ap (λ (z : Bool). cond z t.to (D.ckpt p)) e in
@@ -112,41 +58,11 @@ module _ (D : LogSide) (c : Setup) (spare : ℕ) (m : SharedWords) (g : LogGhost
         | true ↦ (λ e. record { alone = his.alone; no_device_while_checking = λ z. absurd (never z); step = ckpt_by true e })
         | false ↦ (λ e. let n = eqb-false code 0 e in let pos : 0 < code = omega arith in record { alone = his.alone; no_device_while_checking = λ z. absurd (never z); step = (pos, A.cause pos) })
       ] in
-      moved D c spare m m g g p q actors seat (actor.Checkpointer (checkpointer_took t (cond b (answer.Called 0) (answer.Failed code)) checkpointer_step.Checkpoint)) before before.sized
-      (record {
-        tiled = G.tiled;
-        order = G.order;
-        ring_cells = G.ring_cells;
-        first_offsets = G.first_offsets;
-        written_links = G.written_links;
-        commits = G.commits;
-        part = record {
-          holds = A.holds;
-          written = P.written;
-          stable = P.stable;
-          written_is = w1 ∙ P.written_is;
-          stable_is = w2 ∙ P.stable_is;
-          written_bound = P.written_bound;
-          stable_bound = P.stable_bound;
-          write_written = (let z = P.write_written in omega arith);
-          written_wtail = (let z = P.written_wtail in omega arith);
-          given_wtail = (let z = P.given_wtail in omega arith);
-          flushed_stable = (let z = P.flushed_stable in omega arith);
-          stable_written = (let z = P.stable_written in omega arith);
-          ckpt_part = (let z = P.ckpt_part in omega arith);
-          written_given = (let z = P.written_given in omega arith);
-          ckpt_asked = (let z = A.asked in omega arith);
-          asked_stable = (let z = A.asked in omega arith);
-          turn_word = P.turn_word;
-        };
-      })
+      moved_on D c spare m m g g p q actors seat (actor.Checkpointer t) (actor.Checkpointer (checkpointer_took t (cond b (answer.Called 0) (answer.Failed code)) checkpointer_step.Checkpoint)) before at before.sized
+      (facts_same D c m g p (part_kept D c m g p P A.holds A.written A.stable (let z = P.written_given in omega arith) (let z = P.given_wtail in omega arith) (let z = P.ckpt_part in omega arith) (let z = A.asked in omega arith) (let z = A.asked in omega arith)) G)
       (fit b b_is)
       (λ j x n e. others_pointer D c m m g g p q seat his.alone G
-      (record { write = omega arith; wtail = omega arith; ckpt = omega arith; flushed = omega arith; failed = λ z. z; logs = λ i y z. z; places = λ y _ _. refl; states = λ y _ _. refl; linked = λ _ _ two. two; firsts = λ y z. z; seats = λ y. refl; counts = λ y _. refl; answers = λ y _. refl })
-      (record { writer = refl; gwrite = refl; gwtail = refl; tail = refl; read = refl; entered = refl; write = refl; ckpt = omega arith; failed = λ z. z; link = λ _. refl; bytes = λ y _ _. refl; firsts = λ y _. refl; written = w1 })
+      (later_marks D c m g p (omega arith) (omega arith) (omega arith) (omega arith) (λ z. z))
+      (still_same D c m g p (omega arith) (λ z. z) A.written)
       (omega arith) j x n (λ h. absurd (n ((before.turns j x e h).1 ∙ sym (before.turns seat (actor.Checkpointer t) at held).1))) (before.each j x e))
-      (λ e. before.turns seat (actor.Checkpointer t) at held)
-      (λ j x n e h. before.turns j x e h)
-      (counted_same actors g.log seat (actor.Checkpointer t) (actor.Checkpointer (checkpointer_took t (cond b (answer.Called 0) (answer.Failed code)) checkpointer_step.Checkpoint)) at refl before.counted)
-      (budget_same actors seat spare m.sn (actor.Checkpointer t) (actor.Checkpointer (checkpointer_took t (cond b (answer.Called 0) (answer.Failed code)) checkpointer_step.Checkpoint)) at (omega arith) before.room)
-      (λ d. taken_same actors seat (actor.Checkpointer t) (actor.Checkpointer (checkpointer_took t (cond b (answer.Called 0) (answer.Failed code)) checkpointer_step.Checkpoint)) g.holder at (λ e. keep b) (before.taken d))
+      refl refl refl refl (keep b ∙ sym held) refl (omega arith)

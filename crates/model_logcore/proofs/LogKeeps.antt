@@ -15,11 +15,14 @@ use Rattle.model_core.specs.declared.steps.UserStep.{UserStep}
 use Rattle.model_core.specs.declared.steps.CheckpointerStep.{CheckpointerStep}
 use Rattle.model_core.specs.declared.steps.WriterStep.{WriterStep}
 use Rattle.model_core.specs.declared.steps.FlusherStep.{FlusherStep}
-use Rattle.model_logcore.proofs.LogAside.{leaves_sized, links_sized, lists_sized, page_aside, points_by, words_sized}
-use Rattle.model_logcore.proofs.DeviceSteps.{can_write, gives, keeps_fault, keeps_flushed, keeps_watch, stays, flusher_checked, syncs_by, takes, writes_by}
+use Rattle.model_logcore.proofs.LogAside.{page_aside, points_by}
+use Rattle.model_logcore.proofs.DeviceSteps.{can_write, gives, stays, takes, writes_by}
+use Rattle.model_logcore.proofs.FlusherSteps.{flusher_checked, keeps_fault, keeps_flushed, keeps_watch, syncs_by}
+use Rattle.model_logcore.proofs.Same.{clinks_sized, lists_sized, numbers_sized, page_sized}
 use Rattle.model_logcore.proofs.UserSteps.{user_give, user_keeps, user_list, user_checked}
-use Rattle.model_logcore.proofs.WriterCells.{keeps_load_first, keeps_store_failed, keeps_load_checkpoint, keeps_store_write, keeps_store_wtail, keeps_load_cell, keeps_clear_first, writer_checked}
+use Rattle.model_logcore.proofs.WriterCells.{keeps_clear_first, keeps_load_cell, keeps_load_checkpoint, keeps_load_first, writer_checked}
 use Rattle.model_logcore.proofs.WriterSteps.{keeps_clear_link, keeps_load_link, staged}
+use Rattle.model_logcore.proofs.WriterStores.{keeps_store_failed, keeps_store_write, keeps_store_wtail}
 use Rattle.model_logcore.specs.LogFacts.{LogGhost}
 use Rattle.model_logcore.specs.LogFits.{CleanerTold, CheckpointerAt, CheckpointerFits, WriterAt, WriterFits, FlusherAt, FlusherFits, UserAt}
 use Rattle.model_logcore.specs.LogHalf.{LogHalf}
@@ -185,8 +188,8 @@ module _ (D : LogSide) (L : LogLaws D) (c : Setup) (spare : ℕ) (m : SharedWord
         by : (b : Bool) → (h : LogGhost) × LogHalf D c spare m h q (set actors seat (actor.Closer (cond b (record t { checks = true; step = closer_step.LoadClosedLink }) (record t { link = slice_index m.clinks (t.tail % 16384); step = closer_step.ClearClosedLink })))) × (◌≡◌ {A = List Entry} (h.log) g.log)
         by true = closer_keeps m.clinks m.ctail (record t { checks = true; step = closer_step.LoadClosedLink }) before.sized (λ z. absurd (cc)) v
         by false = closer_keeps m.clinks m.ctail (record t { link = slice_index m.clinks (t.tail % 16384); step = closer_step.ClearClosedLink }) before.sized (λ z. absurd (cc)) v
-    closer_own closer_step.ClearClosedLink is v = closer_keeps (slice_set m.clinks (t.tail % 16384) 0) m.ctail (record t { tail = t.tail + t.link; step = closer_step.StoreCtail }) (links_sized D c spare m g p actors seat (actor.Closer t) before at (t.tail % 16384) 0) (λ z. absurd (cc)) v
-    closer_own closer_step.StoreCtail is v = closer_keeps m.clinks t.tail (record t { step = closer_step.LoadClosedLink }) (words_sized D c spare m g p actors seat (actor.Closer t) before at t.tail m.ckpt m.failed) (λ z. absurd (cc)) v
+    closer_own closer_step.ClearClosedLink is v = closer_keeps (slice_set m.clinks (t.tail % 16384) 0) m.ctail (record t { tail = t.tail + t.link; step = closer_step.StoreCtail }) (clinks_sized (t.tail % 16384) 0 before.sized) (λ z. absurd (cc)) v
+    closer_own closer_step.StoreCtail is v = closer_keeps m.clinks t.tail (record t { step = closer_step.LoadClosedLink }) (numbers_sized before.sized) (λ z. absurd (cc)) v
     closer_own closer_step.Failed is v = rested (actor.Closer t) at v
 
     closer_any : (b : Bool) → LogServed D p Nothing (cond b (op.Load word.Failed) (closer_op t t.step)) code q → KeptSo (cond b (op.Load word.Failed) (closer_op t t.step)) (λ r. cond b (checked (actor.Closer t) (old_of r)) (own_took (actor.Closer t) r))
@@ -212,7 +215,7 @@ module _ (D : LogSide) (L : LogLaws D) (c : Setup) (spare : ℕ) (m : SharedWord
     plain y a b v = cleaner_keeps m.lists m.page_words m.failed y before.sized (λ z. z) (λ z. absurd (a z)) (λ z. absurd (b z)) v
 
     leafy : (k : ℕ) (w : PageWords) → length w.frame ≡ length (page_words_at m.page_words k).frame → (y : CleanerState) → (y.step ≡ cleaner_step.Failed → ⊥) → (y.step ≡ cleaner_step.StoreFailed → ⊥) → ◌≡◌ {A = D.Part} q p → CleanerDone (with_page_words m k w) y
-    leafy k w e y a b v = cleaner_keeps m.lists (slice_set m.page_words k w) m.failed y (leaves_sized D c spare m g p actors seat (actor.Cleaner x) before at k w e) (λ z. z) (λ z. absurd (a z)) (λ z. absurd (b z)) v
+    leafy k w e y a b v = cleaner_keeps m.lists (slice_set m.page_words k w) m.failed y (page_sized k w e before.sized) (λ z. z) (λ z. absurd (a z)) (λ z. absurd (b z)) v
 
     -- it goes on: neither dead nor failing
     next_in_round_on : (y : CleanerState) → ((next_in_round y).step ≡ cleaner_step.Failed → ⊥) × ((next_in_round y).step ≡ cleaner_step.StoreFailed → ⊥)
@@ -256,16 +259,16 @@ module _ (D : LogSide) (L : LogLaws D) (c : Setup) (spare : ℕ) (m : SharedWord
     cleaner_own cleaner_step.RemoveFromList is v = by (eqb (slice_index m.lists (first_of_batch x % 4)) 0)
       where
         by : (b : Bool) → CleanerDone (cond b (record m { lists = slice_set m.lists (first_of_batch x % 4) 1 }) m) (cleaner_took x (cond b (answer.Taken None) answer.Held) cleaner_step.RemoveFromList)
-        by true = cleaner_keeps (slice_set m.lists (first_of_batch x % 4) 1) m.page_words m.failed (record x { step = cleaner_step.ClearOldest }) (lists_sized D c spare m g p actors seat (actor.Cleaner x) before at (first_of_batch x % 4) 1) (λ z. z) (λ z. absurd (cc)) (λ z. absurd (cc)) v
+        by true = cleaner_keeps (slice_set m.lists (first_of_batch x % 4) 1) m.page_words m.failed (record x { step = cleaner_step.ClearOldest }) (lists_sized (first_of_batch x % 4) 1 before.sized) (λ z. z) (λ z. absurd (cc)) (λ z. absurd (cc)) v
         by false = plain (record x { checks = true; step = cleaner_step.RemoveFromList }) (λ z. absurd (cc)) (λ z. absurd (cc)) v
     cleaner_own cleaner_step.ClearOldest is v = leafy (first_of_batch x) (record (page_words_at m.page_words (first_of_batch x)) { oldest = 0 }) refl (record x { step = cleaner_step.GiveList }) (λ z. absurd (cc)) (λ z. absurd (cc)) v
-    cleaner_own cleaner_step.GiveList is v = cleaner_keeps (slice_set m.lists (first_of_batch x % 4) 0) m.page_words m.failed (record x { step = cleaner_step.ReleaseLatch }) (lists_sized D c spare m g p actors seat (actor.Cleaner x) before at (first_of_batch x % 4) 0) (λ z. z) (λ z. absurd (cc)) (λ z. absurd (cc)) v
+    cleaner_own cleaner_step.GiveList is v = cleaner_keeps (slice_set m.lists (first_of_batch x % 4) 0) m.page_words m.failed (record x { step = cleaner_step.ReleaseLatch }) (lists_sized (first_of_batch x % 4) 0 before.sized) (λ z. z) (λ z. absurd (cc)) (λ z. absurd (cc)) v
     cleaner_own cleaner_step.ReleaseLatch is v = by (eqb (length x.batch) 1)
       where
         by : (b : Bool) → CleanerDone (with_page_words m (first_of_batch x) (record (page_words_at m.page_words (first_of_batch x)) { latch = 0 })) (record x { batch = drop 1 x.batch; step = cond b cleaner_step.LoadFlushed cleaner_step.RemoveFromList })
         by true = leafy (first_of_batch x) (record (page_words_at m.page_words (first_of_batch x)) { latch = 0 }) refl (record x { batch = drop 1 x.batch; step = cleaner_step.LoadFlushed }) (λ z. absurd (cc)) (λ z. absurd (cc)) v
         by false = leafy (first_of_batch x) (record (page_words_at m.page_words (first_of_batch x)) { latch = 0 }) refl (record x { batch = drop 1 x.batch; step = cleaner_step.RemoveFromList }) (λ z. absurd (cc)) (λ z. absurd (cc)) v
-    cleaner_own cleaner_step.StoreFailed is v = let pos = told_fits.1 is in cleaner_keeps m.lists m.page_words x.code (record x { step = cleaner_step.Failed }) (words_sized D c spare m g p actors seat (actor.Cleaner x) before at m.ctail m.ckpt x.code) (λ _. pos) (λ _. pos) (λ z. absurd (cc)) v
+    cleaner_own cleaner_step.StoreFailed is v = let pos = told_fits.1 is in cleaner_keeps m.lists m.page_words x.code (record x { step = cleaner_step.Failed }) (numbers_sized before.sized) (λ _. pos) (λ _. pos) (λ z. absurd (cc)) v
     cleaner_own cleaner_step.Failed is v = rested (actor.Cleaner x) at v
 
     cleaner_any : (b : Bool) → LogServed D p (Batch x.batch) (cond b (op.Load word.Failed) (cleaner_op x x.step)) code q → KeptSo (cond b (op.Load word.Failed) (cleaner_op x x.step)) (λ r. cond b (checked (actor.Cleaner x) (old_of r)) (own_took (actor.Cleaner x) r))
@@ -291,7 +294,7 @@ module _ (D : LogSide) (L : LogLaws D) (c : Setup) (spare : ℕ) (m : SharedWord
     easy y f keep v = checkpointer_keeps m.lists m.ckpt m.failed y before.sized (omega arith) before.global.part.ckpt_part (λ z. z) f keep v
 
     with_list : (i n : ℕ) (y : CheckpointerState) → CheckpointerFits D c m g p seat y → checkpointer_holds y.step ≡ checkpointer_holds t.step → ◌≡◌ {A = D.Part} q p → CheckpointerDone (record m { lists = slice_set m.lists i n }) y
-    with_list i n y f keep v = checkpointer_keeps (slice_set m.lists i n) m.ckpt m.failed y (lists_sized D c spare m g p actors seat (actor.Checkpointer t) before at i n) (omega arith) before.global.part.ckpt_part (λ z. z) (record { alone = f.alone; no_device_while_checking = f.no_device_while_checking; step = f.step }) keep v
+    with_list i n y f keep v = checkpointer_keeps (slice_set m.lists i n) m.ckpt m.failed y (lists_sized i n before.sized) (omega arith) before.global.part.ckpt_part (λ z. z) (record { alone = f.alone; no_device_while_checking = f.no_device_while_checking; step = f.step }) keep v
 
     gives_back : (y : CheckpointerState) → checkpointer_holds t.step ≡ true → checkpointer_holds y.step ≡ false → CheckpointerFits D c m g p seat y → ◌≡◌ {A = D.Part} q p → CheckpointerDone (record m { device = 0 }) y
     gives_back y had free f v = same _ _ v (gives D c spare m g p actors seat (actor.Checkpointer t) before at (actor.Checkpointer y) had free f refl (omega arith))
@@ -321,10 +324,10 @@ module _ (D : LogSide) (L : LogLaws D) (c : Setup) (spare : ℕ) (m : SharedWord
         by false d e f = easy (record t { checks = true; step = checkpointer_step.TakeDevice }) (record { alone = its.alone; no_device_while_checking = λ _. refl; step = h }) (sym (ap checkpointer_holds is)) v
     checkpointer_own checkpointer_step.GiveBroken is h v = gives_back (record t { checks = true; step = checkpointer_step.TakeDevice }) (ap checkpointer_holds is) refl (record { alone = its.alone; no_device_while_checking = λ _. refl; step = h }) v
     checkpointer_own checkpointer_step.Checkpoint is h v = let k = can t at is in (g, points_by D c spare m g p actors seat t before at q code (eqb code 0) refl is h.0 k.more k.below (L.checkpoints c.blocks c.base g.log t.to code p q before.global.part.holds k v), refl)
-    checkpointer_own checkpointer_step.StoreCheckpoint is h v = let low = before.global.part.ckpt_part in checkpointer_keeps m.lists t.to m.failed (record t { own = t.to; step = checkpointer_step.GiveDevice }) (words_sized D c spare m g p actors seat (actor.Checkpointer t) before at m.ctail t.to m.failed) (omega arith) (omega arith) (λ z. z)
+    checkpointer_own checkpointer_step.StoreCheckpoint is h v = let low = before.global.part.ckpt_part in checkpointer_keeps m.lists t.to m.failed (record t { own = t.to; step = checkpointer_step.GiveDevice }) (numbers_sized before.sized) (omega arith) (omega arith) (λ z. z)
         (record { alone = its.alone; no_device_while_checking = λ z. let y = its.no_device_while_checking z in let x : true ≡ false = sym (ap checkpointer_holds is) ∙ y in absurd (cc); step = h }) (sym (ap checkpointer_holds is)) v
     checkpointer_own checkpointer_step.GiveDevice is h v = gives_back (record t { step = checkpointer_step.LoadCtail }) (ap checkpointer_holds is) refl (record { alone = its.alone; no_device_while_checking = λ _. refl; step = h }) v
-    checkpointer_own checkpointer_step.StoreFailed is h v = checkpointer_keeps m.lists m.ckpt t.code (record t { step = checkpointer_step.GiveFailed }) (words_sized D c spare m g p actors seat (actor.Checkpointer t) before at m.ctail m.ckpt t.code) (omega arith) before.global.part.ckpt_part (λ _. h.0)
+    checkpointer_own checkpointer_step.StoreFailed is h v = checkpointer_keeps m.lists m.ckpt t.code (record t { step = checkpointer_step.GiveFailed }) (numbers_sized before.sized) (omega arith) before.global.part.ckpt_part (λ _. h.0)
         (record { alone = its.alone; no_device_while_checking = λ z. let y = its.no_device_while_checking z in let x : true ≡ false = sym (ap checkpointer_holds is) ∙ y in absurd (cc); step = h.0 }) (sym (ap checkpointer_holds is)) v
     checkpointer_own checkpointer_step.GiveFailed is h v = gives_back (record t { step = checkpointer_step.Failed }) (ap checkpointer_holds is) refl (record { alone = its.alone; no_device_while_checking = λ _. refl; step = h }) v
     checkpointer_own checkpointer_step.Failed is h v = rested (actor.Checkpointer t) at v

@@ -1,11 +1,10 @@
 -- A user stores a cell, and the first offset of the block in which its group ends.
-use Rattle.std.proofs.Common.{Bool, List, ap, arith, cond, eqb, eqb-true, false, get_or-set_other, get_or-set_same, length, length-set, ltb, ltb-false, ltb-true, refl, set, subst, sym, true, ℕ, ◌%◌, ◌*◌, ◌+◌, ◌/◌, ◌<◌, ◌∙◌, ◌≡◌, ◌≢◌, ◌≤◌}
+use Rattle.std.proofs.Common.{Bool, List, ap, arith, cond, eqb, eqb-true, false, get_or-set_other, get_or-set_same, length, ltb, ltb-false, ltb-true, refl, set, subst, sym, true, ℕ, ◌%◌, ◌*◌, ◌+◌, ◌/◌, ◌<◌, ◌∙◌, ◌≡◌, ◌≢◌, ◌≤◌}
 use Rattle.std.proofs.lemmas.Bool.{eqb-false}
 use Rattle.std.specs.Prelude.{slice_index, slice_set}
 use lib.ListN.{get_elem?}
 use mathlib.Core.Option.{some}
 use native.Mathlib.Decide.{dec_le, ℕ_discrete}
-use Rattle.model_base.specs.declared.limits.TheConstants.{LSN_LIMIT}
 use Rattle.model_core.proofs.Groups.{changed, changed_else, changed_here, entry_byte, is_crosses, tiles_at}
 use Rattle.model_core.proofs.Lsns.{block_below, block_window, cell_same, lsn_block, lsn_less, lsn_offset, ring_same}
 use Rattle.model_core.specs.{Actor, byte_at, end_of, entries, Entry, entry, first_of, floor, group_bytes, group_end, IsSized, line, LoadedMarks, lsn, SharedWords, user_took, UserState}
@@ -13,10 +12,11 @@ use Rattle.model_core.specs.LogSide.{LogSide}
 use Rattle.model_core.specs.Setup.{Setup}
 use Rattle.model_core.specs.declared.steps.UserStep.{UserStep}
 use Rattle.model_logcore.proofs.UserGroups.{first_is}
-use Rattle.model_logcore.proofs.Frame.{Later, Still, budget_same, counted_same, moved, others_later, taken_same}
-use Rattle.model_logcore.specs.LogFacts.{WrittenLinks, LogGhost, LogFacts, FirstOffsets, InHand, count_of, sum_over_actors, Commits}
+use Rattle.model_logcore.proofs.Frame.{Later, Still, others_later, moved_on}
+use Rattle.model_logcore.proofs.Same.{cells_sized, firsts_sized, stored_here, stored_else}
+use Rattle.model_logcore.specs.LogFacts.{WrittenLinks, LogGhost, LogFacts, FirstOffsets, InHand, count_of, Commits}
 use Rattle.model_logcore.specs.LogFits.{AreBelow, Hand, UserAt, UserFits}
-use Rattle.model_logcore.specs.LogHalf.{Counted, LogHalf, HasTaker, left_to_reserve}
+use Rattle.model_logcore.specs.LogHalf.{LogHalf, left_to_reserve}
 use Rattle.model_core.specs.declared.steps.UserStep.TheVariants as user_step
 use Rattle.model_core.specs.Actors as actor
 
@@ -61,13 +61,9 @@ module _ (D : LogSide) (c : Setup) (spare : ℕ) (m : SharedWords) (g : LogGhost
       → m'.flushed ≡ m.flushed → m'.device ≡ m.device → g'.holder ≡ g.holder → g'.log ≡ g.log → m'.sn ≡ m.sn
       → ◌≡◌ {A = List Entry} (entries (actor.User w)) (entries (actor.User u)) → left_to_reserve (actor.User w) ≤ left_to_reserve (actor.User u)
       → LogHalf D c spare m' g' p (set actors seat (actor.User w))
-  steps m' g' w sized global f later still flushed device holder log sn same le = moved D c spare m m' g g' p p actors seat (actor.User w) before sized global f
+  steps m' g' w sized global f later still flushed device holder log sn same le = moved_on D c spare m m' g g' p p actors seat (actor.User u) (actor.User w) before at sized global f
       (λ j a n e. others_later D c m m' g g' p p seat before.global later still (record { flushed = omega arith; failed = later.failed; point = refl }) j a n (λ h. refl) (before.each j a e))
-      (λ e. absurd (cc))
-      (λ j a n e h. let t = before.turns j a e h in (device ∙ t.0, t.1 ∙ sym holder))
-      (subst (λ (l : List Entry). Counted (set actors seat (actor.User w)) l) (sym log) (counted_same actors g.log seat (actor.User u) (actor.User w) at same before.counted))
-      (subst (λ (n : ℕ). lsn (n + sum_over_actors left_to_reserve (set actors seat (actor.User w)) + spare) < LSN_LIMIT) (sym sn) (budget_same actors seat spare m.sn (actor.User u) (actor.User w) at le before.room))
-      (λ d. subst (λ (k : ℕ). HasTaker (set actors seat (actor.User w)) k) (sym holder) (taken_same actors seat (actor.User u) (actor.User w) g.holder at (λ e. absurd (cc)) (before.taken (sym device ∙ d))))
+      device holder log sn refl same le
 
   -- where the group in hand lies
   pub hand_lies : (h : Hand D c m g p seat u) → (c.base ≤ u.start) × (group_end u ≤ m.sn) × (0 < length (group_bytes u)) × (length (group_bytes u) ≤ 8192)
@@ -144,7 +140,7 @@ module _ (D : LogSide) (c : Setup) (spare : ℕ) (m : SharedWords) (g : LogGhost
       } in (
         g',
         steps m' g' (user_took u 0 user_step.StoreCell)
-            (record { lists = before.sized.lists; wlinks = before.sized.wlinks; clinks = before.sized.clinks; cells = length-set m.cells (lsn k % 65536) ch ∙ before.sized.cells; firsts = before.sized.firsts; page_words = before.sized.page_words; frames = before.sized.frames })
+            (cells_sized (lsn k % 65536) ch before.sized)
             (record {
               tiled = G.tiled;
               order = G.order;
@@ -221,15 +217,15 @@ module _ (D : LogSide) (c : Setup) (spare : ℕ) (m : SharedWords) (g : LogGhost
           let slot : i < length m.firsts = omega (arith, before.sized.firsts) in (
             g',
             steps m' g' (user_took u 0 user_step.StoreFirst)
-                (record { lists = before.sized.lists; wlinks = before.sized.wlinks; clinks = before.sized.clinks; cells = before.sized.cells; firsts = length-set m.firsts i v ∙ before.sized.firsts; page_words = before.sized.page_words; frames = before.sized.frames })
+                (firsts_sized i v before.sized)
                 (record {
                   tiled = G.tiled;
                   order = O;
                   ring_cells = G.ring_cells;
                   first_offsets = record {
                     slots_are = λ x l r. elim (ℕ_discrete (x % 128) i) [
-                      | yes e ↦ (let same : x ≡ q = ring_same x q g.entered 128 l from r to (e ∙ i_is) in value_here (x % 128) i v e slot ∙ sym (here x same))
-                      | no n ↦ value_else (x % 128) i v n ∙ H.slots_are x l r ∙ sym (else x (λ e. n (ap (λ (k : ℕ). k % 128) e ∙ sym i_is)))
+                      | yes e ↦ (let same : x ≡ q = ring_same x q g.entered 128 l from r to (e ∙ i_is) in stored_here m.firsts i v (x % 128) e slot ∙ sym (here x same))
+                      | no n ↦ stored_else m.firsts i v (x % 128) n ∙ H.slots_are x l r ∙ sym (else x (λ e. n (ap (λ (k : ℕ). k % 128) e ∙ sym i_is)))
                     ];
                     near = λ x s. elim (ℕ_discrete x q) [
                       | yes e ↦ subst (λ (k : ℕ). k * 512 < floor m.write + 65536) (sym e) near
@@ -266,9 +262,3 @@ module _ (D : LogSide) (c : Setup) (spare : ℕ) (m : SharedWords) (g : LogGhost
                 refl refl refl refl refl refl (omega arith),
             refl,
           )
-        where
-          value_here : (j i v : ℕ) → j ≡ i → i < length m.firsts → slice_index (slice_set m.firsts i v) j ≡ v
-          value_here j i v e l = subst (λ (y : ℕ). slice_index (slice_set m.firsts i v) y ≡ v) (sym e) (get_or-set_same m.firsts i v 0 l)
-
-          value_else : (j i v : ℕ) → j ≢ i → slice_index (slice_set m.firsts i v) j ≡ slice_index m.firsts j
-          value_else j i v n = rw get_or-set_other refl

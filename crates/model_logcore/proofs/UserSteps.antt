@@ -1,21 +1,23 @@
 -- A user's loads keep the invariant; and so each of its steps.
-use Rattle.std.proofs.Common.{Bool, List, ap, arith, cond, eq-eqb, eqb, eqb-true, false, get_or-set_other, get_or-set_same, leb-true, length, length-set, ltb, ltb-true, ne_eqb, refl, set, subst, sym, true, ℕ, ◌%◌, ◌*◌, ◌+◌, ◌-◌, ◌∙◌, ◌≡◌, ◌≢◌, ◌≤◌, inl, inr}
+use Rattle.std.proofs.Common.{Bool, List, ap, arith, cond, eq-eqb, eqb, eqb-true, false, leb-true, length, length-set, ltb, ltb-true, ne_eqb, refl, set, true, ℕ, ◌%◌, ◌*◌, ◌+◌, ◌-◌, ◌∙◌, ◌≡◌, ◌≤◌, inl, inr}
 use Rattle.std.proofs.lemmas.Bool.{eqb-false}
 use Rattle.std.specs.Prelude.{nat_le, slice_set}
 use lib.ListN.{get_elem?}
 use mathlib.Core.Option.{some}
-use native.Mathlib.Decide.{ℕ_discrete}
 use Rattle.model_core.proofs.Groups.{changed, changed_else, changed_here}
-use Rattle.model_core.specs.{Actor, after, answered, blank_words, cells_of, change_at, changes, entries, Entry, floor, found, group_end, IsSized, LoadedMarks, lsn, mode, OnWord, page_of, page_words_at, PageWords, phase_log, put_of, SharedWords, to_next_page, user_op, user_took, UserState, with_mark, with_page_words}
+use Rattle.model_core.specs.{Actor, after, answered, cells_of, change_at, changes, entries, Entry, floor, found, group_end, IsSized, LoadedMarks, lsn, mode, OnWord, page_of, page_words_at, PageWords, phase_log, put_of, SharedWords, to_next_page, user_op, user_took, UserState, with_mark, with_page_words}
 use Rattle.model_core.specs.LogSide.{LogSide}
 use Rattle.model_core.specs.Setup.{Setup}
 use Rattle.model_core.specs.declared.ops.Op.{Op}
 use Rattle.model_core.specs.declared.steps.UserStep.{UserStep}
 use Rattle.model_logcore.proofs.Frame.{Later}
 use Rattle.model_logcore.proofs.GroupEnds.{hand_end_near}
-use Rattle.model_logcore.proofs.LinkSteps.{answer_global, answered_fits, keeps_reserve, keeps_store_link}
+use Rattle.model_logcore.proofs.AnswerSteps.{answer_global, answered_fits}
+use Rattle.model_logcore.proofs.LinkSteps.{keeps_store_link}
+use Rattle.model_logcore.proofs.ReserveSteps.{keeps_reserve}
 use Rattle.model_logcore.proofs.RingSteps.{keeps_store_cell, keeps_store_first, refit, shifted, steps, still_words}
-use Rattle.model_logcore.specs.LogFacts.{LogGhost, LogFacts, Place, count_of}
+use Rattle.model_logcore.proofs.Same.{clinks_sized, facts_same, later_marks, lists_sized, page_sized}
+use Rattle.model_logcore.specs.LogFacts.{LogGhost, LogFacts}
 use Rattle.model_logcore.specs.LogFits.{AreBelow, HasStoppedAt, UserAt, UserFits}
 use Rattle.model_logcore.specs.LogHalf.{LogHalf, left_to_reserve}
 use Rattle.model_logcore.specs.LogLaws.{LogLaws}
@@ -28,28 +30,14 @@ module _ (D : LogSide) (L : LogLaws D) (c : Setup) (spare : ℕ) (m : SharedWord
   mine : UserFits D c m g p seat u
   mine = before.each seat (actor.User u) at
 
-  later_same : (g' : LogGhost) → g'.log ≡ g.log → ((x : ℕ) → ◌≡◌ {A = Place} (g'.place x) (g.place x)) → ((x : ℕ) → g'.state x ≡ g.state x) → ((x : ℕ) → g'.first x ≡ g.first x) → ((x : ℕ) → g'.seat_of x ≡ g.seat_of x) → ((x : ℕ) → g.seat_of x ≢ seat → g'.answered x ≡ g.answered x)
-      → Later D c m g m g' seat
-  later_same g' lo pl st fi se an = record {
-    write = omega arith;
-    wtail = omega arith;
-    ckpt = omega arith;
-    flushed = omega arith;
-    failed = λ z. z;
-    logs = λ j e z. ap (λ (l : List Entry). get_elem? l j) lo ∙ z;
-    places = λ x l o. pl x;
-    states = λ x l o. st x;
-    linked = λ x l two. st x ∙ two;
-    firsts = λ q z. let y = fi q in omega arith;
-    seats = se;
-    counts = λ x n. ap (count_of x) lo;
-    answers = an;
-  }
+  -- one more of its commits is answered, and words of the pages change
+  later_answered : {page_words : List PageWords} → Later D c m g (record m { page_words = page_words }) (record g { answered = changed g.answered u.user (u.k + 1) }) seat
+  later_answered = record { write = omega arith; wtail = omega arith; ckpt = omega arith; flushed = omega arith; failed = λ z. z; logs = λ _ _ z. z; places = λ _ _ _. refl; states = λ _ _ _. refl; linked = λ _ _ two. two; firsts = λ _ z. z; seats = λ _. refl; counts = λ _ _. refl; answers = λ x n. changed_else g.answered u.user (u.k + 1) x (λ e. n (ap g.seat_of e ∙ mine.own_seat)) }
 
   -- nothing but the user's own state changes
   quiet : (w : UserState) → UserFits D c m g p seat w → ◌≡◌ {A = List Entry} (entries (actor.User w)) (entries (actor.User u)) → left_to_reserve (actor.User w) ≤ left_to_reserve (actor.User u) → LogHalf D c spare m g p (set actors seat (actor.User w))
   quiet w f same le = steps D c spare m g p actors seat u before at m g w before.sized before.global f
-      (later_same g refl (λ x. refl) (λ x. refl) (λ x. refl) (λ x. refl) (λ x n. refl))
+      (later_marks D c m g p (omega arith) (omega arith) (omega arith) (omega arith) (λ z. z))
       (still_words D c spare m g p actors seat u before at m g refl refl refl refl refl refl refl refl refl refl (λ z. refl))
       refl refl refl refl refl same le
 
@@ -98,7 +86,7 @@ module _ (D : LogSide) (L : LogLaws D) (c : Setup) (spare : ℕ) (m : SharedWord
         steps D c spare m g p actors seat u before at m g' (answered (record u { loaded = with_mark u n })) before.sized
             (answer_global D L c spare m g p actors seat u before at m g h.2.0 h.2.1 mine.answers (λ z. let y = fl z in omega arith) (λ z. let y = wr z in omega arith) h.2.2 before.global)
             (answered_fits D L c spare m g p actors seat u before at (with_mark u n) m g' refl refl (changed_here g.answered u.user (u.k + 1) u.user refl) lo h.0 h.1)
-            (later_same g' refl (λ x. refl) (λ x. refl) (λ x. refl) (λ x. refl) (λ x n. changed_else g.answered u.user (u.k + 1) x (λ e. n (ap g.seat_of e ∙ mine.own_seat))))
+            later_answered
             (still_words D c spare m g p actors seat u before at m g' refl refl refl refl refl refl refl refl refl refl (λ z. refl))
             refl refl refl refl refl refl (omega arith),
         refl,
@@ -149,25 +137,11 @@ module _ (D : LogSide) (L : LogLaws D) (c : Setup) (spare : ℕ) (m : SharedWord
   aside lists clinks page_words ctail w sized f same le =
       let m' : SharedWords = record m { lists = lists; clinks = clinks; page_words = page_words; ctail = ctail } in
       steps D c spare m g p actors seat u before at m' g w sized
-      (let G = before.global in record { tiled = G.tiled; order = G.order; ring_cells = G.ring_cells; first_offsets = G.first_offsets; written_links = G.written_links; commits = G.commits; part = G.part })
+      (facts_same D c m g p before.global.part before.global)
       (record { own_seat = f.own_seat; blocks = f.blocks; lines = f.lines; sound = f.sound; are_bytes = f.are_bytes; counted = f.counted; answers = f.answers; loaded = f.loaded; step = f.step })
-      (record { write = omega arith; wtail = omega arith; ckpt = omega arith; flushed = omega arith; failed = λ z. z; logs = λ j e z. z; places = λ x l o. refl; states = λ x l o. refl; linked = λ _ _ two. two; firsts = λ q z. z; seats = λ x. refl; counts = λ x n. refl; answers = λ x n. refl })
+      (later_marks D c m g p (omega arith) (omega arith) (omega arith) (omega arith) (λ z. z))
       (still_words D c spare m g p actors seat u before at m' g refl refl refl refl refl refl refl refl refl refl (λ z. refl))
       refl refl refl refl refl same le
-
-  leaves_sized : (p : ℕ) (w : PageWords) → length w.frame ≡ length (page_words_at m.page_words p).frame → IsSized c.pages (with_page_words m p w)
-  leaves_sized p w e = record {
-    lists = before.sized.lists;
-    wlinks = before.sized.wlinks;
-    clinks = before.sized.clinks;
-    cells = before.sized.cells;
-    firsts = before.sized.firsts;
-    page_words = length-set m.page_words p w ∙ before.sized.page_words;
-    frames = λ q l. elim (ℕ_discrete q p) [
-      | yes z ↦ subst (λ (r : ℕ). length (page_words_at (set m.page_words p w) r).frame ≡ 4096) (sym z) (ap (λ (x : PageWords). length x.frame) (get_or-set_same m.page_words p w blank_words (let k = before.sized.page_words in omega arith)) ∙ e ∙ ap (λ (r : ℕ). length (page_words_at m.page_words r).frame) (sym z) ∙ before.sized.frames q l)
-      | no n ↦ ap (λ (x : PageWords). length x.frame) (get_or-set_other m.page_words p q w blank_words n) ∙ before.sized.frames q l
-    ];
-  }
 
   moves : (lists clinks : List ℕ) (page_words : List PageWords) (ctail : ℕ) → IsSized c.pages (record m { lists = lists; clinks = clinks; page_words = page_words; ctail = ctail }) → (page cell : ℕ) (checks : Bool) (ph : UserStep)
       → UserAt D c m g p seat (shifted D c spare m g p actors seat u before at page cell u.copied u.loaded u.code checks ph) ph
@@ -182,8 +156,8 @@ module _ (D : LogSide) (L : LogLaws D) (c : Setup) (spare : ℕ) (m : SharedWord
 
   latch_by : (b d : Bool) → UserAt D c m g p seat u user_step.TakeLatch
       → LogHalf D c spare (cond b (with_page_words m (page_of u) (record (page_words_at m.page_words (page_of u)) { latch = 1 })) m) g p (set actors seat (actor.User (cond b (record u { page = u.page + 1; step = cond d user_step.Reserve user_step.TakeLatch }) (record u { checks = true; step = user_step.TakeLatch }))))
-  latch_by true true h = moves m.lists m.clinks (slice_set m.page_words (page_of u) (record (page_words_at m.page_words (page_of u)) { latch = 1 })) m.ctail (leaves_sized (page_of u) (record (page_words_at m.page_words (page_of u)) { latch = 1 }) refl) (u.page + 1) u.cell u.checks user_step.Reserve h
-  latch_by true false h = moves m.lists m.clinks (slice_set m.page_words (page_of u) (record (page_words_at m.page_words (page_of u)) { latch = 1 })) m.ctail (leaves_sized (page_of u) (record (page_words_at m.page_words (page_of u)) { latch = 1 }) refl) (u.page + 1) u.cell u.checks user_step.TakeLatch h
+  latch_by true true h = moves m.lists m.clinks (slice_set m.page_words (page_of u) (record (page_words_at m.page_words (page_of u)) { latch = 1 })) m.ctail (page_sized (page_of u) (record (page_words_at m.page_words (page_of u)) { latch = 1 }) refl before.sized) (u.page + 1) u.cell u.checks user_step.Reserve h
+  latch_by true false h = moves m.lists m.clinks (slice_set m.page_words (page_of u) (record (page_words_at m.page_words (page_of u)) { latch = 1 })) m.ctail (page_sized (page_of u) (record (page_words_at m.page_words (page_of u)) { latch = 1 }) refl before.sized) (u.page + 1) u.cell u.checks user_step.TakeLatch h
   latch_by false d h = shift u.page u.cell u.copied u.loaded u.code true user_step.TakeLatch mine.loaded h
 
   tail_by : (b d : Bool) → UserAt D c m g p seat u user_step.LoadCtail → Now (cond b (record u { loaded = record u.loaded { ctail = m.ctail }; step = cond d user_step.StoreNewest user_step.StoreFrame }) (record u { loaded = record u.loaded { ctail = m.ctail }; checks = true; step = user_step.LoadCtail }))
@@ -208,31 +182,25 @@ module _ (D : LogSide) (L : LogLaws D) (c : Setup) (spare : ℕ) (m : SharedWord
       let m' : SharedWords = record m { page_words = page_words } in
       let g' : LogGhost = record g { answered = changed g.answered u.user (u.k + 1) } in
       let none : mode u ≡ 0 = eqb-true (mode u) 0 e in
-      let gl : LogFacts D c m' g p = (let G = before.global in record { tiled = G.tiled; order = G.order; ring_cells = G.ring_cells; first_offsets = G.first_offsets; written_links = G.written_links; commits = G.commits; part = G.part }) in (
+      let gl : LogFacts D c m' g p = facts_same D c m g p before.global.part before.global in (
         g',
         steps D c spare m g p actors seat u before at m' g' (answered u) sized
             (answer_global D L c spare m g p actors seat u before at m' g h.2.0 h.2.1 mine.answers (λ z. absurd (omega arith)) (λ z. absurd (omega arith)) h.2.2 gl)
             (answered_fits D L c spare m g p actors seat u before at u.loaded m' g' refl refl (changed_here g.answered u.user (u.k + 1) u.user refl) mine.loaded h.0 h.1)
-            (record { write = omega arith; wtail = omega arith; ckpt = omega arith; flushed = omega arith; failed = λ z. z; logs = λ j x z. z; places = λ x l o. refl; states = λ x l o. refl; linked = λ _ _ two. two; firsts = λ q z. z; seats = λ x. refl; counts = λ x n. refl; answers = λ x n. changed_else g.answered u.user (u.k + 1) x (λ e. n (ap g.seat_of e ∙ mine.own_seat)) })
+            later_answered
             (still_words D c spare m g p actors seat u before at m' g' refl refl refl refl refl refl refl refl refl refl (λ z. refl))
             refl refl refl refl refl refl (omega arith),
         refl,
       )
 
-  links_sized : (i x : ℕ) → IsSized c.pages (record m { clinks = slice_set m.clinks i x })
-  links_sized i x = record { lists = before.sized.lists; wlinks = before.sized.wlinks; clinks = length-set m.clinks i x ∙ before.sized.clinks; cells = before.sized.cells; firsts = before.sized.firsts; page_words = before.sized.page_words; frames = before.sized.frames }
-
-  pub lists_sized : (i x : ℕ) → IsSized c.pages (record m { lists = slice_set m.lists i x })
-  lists_sized i x = record { lists = length-set m.lists i x ∙ before.sized.lists; wlinks = before.sized.wlinks; clinks = before.sized.clinks; cells = before.sized.cells; firsts = before.sized.firsts; page_words = before.sized.page_words; frames = before.sized.frames }
-
   -- it finds its page's list free, or held
   pub user_list : (b : Bool) → UserAt D c m g p seat u user_step.AddToList
       → LogHalf D c spare (cond b (record m { lists = slice_set m.lists (page_of u % 4) 1 }) m) g p (set actors seat (actor.User (record u { checks = cond b false true; step = cond b user_step.StoreOldest user_step.AddToList })))
-  user_list true h = moves (slice_set m.lists (page_of u % 4) 1) m.clinks m.page_words m.ctail (lists_sized (page_of u % 4) 1) u.page u.cell false user_step.StoreOldest h
+  user_list true h = moves (slice_set m.lists (page_of u % 4) 1) m.clinks m.page_words m.ctail (lists_sized (page_of u % 4) 1 before.sized) u.page u.cell false user_step.StoreOldest h
   user_list false h = shift u.page u.cell u.copied u.loaded u.code true user_step.AddToList mine.loaded h
 
   pub user_give : UserAt D c m g p seat u user_step.GiveList → LogHalf D c spare (record m { lists = slice_set m.lists (page_of u % 4) 0 }) g p (set actors seat (actor.User (to_next_page u)))
-  user_give h = turned_any (slice_set m.lists (page_of u % 4) 0) m.clinks m.page_words m.ctail (lists_sized (page_of u % 4) 0) h (eqb (u.page + 1) (length (changes u))) (eqb 0 (length (change_at (changes u) (u.page + 1)).cells))
+  user_give h = turned_any (slice_set m.lists (page_of u % 4) 0) m.clinks m.page_words m.ctail (lists_sized (page_of u % 4) 0 before.sized) h (eqb (u.page + 1) (length (changes u))) (eqb 0 (length (change_at (changes u) (u.page + 1)).cells))
 
   abbrev KeptSo : Op → UserState → UserStep → Type 0
   KeptSo o w f = (h : LogGhost) × LogHalf D c spare (after o m) h p (set actors seat (actor.User w)) × (◌≡◌ {A = List Entry} (h.log) (phase_log g.log m.sn u f))
@@ -260,13 +228,13 @@ module _ (D : LogSide) (L : LogLaws D) (c : Setup) (spare : ℕ) (m : SharedWord
   user_keeps user_step.AwaitMark is h on = await_by (found (user_op u user_step.AwaitMark) m) (nat_le (lsn (group_end u)) (found (user_op u user_step.AwaitMark) m)) refl mode_flush mode_write (mark_loaded (eqb (mode u) 1)) h
   user_keeps user_step.TakeLatch is h on = (g, latch_by (eqb (page_words_at m.page_words (page_of u)).latch 0) (eqb (u.page + 1) (length (changes u))) h, refl)
   user_keeps user_step.LoadCtail is h on = (g, tail_by (ltb (lsn u.start) (m.ctail + 16384)) (eqb u.cell (length (cells_of u))) h, refl)
-  user_keeps user_step.StoreFrame is h on = (g, cell_by (slice_set m.page_words (page_of u) (record (page_words_at m.page_words (page_of u)) { frame = slice_set (page_words_at m.page_words (page_of u)).frame (put_of u).at (put_of u).value })) (leaves_sized (page_of u) (record (page_words_at m.page_words (page_of u)) { frame = slice_set (page_words_at m.page_words (page_of u)).frame (put_of u).at (put_of u).value }) (length-set (page_words_at m.page_words (page_of u)).frame (put_of u).at (put_of u).value)) (eqb (u.cell + 1) (length (cells_of u))) h, refl)
-  user_keeps user_step.StoreNewest is h on = (g, moves m.lists m.clinks (slice_set m.page_words (page_of u) (record (page_words_at m.page_words (page_of u)) { newest = lsn (group_end u) })) m.ctail (leaves_sized (page_of u) (record (page_words_at m.page_words (page_of u)) { newest = lsn (group_end u) }) refl) u.page u.cell u.checks user_step.LoadOldest h, refl)
+  user_keeps user_step.StoreFrame is h on = (g, cell_by (slice_set m.page_words (page_of u) (record (page_words_at m.page_words (page_of u)) { frame = slice_set (page_words_at m.page_words (page_of u)).frame (put_of u).at (put_of u).value })) (page_sized (page_of u) (record (page_words_at m.page_words (page_of u)) { frame = slice_set (page_words_at m.page_words (page_of u)).frame (put_of u).at (put_of u).value }) (length-set (page_words_at m.page_words (page_of u)).frame (put_of u).at (put_of u).value) before.sized) (eqb (u.cell + 1) (length (cells_of u))) h, refl)
+  user_keeps user_step.StoreNewest is h on = (g, moves m.lists m.clinks (slice_set m.page_words (page_of u) (record (page_words_at m.page_words (page_of u)) { newest = lsn (group_end u) })) m.ctail (page_sized (page_of u) (record (page_words_at m.page_words (page_of u)) { newest = lsn (group_end u) }) refl before.sized) u.page u.cell u.checks user_step.LoadOldest h, refl)
   user_keeps user_step.LoadOldest is h on = (g, oldest_by (eqb (page_words_at m.page_words (page_of u)).oldest 0) h, refl)
   user_keeps user_step.AddToList is h on = absurd on
-  user_keeps user_step.StoreOldest is h on = (g, moves m.lists m.clinks (slice_set m.page_words (page_of u) (record (page_words_at m.page_words (page_of u)) { oldest = lsn u.start })) m.ctail (leaves_sized (page_of u) (record (page_words_at m.page_words (page_of u)) { oldest = lsn u.start }) refl) u.page u.cell u.checks user_step.GiveList h, refl)
+  user_keeps user_step.StoreOldest is h on = (g, moves m.lists m.clinks (slice_set m.page_words (page_of u) (record (page_words_at m.page_words (page_of u)) { oldest = lsn u.start })) m.ctail (page_sized (page_of u) (record (page_words_at m.page_words (page_of u)) { oldest = lsn u.start }) refl before.sized) u.page u.cell u.checks user_step.GiveList h, refl)
   user_keeps user_step.GiveList is h on = absurd on
-  user_keeps user_step.StoreClosedLink is h on = (g, moves m.lists (slice_set m.clinks (lsn u.start % 16384) (lsn (group_end u) - lsn u.start)) m.page_words m.ctail (links_sized (lsn u.start % 16384) (lsn (group_end u) - lsn u.start)) 0 u.cell u.checks user_step.ReleaseLatch h, refl)
-  user_keeps user_step.ReleaseLatch is h on = free_by (slice_set m.page_words (page_of u) (record (page_words_at m.page_words (page_of u)) { latch = 0 })) (leaves_sized (page_of u) (record (page_words_at m.page_words (page_of u)) { latch = 0 }) refl) (eqb (u.page + 1) (length (changes u))) (eqb (mode u) 0) refl h
+  user_keeps user_step.StoreClosedLink is h on = (g, moves m.lists (slice_set m.clinks (lsn u.start % 16384) (lsn (group_end u) - lsn u.start)) m.page_words m.ctail (clinks_sized (lsn u.start % 16384) (lsn (group_end u) - lsn u.start) before.sized) 0 u.cell u.checks user_step.ReleaseLatch h, refl)
+  user_keeps user_step.ReleaseLatch is h on = free_by (slice_set m.page_words (page_of u) (record (page_words_at m.page_words (page_of u)) { latch = 0 })) (page_sized (page_of u) (record (page_words_at m.page_words (page_of u)) { latch = 0 }) refl before.sized) (eqb (u.page + 1) (length (changes u))) (eqb (mode u) 0) refl h
   user_keeps user_step.Done is h on = absurd on
   user_keeps user_step.Failed is h on = absurd on

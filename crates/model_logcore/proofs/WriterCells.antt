@@ -1,17 +1,17 @@
--- The writer stores WTAIL, enters blocks, loads cells, and stores WRITE or FAILED.
-use Rattle.std.proofs.Common.{Bool, List, [], ap, arith, cond, eqb, eqb-true, false, get_or-set_other, get_or-set_same, leb-true, length, length-append, length-drop, length-set, refl, set, subst, sym, true, ℕ, ⊎_elim, ◌%◌, ◌*◌, ◌++◌, ◌+◌, ◌/◌, ◌<◌, ◌∙◌, ◌∷◌, ◌≡◌, ◌≢◌, ◌≤◌}
+-- The writer loads CKPT, enters blocks, loads cells, and loads FAILED.
+use Rattle.std.proofs.Common.{Bool, List, [], ap, arith, cond, eqb, eqb-true, false, leb-true, length, length-append, refl, set, subst, sym, true, ℕ, ⊎_elim, ◌%◌, ◌*◌, ◌++◌, ◌+◌, ◌/◌, ◌<◌, ◌∙◌, ◌∷◌, ◌≡◌, ◌≢◌, ◌≤◌}
 use Rattle.std.proofs.lemmas.Bool.{eqb-false}
-use Rattle.std.proofs.lemmas.List.{get_or-drop}
 use Rattle.std.specs.Prelude.{nat_le, slice_index, slice_set}
 use lib.ListN.{get_elem?}
 use native.Mathlib.Decide.{dec_le, ℕ_discrete}
 use Rattle.model_core.proofs.Groups.{back, crosses_is, first_from, front, tiles_at}
-use Rattle.model_core.proofs.Lsns.{floor_grows, floor_lsn, lsn_block, lsn_le, lsn_same, ring_same}
-use Rattle.model_core.specs.{Actor, byte_at, ceiling, end_of, Entry, first_of, floor, full_blocks, IsLent, lsn, read_place, SharedWords, stands_outside, writer_holds, writer_took, WriterState}
+use Rattle.model_core.proofs.Lsns.{floor_lsn, lsn_block, lsn_same, ring_same}
+use Rattle.model_core.specs.{Actor, byte_at, ceiling, end_of, Entry, first_of, floor, IsLent, lsn, read_place, SharedWords, stands_outside, writer_holds, writer_took, WriterState}
 use Rattle.model_core.specs.LogSide.{LogSide}
 use Rattle.model_core.specs.Setup.{Setup}
 use Rattle.model_core.specs.declared.steps.WriterStep.{WriterStep}
-use Rattle.model_logcore.proofs.WriterSteps.{WNow, own, ranks, tails, wlater, wquiet, wsteps}
+use Rattle.model_logcore.proofs.Same.{firsts_sized, later_marks, order_on, stored_here, stored_else}
+use Rattle.model_logcore.proofs.WriterSteps.{WNow, own, ranks, wquiet, wsteps}
 use Rattle.model_logcore.specs.LogFacts.{LogGhost}
 use Rattle.model_logcore.specs.LogFits.{WriterAt, WriterFits}
 use Rattle.model_logcore.specs.LogHalf.{LogHalf}
@@ -30,86 +30,6 @@ module _ (D : LogSide) (c : Setup) (spare : ℕ) (m : SharedWords) (g : LogGhost
   quiet : (link first ckpt code : ℕ) (checks : Bool) (st : WriterStep) → ckpt ≤ m.ckpt → (checks ≡ true → writer_holds st ≡ false) → writer_holds st ≡ writer_holds s.step → WriterAt D c m g p seat (record s { link = link; first = first; ckpt = ckpt; code = code; checks = checks; step = st }) st
       → LogHalf D c spare m g p (set actors seat (actor.Writer (record s { link = link; first = first; ckpt = ckpt; code = code; checks = checks; step = st })))
   quiet = wquiet D c spare m g p actors seat s before at
-
-  -- it stores WTAIL
-  pub keeps_store_wtail : s.step ≡ writer_step.StoreWtail → WriterAt D c m g p seat s writer_step.StoreWtail → (h : LogGhost) × LogHalf D c spare (record m { wtail = s.tail }) h p (set actors seat (actor.Writer (writer_took s (answer.Old 0) writer_step.StoreWtail))) × (◌≡◌ {A = List Entry} (h.log) (g.log))
-  keeps_store_wtail is h =
-      let m' : SharedWords = record m { wtail = s.tail } in
-      let g' : LogGhost = record g { wtail = g.tail } in
-      let w : WriterState = record s { step = writer_step.LoadCheckpoint } in
-      let G = before.global in let O = G.order in let P = G.part in
-      let r = order in let r0 = r.0 in let r1 = r.1 in let r2 = r.2 in let r3 = r.3 in
-      let t = fit.tail in
-      let up : m.wtail ≤ s.tail = (let a = tails D c spare m g p actors seat s before at in omega arith) in (
-        g',
-        wsteps D c spare m g p actors seat s before at m' g' p refl w
-            (record { lists = before.sized.lists; wlinks = before.sized.wlinks; clinks = before.sized.clinks; cells = before.sized.cells; firsts = before.sized.firsts; page_words = before.sized.page_words; frames = before.sized.frames })
-            (record {
-              tiled = G.tiled;
-              order = record {
-                base_even = O.base_even;
-                write_is = O.write_is;
-                wtail_is = t;
-                flushed_is = O.flushed_is;
-                base_write = O.base_write;
-                write_read = O.write_read;
-                read_wtail = omega arith;
-                wtail_tail = omega arith;
-                tail_sn = O.tail_sn;
-                read_entered = O.read_entered;
-                entered_tail = O.entered_tail;
-                write_bound = O.write_bound;
-                wtail_bound = O.tail_bound;
-                tail_bound = O.tail_bound;
-                flushed_bound = O.flushed_bound;
-              };
-              ring_cells = G.ring_cells;
-              first_offsets = G.first_offsets;
-              written_links = record {
-                linked = G.written_links.linked;
-                links_are = λ j l v. let q = G.written_links.links_are j l v in let near = q.near in record { at = q.at; group = q.group; is = q.is; slot = q.slot; size = q.size; since = q.since; near = omega arith; whole = q.whole };
-                standing = λ j x x_is two f. let q = G.written_links.standing j x x_is two f in let near = q.1 in (q.0, omega arith);
-              };
-              commits = G.commits;
-              part = record {
-                holds = P.holds;
-                written = P.written;
-                stable = P.stable;
-                written_is = P.written_is;
-                stable_is = P.stable_is;
-                written_bound = P.written_bound;
-                stable_bound = P.stable_bound;
-                write_written = P.write_written;
-                written_wtail = (let z = P.written_wtail in omega arith);
-                given_wtail = (let z = P.given_wtail in omega arith);
-                flushed_stable = P.flushed_stable;
-                stable_written = P.stable_written;
-                ckpt_part = P.ckpt_part;
-                written_given = P.written_given;
-                ckpt_asked = P.ckpt_asked;
-                asked_stable = P.asked_stable;
-                turn_word = P.turn_word;
-              };
-            })
-            (record {
-              alone = fit.alone;
-              blocks = fit.blocks;
-              tail = t;
-              write = fit.write;
-              from = fit.from;
-              long = fit.long;
-              kept = fit.kept;
-              wide = fit.wide;
-              firsts = fit.firsts;
-              small = fit.small;
-              ckpt = fit.ckpt;
-              no_device_while_checking = λ z. refl;
-              step = ((refl, h.1, h.0.1), h.0.0);
-            })
-            (wlater D c spare m g p actors seat s before at m' g' (omega arith) up (omega arith) (omega arith) (λ z. z) refl (λ x. refl) (λ x. refl) (λ x. refl) (λ x. refl) (λ x. refl))
-            refl refl refl refl refl (sym (ap writer_holds is)) (λ z. refl),
-        refl,
-      )
 
   limit_by : (b d : Bool) → nat_le (ceiling s.tail) (m.ckpt + 512 * s.blocks) ≡ b → stands_outside s ≡ d → writer_holds s.step ≡ false → WriterAt D c m g p seat s writer_step.LoadCheckpoint
       → WNow D c spare m g p actors seat s before at (cond b (record s { ckpt = m.ckpt; step = cond d writer_step.LoadFirst writer_step.LoadCell }) (record s { ckpt = m.ckpt; checks = true; step = writer_step.LoadCheckpoint }))
@@ -184,32 +104,16 @@ module _ (D : LogSide) (c : Setup) (spare : ℕ) (m : SharedWords) (g : LogGhost
           ] in (
             g',
             wsteps D c spare m g p actors seat s before at m' g' p refl w
-                (record { lists = before.sized.lists; wlinks = before.sized.wlinks; clinks = before.sized.clinks; cells = before.sized.cells; firsts = length-set m.firsts i 0 ∙ before.sized.firsts; page_words = before.sized.page_words; frames = before.sized.frames })
+                (firsts_sized i 0 before.sized)
                 (record {
                   tiled = G.tiled;
-                  order = record {
-                    base_even = O.base_even;
-                    write_is = O.write_is;
-                    wtail_is = O.wtail_is;
-                    flushed_is = O.flushed_is;
-                    base_write = O.base_write;
-                    write_read = O.write_read;
-                    read_wtail = O.read_wtail;
-                    wtail_tail = O.wtail_tail;
-                    tail_sn = O.tail_sn;
-                    read_entered = omega arith;
-                    entered_tail = omega arith;
-                    write_bound = O.write_bound;
-                    wtail_bound = O.wtail_bound;
-                    tail_bound = O.tail_bound;
-                    flushed_bound = O.flushed_bound;
-                  };
+                  order = order_on D c m g p O O.write_read O.read_wtail O.wtail_tail O.tail_sn (omega arith) (omega arith) O.tail_bound;
                   ring_cells = G.ring_cells;
                   first_offsets = record {
                     slots_are = λ q l k. elim (ℕ_discrete q (g.entered + 128)) [
-                      | yes z ↦ (let e : q % 128 ≡ i = omega arith in value_here (q % 128) i e slot ∙ sym (ap g.first z ∙ ahead))
+                      | yes z ↦ (let e : q % 128 ≡ i = omega arith in stored_here m.firsts i 0 (q % 128) e slot ∙ sym (ap g.first z ∙ ahead))
                       | no n ↦ (let ne : q % 128 ≢ i = (λ e. let same : q ≡ g.entered = ring_same q g.entered g.entered 128 (omega arith) (omega arith) (omega arith) (omega arith) (e ∙ i_is) in omega arith) in
-                          value_else (q % 128) i ne ∙ H.slots_are q (omega arith) (omega arith))
+                          stored_else m.firsts i 0 (q % 128) ne ∙ H.slots_are q (omega arith) (omega arith))
                     ];
                     near = H.near;
                     true_first = H.true_first;
@@ -240,16 +144,10 @@ module _ (D : LogSide) (c : Setup) (spare : ℕ) (m : SharedWords) (g : LogGhost
                   no_device_while_checking = λ z. refl;
                   step = (h.0, h.1, h.2, (let z = h.3 in omega (arith, length-append s.firsts (s.first ∷ []))));
                 })
-                (wlater D c spare m g p actors seat s before at m' g' (omega arith) (omega arith) (omega arith) (omega arith) (λ z. z) refl (λ x. refl) (λ x. refl) (λ x. refl) (λ x. refl) (λ x. refl))
+                (later_marks D c m g p (omega arith) (omega arith) (omega arith) (omega arith) (λ z. z))
                 refl refl refl refl refl (sym (ap writer_holds is)) (λ z. refl),
             refl,
           )
-        where
-          value_here : (j i : ℕ) → j ≡ i → i < length m.firsts → slice_index (slice_set m.firsts i 0) j ≡ 0
-          value_here j i e l = subst (λ (y : ℕ). slice_index (slice_set m.firsts i 0) y ≡ 0) (sym e) (get_or-set_same m.firsts i 0 0 l)
-
-          value_else : (j i : ℕ) → j ≢ i → slice_index (slice_set m.firsts i 0) j ≡ slice_index m.firsts j
-          value_else j i n = rw get_or-set_other refl
 
   -- the cell at the read place is the stream's byte
   pub cell_true : g.read < g.tail → slice_index m.cells (lsn (read_place s) % 65536) ≡ byte_at c.base g.log g.read
@@ -300,23 +198,7 @@ module _ (D : LogSide) (c : Setup) (spare : ℕ) (m : SharedWords) (g : LogGhost
         wsteps D c spare m g p actors seat s before at m g' p refl w before.sized
             (record {
               tiled = G.tiled;
-              order = record {
-                base_even = O.base_even;
-                write_is = O.write_is;
-                wtail_is = O.wtail_is;
-                flushed_is = O.flushed_is;
-                base_write = O.base_write;
-                write_read = omega arith;
-                read_wtail = omega arith;
-                wtail_tail = O.wtail_tail;
-                tail_sn = O.tail_sn;
-                read_entered = omega arith;
-                entered_tail = O.entered_tail;
-                write_bound = O.write_bound;
-                wtail_bound = O.wtail_bound;
-                tail_bound = O.tail_bound;
-                flushed_bound = O.flushed_bound;
-              };
+              order = order_on D c m g p O (omega arith) (omega arith) O.wtail_tail O.tail_sn (omega arith) O.entered_tail O.tail_bound;
               ring_cells = record { each = λ x l. G.ring_cells.each x (omega arith) };
               first_offsets = G.first_offsets;
               written_links = G.written_links;
@@ -343,7 +225,7 @@ module _ (D : LogSide) (c : Setup) (spare : ℕ) (m : SharedWords) (g : LogGhost
               no_device_while_checking = λ z. free_read b d;
               step = read_at n b d refl refl h;
             })
-            (wlater D c spare m g p actors seat s before at m g' (omega arith) (omega arith) (omega arith) (omega arith) (λ z. z) refl (λ x. refl) (λ x. refl) (λ x. refl) (λ x. refl) (λ x. refl))
+            (later_marks D c m g p (omega arith) (omega arith) (omega arith) (omega arith) (λ z. z))
             refl refl refl refl refl (free_read b d ∙ sym (ap writer_holds is)) (λ z. refl),
         refl,
       )
@@ -357,137 +239,6 @@ module _ (D : LogSide) (c : Setup) (spare : ℕ) (m : SharedWords) (g : LogGhost
     few = omega arith;
     firsts_are = fit.firsts;
   }
-
-  -- it stores WRITE, and keeps the last block, where that isn't full
-  pub keeps_store_write : s.step ≡ writer_step.StoreWrite → WriterAt D c m g p seat s writer_step.StoreWrite → (h : LogGhost) × LogHalf D c spare (record m { write = s.tail }) h p (set actors seat (actor.Writer (writer_took s (answer.Old 0) writer_step.StoreWrite))) × (◌≡◌ {A = List Entry} (h.log) (g.log))
-  keeps_store_write is h =
-      let m' : SharedWords = record m { write = s.tail } in
-      let g' : LogGhost = record g { write = g.tail } in
-      let w : WriterState = writer_took s (answer.Old 0) writer_step.StoreWrite in
-      let G = before.global in let O = G.order in let P = G.part in
-      let r = order in let r0 = r.0 in let r1 = r.1 in let r2 = r.2 in let r4 = r.4 in
-      let lg = fit.long in let wi = fit.wide in let fr = fit.from in let re = O.read_entered in
-      let k2 = h.2 in let k3 = h.3 in
-      let up : m.write ≤ s.tail = (let a = O.write_is in let b = lsn_le g.write g.tail (omega arith) in let t = fit.tail in omega arith) in
-      let floors : floor m.write ≤ floor s.tail = floor_grows m.write s.tail up in (
-        g',
-        wsteps D c spare m g p actors seat s before at m' g' p refl w
-            (record { lists = before.sized.lists; wlinks = before.sized.wlinks; clinks = before.sized.clinks; cells = before.sized.cells; firsts = before.sized.firsts; page_words = before.sized.page_words; frames = before.sized.frames })
-            (record {
-              tiled = G.tiled;
-              order = record {
-                base_even = O.base_even;
-                write_is = fit.tail;
-                wtail_is = O.wtail_is;
-                flushed_is = O.flushed_is;
-                base_write = omega arith;
-                write_read = omega arith;
-                read_wtail = O.read_wtail;
-                wtail_tail = O.wtail_tail;
-                tail_sn = O.tail_sn;
-                read_entered = O.read_entered;
-                entered_tail = O.entered_tail;
-                write_bound = O.tail_bound;
-                wtail_bound = O.wtail_bound;
-                tail_bound = O.tail_bound;
-                flushed_bound = O.flushed_bound;
-              };
-              ring_cells = record { each = λ x l q z. let o = G.ring_cells.each x l q z in let o1 = o.1 in (o.0, omega arith) };
-              first_offsets = record { slots_are = G.first_offsets.slots_are; near = λ q z. let o = G.first_offsets.near q z in omega arith; true_first = G.first_offsets.true_first; stored = G.first_offsets.stored; begun = G.first_offsets.begun };
-              written_links = G.written_links;
-              commits = record { flush = G.commits.flush; wrote = λ i e a b d. let o = G.commits.wrote i e a b d in omega arith; linked = G.commits.linked; last = G.commits.last };
-              part = record {
-                holds = P.holds;
-                written = P.written;
-                stable = P.stable;
-                written_is = P.written_is;
-                stable_is = P.stable_is;
-                written_bound = P.written_bound;
-                stable_bound = P.stable_bound;
-                write_written = omega arith;
-                written_wtail = P.written_wtail;
-                given_wtail = P.given_wtail;
-                flushed_stable = P.flushed_stable;
-                stable_written = P.stable_written;
-                ckpt_part = P.ckpt_part;
-                written_given = P.written_given;
-                ckpt_asked = P.ckpt_asked;
-                asked_stable = P.asked_stable;
-                turn_word = P.turn_word;
-              };
-            })
-            (record {
-              alone = fit.alone;
-              blocks = fit.blocks;
-              tail = fit.tail;
-              write = refl;
-              from = omega arith;
-              long = omega (arith, length-drop (496 * full_blocks s) s.kept);
-              kept = λ j l. get_or-drop (496 * full_blocks s) s.kept j 0 ∙ fit.kept (496 * full_blocks s + j) (omega (arith, length-drop (496 * full_blocks s) s.kept)) ∙ ap (byte_at c.base g.log) (let z : s.from + (496 * full_blocks s + j) ≡ s.from + 496 * full_blocks s + j = omega arith in z);
-              wide = omega (arith, length-drop (full_blocks s) s.firsts);
-              firsts = λ i l. get_or-drop (full_blocks s) s.firsts i 0 ∙ fit.firsts (full_blocks s + i) (omega (arith, length-drop (full_blocks s) s.firsts)) ∙ ap (first_of c.base g.log) (let z : g.write / 496 + (full_blocks s + i) ≡ g.tail / 496 + i = omega arith in z);
-              small = omega arith;
-              ckpt = fit.ckpt;
-              no_device_while_checking = λ z. let y = fit.no_device_while_checking z in let x : true ≡ false = sym (ap writer_holds is) ∙ y in absurd (cc);
-              step = ((k3, k2), refl);
-            })
-            (wlater D c spare m g p actors seat s before at m' g' up (omega arith) (omega arith) (omega arith) (λ z. z) refl (λ x. refl) (λ x. refl) (λ x. refl) (λ x. refl) (λ x. refl))
-            refl refl refl refl refl (sym (ap writer_holds is)) (λ z. refl),
-        refl,
-      )
-
-  -- it stores FAILED
-  pub keeps_store_failed : s.step ≡ writer_step.StoreFailed → WriterAt D c m g p seat s writer_step.StoreFailed → LogHalf D c spare (record m { failed = s.code }) g p (set actors seat (actor.Writer (writer_took s (answer.Old 0) writer_step.StoreFailed)))
-  keeps_store_failed is h =
-      let m' : SharedWords = record m { failed = s.code } in
-      let G = before.global in let P = G.part in
-      let h0 = h.0 in
-      wsteps D c spare m g p actors seat s before at m' g p refl (record s { step = writer_step.GiveFailed })
-      (record { lists = before.sized.lists; wlinks = before.sized.wlinks; clinks = before.sized.clinks; cells = before.sized.cells; firsts = before.sized.firsts; page_words = before.sized.page_words; frames = before.sized.frames })
-      (record {
-        tiled = G.tiled;
-        order = G.order;
-        ring_cells = G.ring_cells;
-        first_offsets = G.first_offsets;
-        written_links = G.written_links;
-        commits = G.commits;
-        part = record {
-          holds = P.holds;
-          written = P.written;
-          stable = P.stable;
-          written_is = P.written_is;
-          stable_is = P.stable_is;
-          written_bound = P.written_bound;
-          stable_bound = P.stable_bound;
-          write_written = P.write_written;
-          written_wtail = P.written_wtail;
-          given_wtail = P.given_wtail;
-          flushed_stable = P.flushed_stable;
-          stable_written = P.stable_written;
-          ckpt_part = P.ckpt_part;
-          written_given = P.written_given;
-          ckpt_asked = P.ckpt_asked;
-          asked_stable = P.asked_stable;
-          turn_word = P.turn_word;
-        };
-      })
-      (record {
-        alone = fit.alone;
-        blocks = fit.blocks;
-        tail = fit.tail;
-        write = fit.write;
-        from = fit.from;
-        long = fit.long;
-        kept = fit.kept;
-        wide = fit.wide;
-        firsts = fit.firsts;
-        small = fit.small;
-        ckpt = fit.ckpt;
-        no_device_while_checking = λ z. let y = fit.no_device_while_checking z in let x : true ≡ false = sym (ap writer_holds is) ∙ y in absurd (cc);
-        step = h0;
-      })
-      (wlater D c spare m g p actors seat s before at m' g (omega arith) (omega arith) (omega arith) (omega arith) (λ z. h0) refl (λ x. refl) (λ x. refl) (λ x. refl) (λ x. refl) (λ x. refl))
-      refl refl refl refl refl (sym (ap writer_holds is)) (λ z. refl)
 
   -- it loads FAILED
   pub writer_checked : s.checks ≡ true → WNow D c spare m g p actors seat s before at (cond (eqb m.failed 0) (record s { checks = false }) (record s { checks = false; code = m.failed; step = writer_step.Failed }))

@@ -1,20 +1,20 @@
 -- The writer follows links, stores WTAIL, and loads first offsets and cells.
-use Rattle.std.proofs.Common.{Bool, List, ap, arith, cond, eqb, false, get_or-set_other, get_or-set_same, length, length-set, ltb, ltb-true, refl, set, subst, sym, true, ℕ, ◌%◌, ◌+◌, ◌<◌, ◌∙◌, ◌≡◌, ◌≢◌, ◌≤◌}
+use Rattle.std.proofs.Common.{Bool, List, ap, arith, cond, eqb, false, length, ltb, ltb-true, refl, set, subst, sym, true, ℕ, ◌%◌, ◌+◌, ◌<◌, ◌∙◌, ◌≡◌, ◌≢◌, ◌≤◌}
 use Rattle.std.proofs.lemmas.Bool.{eqb-false}
 use Rattle.std.specs.Prelude.{slice_index, slice_set}
 use lib.ListN.{get_elem?}
 use native.Mathlib.Decide.{dec_le, ℕ_discrete}
-use Rattle.model_base.specs.declared.limits.TheConstants.{LSN_LIMIT}
 use Rattle.model_core.proofs.Groups.{bound_end, tiles_at}
 use Rattle.model_core.proofs.Lsns.{link_same, lsn_le, lsn_near}
 use Rattle.model_core.specs.{Actor, end_of, Entry, holds, IsSized, lsn, SharedWords, writer_holds, writer_took, WriterState}
 use Rattle.model_core.specs.LogSide.{LogSide}
 use Rattle.model_core.specs.Setup.{Setup}
 use Rattle.model_core.specs.declared.steps.WriterStep.{WriterStep}
-use Rattle.model_logcore.proofs.Frame.{Later, budget_same, counted_same, moved, others_writer, taken_same}
-use Rattle.model_logcore.specs.LogFacts.{LogGhost, LogFacts, WrittenLink, Place, count_of, sum_over_actors}
+use Rattle.model_logcore.proofs.Frame.{Later, others_writer, moved_on}
+use Rattle.model_logcore.proofs.Same.{later_marks, order_on, wlinks_sized, writer_same, stored_else, stored_here}
+use Rattle.model_logcore.specs.LogFacts.{LogGhost, LogFacts, WrittenLink}
 use Rattle.model_logcore.specs.LogFits.{IsIdle, WriterAt, WriterFits}
-use Rattle.model_logcore.specs.LogHalf.{Counted, LogHalf, HasTaker, left_to_reserve}
+use Rattle.model_logcore.specs.LogHalf.{LogHalf}
 use mathlib.Core.Option as maybe
 use Rattle.model_core.specs.declared.ops.Answer.TheVariants as answer
 use Rattle.model_core.specs.declared.steps.WriterStep.TheVariants as writer_step
@@ -35,55 +35,19 @@ module _ (D : LogSide) (c : Setup) (spare : ℕ) (m : SharedWords) (g : LogGhost
   -- the writer moves, and holds what it held
   pub wsteps : (m' : SharedWords) (g' : LogGhost) (q : D.Part) (point : D.ckpt q ≡ D.ckpt p) (w : WriterState) → IsSized c.pages m' → LogFacts D c m' g' q → WriterFits D c m' g' q seat w → Later D c m g m' g' seat → m'.flushed ≡ m.flushed → m'.device ≡ m.device → g'.holder ≡ g.holder → g'.log ≡ g.log → m'.sn ≡ m.sn
       → writer_holds w.step ≡ writer_holds s.step → (writer_holds s.step ≡ false → ◌≡◌ {A = D.Part} q p) → LogHalf D c spare m' g' q (set actors seat (actor.Writer w))
-  wsteps m' g' q point w sized global f later flushed device holder log sn keep same = moved D c spare m m' g g' p q actors seat (actor.Writer w) before sized global f
+  wsteps m' g' q point w sized global f later flushed device holder log sn keep same = moved_on D c spare m m' g g' p q actors seat (actor.Writer s) (actor.Writer w) before at sized global f
       (λ j a n e. others_writer D c m m' g g' p q seat own.alone before.global later (record { flushed = omega arith; failed = later.failed; point = point }) j a n (part_by q same j a n e) (before.each j a e))
-      (λ e. let t = before.turns seat (actor.Writer s) at (sym keep ∙ e) in (device ∙ t.0, t.1 ∙ sym holder))
-      (λ j a n e h. let t = before.turns j a e h in (device ∙ t.0, t.1 ∙ sym holder))
-      (subst (λ (l : List Entry). Counted (set actors seat (actor.Writer w)) l) (sym log) (counted_same actors g.log seat (actor.Writer s) (actor.Writer w) at refl before.counted))
-      (subst (λ (n : ℕ). lsn (n + sum_over_actors left_to_reserve (set actors seat (actor.Writer w)) + spare) < LSN_LIMIT) (sym sn) (budget_same actors seat spare m.sn (actor.Writer s) (actor.Writer w) at (omega arith) before.room))
-      (λ d. subst (λ (k : ℕ). HasTaker (set actors seat (actor.Writer w)) k) (sym holder) (taken_same actors seat (actor.Writer s) (actor.Writer w) g.holder at (λ e. keep ∙ e) (before.taken (sym device ∙ d))))
-
-  pub wlater : (m' : SharedWords) (g' : LogGhost) → m.write ≤ m'.write → m.wtail ≤ m'.wtail → m.ckpt ≤ m'.ckpt → m.flushed ≤ m'.flushed → (0 < m.failed → 0 < m'.failed) → g'.log ≡ g.log → ((x : ℕ) → ◌≡◌ {A = Place} (g'.place x) (g.place x)) → ((x : ℕ) → g'.state x ≡ g.state x) → ((x : ℕ) → g'.first x ≡ g.first x)
-      → ((x : ℕ) → g'.seat_of x ≡ g.seat_of x) → ((x : ℕ) → g'.answered x ≡ g.answered x) → Later D c m g m' g' seat
-  wlater m' g' a b d fl e lo pl st fi se an = record {
-    write = a;
-    wtail = b;
-    ckpt = d;
-    flushed = fl;
-    failed = e;
-    logs = λ j x z. ap (λ (l : List Entry). get_elem? l j) lo ∙ z;
-    places = λ x l o. pl x;
-    states = λ x l o. st x;
-    linked = λ x l two. st x ∙ two;
-    firsts = λ q z. let y = fi q in omega arith;
-    seats = se;
-    counts = λ x n. ap (count_of x) lo;
-    answers = λ x n. an x;
-  }
+      device holder log sn keep refl (omega arith)
 
   -- nothing but these of the writer's own state changes
   pub staged : (link first ckpt code : ℕ) (checks : Bool) (st : WriterStep) → ckpt ≤ m.ckpt → (checks ≡ true → writer_holds st ≡ false) → WriterAt D c m g p seat (record s { link = link; first = first; ckpt = ckpt; code = code; checks = checks; step = st }) st
       → WriterFits D c m g p seat (record s { link = link; first = first; ckpt = ckpt; code = code; checks = checks; step = st })
-  staged link first ckpt code checks st le no_device_while_checking h = record {
-    alone = own.alone;
-    blocks = own.blocks;
-    tail = own.tail;
-    write = own.write;
-    from = own.from;
-    long = own.long;
-    kept = own.kept;
-    wide = own.wide;
-    firsts = own.firsts;
-    small = own.small;
-    ckpt = le;
-    no_device_while_checking = no_device_while_checking;
-    step = h;
-  }
+  staged link first ckpt code checks st le no_device_while_checking h = writer_same D c m g p own le no_device_while_checking h
 
   pub wquiet : (link first ckpt code : ℕ) (checks : Bool) (st : WriterStep) → ckpt ≤ m.ckpt → (checks ≡ true → writer_holds st ≡ false) → writer_holds st ≡ writer_holds s.step → WriterAt D c m g p seat (record s { link = link; first = first; ckpt = ckpt; code = code; checks = checks; step = st }) st
       → LogHalf D c spare m g p (set actors seat (actor.Writer (record s { link = link; first = first; ckpt = ckpt; code = code; checks = checks; step = st })))
   wquiet link first ckpt code checks st le no_device_while_checking keep h = wsteps m g p refl (record s { link = link; first = first; ckpt = ckpt; code = code; checks = checks; step = st }) before.sized before.global (staged link first ckpt code checks st le no_device_while_checking h)
-      (wlater m g (omega arith) (omega arith) (omega arith) (omega arith) (λ z. z) refl (λ x. refl) (λ x. refl) (λ x. refl) (λ x. refl) (λ x. refl)) refl refl refl refl refl keep (λ z. refl)
+      (later_marks D c m g p (omega arith) (omega arith) (omega arith) (omega arith) (λ z. z)) refl refl refl refl refl keep (λ z. refl)
 
   abbrev pub WNow : WriterState → Type 0
   WNow w = LogHalf D c spare m g p (set actors seat (actor.Writer w))
@@ -148,31 +112,15 @@ module _ (D : LogSide) (c : Setup) (spare : ℕ) (m : SharedWords) (g : LogGhost
           let next_tail : s.tail + s.link ≡ lsn to = (let z : lsn e.start ≡ lsn g.tail = ap lsn from in omega arith) in
           let near_size : lsn to ≤ lsn e.start + 8464 = lsn_near e.start (length e.bytes) l3 in
           let slot : i < length m.wlinks = omega (arith, before.sized.wlinks) in
-          let else : (j : ℕ) → j ≢ i → slice_index m'.wlinks j ≡ slice_index m.wlinks j = λ j n. value_else i j n in
-          let zero_here : (j : ℕ) → j ≡ i → slice_index m'.wlinks j ≡ 0 = λ j z. subst (λ (y : ℕ). slice_index m'.wlinks y ≡ 0) (sym z) (get_or-set_same m.wlinks i 0 0 slot) in
+          let else : (j : ℕ) → j ≢ i → slice_index m'.wlinks j ≡ slice_index m.wlinks j = λ j n. stored_else m.wlinks i 0 j n in
+          let zero_here : (j : ℕ) → j ≡ i → slice_index m'.wlinks j ≡ 0 = λ j z. stored_here m.wlinks i 0 j z slot in
           let w_tails = tails in (
             g',
             wsteps m' g' p refl w
-                (record { lists = before.sized.lists; wlinks = length-set m.wlinks i 0 ∙ before.sized.wlinks; clinks = before.sized.clinks; cells = before.sized.cells; firsts = before.sized.firsts; page_words = before.sized.page_words; frames = before.sized.frames })
+                (wlinks_sized i 0 before.sized)
                 (record {
                   tiled = G.tiled;
-                  order = record {
-                    base_even = O.base_even;
-                    write_is = O.write_is;
-                    wtail_is = O.wtail_is;
-                    flushed_is = O.flushed_is;
-                    base_write = O.base_write;
-                    write_read = O.write_read;
-                    read_wtail = O.read_wtail;
-                    wtail_tail = omega arith;
-                    tail_sn = l1;
-                    read_entered = O.read_entered;
-                    entered_tail = (let z = O.entered_tail in omega arith);
-                    write_bound = O.write_bound;
-                    wtail_bound = O.wtail_bound;
-                    tail_bound = bound_end g.log c.base m.sn o.at e G.tiled.tiles o.is;
-                    flushed_bound = O.flushed_bound;
-                  };
+                  order = order_on D c m g p O O.write_read O.read_wtail (omega arith) l1 O.read_entered (let z = O.entered_tail in omega arith) (bound_end g.log c.base m.sn o.at e G.tiled.tiles o.is);
                   ring_cells = G.ring_cells;
                   first_offsets = G.first_offsets;
                   written_links = record {
@@ -217,14 +165,11 @@ module _ (D : LogSide) (c : Setup) (spare : ℕ) (m : SharedWords) (g : LogGhost
                   no_device_while_checking = λ z. unfinished b;
                   step = goes g' w b b_is h.0 (omega arith);
                 })
-                (wlater m' g' (omega arith) (omega arith) (omega arith) (omega arith) (λ z. z) refl (λ x. refl) (λ x. refl) (λ x. refl) (λ x. refl) (λ x. refl))
+                (later_marks D c m g p (omega arith) (omega arith) (omega arith) (omega arith) (λ z. z))
                 refl refl refl refl refl (unfinished b ∙ sym free) (λ z. refl),
             refl,
           )
         where
-          value_else : (i j : ℕ) → j ≢ i → slice_index (slice_set m.wlinks i 0) j ≡ slice_index m.wlinks j
-          value_else i j n = rw get_or-set_other refl
-
           unfinished : (b : Bool) → writer_holds (cond b writer_step.LoadLink writer_step.StoreWtail) ≡ false
           unfinished true = refl
           unfinished false = refl

@@ -10,7 +10,7 @@ use Rattle.model_core.specs.{Actor, BatchPage, CleanerState, Entry, KeptPage, Li
 use Rattle.model_core.specs.DataSide.{DataSide}
 use Rattle.model_core.specs.Setup.{Setup}
 use Rattle.model_pagecore.proofs.PageHistory.{last_most, upto_whole}
-use Rattle.model_pagecore.proofs.PageFrame.{log_same, longer_same, page_moved, page_others}
+use Rattle.model_pagecore.proofs.PageFrame.{page_moved, page_others, pages_same}
 use Rattle.model_pagecore.proofs.PageStep.{mate}
 use Rattle.model_pagecore.specs.DataLaws.{CanBatch, kept_in, renewed}
 use Rattle.model_pagecore.proofs.Unfinished.{none_unfinished}
@@ -151,18 +151,7 @@ module _ (E : DataSide) (c : Setup) (seat_of : ℕ → ℕ) (m : SharedWords) (l
                 );
               })
               (λ j a n z. page_others E c seat_of m m log log h h' ls ls d e seat j n
-              (record {
-                longer = longer_same log;
-                logs = λ q _ _. log_same q log;
-                page_words = λ q _ _. refl;
-                holders = λ q _ _. refl;
-                listeds = λ q _ _. refl;
-                taken = λ q la _. (la, refl);
-                opens = λ _ _ _ _. refl;
-                lists = λ i o _. (o, refl);
-                ctail = omega arith;
-                flushed = omega arith;
-              })
+              (pages_same refl refl (omega arith) (omega arith))
               (λ _. record { tail = refl; closes = λ _ y. y })
               (λ other. absurd (other own.alone))
               (λ _. record { given = refl; passed = λ p x _ _ y i w is tc lt. let k = y i w is tc lt in let mo = more p in omega arith })
@@ -204,18 +193,7 @@ module _ (E : DataSide) (c : Setup) (seat_of : ℕ → ℕ) (m : SharedWords) (l
               (record { closed_links = P.closed_links; lists = P.lists; each_page = P.each_page; within = P.within; flushed = P.flushed; stable_top = P.stable_top; stored = holds; unfinished = left; alone = P.alone })
               (record { alone = own.alone; pages = own.pages; page = own.page; flushed = own.flushed; sound = λ z. absurd (cc); apart = own.apart; few = own.few; cause = λ _. cause; step = held })
               (λ j a n z. page_others E c seat_of m m log log h h' ls ls d e seat j n
-              (record {
-                longer = longer_same log;
-                logs = λ q _ _. log_same q log;
-                page_words = λ q _ _. refl;
-                holders = λ q _ _. refl;
-                listeds = λ q _ _. refl;
-                taken = λ q la _. (la, refl);
-                opens = λ _ _ _ _. refl;
-                lists = λ i o _. (o, refl);
-                ctail = omega arith;
-                flushed = omega arith;
-              })
+              (pages_same refl refl (omega arith) (omega arith))
               (λ _. record { tail = refl; closes = λ _ y. y })
               (λ other. absurd (other own.alone))
               (λ _. record { given = refl; passed = λ p x _ _ y. y })

@@ -9,7 +9,8 @@ use Rattle.model_core.specs.{Actor, BatchPage, checkpointer_took, CheckpointerSt
 use Rattle.model_core.specs.DataSide.{DataSide}
 use Rattle.model_core.specs.Setup.{Setup}
 use Rattle.model_core.specs.declared.steps.CleanerStep.{CleanerStep}
-use Rattle.model_pagecore.proofs.PageFrame.{log_same, longer_same, page_moved, page_others}
+use Rattle.model_pagecore.proofs.CleanerSteps.{at_stage}
+use Rattle.model_pagecore.proofs.PageFrame.{page_moved, page_others, pages_same}
 use Rattle.model_pagecore.proofs.PageStep.{at_else, at_here, freed_sheet, latched_sheet, leaf_else, leaf_here, leaf_step, list_at, list_step, mate, page_quiet}
 use Rattle.model_pagecore.specs.Growing.{Grows}
 use Rattle.model_pagecore.specs.PageFacts.{PageGhost}
@@ -20,7 +21,8 @@ use Rattle.model_core.specs.declared.steps.CleanerStep.TheVariants as cleaner_st
 use Rattle.model_core.specs.declared.steps.CheckpointerStep.TheVariants as checkpointer_step
 use Rattle.model_core.specs.Actors as actor
 
-front_of : (l : List BatchPage) → 0 < length l → (x : BatchPage) × (get_elem? l 0 ≡ some x) × ◌≡◌ {A = BatchPage} (get_or l 0 no_page) x
+-- the first page of a batch
+pub front_of : (l : List BatchPage) → 0 < length l → (x : BatchPage) × (get_elem? l 0 ≡ some x) × ◌≡◌ {A = BatchPage} (get_or l 0 no_page) x
 front_of [] h = absurd (omega arith)
 front_of (x ∷ xs) h = (x, refl, refl)
 
@@ -50,24 +52,10 @@ module _ (E : DataSide) (c : Setup) (seat_of : ℕ → ℕ) (m : SharedWords) (l
     first_held : (t : ListingStage) → Unlisting E c m log h ls d seat v t → At E c m log h ls d seat p none_in_hand All Last t
     first_held t o = let r = front_of v.batch o.3 in subst (λ (q : ℕ). At E c m log h ls d seat q none_in_hand All Last t) (sym (first_page o.3 r.0 r.1)) (o.2 r.0 r.1).held
 
-    at_stage : (x : CleanerState) → runs v.step ≡ true → x.pages ≡ v.pages → x.page ≡ v.page → x.flushed ≡ v.flushed → ◌≡◌ {A = List BatchPage} x.batch v.batch → (x.step ≡ cleaner_step.StoreFailed → ⊥) → (m' : SharedWords) (h' : PageGhost) → m'.flushed ≡ m.flushed → h'.unfinished ≡ h.unfinished
-        → CleanerAt E c m' log h' ls d seat x x.step → CleanerFits E c m' log h' ls d seat x
-    at_stage x live a b f g nf m' h' e1 e3 k = record {
-      alone = own.alone;
-      pages = a ∙ own.pages;
-      page = (let z = own.page in omega arith);
-      flushed = (let z = own.flushed in omega arith);
-      sound = λ _. let r = own.sound live in (r.0, e3 ∙ r.1);
-      apart = subst (λ (l : List BatchPage). (i j : ℕ) (y z : BatchPage) → get_elem? l i ≡ some y → get_elem? l j ≡ some z → i < j → y.page ≢ z.page) (sym g) own.apart;
-      few = subst (λ (l : List BatchPage). length l ≤ 8) (sym g) own.few;
-      cause = λ z. absurd (nf z);
-      step = k;
-    }
-
     -- it finds a list held
     pub keeps_list_held : v.step ≡ cleaner_step.RemoveFromList → Now m h (record v { checks = true; step = cleaner_step.RemoveFromList })
     keeps_list_held ph = page_quiet E c seat_of m log stable h ls d actors seat before mates (actor.Cleaner (record v { checks = true; step = cleaner_step.RemoveFromList }))
-        (at_stage (record v { checks = true; step = cleaner_step.RemoveFromList }) (ap runs ph) refl refl refl refl (λ z. absurd (cc)) m h refl refl (subst (CleanerAt E c m log h ls d seat v) ph own.step))
+        (at_stage E c seat_of m log stable h ls d actors seat before mates W v at (record v { checks = true; step = cleaner_step.RemoveFromList }) (ap runs ph) refl refl refl refl (λ z. absurd (cc)) m h ls refl refl (subst (CleanerAt E c m log h ls d seat v) ph own.step))
 
     -- the words of the first page of the batch change, but for its frame and NEWEST
     module _ (long : length m.page_words ≡ c.pages) (t : ListingStage) (o : Unlisting E c m log h ls d seat v t) (w' : PageWords) (fr : w'.frame ≡ (page_words_at m.page_words p).frame) (nw : w'.newest ≡ (page_words_at m.page_words p).newest) where
@@ -106,7 +94,7 @@ module _ (E : DataSide) (c : Setup) (seat_of : ℕ → ℕ) (m : SharedWords) (l
         leaf_step E c seat_of m log stable h ls d actors seat before mates p w' h.holder a.there long (inr a.mine) (λ _ _. refl) (actor.Cleaner (record v { step = cleaner_step.GiveList }))
         (latched_sheet E c seat_of m log stable h ls d actors seat before mates p w' a.there a.latched (λ z. absurd (omega arith)))
         (λ n. absurd (n own.alone)) (λ _. a.mine)
-        (at_stage (record v { step = cleaner_step.GiveList }) (ap runs ph) refl refl refl refl (λ z. absurd (cc)) m' h refl refl
+        (at_stage E c seat_of m log stable h ls d actors seat before mates W v at (record v { step = cleaner_step.GiveList }) (ap runs ph) refl refl refl refl (λ z. absurd (cc)) m' h ls refl refl
         ((o.0.0, others_in long InWordOnly o.0 w' refl refl 1 (omega arith) o.0.1, first_in long InWordOnly o.0 w' refl refl Unlisted here, o.0.3), o.1))
 
     -- it gives the list back
@@ -116,7 +104,7 @@ module _ (E : DataSide) (c : Setup) (seat_of : ℕ → ℕ) (m : SharedWords) (l
         let m' : SharedWords = record m { lists = slice_set m.lists (p % 4) 0 } in
         let same = list_at E c seat_of m log stable h ls d actors seat before mates (p % 4) 0 h.list_holder ls long (omega arith) (inr o.1.1) (λ _ _. refl) in
         list_step E c seat_of m log stable h ls d actors seat before mates (p % 4) 0 h.list_holder ls long (omega arith) (inr o.1.1) (λ _ _. refl) (actor.Cleaner (record v { step = cleaner_step.ReleaseLatch })) before.paged.lists before.paged.each_page (λ _ _ _. refl)
-        (at_stage (record v { step = cleaner_step.ReleaseLatch }) (ap runs ph) refl refl refl refl (λ z. absurd (cc)) m' h refl refl (
+        (at_stage E c seat_of m log stable h ls d actors seat before mates W v at (record v { step = cleaner_step.ReleaseLatch }) (ap runs ph) refl refl refl refl (λ z. absurd (cc)) m' h ls refl refl (
           o.0.0,
           (λ i y l is. let r = o.0.1 i y l is in (record { held = same y.page none_in_hand All Last Agree refl r.0.held; newest = r.0.newest; bytes = r.0.bytes; low = r.0.low }, r.1)),
           (λ y is. let r = o.0.2 y is in record { held = same y.page none_in_hand All Last Unlisted refl r.held; newest = r.newest; bytes = r.bytes; low = r.low }),
@@ -227,18 +215,7 @@ module _ (E : DataSide) (c : Setup) (seat_of : ℕ → ℕ) (m : SharedWords) (l
               })
               (record { alone = his.alone; with_pages = his.with_pages; loaded = his.loaded; given = λ z. absurd (cc); step = (o, refl) })
               (λ j a n z. page_others E c seat_of m m' log log h h' ls ls d d seat j n
-              (record {
-                longer = longer_same log;
-                logs = λ q _ _. log_same q log;
-                page_words = λ q _ _. refl;
-                holders = λ q _ _. refl;
-                listeds = λ q _ _. refl;
-                taken = λ q la _. (la, refl);
-                opens = λ _ _ _ _. refl;
-                lists = λ i y _. (y, refl);
-                ctail = omega arith;
-                flushed = omega arith;
-              })
+              (pages_same refl refl (omega arith) (omega arith))
               (λ _. record { tail = refl; closes = λ _ y. y })
               (λ _. record { kept_page = λ _. refl; oldest = λ q y. y; store = refl; unfinished = refl })
               (λ other. absurd (other his.alone))

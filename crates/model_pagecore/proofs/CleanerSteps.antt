@@ -1,11 +1,11 @@
 -- The cleaner's other steps.
-use Rattle.std.proofs.Common.{Bool, List, [], ap, arith, cond, drop, eqb, eqb-true, false, get_or, inl, inr, leb, leb-true, length, length-append, refl, set, subst, suc, sym, take, true, zero, ℕ, ⊎_elim, ◌++◌, ◌+◌, ◌-◌, ◌<◌, ◌∙◌, ◌∷◌, ◌≡◌, ◌≢◌, ◌≤◌, ◌⊎◌}
+use Rattle.std.proofs.Common.{Bool, List, [], ap, arith, cond, eqb, eqb-true, false, inl, inr, leb, leb-true, length, length-append, refl, set, subst, suc, sym, take, true, zero, ℕ, ⊎_elim, ◌++◌, ◌+◌, ◌-◌, ◌<◌, ◌∙◌, ◌∷◌, ◌≡◌, ◌≢◌, ◌≤◌, ◌⊎◌}
 use Rattle.std.proofs.lemmas.Bool.{eqb-false}
 use Rattle.std.specs.Prelude.{slice_index}
 use lib.ListN.{get_elem?}
 use mathlib.Core.Option.{some, some-ne-none}
 use Rattle.model_core.proofs.Groups.{at_end, at_less, changed, changed_else, changed_here}
-use Rattle.model_core.specs.{Actor, BatchPage, cleaner_took, CleanerState, Entry, Listed, lsn, next_in_round, no_page, page_loaded, page_words_at, PageWords, SharedWords, UserState, with_page_words}
+use Rattle.model_core.specs.{Actor, BatchPage, cleaner_took, CleanerState, Entry, Listed, lsn, next_in_round, page_loaded, page_words_at, PageWords, SharedWords, UserState, with_page_words}
 use Rattle.model_core.specs.DataSide.{DataSide}
 use Rattle.model_core.specs.Setup.{Setup}
 use Rattle.model_pagecore.proofs.PageStep.{at_else, at_here, freed_sheet, latched_sheet, leaf_else, leaf_here, leaf_step, page_quiet}
@@ -17,18 +17,6 @@ use Rattle.model_core.specs.declared.ops.Answer.TheVariants as answer
 use Rattle.model_core.specs.declared.steps.CleanerStep.TheVariants as cleaner_step
 use Rattle.model_core.specs.Actors as actor
 use Rattle.model_core.specs.declared.limits.TheConstants.{FRAME_CELLS}
-
-front_of : (l : List BatchPage) → 0 < length l → (x : BatchPage) × (get_elem? l 0 ≡ some x) × ◌≡◌ {A = BatchPage} (get_or l 0 no_page) x
-front_of [] h = absurd (omega arith)
-front_of (x ∷ xs) h = (x, refl, refl)
-
-drop_at : (l : List BatchPage) (i : ℕ) (x : BatchPage) → get_elem? (drop 1 l) i ≡ some x → get_elem? l (suc i) ≡ some x
-drop_at [] i x e = absurd (some-ne-none x (sym e))
-drop_at (y ∷ ys) i x e = e
-
-drop_long : (l : List BatchPage) → length (drop 1 l) + 1 ≡ length l ⊎ (l ≡ [])
-drop_long [] = inr refl
-drop_long (y ∷ ys) = inl (omega arith)
 
 cells_next : (xs : List ℕ) (j : ℕ) → j < length xs → take (j + 1) xs ≡ take j xs ++ slice_index xs j ∷ []
 cells_next [] j h = absurd (omega arith)
@@ -109,7 +97,8 @@ module _ (E : DataSide) (c : Setup) (seat_of : ℕ → ℕ) (m : SharedWords) (l
     next_in_round_same : Looking E c m log h ls d seat v → runs v.step ≡ true → CleanerFits E c m log h ls d seat (next_in_round v)
     next_in_round_same o live = next_in_round_fits m h v refl refl live refl refl refl o.held own.few o.more o.round (λ i y is. inr (o.passed i y is)) own.apart
 
-    at_stage : (x : CleanerState) → runs v.step ≡ true → x.pages ≡ v.pages → x.page ≡ v.page → x.flushed ≡ v.flushed → ◌≡◌ {A = List BatchPage} x.batch v.batch → (x.step ≡ cleaner_step.StoreFailed → ⊥) → (m' : SharedWords) (h' : PageGhost) (ls' : ℕ → List Listed) → m'.flushed ≡ m.flushed → h'.unfinished ≡ h.unfinished
+    -- a state with the same pages and the same batch
+    pub at_stage : (x : CleanerState) → runs v.step ≡ true → x.pages ≡ v.pages → x.page ≡ v.page → x.flushed ≡ v.flushed → ◌≡◌ {A = List BatchPage} x.batch v.batch → (x.step ≡ cleaner_step.StoreFailed → ⊥) → (m' : SharedWords) (h' : PageGhost) (ls' : ℕ → List Listed) → m'.flushed ≡ m.flushed → h'.unfinished ≡ h.unfinished
         → CleanerAt E c m' log h' ls' d seat x x.step → CleanerFits E c m' log h' ls' d seat x
     at_stage x live a b f g nf m' h' ls' e1 e3 k = record {
       alone = own.alone;

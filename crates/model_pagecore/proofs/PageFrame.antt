@@ -316,6 +316,22 @@ module _ (E : DataSide) (c : Setup) (seat_of : ℕ → ℕ) (m m' : SharedWords)
     page_others cl ca po (actor.Checkpointer t) own_seat o = checkpointer_later t (po (λ z. ne (o.alone ∙ sym z))) o
     page_others cl ca po (actor.Joined es) own_seat o = tt
 
+-- no page's words and no list change, and the history doesn't
+pub pages_same : {E : DataSide} {c : Setup} {seat_of : ℕ → ℕ} {m m' : SharedWords} {log : List Entry} {h : PageGhost} {given : ℕ} {kept_page : ℕ → KeptPage} {unfinished : List BatchPage} {ls : ℕ → List Listed} {d d' : E.Part} {seat : ℕ}
+    → m'.page_words ≡ m.page_words → m'.lists ≡ m.lists → m.ctail ≤ m'.ctail → m.flushed ≤ m'.flushed → PageLater E c seat_of m m' log log h (record h { given = given; kept_page = kept_page; unfinished = unfinished }) ls ls d d' seat
+pages_same {log = log} words lists ctail flushed = record {
+  longer = longer_same log;
+  logs = λ p _ _. log_same p log;
+  page_words = λ p _ _. ap (λ (x : List PageWords). page_words_at x p) words;
+  holders = λ _ _ _. refl;
+  listeds = λ _ _ _. refl;
+  taken = λ q la _. (sym (ap (λ (x : List PageWords). (page_words_at x q).latch) words) ∙ la, refl);
+  opens = λ _ _ _ _. refl;
+  lists = λ i o _. (ap (λ (x : List ℕ). slice_index x i) lists ∙ o, refl);
+  ctail = ctail;
+  flushed = flushed;
+}
+
 -- the actor at one seat moves
 pub page_moved : (E : DataSide) (c : Setup) (m m' : SharedWords) (log log' : List Entry) (stable stable' : ℕ) (h h' : PageGhost) (ls ls' : ℕ → List Listed) (d d' : E.Part) (actors : List Actor) (seat : ℕ) (b : Actor)
     → PageFacts E c m' log' stable' h' ls' d' → PageFits E c m' log' h' ls' d' seat b

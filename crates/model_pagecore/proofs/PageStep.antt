@@ -8,7 +8,7 @@ use Rattle.model_core.specs.{Actor, blank_words, CellWrite, change_at, Entry, Li
 use Rattle.model_core.specs.DataSide.{DataSide}
 use Rattle.model_core.specs.Setup.{Setup}
 use Rattle.model_pagecore.proofs.PageHistory.{each_more}
-use Rattle.model_pagecore.proofs.PageFrame.{log_same, longer_same, page_later, page_moved, page_others, one_page_later}
+use Rattle.model_pagecore.proofs.PageFrame.{log_same, longer_same, one_page_later, page_later, page_moved, page_others, pages_same}
 use Rattle.model_pagecore.proofs.Unfinished.{unfinished_later}
 use Rattle.model_pagecore.specs.PageFacts.{ClosedLinks, PageGhost, ListFacts, listed}
 use Rattle.model_pagecore.specs.PageHalf.{At, PageFits, PageHalf, PagesInHand, group_in_hand}
@@ -61,18 +61,7 @@ module _ (E : DataSide) (c : Setup) (seat_of : ℕ → ℕ) (m : SharedWords) (l
       })
       mine
       (λ j a n e. page_others E c seat_of m m' log log h h ls ls d d seat j n
-      (record {
-        longer = longer_same log;
-        logs = λ p _ _. log_same p log;
-        page_words = λ p _ _. ap (λ (x : List PageWords). page_words_at x p) e1;
-        holders = λ p _ _. refl;
-        listeds = λ p _ _. refl;
-        taken = λ q la _. (sym (ap (λ (x : List PageWords). (page_words_at x q).latch) e1) ∙ la, refl);
-        opens = λ _ _ _ _. refl;
-        lists = λ i o _. (ap (λ (x : List ℕ). slice_index x i) e2 ∙ o, refl);
-        ctail = omega arith;
-        flushed = le;
-      })
+      (pages_same e1 e2 (omega arith) le)
       (λ _. record { tail = refl; closes = λ _ z. z })
       (λ _. record { kept_page = λ _. refl; oldest = λ p z. subst (λ (x : List PageWords). 0 < (page_words_at x p).oldest) (sym e1) z; store = refl; unfinished = refl })
       (λ _. record { given = refl; passed = λ _ _ _ _ z. z })

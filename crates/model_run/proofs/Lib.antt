@@ -3,11 +3,8 @@ pub mod Between
 pub mod Fitting
 pub mod Later
 pub mod Stored
-pub mod Turns
 pub mod Cuts
 pub mod Closing
 pub mod Safe
-pub mod Growing
 pub mod Numbered
-pub mod Played
 pub mod Start

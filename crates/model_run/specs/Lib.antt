@@ -1,10 +1,7 @@
 pub mod Closed
 pub mod Crashed
 pub mod Given
-pub mod Growing
-pub mod InTurn
 pub mod Kept
-pub mod PlayedOut
 pub mod Start
 pub mod Stored
 pub use Rattle.model_run.specs.Closed.{IsClosed, result_of}

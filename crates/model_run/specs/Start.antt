@@ -1,15 +1,14 @@
 -- The start of a run on a store that opening made ready.
-use Rattle.std.specs.Prelude.{ℕ, ◌+◌, List, [], None}
+use Rattle.std.specs.Prelude.{ℕ, ◌+◌, List, []}
 use Rattle.std.specs.List.{AllByRecursion}
 use Rattle.model_device.specs.Disk.{Disk}
-use Rattle.model_logdev.specs.{first_marks}
 use Rattle.model_store.specs.{IsOrderly}
 use Rattle.model_store.specs.Reading.{Reading}
-use Rattle.model_opening.specs.{IsReady, start_of}
+use Rattle.model_opening.specs.{IsReady, start_block, start_of}
 use Rattle.model_script.specs.{LineFits}
 use Rattle.model_script.specs.declared.script.ScriptLine.{ScriptLine}
 use Rattle.model_theorem.specs.{Opened}
-use Rattle.model_run.specs.PlayedOut.{PlayedOut}
+use Rattle.model_run.specs.Closed.{Closed}
 
 -- a store that was read as this, as it is opened
 abbrev pub opened_as : Reading → Opened
@@ -25,12 +24,16 @@ pub record IsStart (reading : Reading) (script : List ScriptLine) (log_disk data
   pub fits : AllByRecursion (LineFits reading.shape) script
 
 -- what a run comes to that plays no line on it
-abbrev pub unplayed : Reading → List ScriptLine → List (ℕ × ℕ) → Disk → Disk → PlayedOut
+abbrev pub unplayed : Reading → List ScriptLine → List (ℕ × ℕ) → Disk → Disk → Closed
 unplayed reading script left log_disk data_disk = record {
   script = script;
   opened = opened_as reading;
-  turns = record { answered = []; lost = None; rest = script };
-  log_marks = first_marks (start_of reading) (reading.number + 1);
+  number = reading.number + 1;
+  run = record {
+    start = start_of reading;
+    entries = [];
+    marks = record { wtail = start_of reading; write = start_of reading; flushed = start_of reading; ckpt = start_block reading };
+  };
   left = left;
   log_disk = log_disk;
   data_disk = data_disk;

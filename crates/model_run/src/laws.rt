@@ -1,9 +1,9 @@
 // What holds of each closed run.
-ghost use Rattle.std.specs.Prelude.{◌≡◌, ◌≢◌, ◌≤◌, ◌<◌, ◌+◌, ◌∷◌, ◌++◌, [], ℕ, List, Option, Some};
+ghost use Rattle.std.specs.Prelude.{◌≡◌, ◌≢◌, ◌≤◌, ◌<◌, ◌+◌, ◌++◌, [], ℕ, List, Option, Some};
 ghost use Rattle.std.specs.List.{AllByRecursion};
 ghost use Rattle.model_base.specs.declared.shape.Shape.{Shape};
-ghost use Rattle.model_record.specs.{group_text, groups_of};
-ghost use Rattle.model_log.specs.{end_of, IsDataLsn, IsGivenTo, IsRunOf, sn_of, spans_of};
+ghost use Rattle.model_record.specs.{groups_of};
+ghost use Rattle.model_log.specs.{end_of, IsDataLsn, IsRunOf, spans_of};
 ghost use Rattle.model_record.specs.declared.group.Whole.{Whole};
 ghost use Rattle.model_device.specs.{IsImage};
 ghost use Rattle.model_device.specs.Disk.{Disk};
@@ -15,13 +15,9 @@ ghost use Rattle.model_theorem.specs.{Account, CrashSafe, failures_of, HasCheckp
 ghost use Rattle.model_theorem.specs.Values.{Crash};
 ghost use Rattle.model_run.specs.Closed.{Closed, IsClosed, result_of};
 ghost use Rattle.model_run.specs.Crashed.{IsCrashOf, before_crash};
-ghost use Rattle.model_history.specs.{IsLeft, IsLegal};
-ghost use Rattle.model_history.specs.declared.entry.Marks.{Marks};
+ghost use Rattle.model_history.specs.{IsLeft};
 ghost use Rattle.model_script.specs.declared.script.ScriptLine.{ScriptLine};
-ghost use Rattle.model_run.specs.Growing.{AreFirstsFor};
-ghost use Rattle.model_run.specs.InTurn.{AreAnswered, lines_lost, played};
 ghost use Rattle.model_run.specs.Kept.{DataHolds, IsUnwritten};
-ghost use Rattle.model_run.specs.PlayedOut.{IsPlayedOut, PlayedOut, closed_of};
 ghost use Rattle.model_run.specs.Start.{IsStart, opened_as, unplayed};
 ghost use Rattle.model_run.specs.Stored.{IsStored};
 ghost use Rattle.model_run.specs.Given.{AreGiven};
@@ -90,14 +86,6 @@ pub fn crash_of_closed_run()
     crash_of_safe_run();
 }
 
-/// A history that is played line by line is legal: these lines were answered, and the one behind them was lost, if one
-/// was.
-pub fn played_lines_are_legal()
-    ensures { (script : List ScriptLine) (space s : ℕ) (marks : Marks) (lines rest : List ScriptLine) (lost : Option ScriptLine)
-        → script ≡ lines ++ (lines_lost lost ++ rest) → AreAnswered marks space s lines
-        → IsLegal script space s marks (played marks space s lines lost) }
-{}
-
 /// A store that opening made ready may be given to a run: its log device holds the run of no group, and its data device
 /// the opened pages. With no line played it is a closed run.
 pub fn opened_store_is_closed()
@@ -110,21 +98,7 @@ pub fn opened_store_is_closed()
         → IsStart reading script log_disk data_disk → IsUnwritten reading.shape reading.pages data_disk }
     ensures closed { (failures : ℕ) (reading : Reading) (script : List ScriptLine) (left : List (ℕ × ℕ)) (log_disk data_disk : Disk)
         → IsStart reading script log_disk data_disk → IsLeft script [] left → (left ≢ [] → 0 < failures)
-        → IsClosed failures (closed_of (unplayed reading script left log_disk data_disk)) }
-{}
-
-/// So a run that plays its lines in turn, and writes no page, is closed.
-pub fn played_run_is_closed()
-    ensures { (failures : ℕ) (out : PlayedOut) → IsPlayedOut failures out → IsClosed failures (closed_of out) }
-{}
-
-/// What a writer hands to a log part, with one more group: the text of the group behind the bytes, and the first offsets
-/// anew.
-pub fn given_grows()
-    ensures { (s : ℕ) (wholes : List Whole) (whole : Whole) (from : ℕ) (bytes firsts more : List ℕ)
-        → IsDataLsn s → IsRunOf s (wholes ++ whole ∷ []) → sn_of s ≤ sn_of from → sn_of from ≤ sn_of whole.start
-        → IsGivenTo s wholes from whole.start bytes firsts → AreFirstsFor s wholes whole from more
-        → IsGivenTo s (wholes ++ whole ∷ []) from whole.end (bytes ++ group_text whole.group) more }
+        → IsClosed failures (unplayed reading script left log_disk data_disk) }
 {}
 
 /// What a data device holds of a run that keeps each page as it was last written, or as the batch at hand has it.

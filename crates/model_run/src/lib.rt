@@ -6,6 +6,6 @@ mod laws;
 
 pub use laws::{
     closed_run_is_opened, closed_run_is_safe, closed_run_reads, crash_of_closed_run,
-    crash_of_safe_run, given_grows, longer_data, opened_store_is_closed, played_lines_are_legal,
-    played_run_is_closed, stored_pages_hold, whole_page_is_prefix,
+    crash_of_safe_run, longer_data, opened_store_is_closed, stored_pages_hold,
+    whole_page_is_prefix,
 };

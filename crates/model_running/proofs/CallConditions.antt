@@ -3,12 +3,12 @@ use Rattle.std.proofs.Common.{List, [], arith, false, length, subst, sym, â„•, â
 use lib.ListN.{get_elem?}
 use mathlib.Core.Option.{some}
 use Rattle.model_base.specs.declared.limits.TheConstants.{LSN_LIMIT}
-use Rattle.model_core.specs.{Actor, Batch, BatchPage, Blocks, change_at, CheckpointerState, CleanerState, Entry, IsSized, Listed, lsn, Nothing, PageChange, SharedWords, UserState}
+use Rattle.model_core.specs.{Actor, BatchPage, change_at, CheckpointerState, CleanerState, Entry, IsSized, Listed, lsn, PageChange, SharedWords, UserState}
 use Rattle.model_core.specs.DataSide.{DataSide}
 use Rattle.model_core.specs.LogSide.{LogSide}
 use Rattle.model_core.specs.Setup.{Setup}
 use Rattle.model_logcore.proofs.AnswersFit.{small_sn}
-use Rattle.model_logcore.specs.{LogGhost, UserAt, UserFits}
+use Rattle.model_logcore.specs.{LogGhost, UserFits}
 use Rattle.model_logcore.specs.LogHalf.{LogHalf}
 use Rattle.model_logcore.specs.LogLaws.{LogLaws}
 use Rattle.model_pagecore.proofs.BatchSteps.{can_batch}

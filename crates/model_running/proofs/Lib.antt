@@ -5,6 +5,8 @@ pub mod BothReady
 pub mod CallConditions
 pub mod Causes
 pub mod CheckpointStays
+pub mod CheckpointerTurns
+pub mod CleanerTurns
 pub mod ClosedKeep
 pub mod EachTurn
 pub mod FailedStays
@@ -12,8 +14,11 @@ pub mod FlatWords
 pub mod LatchSteps
 pub mod LatchesKeep
 pub mod ListsReady
+pub mod LogTurns
+pub mod PageTurn
 pub mod SeatsKeep
 pub mod StartRunning
 pub mod Turns
 pub mod UserCloses
+pub mod UserTurns
 pub mod Watermarks

@@ -1,0 +1,144 @@
+-- The writer stores WTAIL, WRITE, or FAILED.
+use Rattle.std.proofs.Common.{List, ap, arith, false, length-drop, refl, set, sym, true, ℕ, ◌*◌, ◌+◌, ◌/◌, ◌∙◌, ◌≡◌, ◌≤◌}
+use Rattle.std.proofs.lemmas.List.{get_or-drop}
+use lib.ListN.{get_elem?}
+use Rattle.model_core.proofs.Lsns.{floor_grows, lsn_le}
+use Rattle.model_core.specs.{Actor, byte_at, Entry, first_of, floor, full_blocks, SharedWords, writer_holds, writer_took, WriterState}
+use Rattle.model_core.specs.LogSide.{LogSide}
+use Rattle.model_core.specs.Setup.{Setup}
+use Rattle.model_logcore.proofs.Same.{facts_same, later_marks, numbers_sized, part_same, writer_same}
+use Rattle.model_logcore.proofs.WriterSteps.{own, ranks, tails, wsteps}
+use Rattle.model_logcore.specs.LogFacts.{LogGhost}
+use Rattle.model_logcore.specs.LogFits.{WriterAt, WriterFits}
+use Rattle.model_logcore.specs.LogHalf.{LogHalf}
+use mathlib.Core.Option as maybe
+use Rattle.model_core.specs.declared.ops.Answer.TheVariants as answer
+use Rattle.model_core.specs.declared.steps.WriterStep.TheVariants as writer_step
+use Rattle.model_core.specs.Actors as actor
+
+module _ (D : LogSide) (c : Setup) (spare : ℕ) (m : SharedWords) (g : LogGhost) (p : D.Part) (actors : List Actor) (seat : ℕ) (s : WriterState) (before : LogHalf D c spare m g p actors) (at : get_elem? actors seat ≡ maybe.some (actor.Writer s)) where
+  fit : WriterFits D c m g p seat s
+  fit = own D c spare m g p actors seat s before at
+
+  order : (g.write ≤ g.read) × (g.read ≤ g.wtail) × (g.wtail ≤ g.tail) × (g.tail ≤ m.sn) × (c.base ≤ g.write)
+  order = ranks D c spare m g p actors seat s before at
+
+  -- it stores WTAIL
+  pub keeps_store_wtail : s.step ≡ writer_step.StoreWtail → WriterAt D c m g p seat s writer_step.StoreWtail → (h : LogGhost) × LogHalf D c spare (record m { wtail = s.tail }) h p (set actors seat (actor.Writer (writer_took s (answer.Old 0) writer_step.StoreWtail))) × (◌≡◌ {A = List Entry} (h.log) (g.log))
+  keeps_store_wtail is h =
+      let m' : SharedWords = record m { wtail = s.tail } in
+      let g' : LogGhost = record g { wtail = g.tail } in
+      let w : WriterState = record s { step = writer_step.LoadCheckpoint } in
+      let G = before.global in let O = G.order in let P = G.part in
+      let r = order in let r0 = r.0 in let r1 = r.1 in let r2 = r.2 in let r3 = r.3 in
+      let t = fit.tail in
+      let up : m.wtail ≤ s.tail = (let a = tails D c spare m g p actors seat s before at in omega arith) in (
+        g',
+        wsteps D c spare m g p actors seat s before at m' g' p refl w
+            (numbers_sized before.sized)
+            (record {
+              tiled = G.tiled;
+              order = record {
+                base_even = O.base_even;
+                write_is = O.write_is;
+                wtail_is = t;
+                flushed_is = O.flushed_is;
+                base_write = O.base_write;
+                write_read = O.write_read;
+                read_wtail = omega arith;
+                wtail_tail = omega arith;
+                tail_sn = O.tail_sn;
+                read_entered = O.read_entered;
+                entered_tail = O.entered_tail;
+                write_bound = O.write_bound;
+                wtail_bound = O.tail_bound;
+                tail_bound = O.tail_bound;
+                flushed_bound = O.flushed_bound;
+              };
+              ring_cells = G.ring_cells;
+              first_offsets = G.first_offsets;
+              written_links = record {
+                linked = G.written_links.linked;
+                links_are = λ j l v. let q = G.written_links.links_are j l v in let near = q.near in record { at = q.at; group = q.group; is = q.is; slot = q.slot; size = q.size; since = q.since; near = omega arith; whole = q.whole };
+                standing = λ j x x_is two f. let q = G.written_links.standing j x x_is two f in let near = q.1 in (q.0, omega arith);
+              };
+              commits = G.commits;
+              part = part_same D c m g p P P.write_written (let z = P.given_wtail in omega arith) P.flushed_stable P.ckpt_part P.turn_word;
+            })
+            (writer_same D c m g p fit fit.ckpt (λ z. refl) ((refl, h.1, h.0.1), h.0.0))
+            (later_marks D c m g p (omega arith) up (omega arith) (omega arith) (λ z. z))
+            refl refl refl refl refl (sym (ap writer_holds is)) (λ z. refl),
+        refl,
+      )
+
+  -- it stores WRITE, and keeps the last block, where that isn't full
+  pub keeps_store_write : s.step ≡ writer_step.StoreWrite → WriterAt D c m g p seat s writer_step.StoreWrite → (h : LogGhost) × LogHalf D c spare (record m { write = s.tail }) h p (set actors seat (actor.Writer (writer_took s (answer.Old 0) writer_step.StoreWrite))) × (◌≡◌ {A = List Entry} (h.log) (g.log))
+  keeps_store_write is h =
+      let m' : SharedWords = record m { write = s.tail } in
+      let g' : LogGhost = record g { write = g.tail } in
+      let w : WriterState = writer_took s (answer.Old 0) writer_step.StoreWrite in
+      let G = before.global in let O = G.order in let P = G.part in
+      let r = order in let r0 = r.0 in let r1 = r.1 in let r2 = r.2 in let r4 = r.4 in
+      let lg = fit.long in let wi = fit.wide in let fr = fit.from in let re = O.read_entered in
+      let k2 = h.2 in let k3 = h.3 in
+      let up : m.write ≤ s.tail = (let a = O.write_is in let b = lsn_le g.write g.tail (omega arith) in let t = fit.tail in omega arith) in
+      let floors : floor m.write ≤ floor s.tail = floor_grows m.write s.tail up in (
+        g',
+        wsteps D c spare m g p actors seat s before at m' g' p refl w
+            (numbers_sized before.sized)
+            (record {
+              tiled = G.tiled;
+              order = record {
+                base_even = O.base_even;
+                write_is = fit.tail;
+                wtail_is = O.wtail_is;
+                flushed_is = O.flushed_is;
+                base_write = omega arith;
+                write_read = omega arith;
+                read_wtail = O.read_wtail;
+                wtail_tail = O.wtail_tail;
+                tail_sn = O.tail_sn;
+                read_entered = O.read_entered;
+                entered_tail = O.entered_tail;
+                write_bound = O.tail_bound;
+                wtail_bound = O.wtail_bound;
+                tail_bound = O.tail_bound;
+                flushed_bound = O.flushed_bound;
+              };
+              ring_cells = record { each = λ x l q z. let o = G.ring_cells.each x l q z in let o1 = o.1 in (o.0, omega arith) };
+              first_offsets = record { slots_are = G.first_offsets.slots_are; near = λ q z. let o = G.first_offsets.near q z in omega arith; true_first = G.first_offsets.true_first; stored = G.first_offsets.stored; begun = G.first_offsets.begun };
+              written_links = G.written_links;
+              commits = record { flush = G.commits.flush; wrote = λ i e a b d. let o = G.commits.wrote i e a b d in omega arith; linked = G.commits.linked; last = G.commits.last };
+              part = part_same D c m g p P (omega arith) P.given_wtail P.flushed_stable P.ckpt_part P.turn_word;
+            })
+            (record {
+              alone = fit.alone;
+              blocks = fit.blocks;
+              tail = fit.tail;
+              write = refl;
+              from = omega arith;
+              long = omega (arith, length-drop (496 * full_blocks s) s.kept);
+              kept = λ j l. get_or-drop (496 * full_blocks s) s.kept j 0 ∙ fit.kept (496 * full_blocks s + j) (omega (arith, length-drop (496 * full_blocks s) s.kept)) ∙ ap (byte_at c.base g.log) (let z : s.from + (496 * full_blocks s + j) ≡ s.from + 496 * full_blocks s + j = omega arith in z);
+              wide = omega (arith, length-drop (full_blocks s) s.firsts);
+              firsts = λ i l. get_or-drop (full_blocks s) s.firsts i 0 ∙ fit.firsts (full_blocks s + i) (omega (arith, length-drop (full_blocks s) s.firsts)) ∙ ap (first_of c.base g.log) (let z : g.write / 496 + (full_blocks s + i) ≡ g.tail / 496 + i = omega arith in z);
+              small = omega arith;
+              ckpt = fit.ckpt;
+              no_device_while_checking = λ z. let y = fit.no_device_while_checking z in let x : true ≡ false = sym (ap writer_holds is) ∙ y in absurd (cc);
+              step = ((k3, k2), refl);
+            })
+            (later_marks D c m g p up (omega arith) (omega arith) (omega arith) (λ z. z))
+            refl refl refl refl refl (sym (ap writer_holds is)) (λ z. refl),
+        refl,
+      )
+
+  -- it stores FAILED
+  pub keeps_store_failed : s.step ≡ writer_step.StoreFailed → WriterAt D c m g p seat s writer_step.StoreFailed → LogHalf D c spare (record m { failed = s.code }) g p (set actors seat (actor.Writer (writer_took s (answer.Old 0) writer_step.StoreFailed)))
+  keeps_store_failed is h =
+      let m' : SharedWords = record m { failed = s.code } in
+      let G = before.global in let h0 = h.0 in
+      wsteps D c spare m g p actors seat s before at m' g p refl (record s { step = writer_step.GiveFailed })
+      (numbers_sized before.sized)
+      (facts_same D c m g p G.part G)
+      (writer_same D c m g p fit fit.ckpt (λ z. let y = fit.no_device_while_checking z in let x : true ≡ false = sym (ap writer_holds is) ∙ y in absurd (cc)) h0)
+      (later_marks D c m g p (omega arith) (omega arith) (omega arith) (omega arith) (λ z. h0))
+      refl refl refl refl refl (sym (ap writer_holds is)) (λ z. refl)

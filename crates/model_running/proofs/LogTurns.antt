@@ -1,0 +1,149 @@
+-- The turns of the writer, the flusher and the closer keep the page half.
+use Rattle.std.proofs.Common.{Bool, List, arith, cond, eqb, false, refl, set, subst, true, ℕ, ◌≡◌, ◌≤◌}
+use Rattle.std.specs.Prelude.{slice_index}
+use lib.ListN.{get_elem?}
+use mathlib.Core.Option.{some}
+use Rattle.model_core.specs.{Actor, Blocks, checked, closer_op, closer_took, CloserState, DataServed, Entry, flusher_op, FlusherState, Listed, lists_left, LogServed, Nothing, old_of, own_took, shared_answer, shared_left, SharedWords, writer_op, WriterState}
+use Rattle.model_core.specs.DataSide.{DataSide}
+use Rattle.model_core.specs.LogSide.{LogSide}
+use Rattle.model_core.specs.Setup.{Setup}
+use Rattle.model_core.specs.declared.steps.CloserStep.{CloserStep}
+use Rattle.model_core.specs.declared.steps.WriterStep.{WriterStep}
+use Rattle.model_core.specs.declared.steps.FlusherStep.{FlusherStep}
+use Rattle.model_logcore.proofs.DeviceSteps.{can_write}
+use Rattle.model_logcore.specs.{LogGhost}
+use Rattle.model_logcore.specs.LogHalf.{LogHalf}
+use Rattle.model_logcore.specs.LogLaws.{LogLaws}
+use Rattle.model_pagecore.proofs.ClosingSteps.{keeps_closer_clear, keeps_closer_look, keeps_closer_publish}
+use Rattle.model_pagecore.proofs.PageStep.{page_quiet}
+use Rattle.model_pagecore.specs.{CloserFits, PageGhost}
+use Rattle.model_running.specs.RunningStore.{BothHalves}
+use Rattle.model_core.specs.declared.steps.CloserStep.TheVariants as closer_step
+use Rattle.model_core.specs.Actors as actor
+use Rattle.model_core.specs.declared.words.Word.TheVariants as word
+use Rattle.model_core.specs.declared.ops.Op.TheVariants as op
+use Rattle.model_core.specs.declared.steps.WriterStep.TheVariants as writer_step
+use Rattle.model_core.specs.declared.steps.FlusherStep.TheVariants as flusher_step
+use Rattle.model_logcore.specs.LogFits as marks
+use Rattle.model_running.proofs.PageTurn.{PageDone, as_is, laid_of, mates, pass, rested, still_part, unmoved}
+
+module _ (D : LogSide) (L : LogLaws D) (E : DataSide) (c : Setup) (spare : ℕ) (m : SharedWords) (g : LogGhost) (h : PageGhost) (ls : ℕ → List Listed) (p : D.Part) (d : E.Part) (actors : List Actor) (seat : ℕ) (both : BothHalves D E c spare m g h ls p d actors) (code : ℕ) (q : D.Part) (e : E.Part) where
+  abbrev Kept : SharedWords → List Entry → (ℕ → List Listed) → Actor → Type 0
+  Kept m' l ls' b = PageDone D E c m h actors seat p d m' l ls' b
+
+  abbrev Done : SharedWords → List Entry → (ℕ → List Listed) → Actor → Type 0
+  Done m' l ls' b = PageDone D E c m h actors seat q e m' l ls' b
+
+  writer_page : (s : WriterState) (f : WriterStep) (x : WriterState) (k : LogGhost) → LogHalf D c spare (shared_left m (writer_op s f)) k q (set actors seat (actor.Writer x)) → D.stable p ≤ D.stable q → ◌≡◌ {A = E.Part} e d → Done (shared_left m (writer_op s f)) g.log ls (actor.Writer x)
+  writer_page s writer_step.LoadLink x k after ge v = pass both seat _ (actor.Writer x) k after ge refl refl refl refl refl (omega arith) tt v
+  writer_page s writer_step.ClearLink x k after ge v = pass both seat _ (actor.Writer x) k after ge refl refl refl refl refl (omega arith) tt v
+  writer_page s writer_step.StoreWtail x k after ge v = pass both seat _ (actor.Writer x) k after ge refl refl refl refl refl (omega arith) tt v
+  writer_page s writer_step.LoadCheckpoint x k after ge v = pass both seat _ (actor.Writer x) k after ge refl refl refl refl refl (omega arith) tt v
+  writer_page s writer_step.LoadFirst x k after ge v = pass both seat _ (actor.Writer x) k after ge refl refl refl refl refl (omega arith) tt v
+  writer_page s writer_step.ClearFirst x k after ge v = pass both seat _ (actor.Writer x) k after ge refl refl refl refl refl (omega arith) tt v
+  writer_page s writer_step.LoadCell x k after ge v = pass both seat _ (actor.Writer x) k after ge refl refl refl refl refl (omega arith) tt v
+  writer_page s writer_step.GiveBroken x k after ge v = pass both seat _ (actor.Writer x) k after ge refl refl refl refl refl (omega arith) tt v
+  writer_page s writer_step.WriteTo x k after ge v = pass both seat _ (actor.Writer x) k after ge refl refl refl refl refl (omega arith) tt v
+  writer_page s writer_step.StoreWrite x k after ge v = pass both seat _ (actor.Writer x) k after ge refl refl refl refl refl (omega arith) tt v
+  writer_page s writer_step.GiveDevice x k after ge v = pass both seat _ (actor.Writer x) k after ge refl refl refl refl refl (omega arith) tt v
+  writer_page s writer_step.StoreFailed x k after ge v = pass both seat _ (actor.Writer x) k after ge refl refl refl refl refl (omega arith) tt v
+  writer_page s writer_step.GiveFailed x k after ge v = pass both seat _ (actor.Writer x) k after ge refl refl refl refl refl (omega arith) tt v
+  writer_page s writer_step.Failed x k after ge v = pass both seat _ (actor.Writer x) k after ge refl refl refl refl refl (omega arith) tt v
+  writer_page s writer_step.TakeDevice x k after ge v = by (eqb m.device 0) after
+    where
+      by : (b : Bool) → LogHalf D c spare (cond b (record m { device = 1 }) m) k q (set actors seat (actor.Writer x)) → Done (cond b (record m { device = 1 }) m) g.log ls (actor.Writer x)
+      by true a = pass both seat _ (actor.Writer x) k a ge refl refl refl refl refl (omega arith) tt v
+      by false a = pass both seat _ (actor.Writer x) k a ge refl refl refl refl refl (omega arith) tt v
+
+  flusher_page : (t : FlusherState) (f : FlusherStep) (x : FlusherState) (k : LogGhost) → (f ≡ flusher_step.StoreFlushed → m.flushed ≤ t.mark) → LogHalf D c spare (shared_left m (flusher_op t f)) k q (set actors seat (actor.Flusher x)) → D.stable p ≤ D.stable q → ◌≡◌ {A = E.Part} e d → Done (shared_left m (flusher_op t f)) g.log ls (actor.Flusher x)
+  flusher_page t flusher_step.LoadWrite x k up after ge v = pass both seat _ (actor.Flusher x) k after ge refl refl refl refl refl (omega arith) tt v
+  flusher_page t flusher_step.GiveBroken x k up after ge v = pass both seat _ (actor.Flusher x) k after ge refl refl refl refl refl (omega arith) tt v
+  flusher_page t flusher_step.Sync x k up after ge v = pass both seat _ (actor.Flusher x) k after ge refl refl refl refl refl (omega arith) tt v
+  flusher_page t flusher_step.StoreFlushed x k up after ge v = pass both seat _ (actor.Flusher x) k after ge refl refl refl refl refl (up refl) tt v
+  flusher_page t flusher_step.GiveDevice x k up after ge v = pass both seat _ (actor.Flusher x) k after ge refl refl refl refl refl (omega arith) tt v
+  flusher_page t flusher_step.StoreFailed x k up after ge v = pass both seat _ (actor.Flusher x) k after ge refl refl refl refl refl (omega arith) tt v
+  flusher_page t flusher_step.GiveFailed x k up after ge v = pass both seat _ (actor.Flusher x) k after ge refl refl refl refl refl (omega arith) tt v
+  flusher_page t flusher_step.Failed x k up after ge v = pass both seat _ (actor.Flusher x) k after ge refl refl refl refl refl (omega arith) tt v
+  flusher_page t flusher_step.TakeDevice x k up after ge v = by (eqb m.device 0) after
+    where
+      by : (b : Bool) → LogHalf D c spare (cond b (record m { device = 1 }) m) k q (set actors seat (actor.Flusher x)) → Done (cond b (record m { device = 1 }) m) g.log ls (actor.Flusher x)
+      by true a = pass both seat _ (actor.Flusher x) k a ge refl refl refl refl refl (omega arith) tt v
+      by false a = pass both seat _ (actor.Flusher x) k a ge refl refl refl refl refl (omega arith) tt v
+
+  module _ (s : WriterState) (at : get_elem? actors seat ≡ some (actor.Writer s)) where
+    S1 : marks.WriterFits D c m g p seat s
+    S1 = both.logged.each seat (actor.Writer s) at
+
+    writer_ge : (f : WriterStep) → marks.WriterAt D c m g p seat s f → LogServed D p (Blocks s.kept s.firsts) (writer_op s f) code q → D.stable p ≤ D.stable q
+    writer_ge writer_step.WriteTo k v = let r = (L.writes c.blocks c.base g.log g.write g.tail code s.kept s.firsts p q both.logged.global.part.holds (can_write D L c spare m g p actors seat s both.logged at k) (subst (λ (t : ℕ). D.Wrote t s.kept s.firsts code p q) S1.tail v)).stable in omega arith
+    writer_ge writer_step.LoadLink k v = still_part D v
+    writer_ge _ k v = still_part D v
+
+    writer_stored : (f : WriterStep) → DataServed E d (Blocks s.kept s.firsts) (writer_op s f) code e → ◌≡◌ {A = E.Part} e d
+    writer_stored writer_step.LoadLink v = v
+    writer_stored _ v = v
+
+    writer_lists : (f : WriterStep) (l : List Entry) (m' : SharedWords) (b : Actor) → Done m' l ls b → Done m' l (lists_left ls (λ i. slice_index m.lists i) (writer_op s f)) b
+    writer_lists writer_step.LoadLink l m' b r = r
+    writer_lists _ l m' b r = r
+
+    pub writer_turn : (b : Bool) (x : WriterState) (k : LogGhost) → LogHalf D c spare (shared_left m (cond b (op.Load word.Failed) (writer_op s s.step))) k q (set actors seat (actor.Writer x)) → LogServed D p (Blocks s.kept s.firsts) (cond b (op.Load word.Failed) (writer_op s s.step)) code q
+        → DataServed E d (Blocks s.kept s.firsts) (cond b (op.Load word.Failed) (writer_op s s.step)) code e
+        → Done (shared_left m (cond b (op.Load word.Failed) (writer_op s s.step))) g.log (lists_left ls (λ i. slice_index m.lists i) (cond b (op.Load word.Failed) (writer_op s s.step))) (actor.Writer x)
+    writer_turn true x k after w v = pass both seat m (actor.Writer x) k after (still_part D w) refl refl refl refl refl (omega arith) tt v
+    writer_turn false x k after w v = writer_lists s.step g.log (shared_left m (writer_op s s.step)) (actor.Writer x) (writer_page s s.step x k after (writer_ge s.step S1.step w) (writer_stored s.step v))
+
+  module _ (t : FlusherState) (at : get_elem? actors seat ≡ some (actor.Flusher t)) where
+    T1 : marks.FlusherFits D c m g p t
+    T1 = both.logged.each seat (actor.Flusher t) at
+
+    synced_ge : (b : Bool) → D.stable q ≡ cond b (D.written p) (D.stable p) → D.stable p ≤ D.stable q
+    synced_ge true r = let z = both.logged.global.part.stable_written in omega arith
+    synced_ge false r = omega arith
+
+    flusher_ge : (f : FlusherStep) → marks.FlusherAt D c m g p t f → LogServed D p Nothing (flusher_op t f) code q → D.stable p ≤ D.stable q
+    flusher_ge flusher_step.Sync k v = synced_ge (eqb code 0) (L.syncs c.blocks c.base g.log code p q both.logged.global.part.holds k v).stable
+    flusher_ge flusher_step.LoadWrite k v = still_part D v
+    flusher_ge _ k v = still_part D v
+
+    flusher_stored : (f : FlusherStep) → DataServed E d Nothing (flusher_op t f) code e → ◌≡◌ {A = E.Part} e d
+    flusher_stored flusher_step.LoadWrite v = v
+    flusher_stored _ v = v
+
+    flusher_lists : (f : FlusherStep) (l : List Entry) (m' : SharedWords) (b : Actor) → Done m' l ls b → Done m' l (lists_left ls (λ i. slice_index m.lists i) (flusher_op t f)) b
+    flusher_lists flusher_step.LoadWrite l m' b r = r
+    flusher_lists _ l m' b r = r
+
+    pub flusher_turn : (b : Bool) (x : FlusherState) (k : LogGhost) → LogHalf D c spare (shared_left m (cond b (op.Load word.Failed) (flusher_op t t.step))) k q (set actors seat (actor.Flusher x)) → LogServed D p Nothing (cond b (op.Load word.Failed) (flusher_op t t.step)) code q
+        → DataServed E d Nothing (cond b (op.Load word.Failed) (flusher_op t t.step)) code e
+        → Done (shared_left m (cond b (op.Load word.Failed) (flusher_op t t.step))) g.log (lists_left ls (λ i. slice_index m.lists i) (cond b (op.Load word.Failed) (flusher_op t t.step))) (actor.Flusher x)
+    flusher_turn true x k after w v = pass both seat m (actor.Flusher x) k after (still_part D w) refl refl refl refl refl (omega arith) tt v
+    flusher_turn false x k after w v = flusher_lists t.step g.log (shared_left m (flusher_op t t.step)) (actor.Flusher x) (flusher_page t t.step x k
+        (λ z. let r : t.mark ≡ D.stable p = subst (marks.FlusherAt D c m g p t) z T1.step in let y = both.logged.global.part.flushed_stable in omega arith)
+        after (flusher_ge t.step T1.step w) (flusher_stored t.step v))
+
+  module _ (t : CloserState) (at : get_elem? actors seat ≡ some (actor.Closer t)) where
+    TF : CloserFits E c m g.log h ls d seat t
+    TF = both.paged.each seat (actor.Closer t) at
+
+    closer_page : (f : CloserStep) → t.step ≡ f → Kept (shared_left m (closer_op t f)) g.log ls (actor.Closer (closer_took t (shared_answer ls (D.failed p) code (D.stable q) m (closer_op t f)) f))
+    closer_page closer_step.LoadClosedLink is = (h, keeps_closer_look E c g.seat_of m g.log (D.stable p) h ls d actors seat both.paged (mates both) (laid_of both) t at is, unmoved)
+    closer_page closer_step.ClearClosedLink is = keeps_closer_clear E c g.seat_of m g.log (D.stable p) h ls d actors seat both.paged (mates both) (laid_of both) t at both.logged.sized.clinks is
+    closer_page closer_step.StoreCtail is = keeps_closer_publish E c g.seat_of m g.log (D.stable p) h ls d actors seat both.paged (mates both) (laid_of both) t at is
+    closer_page closer_step.Failed is = rested both seat (actor.Closer t) at
+
+    closer_hears : (b : Bool) → Kept m g.log ls (actor.Closer (cond b (record t { checks = false }) (record t { checks = false; code = m.failed; step = closer_step.Failed })))
+    closer_hears true = (h, page_quiet E c g.seat_of m g.log (D.stable p) h ls d actors seat both.paged (mates both) (actor.Closer (record t { checks = false })) (record { alone = TF.alone; tail = TF.tail; step = TF.step }), unmoved)
+    closer_hears false = (h, page_quiet E c g.seat_of m g.log (D.stable p) h ls d actors seat both.paged (mates both) (actor.Closer (record t { checks = false; code = m.failed; step = closer_step.Failed })) (record { alone = TF.alone; tail = TF.tail; step = tt }), unmoved)
+
+  pub closer_turn : (t : CloserState) → get_elem? actors seat ≡ some (actor.Closer t) → (b : Bool) → LogServed D p Nothing (cond b (op.Load word.Failed) (closer_op t t.step)) code q → DataServed E d Nothing (cond b (op.Load word.Failed) (closer_op t t.step)) code e
+      → Done (shared_left m (cond b (op.Load word.Failed) (closer_op t t.step))) g.log (lists_left ls (λ i. slice_index m.lists i) (cond b (op.Load word.Failed) (closer_op t t.step)))
+      (cond b (checked (actor.Closer t) (old_of (shared_answer ls (D.failed p) code (D.stable q) m (cond b (op.Load word.Failed) (closer_op t t.step))))) (own_took (actor.Closer t) (shared_answer ls (D.failed p) code (D.stable q) m (cond b (op.Load word.Failed) (closer_op t t.step)))))
+  closer_turn t at true w v = as_is D E c m h actors seat p q d e _ w v (closer_hears t at (eqb m.failed 0))
+  closer_turn t at false w v = by t.step refl w v
+    where
+      by : (f : CloserStep) → t.step ≡ f → LogServed D p Nothing (closer_op t f) code q → DataServed E d Nothing (closer_op t f) code e → Done (shared_left m (closer_op t f)) g.log (lists_left ls (λ i. slice_index m.lists i) (closer_op t f)) (actor.Closer (closer_took t (shared_answer ls (D.failed p) code (D.stable q) m (closer_op t f)) f))
+      by closer_step.LoadClosedLink is w v = as_is D E c m h actors seat p q d e _ w v (closer_page t at closer_step.LoadClosedLink is)
+      by closer_step.ClearClosedLink is w v = as_is D E c m h actors seat p q d e _ w v (closer_page t at closer_step.ClearClosedLink is)
+      by closer_step.StoreCtail is w v = as_is D E c m h actors seat p q d e _ w v (closer_page t at closer_step.StoreCtail is)
+      by closer_step.Failed is w v = as_is D E c m h actors seat p q d e _ w v (closer_page t at closer_step.Failed is)
