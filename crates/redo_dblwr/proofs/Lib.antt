@@ -1,3 +1,2 @@
 pub mod SideBySide
 pub mod Slots
-pub mod Tells

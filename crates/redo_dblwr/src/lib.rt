@@ -8,5 +8,5 @@ mod stretch;
 mod texts;
 
 pub use copies::read_slots;
-pub use stretch::{place_at, put_bytes, read_stretch};
+pub use stretch::{place_at, read_stretch};
 pub use texts::fill_texts;

@@ -1,11 +1,10 @@
 // One stretch of page size on the data device: a slot of the doublewrite area, or the place of a page.
-ghost use Rattle.std.specs.Prelude.{◌≡◌, ◌≤◌, ◌<◌, ◌*◌, ◌+◌, [], ◌∷◌, length, IfSome, OnOk, OnErr};
+ghost use Rattle.std.specs.Prelude.{◌≡◌, ◌≤◌, ◌<◌, ◌*◌, ◌+◌, [], ◌∷◌, length, IfSome, OnOk};
 ghost use Rattle.model_base.specs.{IsWithinLimits};
-ghost use Rattle.model_datadev.specs.{IsPutOrNot, place_at};
-ghost use Rattle.model_device.specs.{synced, written};
+ghost use Rattle.model_datadev.specs.{place_at};
 ghost use Rattle.model_page.specs.{data_device_length, stretch_at};
 ghost use Rattle.redo_dblwr.specs.Requests.{stretch_read};
-ghost use Rattle.redo_disk.specs.{error_of, HasCause, IsRange, MakesCalls, OnTold, put_requests, Serve, write_at};
+ghost use Rattle.redo_disk.specs.{error_of, HasCause, MakesCalls, Serve};
 
 use model_base::{PAGE_SIZE, Shape};
 use redo_disk::{DevError, Sectors};
@@ -38,20 +37,4 @@ pub fn read_stretch<D: Sectors>(
     ensures calls { MakesCalls D.gives device.old device.new (Serve (stretch_read shape.now n ∷ []) (error_of result)) }
 {
     device.read(u64::from(n) * u64::from(shape.page_size), out)
-}
-
-/// Writes bytes, and makes them stay.
-#[tactic(auto, using(redo_disk::proofs::Made::put_cut))]
-pub fn put_bytes<D: Sectors>(device: &mut D, at: u64, bytes: &[u8]) -> Result<(), DevError>
-    requires { IsRange (D.seen device.old).size at (length bytes.now) }
-    ensures ok { OnOk result (OnTold (D.seen device.old).tells (D.seen device.new).tells
-        (λ old new. new ≡ synced (written old (write_at at bytes.now)))) }
-    ensures err { OnErr result (OnTold (D.seen device.old).tells (D.seen device.new).tells
-        (IsPutOrNot (write_at at bytes.now))) }
-    ensures size { (D.seen device.new).size ≡ (D.seen device.old).size }
-    ensures cause { HasCause (D.seen device.old).faults (D.seen device.new).faults result }
-    ensures calls { MakesCalls D.gives device.old device.new (Serve (put_requests (write_at at bytes.now)) (error_of result)) }
-{
-    device.write(at, bytes)?;
-    device.sync()
 }

@@ -1,4 +1,3 @@
 mod Parts
 mod SomeWrites
-mod Told
 mod WriteTo

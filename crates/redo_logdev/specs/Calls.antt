@@ -1,5 +1,5 @@
 -- What two device calls in a row do to a device.
-use Rattle.std.specs.Prelude.{ℕ, ◌≡◌, ◌-◌, ◌*◌, ◌⊎◌, min, List, [], ◌∷◌, ◌++◌, length, take, drop}
+use Rattle.std.specs.Prelude.{ℕ, ◌-◌, ◌*◌, ◌⊎◌, min, List, [], ◌∷◌, ◌++◌, length, take, drop}
 use Rattle.model_base.specs.declared.shape.Shape.{Shape}
 use Rattle.model_device.specs.Disk.{Disk}
 use Rattle.model_device.specs.{FailsWrite, written}
@@ -35,10 +35,6 @@ abbrev pub FailsRound : Shape → ℕ → List ℕ → Disk → Disk → Type 0
 FailsRound shape b bytes old new =
     FailsWrite (write_at (offset_of b shape.log_blocks) (front_of shape b bytes)) old new
     ⊎ FailsWrite (write_at HEADER_BYTES (back_of shape b bytes)) (written_if (offset_of b shape.log_blocks) (front_of shape b bytes) old) new
-
--- a write with a sync behind it, one of which failed: the write did, or it is pending
-abbrev pub IsPutOrNot : Write → Disk → Disk → Type 0
-IsPutOrNot write old new = FailsWrite write old new ⊎ (new ≡ written old write)
 
 -- the write of the checkpoint of this number at this lsn
 abbrev pub checkpoint_write : Shape → ℕ → ℕ → Write

@@ -1,11 +1,11 @@
 // Device calls in a row.
 ghost use Rattle.std.specs.Prelude.{◌≡◌, ◌≤◌, ◌<◌, ◌%◌, ◌^◌, length, OnOk, OnErr};
 ghost use Rattle.model_base.specs.declared.limits.TheConstants.{BLOCK_SIZE, START_LSN, MIN_LOG_BLOCKS, MAX_LOG_BLOCKS};
-ghost use Rattle.model_device.specs.{FailsWrite, synced, written};
+ghost use Rattle.model_device.specs.{FailsWrite};
 ghost use Rattle.model_log.specs.{log_device_length};
 ghost use Rattle.model_logdev.specs.{round_of};
-ghost use Rattle.redo_disk.specs.{error_of, HasCause, IsRange, MakesCalls, OnTold, put_requests, Serve, write_at};
-ghost use Rattle.redo_logdev.specs.Calls.{written_if, written_round, FailsRound, IsPutOrNot, round_writes, some_write};
+ghost use Rattle.redo_disk.specs.{error_of, HasCause, IsRange, MakesCalls, OnTold, Serve, write_at};
+ghost use Rattle.redo_logdev.specs.Calls.{written_if, written_round, FailsRound, round_writes, some_write};
 
 use model_base::{BLOCK_SIZE, Shape};
 use model_log::HEADER_BYTES;
@@ -57,20 +57,4 @@ pub fn write_round<L: Sectors>(
     let (front, back) = bytes.split_at(bytes.len().min((end - at) as usize));
     write_some(device, at, front)?;
     write_some(device, HEADER_BYTES, back)
-}
-
-/// Writes bytes, and makes them stay.
-#[tactic(auto, using(redo_disk::proofs::Made::put_cut))]
-pub fn put_sector<L: Sectors>(device: &mut L, at: u64, bytes: &[u8]) -> Result<(), DevError>
-    requires { IsRange (L.seen device.old).size at (length bytes.now) }
-    ensures ok { OnOk result (OnTold (L.seen device.old).tells (L.seen device.new).tells
-        (λ old new. new ≡ synced (written old (write_at at bytes.now)))) }
-    ensures err { OnErr result (OnTold (L.seen device.old).tells (L.seen device.new).tells
-        (IsPutOrNot (write_at at bytes.now))) }
-    ensures size { (L.seen device.new).size ≡ (L.seen device.old).size }
-    ensures calls { MakesCalls L.gives device.old device.new (Serve (put_requests (write_at at bytes.now)) (error_of result)) }
-    ensures cause { HasCause (L.seen device.old).faults (L.seen device.new).faults result }
-{
-    device.write(at, bytes)?;
-    device.sync()
 }

@@ -1,6 +1,6 @@
 // The log part: a device with the marks up to which a run is written and stable on it.
 ghost use Rattle.std.specs.Prelude.{◌≡◌, ◌≤◌, ◌<◌, ◌-◌, ◌^◌, [], None, IfOk, IfSome, MatchResult};
-ghost use Rattle.model_base.specs.declared.limits.TheConstants.{MIN_LOG_BLOCKS, MAX_LOG_BLOCKS};
+ghost use Rattle.model_base.specs.declared.limits.TheConstants.{FIRST_DATA_LSN, MAX_LOG_BLOCKS, MIN_LOG_BLOCKS};
 ghost use Rattle.model_log.specs.{IsAtDataStart, log_device_length};
 ghost use Rattle.model_logdev.specs.{first_marks, IsFresh};
 ghost use Rattle.redo_logdev.specs.Part.{PartHolds};
@@ -57,7 +57,7 @@ impl<L: Sectors> LogPart<L> {
         requires many_blocks { MIN_LOG_BLOCKS ≤ shape.now.log_blocks }
         requires few_blocks { shape.now.log_blocks ≤ MAX_LOG_BLOCKS }
         requires place { IsAtDataStart start }
-        requires first { 8204 ≤ start }
+        requires first { FIRST_DATA_LSN ≤ start }
         requires small { start < 2 ^ 61 }
         ensures part { IfOk result (λ part. part
             ≡ record { dev = dev; shape = shape.now; marks = first_marks start number; failed = None }) }

@@ -1,18 +1,15 @@
 -- What calls through a fuse leave: one call, then calls in a row.
-use Rattle.std.proofs.Common.{ℕ, ◌≡◌, ◌≤◌, ◌<◌, ◌+◌, Bool, true, false, List, [], ◌∷◌, length, Option, Ok, Err, IsErrOf, refl, sym, ap, subst, ◌∙◌, inl, inr, ⊎_elim, arith}
+use Rattle.std.proofs.Common.{ℕ, ◌≡◌, ◌≤◌, ◌<◌, ◌+◌, Bool, true, false, List, [], ◌∷◌, length, Ok, Err, IsErrOf, refl, sym, ap, subst, ◌∙◌, inl, inr, ⊎_elim, arith}
 use Rattle.std.proofs.lemmas.Bool.{cases_lt}
 use Rattle.model_base.specs.{HasRisen}
 use Rattle.model_device.specs.declared.write.Write.{Write}
-use Rattle.redo_disk.specs.declared.error.DevError.{DevError}
 use Rattle.redo_disk.specs.declared.error.DevError.TheVariants.{Failed, NoMemory}
-use Rattle.redo_disk.specs.{Answer, answer_of, Call, changes, changing_calls, EndWith, error_of, failed_calls, failures, Makes, MakesCalls, MayEndWith, Reads, ReadsEndWith, ReadsMayEndWith, Request, Serve, Syncs, Writes}
+use Rattle.redo_disk.specs.{Answer, answer_of, Call, changes, changing_calls, error_of, failed_calls, failures, Makes, MakesCalls, Reads, Syncs, Writes}
 use Rattle.redo_disk.specs.Seen.{Seen}
-use Rattle.redo_memdisk.specs.Counted.{CountsCalls, EndsThrough, KeepsBehind, ReadsEndThrough, Through, after_calls, after_one}
+use Rattle.redo_memdisk.specs.Counted.{CountsCalls, KeepsBehind, Through, after_calls, after_one}
 use Rattle.redo_memdisk.specs.Fuse.{fails_next}
 use Rattle.redo_memdisk.specs.Fused.{CallsThrough, ReadsThrough, SyncsThrough, WritesThrough}
 use Rattle.redo_memdisk.specs.declared.fused.Fused.{Fused}
-use Rattle.redo_disk.proofs.Calls.{MayEndWith-ends, changing_calls-reads, failed_calls-may_end}
-use Rattle.redo_disk.proofs.Made.{weaker_calls}
 use Rattle.redo_memdisk.proofs.Counted.{CountsCalls-change, CountsCalls-none, CountsCalls-read, CountsCalls-then}
 
 counts-one : {D : Type 0} (seen : D → Seen) (gives : D → Call → D → Type 0) (old new : Fused D) (call : Call) → CallsThrough seen gives old call new
@@ -151,41 +148,3 @@ through {seen = seen} {gives = gives} {old = old} {new = new} made = record {
   counts = counts-calls seen gives old new made.calls made.made;
   behind = keeps-behind seen gives old new made.calls made.made;
 }
-
-pub may_end_through : {D : Type 0} {seen : D → Seen} {gives : D → Call → D → Type 0} {old new : Fused D} {error : Option DevError}
-    → MakesCalls (CallsThrough seen gives) old new (MayEndWith error) → EndsThrough seen old error new
-may_end_through {seen = seen} {old = old} {new = new} {error = error} made =
-    let all = through made in
-    let failed = failed_calls-may_end error all.calls all.are in
-    record {
-      calls = length all.calls;
-      changing = changing_calls all.calls;
-      counts = subst (λ n. CountsCalls old.fuse (length all.calls) n (changing_calls all.calls) new.fuse) failed all.counts;
-      behind = subst (λ n. KeepsBehind seen old n new) failed all.behind;
-    }
-
-pub reads_may_through : {D : Type 0} {seen : D → Seen} {gives : D → Call → D → Type 0} {old new : Fused D} {error : Option DevError}
-    → MakesCalls (CallsThrough seen gives) old new (ReadsMayEndWith error) → ReadsEndThrough seen old error new
-reads_may_through {seen = seen} {old = old} {new = new} {error = error} made =
-    let all = through made in
-    let failed = failed_calls-may_end error all.calls all.are.ends in
-    let none = changing_calls-reads all.calls all.are.reads in
-    record {
-      calls = length all.calls;
-      counts = subst (λ n. CountsCalls old.fuse (length all.calls) n 0 new.fuse) failed
-          (subst (λ n. CountsCalls old.fuse (length all.calls) (failed_calls all.calls) n new.fuse) none all.counts);
-      behind = subst (λ n. KeepsBehind seen old n new) failed all.behind;
-    }
-
-pub ends_through : {D : Type 0} {seen : D → Seen} {gives : D → Call → D → Type 0} {old new : Fused D} {error : Option DevError}
-    → MakesCalls (CallsThrough seen gives) old new (EndWith error) → EndsThrough seen old error new
-ends_through {error = error} made = may_end_through (weaker_calls (MayEndWith-ends error) made)
-
-pub serves_through : {D : Type 0} {seen : D → Seen} {gives : D → Call → D → Type 0} {old new : Fused D} {requests : List Request} {error : Option DevError}
-    → MakesCalls (CallsThrough seen gives) old new (Serve requests error) → EndsThrough seen old error new
-serves_through made = ends_through (weaker_calls (λ calls serve. serve.ends) made)
-
-pub reads_through : {D : Type 0} {seen : D → Seen} {gives : D → Call → D → Type 0} {old new : Fused D} {error : Option DevError}
-    → MakesCalls (CallsThrough seen gives) old new (ReadsEndWith error) → ReadsEndThrough seen old error new
-reads_through {error = error} made =
-    reads_may_through (weaker_calls (λ calls ends. record { reads = ends.reads; ends = MayEndWith-ends error calls ends.ends }) made)

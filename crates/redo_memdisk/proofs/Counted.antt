@@ -1,7 +1,6 @@
 -- What a fuse counts, one call and then the others.
-use Rattle.std.proofs.Common.{ℕ, zero, suc, ◌≡◌, ◌≤◌, ◌<◌, ◌+◌, ◌⊎◌, inl, inr, Bool, true, false, if◌then◌else◌, Option, Some, None, Ok, Err, IfSome, refl, sym, ap, subst, ◌∙◌, ⊎_elim, arith, zero-add}
+use Rattle.std.proofs.Common.{ℕ, zero, suc, ◌≡◌, ◌≤◌, ◌<◌, ◌+◌, Bool, true, false, if◌then◌else◌, Option, Some, None, Ok, Err, IfSome, refl, sym, ap, subst, ◌∙◌, ⊎_elim, arith, zero-add}
 use Rattle.std.proofs.lemmas.Bool.{cases_lt, false≢true}
-use Rattle.model_base.specs.{HasRisen, last_count}
 use Rattle.redo_io.specs.{next_count}
 use Rattle.redo_disk.specs.declared.error.DevError.TheVariants.{Failed, NoMemory}
 use Rattle.redo_disk.specs.{Answer, error_of, failures}
@@ -30,31 +29,6 @@ counted-more (suc m) n count =
 counted-positive : (n count : ℕ) → 0 < count → 0 < counted n count
 counted-positive zero count some = some
 counted-positive (suc n) count some = counted-positive n (next_count count) (omega arith)
-
--- a fuse without a limit fails no call
-pub fails_none : (stage : Stage) (passed : ℕ) → has_passed_all stage None passed ≡ false
-fails_none Before passed = refl
-fails_none Stopping passed = refl
-fails_none Crashed passed = refl
-
--- so it has failed none
-pub CountsCalls-own : (old new : Fuse) (calls failed changing : ℕ) → old.limit ≡ None → CountsCalls old calls failed changing new → new.own ≡ old.own
-CountsCalls-own old new calls failed changing none counts =
-    counts.own (λ fails. false≢true (sym (ap (λ limit. has_passed_all new.stage limit new.passed) (counts.limit ∙ none) ∙ fails_none new.stage new.passed) ∙ fails))
-
--- a count goes up only where something was counted
-pub counted-some : (n count : ℕ) → 0 < counted n count → (0 < count) ⊎ (0 < n)
-counted-some zero count some = inl some
-counted-some (suc n) count some = inr (omega arith)
-
-pub counted-later : (n count : ℕ) → count ≤ last_count → count ≤ counted n count
-counted-later zero count small = omega arith
-counted-later (suc n) count small = let rest = counted-later n (next_count count) (omega arith) in omega arith
-
-pub HasRisen-counted : (n count : ℕ) → 0 < n → HasRisen count (counted n count)
-HasRisen-counted zero count some = absurd (omega arith)
-HasRisen-counted (suc n) count some =
-    ⊎_elim (λ small. let rest = counted-later n (next_count count) (omega arith) in inl (omega arith)) (λ stands. inr stands) (cases_lt count last_count)
 
 abbrev at_stage : Stage → Fuse → Fuse
 at_stage stage fuse = record fuse { stage = stage }

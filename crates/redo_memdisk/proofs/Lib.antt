@@ -5,6 +5,7 @@ pub mod Counted
 pub mod Counts
 pub mod Crashed
 pub mod Overlay
+pub mod ReadOn
 pub mod Survivors
 pub mod Writers
 pub mod Writes

@@ -1,10 +1,9 @@
 -- What a fuse tells after calls through it.
-use Rattle.std.specs.Prelude.{ℕ, zero, suc, ◌≡◌, ◌≤◌, ◌<◌, ◌+◌, ◌⊎◌, List, [], ◌∷◌, length, Option, IsTrue, IfSome}
+use Rattle.std.specs.Prelude.{ℕ, zero, suc, ◌≡◌, ◌≤◌, ◌<◌, ◌+◌, ◌⊎◌, List, [], ◌∷◌, length, IsTrue, IfSome}
 use Rattle.model_base.specs.{HasRisen}
 use Rattle.redo_io.specs.{next_count}
-use Rattle.redo_disk.specs.{Call, changing_calls, failed_calls, failures, Reads, Syncs, Writes}
+use Rattle.redo_disk.specs.{Call, changing_calls, failed_calls, Reads, Syncs, Writes}
 use Rattle.redo_disk.specs.Seen.{Seen}
-use Rattle.redo_disk.specs.declared.error.DevError.{DevError}
 use Rattle.redo_memdisk.specs.Fuse.{after_call, after_change, fails_next, is_failed}
 use Rattle.redo_memdisk.specs.Fused.{armed_at}
 use Rattle.redo_memdisk.specs.declared.fuse.Fuse.{Fuse}
@@ -82,16 +81,3 @@ pub record Through {D : Type 0} (seen : D → Seen) (old new : Fused D) (Are : L
   pub are : Are calls
   pub counts : CountsCalls old.fuse (length calls) (failed_calls calls) (changing_calls calls) new.fuse
   pub behind : KeepsBehind seen old (failed_calls calls) new
-
--- the same of calls that ended with this error, or with none: no other call failed
-pub record EndsThrough {D : Type 0} (seen : D → Seen) (old : Fused D) (error : Option DevError) (new : Fused D) : Type 0 where
-  pub calls : ℕ
-  pub changing : ℕ
-  pub counts : CountsCalls old.fuse calls (failures error) changing new.fuse
-  pub behind : KeepsBehind seen old (failures error) new
-
--- the same of reads
-pub record ReadsEndThrough {D : Type 0} (seen : D → Seen) (old : Fused D) (error : Option DevError) (new : Fused D) : Type 0 where
-  pub calls : ℕ
-  pub counts : CountsCalls old.fuse calls (failures error) 0 new.fuse
-  pub behind : KeepsBehind seen old (failures error) new

@@ -1,7 +1,7 @@
 // A device in a file.
-ghost use Rattle.std.specs.Prelude.{◌≡◌};
+ghost use Rattle.std.specs.Prelude.{◌≡◌, length, IfSome, OnOk};
 ghost use Rattle.redo_disk.specs.{HasCause};
-ghost use Rattle.redo_memdisk.specs.File.{file_faults, file_seen};
+ghost use Rattle.redo_memdisk.specs.File.{file_faults, file_seen, filled};
 
 use redo_disk::{DevError, Sectors};
 use std::fs::{OpenFile, OpenOptions};
@@ -76,21 +76,26 @@ impl<R: Files> FileDisk<R> {
     }
 }
 
-fn fill_from<F: Read>(file: &mut F, out: &mut [u8]) -> io::Result<()> {
-    let mut filled = 0;
+/// Fills `out` with the bytes that are left, and with zeros behind the last of them.
+fn fill_from<F: Read>(file: &mut F, out: &mut [u8]) -> io::Result<()>
+    ensures { OnOk result (IfSome (F.remaining file.old) (λ left. out.new ≡ filled (length out.old) left)) }
+{
+    let mut at = 0;
     for _ in 0..u64::MAX {
-        if filled >= out.len() {
-            break;
+        if at >= out.len() {
+            return Ok(());
         }
-        match file.read(&mut out[filled..]) {
-            Ok(0) => break,
-            Ok(count) => filled += count,
+        match file.read(&mut out[at..]) {
+            Ok(0) => {
+                out[at..].fill(0);
+                return Ok(());
+            }
+            Ok(count) => at += count,
             Err(error) if error.kind() == ErrorKind::Interrupted => {}
             Err(error) => return Err(error),
         }
     }
-    out[filled..].fill(0);
-    Ok(())
+    Err(io::Error::from(ErrorKind::Interrupted))
 }
 
 fn read_at<F: Read + Seek>(file: &mut F, at: u64, out: &mut [u8]) -> io::Result<()> {

@@ -43,13 +43,6 @@ beside_log {gives = gives} {old = old} {new = new} device.Failed fault is made =
 beside_log {gives = gives} {old = old} {new = new} device.NoMemory fault is made =
     subst (λ (f : RecFault). MakesCalls gives old new (MayEndWith (data_error f))) (sym is) (out_of_memory made)
 
-pub beside_data : {D : Type 0} {gives : D → Call → D → Type 0} {old new : D} (error : DevError) (fault : RecFault) → fault ≡ data_fault_of error
-    → MakesCalls gives old new (MayEndWith None) → MakesCalls gives old new (MayEndWith (log_error fault))
-beside_data {gives = gives} {old = old} {new = new} device.Failed fault is made =
-    subst (λ (f : RecFault). MakesCalls gives old new (MayEndWith (log_error f))) (sym is) made
-beside_data {gives = gives} {old = old} {new = new} device.NoMemory fault is made =
-    subst (λ (f : RecFault). MakesCalls gives old new (MayEndWith (log_error f))) (sym is) (out_of_memory made)
-
 -- beside a fault of the pages
 pub beside_pages : {D : Type 0} {gives : D → Call → D → Type 0} {old new : D} (fault : RecFault) → IsPageFault fault
     → MakesCalls gives old new (MayEndWith None) → MakesCalls gives old new (MayEndWith (log_error fault))

@@ -13,7 +13,7 @@ use Rattle.redo_open.specs.Devices.{HasSameCheckpoint, IsFrom, WhereBothTell}
 use Rattle.redo_open.specs.Mark.{IsSettledLog, MarksLog, HasMarked}
 use Rattle.redo_open.specs.Places.{KeepsPlaces, HoldsPlaces}
 use Rattle.redo_open.proofs.Clears.{cleared-clears}
-use Rattle.redo_open.proofs.Told.{known-as, told-step}
+use Rattle.redo_disk.proofs.Told.{known-as, told-step}
 
 both : (log data_told : Option Disk) (P Q : Disk → Type 0) (R : Disk → Disk → Type 0) → ((l d : Disk) → P l → Q d → R l d)
     → IfSome log P → IfSome data_told Q → WhereBothTell log data_told R
@@ -143,9 +143,3 @@ pub unmoved-marks : (opened : Reading) (log_bytes data_bytes : List ℕ) (mid lo
 unmoved-marks opened log_bytes data_bytes mid log orderly known told =
     told-step mid log (HasCleared opened.shape opened.ckpt (start_of opened) log_bytes) (HasSameCheckpoint opened) (λ (a b : Disk). b.base ≡ a.base)
     (λ a b cleared same. ap (newest_checkpoint opened.shape) same ∙ same-newest opened log_bytes data_bytes a.base orderly cleared.headers) known told
-
--- before the first step
-pub unmoved-rests : (opened : Reading) (log_disk data_disk : Disk) → IsOpenable opened log_disk data_disk → HasSameCheckpoint opened log_disk
-unmoved-rests opened log_disk data_disk is =
-    ap (newest_checkpoint opened.shape) (is.log_rests.one_image log_disk.base (record { same_length = refl; each = λ k inside. inl refl }))
-    ∙ is.orderly.reads.scan.checkpoint

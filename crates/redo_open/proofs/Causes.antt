@@ -1,5 +1,5 @@
 -- The faults of opening and formatting, with their causes.
-use Rattle.std.proofs.Common.{◌≡◌, ℕ, inl, inr, Option, Some, None, Err, refl, sym, subst}
+use Rattle.std.proofs.Common.{◌≡◌, ℕ, inl, inr, Option, Some, None, Err, refl, sym, ap, subst, arith}
 use Rattle.std.specs.Prelude.{IfSome, IsErrOf}
 use Rattle.model_base.specs.{HasRisen}
 use Rattle.model_base.specs.declared.shape.Shape.{Shape}
@@ -10,7 +10,7 @@ use Rattle.redo_disk.specs.Seen.{Seen}
 use Rattle.redo_disk.specs.declared.error.DevError.{DevError}
 use Rattle.redo_disk.specs.declared.error.DevError.TheVariants as device
 use Rattle.redo_open.specs.Devices.{IsOpenFault}
-use Rattle.redo_open.specs.Formatting.{FormatCalls, HasFormatCause, MakesBoth}
+use Rattle.redo_open.specs.Formatting.{FormatCalls, HasFormatCause, JudgesLengths, MakesBoth}
 use Rattle.redo_open.specs.Mend.{IsMendFault, IsPageFault}
 use Rattle.redo_open.proofs.Endings.{any-known}
 use Rattle.redo_recover.specs.{data_fault_of, IsLengthFault, log_fault_of}
@@ -31,6 +31,26 @@ length-cause shape log data_device log_after data_after (PageAhead p lsn) is = a
 length-cause shape log data_device log_after data_after LogDev is = absurd is
 length-cause shape log data_device log_after data_after DataDev is = absurd is
 length-cause shape log data_device log_after data_after NoMemory is = absurd is
+
+pub judges-fault : (shape : Shape) (log_size data_size : ℕ) (fault : RecFault) → IsLengthFault shape log_size data_size fault
+    → JudgesLengths shape log_size data_size (Err fault)
+judges-fault shape log_size data_size (SmallLog n) is = record {
+  small_log = λ short. ap (λ (k : ℕ). Err (SmallLog k)) is.1;
+  small_data = λ long short. absurd (omega (arith, is.0, long));
+}
+judges-fault shape log_size data_size (SmallData n) is = record {
+  small_log = λ short. absurd (omega (arith, is.0, short));
+  small_data = λ long short. ap (λ (k : ℕ). Err (SmallData k)) is.2;
+}
+judges-fault shape log_size data_size NotFormatted is = absurd is
+judges-fault shape log_size data_size (BadFormat n) is = absurd is
+judges-fault shape log_size data_size NoCheckpoint is = absurd is
+judges-fault shape log_size data_size (BadRecord lsn) is = absurd is
+judges-fault shape log_size data_size (PageLost p) is = absurd is
+judges-fault shape log_size data_size (PageAhead p lsn) is = absurd is
+judges-fault shape log_size data_size LogDev is = absurd is
+judges-fault shape log_size data_size DataDev is = absurd is
+judges-fault shape log_size data_size NoMemory is = absurd is
 
 -- THE FAULTS OF THE DEVICES.
 

@@ -12,7 +12,8 @@ use Rattle.redo_disk.specs.declared.error.DevError.TheVariants as device
 use Rattle.redo_open.specs.Mend.{IsMended, AreMended, IsMendFault, IsPageFault}
 use Rattle.redo_open.specs.Store.{MendStep}
 use Rattle.redo_open.proofs.Mends.{keeps-behind, fault-before}
-use Rattle.redo_open.proofs.Told.{told-then, told-back, risen-since}
+use Rattle.redo_disk.proofs.Told.{OnTold-then}
+use Rattle.redo_open.proofs.Told.{told-back, risen-since}
 use Rattle.redo_recover.specs.{data_fault_of}
 use Rattle.redo_recover.specs.declared.fault.RecFault.{RecFault}
 use Rattle.redo_recover.specs.declared.fault.RecFault.TheVariants.{DataDev, PageLost}
@@ -94,7 +95,7 @@ pub mend-behind : {D : Type 0} (seen : D → Seen) (shape : Shape) (count page a
     → OnTold (seen old.dev).tells (seen mid.dev).tells (AreMended shape count) → Stays seen old mid
     → MendStep seen shape (IsMended shape page) mid (Err fault) new → MendStep seen shape (AreMended shape all) old (Err fault) new
 mend-behind seen shape count page all old mid new fault told stays step = record {
-  keeps = told-then _ _ _ (AreMended shape count) (KeepsAll shape) (KeepsAll shape) (λ a b c mended keeps. keeps-behind shape count a b c mended keeps) told step.keeps;
+  keeps = OnTold-then _ _ _ (AreMended shape count) (KeepsAll shape) (KeepsAll shape) (λ a b c mended keeps. keeps-behind shape count a b c mended keeps) told step.keeps;
   ok = tt;
   live = tt;
   fault = told-back _ _ (λ disk. IsMendFault shape disk.base fault) (λ disk. IsMendFault shape disk.base fault) (AreMended shape count)

@@ -17,7 +17,7 @@ use Rattle.redo_open.specs.Blank.{LosesHead, IsHeadless, HasNoHead, HasNoBlocks,
 use Rattle.redo_open.specs.Devices.{WhereBothTell}
 use Rattle.redo_open.specs.Mark.{IsSettledLog, MarksLog, HasMarked}
 use Rattle.redo_open.proofs.Blanks.{no_head-headless}
-use Rattle.redo_open.proofs.Told.{known-as, told-step}
+use Rattle.redo_disk.proofs.Told.{known-as, told-step}
 
 -- WHAT IS KNOWN OF THE LOG, step by step.
 

@@ -152,10 +152,6 @@ gathered-steady shape top start count batch told w = record {
   as_top = λ p content new. (let at = new.at in absurd cc);
 }
 
-pub written-gathered : (shape : Shape) (top start : ℕ → Content) (count : ℕ) (batch : Gathered) (told : Option Disk) → IsWrittenTo shape top start count told
-    → IsGatheredTo shape top start count batch told
-written-gathered shape top start count batch told w = record { was = w.was; stored = w.stored; before = w.before; done = λ p below. inl (w.done p below) }
-
 pub gathered-written : (shape : Shape) (top start : ℕ → Content) (count : ℕ) (batch : Gathered) (told : Option Disk) → length batch.pairs ≡ 0
     → IsGatheredTo shape top start count batch told → IsWrittenTo shape top start count told
 gathered-written shape top start count batch told none w = record {

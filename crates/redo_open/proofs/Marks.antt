@@ -60,12 +60,6 @@ adds-marks shape number lsn write old new blocks settled_log one adds image is =
       marks = ⊎_elim (λ same. inl same) (λ here. inr here.1) (either (place_of number) (omega arith));
     }
 
-pub unmarked-log : (shape : Shape) (number lsn : ℕ) (disk : Disk) → IsSettledLog shape disk → MarksLog shape number lsn disk.base disk
-unmarked-log shape number lsn disk settled_log image is =
-    let same : image ≡ disk.base = (settled_images disk.base).1 image (subst (λ (d : Disk). IsImage d image) settled_log.nothing_pending is) in
-    subst (IsMarking shape number lsn disk.base) (sym same)
-    (record { same_length = refl; headers = λ which below other. refl; blocks = λ b aligned. refl; marks = inl refl })
-
 pub failed-marks : (shape : Shape) (number lsn : ℕ) (write : Write) (old new : Disk) → HasBlocks shape → IsSettledLog shape old
     → IsOneSector (place_of number) (checkpoint_text number lsn shape) write → FailsWrite write old new → MarksLog shape number lsn old.base new
 failed-marks shape number lsn write old new blocks settled_log one fails =

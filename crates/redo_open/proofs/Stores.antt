@@ -16,9 +16,9 @@ use Rattle.redo_disk.specs.{HasCause, OnTold}
 use Rattle.redo_disk.specs.Seen.{Seen}
 use Rattle.redo_disk.specs.declared.error.DevError.{DevError}
 use Rattle.redo_disk.specs.declared.error.DevError.TheVariants as device
-use Rattle.redo_open.specs.Devices.{HasSameCheckpoint, IsFrom, IsOpenFault, IsSameDevice, WhereBothTell}
+use Rattle.redo_open.specs.Devices.{IsFrom, IsOpenFault, IsSameDevice, WhereBothTell}
 use Rattle.redo_open.specs.Opening.{Answer, HasFaultCause, log_left, data_left}
-use Rattle.redo_open.proofs.Both.{openable-both, unmoved-rests}
+use Rattle.redo_open.proofs.Both.{openable-both}
 use Rattle.redo_open.proofs.Told.{risen-since}
 use Rattle.redo_recover.specs.{data_fault_of, HasCauseIn, HasLengthCause, OnContents, refusal_of}
 use Rattle.redo_recover.specs.declared.fault.RecFault.{RecFault}
@@ -32,13 +32,6 @@ openable-same opened log data_told log_new data_new log_same data_same =
     subst (λ (o : Option Disk). WhereBothTell log data_told (λ l d. IsOpenable opened l d → WhereBothTell o data_new (KeepsOpened opened))) (sym log_same)
     (subst (λ (o : Option Disk). WhereBothTell log data_told (λ l d. IsOpenable opened l d → WhereBothTell log o (KeepsOpened opened))) (sym data_same)
     (openable-both opened log data_told))
-
-pub unmoved-same : (opened : Reading) (log data_told log_new : Option Disk) → log_new ≡ log
-    → WhereBothTell log data_told (λ l d. IsOpenable opened l d → IfSome log_new (HasSameCheckpoint opened))
-unmoved-same opened None data_told log_new same = tt
-unmoved-same opened (Some l) None log_new same = tt
-unmoved-same opened (Some l) (Some d) log_new same =
-    λ is. subst (λ (o : Option Disk). IfSome o (HasSameCheckpoint opened)) (sym same) (unmoved-rests opened l d is)
 
 -- ONCE THE STORE IS READ, and its data device synced: what is promised of the reading is promised of the opened store.
 

@@ -7,23 +7,6 @@ use Rattle.model_device.specs.Disk.{Disk}
 use Rattle.redo_disk.specs.{HasCause, OnTold}
 use Rattle.redo_disk.specs.declared.error.DevError.{DevError}
 
--- two calls, one behind the other
-pub told-then : (old mid new : Option Disk) (R S T : Disk → Disk → Type 0) → ((a b c : Disk) → R a b → S b c → T a c)
-    → OnTold old mid R → OnTold mid new S → OnTold old new T
-told-then None mid new R S T step first second = subst (λ (o : Option Disk). OnTold o new S → new ≡ None) (sym first) (λ told. told) second
-told-then (Some a) mid new R S T step first second =
-    let last = subst (λ (o : Option Disk). OnTold o new S) first.1 second in
-    (last.0, last.1, step a first.0 last.0 first.2 last.2)
-
-pub told-as : (old new : Option Disk) (R S : Disk → Disk → Type 0) → ((a b : Disk) → R a b → S a b) → OnTold old new R → OnTold old new S
-told-as None new R S step told = told
-told-as (Some a) new R S step told = (told.0, told.1, step a told.0 told.2)
-
--- a call that changes nothing
-pub told-same : (old new : Option Disk) (R : Disk → Disk → Type 0) → ((a : Disk) → R a a) → new ≡ old → OnTold old new R
-told-same None new R step same = same
-told-same (Some a) new R step same = (a, same, step a)
-
 -- WHAT FAILED.
 
 pub risen-since : (first before now : ℕ) → first ≤ before → before ≤ now → HasRisen before now → HasRisen first now
@@ -46,27 +29,9 @@ either-way (Err error) A B P ok err holds fails = err fails
 
 -- WHAT IS KNOWN OF THE DEVICE BEFORE.
 
-pub told-step : (old new : Option Disk) (P Q : Disk → Type 0) (R : Disk → Disk → Type 0) → ((a b : Disk) → P a → R a b → Q b)
-    → IfSome old P → OnTold old new R → IfSome new Q
-told-step None new P Q R step known told = subst (λ (o : Option Disk). IfSome o Q) (sym told) tt
-told-step (Some a) new P Q R step known told = subst (λ (o : Option Disk). IfSome o Q) (sym told.1) (step a told.0 known told.2)
-
-pub told-call : (old new : Option Disk) (P : Disk → Type 0) (R S : Disk → Disk → Type 0) → ((a b : Disk) → P a → R a b → S a b)
-    → IfSome old P → OnTold old new R → OnTold old new S
-told-call None new P R S step known told = told
-told-call (Some a) new P R S step known told = (told.0, told.1, step a told.0 known told.2)
-
 pub told-known : (old new : Option Disk) (P : Disk → Type 0) (R : Disk → Disk → Type 0) → ((a : Disk) → P a → R a a) → IfSome old P → new ≡ old → OnTold old new R
 told-known None new P R step known same = same
 told-known (Some a) new P R step known same = (a, same, step a known)
-
-pub known-both : (told : Option Disk) (P Q R : Disk → Type 0) → ((a : Disk) → P a → Q a → R a) → IfSome told P → IfSome told Q → IfSome told R
-known-both None P Q R step first second = tt
-known-both (Some a) P Q R step first second = step a first second
-
-pub known-as : (told : Option Disk) (P Q : Disk → Type 0) → ((a : Disk) → P a → Q a) → IfSome told P → IfSome told Q
-known-as None P Q step known = tt
-known-as (Some a) P Q step known = step a known
 
 -- what holds of the device before, seen from the one after
 pub told-back : (old new : Option Disk) (P Q : Disk → Type 0) (R : Disk → Disk → Type 0) → ((a b : Disk) → R a b → Q b → P a)
@@ -89,7 +54,3 @@ told-both (Some a) new R S T step first second =
 pub known-three : (told : Option Disk) (P Q R S : Disk → Type 0) → ((a : Disk) → P a → Q a → R a → S a) → IfSome told P → IfSome told Q → IfSome told R → IfSome told S
 known-three None P Q R S step first second third = tt
 known-three (Some a) P Q R S step first second third = step a first second third
-
-pub on-err : {T E : Type 0} (result : Result T E) (P : Type 0) → P → OnErr result P
-on-err (Ok value) P holds = tt
-on-err (Err error) P holds = holds

@@ -10,12 +10,11 @@ ghost use Rattle.redo_open.specs.Mend.{IsSettledData};
 ghost use Rattle.redo_recover.specs.{data_error_of, log_error_of, reading_of};
 
 use crate::clear::clear;
-use crate::faults::log_fault;
 use crate::mark::mark;
 use crate::places::open_places;
 use model_log::BLOCK_HEADER;
 use redo_disk::Sectors;
-use redo_recover::{RecFault, Recovered};
+use redo_recover::{RecFault, Recovered, log_fault};
 use redo_store::DataPart;
 use std::alloc::Global;
 

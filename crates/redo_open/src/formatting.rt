@@ -7,33 +7,12 @@ ghost use Rattle.model_page.specs.{data_device_length};
 ghost use Rattle.redo_disk.specs.{HasSize};
 ghost use Rattle.redo_open.specs.Devices.{IsSameDevice, WhereBothTell};
 ghost use Rattle.redo_open.specs.Formatting.{FormatCalls, JudgesLengths, HasFormatCause};
-ghost use Rattle.redo_recover.specs.{IsLengthFault};
 
 use crate::blank::{clear_blocks, clear_head, clear_pages};
-use crate::faults::{data_fault, log_fault};
 use crate::mark::{mark, put_head};
-use model_base::{BLOCK_SIZE, START_LSN, Shape};
-use model_log::HEADER_BYTES;
+use model_base::{START_LSN, Shape};
 use redo_disk::Sectors;
-use redo_recover::RecFault;
-
-/// Whether both devices are as long as the shape asks.
-fn check_lengths(shape: &Shape, log_len: u64, data_len: u64) -> Result<(), RecFault>
-    requires { IsWithinLimits shape.now }
-    ensures judged { JudgesLengths shape.now log_len data_len result }
-    ensures long { OnOk result ((log_device_length shape.now ≤ log_len) × (data_device_length shape.now ≤ data_len)) }
-    ensures fault { IfErr result (IsLengthFault shape.now log_len data_len) }
-{
-    let log_asked = HEADER_BYTES + BLOCK_SIZE * u64::from(shape.log_blocks);
-    if log_len < log_asked {
-        return Err(RecFault::SmallLog(log_asked));
-    }
-    let data_asked = u64::from(shape.slots + shape.pages) * u64::from(shape.page_size);
-    if data_len < data_asked {
-        return Err(RecFault::SmallData(data_asked));
-    }
-    Ok(())
-}
+use redo_recover::{RecFault, check_lengths, data_fault, log_fault};
 
 /// Formats both devices, which are long enough. The header goes first and comes back last.
 fn format_devices<L: Sectors, D: Sectors>(

@@ -7,7 +7,6 @@ mod batch;
 mod blank;
 mod clear;
 mod devices;
-mod faults;
 mod formatting;
 mod mark;
 mod mend;

@@ -8,7 +8,7 @@ ghost use Rattle.redo_open.specs.Blank.{MayHaveHead, HasHeadNow};
 ghost use Rattle.redo_open.specs.Mark.{IsSettledLog, MarksLog, HasMarked};
 
 use model_base::{BLOCK_SIZE, Shape};
-use redo_disk::{DevError, Sectors};
+use redo_disk::{DevError, Sectors, write_and_sync};
 use redo_header::{fill_ckpt, fill_head, place_of};
 
 /// Writes the checkpoint of this number at this lsn, and makes it stay.
@@ -33,8 +33,7 @@ pub(crate) fn mark<L: Sectors>(
 {
     let mut block = [0; 512];
     fill_ckpt(&mut block, number, lsn, shape);
-    log.write(BLOCK_SIZE * u64::from(place_of(number)), &block)?;
-    log.sync()
+    write_and_sync(log, BLOCK_SIZE * u64::from(place_of(number)), &block)
 }
 
 /// Writes the header of a store of this shape, and makes it stay.
@@ -51,6 +50,5 @@ pub(crate) fn put_head<L: Sectors>(log: &mut L, shape: &Shape) -> Result<(), Dev
 {
     let mut block = [0; 512];
     fill_head(&mut block, shape);
-    log.write(0, &block)?;
-    log.sync()
+    write_and_sync(log, 0, &block)
 }

@@ -6,11 +6,10 @@ ghost use Rattle.redo_open.specs.Mend.{IsSettledData, IsMended, AreMended};
 ghost use Rattle.redo_open.specs.Store.{MendStep};
 ghost use Rattle.redo_recover.specs.{data_error_of};
 
-use crate::faults::data_fault;
 use model_base::Shape;
 use redo_disk::Sectors;
 use redo_page::place_lsn;
-use redo_recover::RecFault;
+use redo_recover::{RecFault, data_fault};
 use redo_store::DataPart;
 
 /// Puts the copy of a page that counts into its place, where the place doesn't pass.

@@ -1,6 +1,6 @@
 // Opening a store.
 ghost use Rattle.std.specs.Prelude.{◌≡◌, ◌≢◌, ◌≤◌, ◌<◌, ◌^◌, IfOk, IfErr, IfSome, None};
-ghost use Rattle.model_base.specs.declared.limits.TheConstants.{MIN_LOG_BLOCKS, MAX_LOG_BLOCKS};
+ghost use Rattle.model_base.specs.declared.limits.TheConstants.{FIRST_DATA_LSN, MAX_LOG_BLOCKS, MIN_LOG_BLOCKS};
 ghost use Rattle.model_log.specs.{IsAtDataStart, log_device_length};
 ghost use Rattle.model_opening.specs.{IsOpenable, KeepsOpened};
 ghost use Rattle.model_store.specs.Reading.{Reading};
@@ -12,12 +12,11 @@ ghost use Rattle.redo_pageactors.specs.{IsRunnable};
 ghost use Rattle.redo_recover.specs.{IsOfDevices, OnContents, reading_of};
 
 use crate::devices::open_devices;
-use crate::faults::data_fault;
 use redo_disk::Sectors;
 use redo_logdev::LogPart;
 use redo_lsn::start_after;
 use redo_pageactors::Opened;
-use redo_recover::{RecFault, Recovered, recover};
+use redo_recover::{RecFault, Recovered, data_fault, recover};
 use redo_store::DataPart;
 use std::alloc::Global;
 
@@ -33,7 +32,7 @@ fn start_run<L: Sectors, D: Sectors>(
     requires many_blocks { MIN_LOG_BLOCKS ≤ recovered.shape.log_blocks }
     requires few_blocks { recovered.shape.log_blocks ≤ MAX_LOG_BLOCKS }
     requires place { IsAtDataStart start }
-    requires first { 8204 ≤ start }
+    requires first { FIRST_DATA_LSN ≤ start }
     requires small { start < 2 ^ 61 }
     ensures { IsStarted log store recovered start result }
 {

@@ -9,13 +9,12 @@ ghost use Rattle.redo_open.specs.Places.{PlacesStep};
 ghost use Rattle.redo_recover.specs.{data_error_of};
 
 use crate::batch::Batch;
-use crate::faults::data_fault;
 use crate::mend::mend;
 use crate::rewrite::rewrite;
 use model_base::Shape;
 use redo_apply::Pages;
 use redo_disk::Sectors;
-use redo_recover::RecFault;
+use redo_recover::{RecFault, data_fault};
 use redo_store::DataPart;
 use std::alloc::Global;
 

@@ -12,20 +12,11 @@ ghost use Rattle.redo_open.specs.Gather.{AreGathered, GatherStep};
 ghost use Rattle.redo_open.specs.Rewrite.{WriteStep};
 
 use crate::batch::Batch;
-use model_base::{SLOTS, Shape, USER_START};
-use model_page::TRAILER_LENGTH;
+use model_base::{SLOTS, Shape};
 use redo_apply::Pages;
 use redo_disk::{DevError, Sectors};
-use redo_page::place_lsn;
+use redo_page::{place_lsn, user_part};
 use redo_store::DataPart;
-
-/// The user bytes of a page.
-fn user_part(page: &[u8]) -> &[u8]
-    requires { frame_length ≤ length page.now }
-    ensures { result.now ≡ user_part page.now }
-{
-    &page[USER_START as usize..page.len() - TRAILER_LENGTH as usize]
-}
 
 /// Whether a place passes, and holds this page.
 fn holds(place: &[u8], shape: &Shape, page: u32, lsn: u64, user: &[u8]) -> bool

@@ -4,8 +4,9 @@ ghost use Rattle.model_base.specs.{IsWithinLimits};
 ghost use Rattle.model_page.specs.{data_device_length, frame_length, HasNoCopy, IsBestCopy, IsKept, IsLost, stretch_at, user_part};
 
 use crate::state::{copy_lsn, place_lsn};
-use model_base::{Bytes, Shape, USER_START};
-use model_page::{Content, TRAILER_LENGTH};
+use crate::text::user_part;
+use model_base::{Bytes, Shape};
+use model_page::Content;
 use std::alloc::{AllocError, Global};
 
 /// The n-th stretch of page size on the device: the slots come first, and then the places.
@@ -45,8 +46,7 @@ fn user_bytes(alloc: Global, page: &[u8]) -> Result<Bytes, AllocError>
     requires { frame_length ≤ length page.now }
     ensures { IfOk result (λ user. user ≡ user_part page.now) }
 {
-    let end = page.len() - TRAILER_LENGTH as usize;
-    Ok(Bytes::new(page[USER_START as usize..end].to_vec(alloc)?))
+    Ok(Bytes::new(user_part(page).to_vec(alloc)?))
 }
 
 /// What a page holds: what its place holds if that passes, else what the copy that counts holds; `None` where neither

@@ -8,13 +8,15 @@ use model_base::Shape;
 use model_page::{LSN_START, NUMBER_START, PageState, SPACE_START, TRAILER_LENGTH};
 use redo_crc::crc32c;
 
-/// Bytes of a checksum, and of half an lsn.
+/// Bytes of a checksum, of a number, and of half an lsn.
 const HALF: usize = 4;
+/// Bytes of an lsn.
+const LSN_BYTES: usize = 2 * HALF;
 
 /// The number of four bytes at this offset.
 fn number_at(bytes: &[u8], at: usize) -> u32
-    requires { at + 4 ≤ length bytes.now }
-    ensures { result ≡ field 4 at bytes.now }
+    requires { at + HALF ≤ length bytes.now }
+    ensures { result ≡ field HALF at bytes.now }
 {
     BigEndian::read_u32(&bytes[at..])
 }
@@ -22,7 +24,7 @@ fn number_at(bytes: &[u8], at: usize) -> u32
 /// The lsn in the head of a page.
 fn lsn_of(bytes: &[u8]) -> u64
     requires { frame_length ≤ length bytes.now }
-    ensures { result ≡ field 8 16 bytes.now }
+    ensures { result ≡ field LSN_BYTES LSN_START bytes.now }
 {
     BigEndian::read_u64(&bytes[LSN_START as usize..])
 }

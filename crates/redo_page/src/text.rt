@@ -1,9 +1,18 @@
-// The fields and the checksums of a page, put round its user bytes.
+// A page's user bytes, and its fields and checksums, which are put round them.
 ghost use Rattle.std.specs.Prelude.{◌≡◌, ◌≤◌, ◌+◌, ◌++◌, ℕ, length, take, drop};
 ghost use Rattle.model_page.specs.{frame_length, page_text, user_part};
 
+use model_base::USER_START;
 use model_page::{NUMBER_START, TRAILER_LENGTH};
 use redo_crc::crc32c;
+
+/// The user bytes of a page.
+pub fn user_part(page: &[u8]) -> &[u8]
+    requires { frame_length ≤ length page.now }
+    ensures { result.now ≡ user_part page.now }
+{
+    &page[USER_START as usize..page.len() - TRAILER_LENGTH as usize]
+}
 
 /// Puts bytes at an offset and gives the offset behind them. What stands before and behind them stays.
 fn put(page: &mut [u8], at: usize, bytes: &[u8]) -> usize

@@ -2,9 +2,11 @@
 use Rattle.std.proofs.Common.{◌≡◌, ◌≤◌, ◌+◌, ◌%◌, ℕ, List, [], ◌∷◌, ◌++◌, length, Option, Some, None, inl, inr, sym, ap, subst, arith}
 use Rattle.std.specs.List.{AllByRecursion}
 use Rattle.std.specs.Prelude.{IfSome}
+use Rattle.model_base.specs.declared.limits.TheConstants.{BLOCK_SIZE}
 use Rattle.model_base.specs.declared.shape.Shape.{Shape}
 use Rattle.model_log.specs.{read_block}
 use Rattle.model_log.specs.declared.block.BlockView.{BlockView}
+use Rattle.model_log.specs.declared.layout.TheConstants.{BLOCK_HEADER}
 use Rattle.model_page.specs.declared.content.Content.{Content}
 use Rattle.model_record.specs.declared.group.Whole.{Whole}
 use Rattle.model_store.specs.{groups_start, lsn_at}
@@ -34,7 +36,7 @@ firsts-push views all view firsts first all_is =
 firsts-in : (views : List BlockView) → HaveFirsts views → AreFirstsIn views
 firsts-in views firsts i view at some = let own = firsts i view at some in (own.0, omega (arith, own.1))
 
-ends-in : (shape : Shape) (ckpt : ℕ) (views : List BlockView) (bytes : List ℕ) (start : Option ℕ) (wholes : List Whole) (end : ℕ) → ckpt % 512 ≡ 0
+ends-in : (shape : Shape) (ckpt : ℕ) (views : List BlockView) (bytes : List ℕ) (start : Option ℕ) (wholes : List Whole) (end : ℕ) → ckpt % BLOCK_SIZE ≡ 0
     → AreFew shape views bytes → HaveFirsts views → groups_start ckpt views ≡ start → AreParsed ckpt (length views) shape bytes start wholes end
     → EndsWithin ckpt end views × AllByRecursion (λ (whole : Whole). whole.end ≤ end) wholes
 ends-in shape ckpt views bytes None wholes end aligned few firsts is (none, at) = (
@@ -47,13 +49,13 @@ ends-in shape ckpt views bytes (Some start) wholes end aligned few firsts is par
   subst (λ n. AllByRecursion (λ (whole : Whole). whole.end ≤ n) wholes) (sym parsed.at) (ends-below start wholes parsed.groups.run),
 )
 
-pub parsed-end : (shape : Shape) (ckpt : ℕ) (views : List BlockView) (bytes : List ℕ) (start : Option ℕ) (wholes : List Whole) (end : ℕ) → ckpt % 512 ≡ 0
+pub parsed-end : (shape : Shape) (ckpt : ℕ) (views : List BlockView) (bytes : List ℕ) (start : Option ℕ) (wholes : List Whole) (end : ℕ) → ckpt % BLOCK_SIZE ≡ 0
     → AreFew shape views bytes → HaveFirsts views → groups_start ckpt views ≡ start → AreParsed ckpt (length views) shape bytes start wholes end
     → IsEndOf shape ckpt wholes end
 parsed-end shape ckpt views bytes start wholes end aligned few firsts is parsed =
     let both = ends-in shape ckpt views bytes start wholes end aligned few firsts is parsed in
     let ends : EndsWithin ckpt end views = both.0 in
-    let up_to : end ≤ lsn_at ckpt (length views) + 12 = ends.up_to in
+    let up_to : end ≤ lsn_at ckpt (length views) + BLOCK_HEADER = ends.up_to in
     record { place = ends.place; from = ends.from; up_to = omega (arith, few.few); groups = both.1 }
 
 -- THE PAGES.

@@ -1,6 +1,5 @@
 -- What is known of a device's content, where it tells, and what was read off it.
 use Rattle.std.proofs.Common.{ℕ, List, Option, Some, None}
-use Rattle.std.specs.Prelude.{Result, Ok, Err, IfOk, IfErr}
 use Rattle.model_device.specs.Disk.{Disk}
 use Rattle.redo_recover.specs.Devices.{OnContent, OnContents}
 
@@ -27,14 +26,3 @@ pub contents-from : (log data_told : Option Disk) (P Q : List ℕ → Type 0) (R
 contents-from None data_told P Q R joins first second = tt
 contents-from (Some log) data_told P Q R joins first second =
     content-weaker data_told Q (R log.reads) (λ data_bytes known. joins log.reads data_bytes first known) second
-
--- what a result has, and what is known of the content that it came from
-pub ok-content : {T E : Type 0} (result : Result T E) (told : Option Disk) (P : T → Type 0) (F : List ℕ → Type 0) (Q : T → List ℕ → Type 0)
-    → ((x : T) (content : List ℕ) → F content → P x → Q x content) → OnContent told F → IfOk result P → IfOk result (λ x. OnContent told (Q x))
-ok-content (Ok x) told P F Q joins known is = content-weaker told F (Q x) (λ content from. joins x content from is) known
-ok-content (Err e) told P F Q joins known is = tt
-
-pub err-content : {T E : Type 0} (result : Result T E) (told : Option Disk) (P : E → Type 0) (F : List ℕ → Type 0) (Q : E → List ℕ → Type 0)
-    → ((x : E) (content : List ℕ) → F content → P x → Q x content) → OnContent told F → IfErr result P → IfErr result (λ x. OnContent told (Q x))
-err-content (Ok x) told P F Q joins known is = tt
-err-content (Err e) told P F Q joins known is = content-weaker told F (Q e) (λ content from. joins e content from is) known

@@ -1,20 +1,21 @@
 -- Kept pages, off the slots and one place after another.
-use Rattle.std.proofs.Common.{◌≡◌, ℕ, ◌+◌, ◌-◌, ◌*◌, ◌<◌, ◌≤◌, inl, inr, List, length, take, drop, Option, Some, None, arith, sym, ap, subst, ◌∙◌}
+use Rattle.std.proofs.Common.{◌≡◌, ℕ, ◌+◌, ◌-◌, ◌*◌, ◌<◌, ◌≤◌, inr, List, length, take, drop, Option, None, arith, sym, ap, subst, ◌∙◌}
 use Rattle.std.proofs.lemmas.List.{drop-take, length-drop, length-take, length-take-le, take-take}
+use Rattle.model_base.specs.declared.limits.TheConstants.{PAGE_SIZE}
 use Rattle.model_base.specs.declared.shape.Shape.{Shape}
 use Rattle.model_page.specs.{copy_lsn, copy_lsn_by, HasNoCopy, IsBestCopy, IsKept, IsLost, page_check, place_bytes, place_lsn_by, slot_bytes, stretch_at, user_length, user_part}
 use Rattle.model_page.specs.declared.content.Content.{Content}
 use Rattle.model_device.specs.Disk.{Disk}
 use Rattle.redo_apply.specs.{ArePagesOf}
 use Rattle.redo_disk.specs.{part}
-use Rattle.redo_recover.proofs.Contents.{content-any, content-both, content-weaker}
+use Rattle.redo_recover.proofs.Contents.{content-both, content-weaker}
 use Rattle.redo_recover.proofs.Paging.{AreKeptFirst, all-kept, first_lost, kept-put}
 use Rattle.redo_recover.specs.Devices.{OnContent}
 use Rattle.redo_recover.specs.Pages.{AreKept, HoldsSlots, IsFirstLost, IsFirstLostFault, IsLostFault, PutsKept}
 use Rattle.redo_recover.specs.declared.fault.RecFault.{RecFault}
 use Rattle.redo_recover.specs.declared.fault.RecFault.TheVariants.{SmallLog, NotFormatted, BadFormat, SmallData, NoCheckpoint, BadRecord, PageLost, PageAhead, LogDev, DataDev, NoMemory}
 
-pub user-size : (shape : Shape) (page : List ℕ) → shape.page_size ≡ 4096 → length page ≡ shape.page_size → length (user_part page) ≡ user_length shape
+pub user-size : (shape : Shape) (page : List ℕ) → shape.page_size ≡ PAGE_SIZE → length page ≡ shape.page_size → length (user_part page) ≡ user_length shape
 user-size shape page size long = omega (arith, length-take (length page - 8 - 38) (drop 38 page), length-drop 38 page)
 
 room : (slots n size : ℕ) → n < slots → n * size + size ≤ slots * size
@@ -41,13 +42,6 @@ lost-off shape slots place image p is at broken none = record {
   broken = sym (ap (λ bytes. place_lsn_by shape p (page_check bytes)) at) ∙ broken;
   no_copy = λ slot low. sym (copy-same shape slots image p slot is low) ∙ none slot low;
 }
-
-pub place-off : (shape : Shape) (place image user : List ℕ) (p lsn : ℕ) → place ≡ place_bytes shape p image
-    → place_lsn_by shape p (page_check place) ≡ Some lsn → user ≡ user_part place → IsKept shape image p (record { lsn = lsn; user = user })
-place-off shape place image user p lsn at passes user_is = inl (record {
-  passes = sym (ap (λ bytes. place_lsn_by shape p (page_check bytes)) at) ∙ passes;
-  user = user_is ∙ ap user_part at;
-})
 
 pub slot-off : (shape : Shape) (slots place image user : List ℕ) (p slot lsn : ℕ) → HoldsSlots shape slots image → place ≡ place_bytes shape p image
     → place_lsn_by shape p (page_check place) ≡ None → IsBestCopy shape slots p slot lsn → user ≡ user_part (slot_bytes shape slot slots)
@@ -100,9 +94,6 @@ lost-first shape pages page told NoCheckpoint below kept none = absurd none
 lost-first shape pages page told (BadRecord lsn) below kept none = absurd none
 lost-first shape pages page told (PageAhead p lsn) below kept none = absurd none
 lost-first shape pages page told LogDev below kept none = absurd none
-
-pub kept-none : (shape : Shape) (pages : List Content) (told : Option Disk) → ArePagesOf shape pages → OnContent told (λ content. AreKeptFirst shape content 0 pages)
-kept-none shape pages told its = content-any told (λ content. AreKeptFirst shape content 0 pages) (λ content. record { its_pages = its; each = λ p page h at. absurd (omega arith) })
 
 pub kept-next : (shape : Shape) (old new : List Content) (page : ℕ) (told : Option Disk) → ArePagesOf shape new
     → OnContent told (λ content. AreKeptFirst shape content page old) → OnContent told (PutsKept shape page old new)

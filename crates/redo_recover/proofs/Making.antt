@@ -3,16 +3,18 @@ use Rattle.std.proofs.Common.{◌≡◌, ◌≤◌, ◌++◌, ℕ, List, [], ◌
 use Rattle.std.specs.Prelude.{IsErrOf}
 use Rattle.std.specs.List.{AllByRecursion}
 use Rattle.model_base.specs.declared.shape.Shape.{Shape}
+use Rattle.model_log.specs.declared.layout.TheConstants.{HEADER_BYTES}
 use Rattle.redo_disk.specs.{Answer, Call, error_of, MakesCall, MakesCalls, Reads, Syncs, Writes}
 use Rattle.redo_disk.specs.declared.error.DevError.{DevError}
 use Rattle.redo_disk.specs.declared.error.DevError.TheVariants as device
 use Rattle.redo_disk.proofs.Calls.{MayEndWith-append, MayEndWith-ends, MayEndWith-no_memory}
 use Rattle.redo_disk.proofs.Made.{EndWith-one, joined_calls, no_calls, one_call, weaker_calls}
 use Rattle.redo_recover.specs.Calls.{IsPieceRead, ReadsPieces, BeginWithHeader, ReadsLog, log_error, data_error}
-use Rattle.redo_recover.specs.Devices.{log_fault_of, data_fault_of}
+use Rattle.redo_recover.specs.Devices.{log_fault_of}
 use Rattle.redo_recover.specs.Start.{IsHeadFault, IsLengthFault}
 use Rattle.redo_recover.specs.declared.fault.RecFault.{RecFault}
 use Rattle.redo_recover.specs.declared.fault.RecFault.TheVariants.{SmallLog, NotFormatted, BadFormat, SmallData, NoCheckpoint, BadRecord, PageLost, PageAhead, LogDev, DataDev, NoMemory}
+use Rattle.redo_recover.specs.declared.piece.TheConstants.{PIECE}
 
 pieces-append : (xs ys : List Call) → AllByRecursion IsPieceRead xs → AllByRecursion IsPieceRead ys → AllByRecursion IsPieceRead (xs ++ ys)
 pieces-append [] ys front back = back
@@ -44,19 +46,19 @@ log_then {size = size} {error = error} = joined_calls (λ xs ys front back. reco
 pub no_pieces : {D : Type 0} (gives : D → Call → D → Type 0) (device : D) → MakesCalls gives device device (ReadsPieces None)
 no_pieces gives device = no_calls gives device (ReadsPieces None) (record { pieces = tt; ends = MayEndWith-ends None [] (record { stop = tt; first = refl }) })
 
-pub piece_read : {D : Type 0} {gives : D → Call → D → Type 0} {old new : D} {at : ℕ} {before after : List ℕ} {answer : Answer} → length before ≤ 65536
+pub piece_read : {D : Type 0} {gives : D → Call → D → Type 0} {old new : D} {at : ℕ} {before after : List ℕ} {answer : Answer} → length before ≤ PIECE
     → MakesCall gives old (Reads at before answer after) new → MakesCalls gives old new (ReadsPieces (error_of answer))
 piece_read {at = at} {before = before} {after = after} {answer = answer} few given =
     one_call {call = Reads at before answer after} (ReadsPieces (error_of answer))
     (record { pieces = (few, tt); ends = MayEndWith-ends (error_of answer) (Reads at before answer after ∷ []) (EndWith-one (Reads at before answer after)) }) given
 
-pub header_read : {D : Type 0} {gives : D → Call → D → Type 0} {old new : D} {before after : List ℕ} {answer : Answer} (size : ℕ) → length before ≡ 2048
+pub header_read : {D : Type 0} {gives : D → Call → D → Type 0} {old new : D} {before after : List ℕ} {answer : Answer} (size : ℕ) → length before ≡ HEADER_BYTES
     → MakesCall gives old (Reads 0 before answer after) new → MakesCalls gives old new (ReadsLog size (error_of answer))
 header_read {before = before} {after = after} {answer = answer} size long given =
     one_call {call = Reads 0 before answer after} (ReadsLog size (error_of answer))
     (record {
       reads = record {
-        pieces = (subst (λ (n : ℕ). n ≤ 65536) (sym long) (omega arith), tt);
+        pieces = (subst (λ (n : ℕ). n ≤ PIECE) (sym long) (omega arith), tt);
         ends = MayEndWith-ends (error_of answer) (Reads 0 before answer after ∷ []) (EndWith-one (Reads 0 before answer after));
       };
       header = λ room. (refl, long);
@@ -67,26 +69,12 @@ pieces_no_memory = weaker_calls (λ calls is. record { pieces = is.pieces; ends 
 
 -- WHAT A FAULT SAYS of a device's error.
 
-pub log_pieces : {D : Type 0} {gives : D → Call → D → Type 0} {old new : D} (error : DevError) (fault : RecFault) → fault ≡ log_fault_of error
-    → MakesCalls gives old new (ReadsPieces (Some error)) → MakesCalls gives old new (ReadsPieces (log_error fault))
-log_pieces {gives = gives} {old = old} {new = new} device.Failed fault is made =
-    subst (λ (f : RecFault). MakesCalls gives old new (ReadsPieces (log_error f))) (sym is) made
-log_pieces {gives = gives} {old = old} {new = new} device.NoMemory fault is made =
-    subst (λ (f : RecFault). MakesCalls gives old new (ReadsPieces (log_error f))) (sym is) made
-
 pub log_header : {D : Type 0} {gives : D → Call → D → Type 0} {old new : D} (size : ℕ) (error : DevError) (fault : RecFault) → fault ≡ log_fault_of error
     → MakesCalls gives old new (ReadsLog size (Some error)) → MakesCalls gives old new (ReadsLog size (log_error fault))
 log_header {gives = gives} {old = old} {new = new} size device.Failed fault is made =
     subst (λ (f : RecFault). MakesCalls gives old new (ReadsLog size (log_error f))) (sym is) made
 log_header {gives = gives} {old = old} {new = new} size device.NoMemory fault is made =
     subst (λ (f : RecFault). MakesCalls gives old new (ReadsLog size (log_error f))) (sym is) made
-
-pub data_pieces : {D : Type 0} {gives : D → Call → D → Type 0} {old new : D} (error : DevError) (fault : RecFault) → fault ≡ data_fault_of error
-    → MakesCalls gives old new (ReadsPieces (Some error)) → MakesCalls gives old new (ReadsPieces (data_error fault))
-data_pieces {gives = gives} {old = old} {new = new} device.Failed fault is made =
-    subst (λ (f : RecFault). MakesCalls gives old new (ReadsPieces (data_error f))) (sym is) made
-data_pieces {gives = gives} {old = old} {new = new} device.NoMemory fault is made =
-    subst (λ (f : RecFault). MakesCalls gives old new (ReadsPieces (data_error f))) (sym is) made
 
 -- an error that code answers by itself
 abbrev pub MayBeOwn : Option DevError → Type 0

@@ -1,6 +1,6 @@
 -- Pages that are kept, judged and replayed one after another.
-use Rattle.std.proofs.Common.{◌≡◌, ℕ, ◌+◌, ◌<◌, ◌≤◌, ◌⊎◌, inl, inr, cond, List, ◌∷◌, length, set, get_or, drop, Some, arith, refl, sym, ap, subst, ◌∙◌, ⊎_elim}
-use Rattle.std.specs.Prelude.{IfSome, nat_le}
+use Rattle.std.proofs.Common.{◌≡◌, ℕ, ◌+◌, ◌<◌, ◌≤◌, inl, inr, cond, List, ◌∷◌, length, set, get_or, drop, Some, arith, refl, sym, ap, subst, ◌∙◌}
+use Rattle.std.specs.Prelude.{nat_le}
 use Rattle.std.specs.List.{slice_get}
 use Rattle.std.proofs.lemmas.List.{drop_more, drop_all}
 use Rattle.std.proofs.lemmas.Option.{slice_get_within}
@@ -14,7 +14,7 @@ use Rattle.model_store.specs.declared.refusal.Refusal.TheVariants as refusal
 use Rattle.model_store.proofs.Places.{has_place}
 use Rattle.redo_apply.specs.{AreAfterWhere, ArePagesOf, HaveLsns}
 use Rattle.redo_recover.specs.Pages.{AreKept, AreNotAhead, AreReplayed, IsFirstLost, IsFirstAhead, RefusesPages}
-use Rattle.redo_recover.proofs.Setting.{if_some-is, slice_get-set}
+use Rattle.redo_recover.proofs.Setting.{slice_get-set}
 
 -- KEPT PAGES
 
@@ -55,24 +55,6 @@ all-kept shape data_bytes pages count a all = record {
 }
 
 -- JUDGED
-
--- the first pages aren't ahead, and then comes one that is
-pub first-ahead : (pages : List Content) (end p lsn : ℕ) → ((q : ℕ) (other : Content) → q < p → slice_get pages q ≡ Some other → other.lsn ≤ end)
-    → p < length pages → IfSome (slice_get pages p) (λ content. lsn ≡ content.lsn) → end < lsn → IsFirstAhead pages end p lsn
-first-ahead pages end p lsn first below is ahead =
-    let page = has_place pages p below in
-    record { page = page.0; at = page.1; same = if_some-is (slice_get pages p) (λ content. lsn ≡ content.lsn) page.0 page.1 is; ahead = ahead; first = first }
-
-pub not-ahead : (pages : List Content) (end p lsn : ℕ) → ((q : ℕ) (other : Content) → q < p → slice_get pages q ≡ Some other → other.lsn ≤ end)
-    → IfSome (slice_get pages p) (λ content. lsn ≡ content.lsn) → lsn ≤ end
-    → (q : ℕ) (other : Content) → q < p + 1 → slice_get pages q ≡ Some other → other.lsn ≤ end
-not-ahead pages end p lsn first is low q other h at =
-    ⊎_elim (λ below. first q other below at)
-    (λ here. (let lsn_is : lsn ≡ other.lsn = if_some-is (slice_get pages p) (λ content. lsn ≡ content.lsn) other (ap (slice_get pages) (sym here) ∙ at) is in omega arith))
-    (cases q p h)
-  where
-    cases : (q p : ℕ) → q < p + 1 → (q < p) ⊎ (q ≡ p)
-    cases q p h = grind arith
 
 -- every page is kept, but one is ahead
 pub ahead-refused : (shape : Shape) (data_bytes : List ℕ) (pages : List Content) (end p lsn : ℕ) → AreKept shape data_bytes pages

@@ -1,11 +1,12 @@
 -- Blocks that are read one after another.
-use Rattle.std.proofs.Common.{◌≡◌, ℕ, ◌+◌, ◌-◌, ◌<◌, ◌≤◌, inl, inr, true, false, cond, ltb, List, [], ◌∷◌, ◌++◌, length, drop, min, Option, Some, None, arith, refl, sym, ap, ap₂, subst, ◌∙◌, append_assoc}
+use Rattle.std.proofs.Common.{◌≡◌, ℕ, ◌+◌, ◌-◌, ◌<◌, ◌≤◌, inl, inr, true, false, cond, ltb, List, [], ◌∷◌, ◌++◌, length, drop, min, Option, Some, None, arith, sym, ap, ap₂, subst, ◌∙◌, append_assoc}
 use Rattle.std.specs.List.{slice_get}
 use Rattle.std.proofs.lemmas.List.{length_push, append-nil, length-take}
 use Rattle.model_base.specs.declared.limits.TheConstants.{BLOCK_SIZE, LSN_LIMIT}
 use Rattle.model_base.specs.declared.shape.Shape.{Shape}
 use Rattle.model_log.specs.{data_of, is_full, log_block, offset_of, read_block, sector_at}
 use Rattle.model_log.specs.declared.block.BlockView.{BlockView}
+use Rattle.model_log.specs.declared.layout.TheConstants.{BLOCK_DATA}
 use Rattle.model_store.specs.{data_at, joined, lsn_at, view_at}
 use Rattle.model_store.proofs.Places.{push_place, place_push}
 use Rattle.model_store.proofs.Taking.{view_at-is, data_at-some}
@@ -20,12 +21,6 @@ pub record AreBlocksSoFar (shape : Shape) (ckpt : ℕ) (views : List BlockView) 
   pub each : (i : ℕ) (view : BlockView) → slice_get views i ≡ Some view → view_at shape image (lsn_at ckpt i) ≡ Some view
   pub full : (i : ℕ) (view : BlockView) → slice_get views i ≡ Some view → is_full view ≡ true
   pub bytes_are : bytes ≡ joined shape image ckpt views
-
-pub so_far-none : (shape : Shape) (ckpt : ℕ) (views : List BlockView) (bytes image : List ℕ) → views ≡ [] → bytes ≡ []
-    → AreBlocksSoFar shape ckpt views bytes 0 image
-so_far-none shape ckpt views bytes image none empty =
-    subst (λ (vs : List BlockView). AreBlocksSoFar shape ckpt vs bytes 0 image) (sym none)
-    (record { many = refl; each = λ i view e. cc; full = λ i view e. cc; bytes_are = empty })
 
 -- the sector of a piece in which the block of an lsn stands
 pub block-piece : (shape : Shape) (image : List ℕ) (piece : Piece) (lsn at : ℕ) (block : List ℕ) → IsPieceOf piece image → HasSector piece at
@@ -107,8 +102,8 @@ taken-at shape ckpt count i piece at block found image same has at_is block_is f
     (let bytes = block-piece shape image piece (lsn_at ckpt i) at block of has at_is block_is in
     record { view = taken-piece shape image (lsn_at ckpt i) block found bytes found_is; bytes = bytes })
 
--- a block has room for 496 bytes
-pub length-data_of : (view : BlockView) (block : List ℕ) → length (data_of view block) ≤ 496
+-- a block has room for so many data bytes
+pub length-data_of : (view : BlockView) (block : List ℕ) → length (data_of view block) ≤ BLOCK_DATA
 length-data_of view block =
     omega (arith, length-take (min view.length 508 - 12) (drop 12 block))
 

@@ -1,12 +1,11 @@
 -- Calls that only read, one after another.
-use Rattle.std.proofs.Common.{◌≡◌, ℕ, List, Option, refl, subst, sym, ◌∙◌, arith}
+use Rattle.std.proofs.Common.{ℕ, List, Option, subst, sym, ◌∙◌, arith}
 use Rattle.model_device.specs.Disk.{Disk}
 use Rattle.redo_disk.specs.Seen.{Seen}
 use Rattle.redo_recover.specs.Devices.{IsUnchanged, OnContent}
 use Rattle.redo_disk.specs.declared.error.DevError.{DevError}
 use Rattle.redo_disk.specs.declared.error.DevError.TheVariants.{Failed, NoMemory}
-use Rattle.redo_recover.specs.Devices.{HasCauseIn, log_fault_of, data_fault_of}
-use Rattle.redo_recover.specs.declared.fault.RecFault.TheVariants.{LogDev, DataDev}
+use Rattle.redo_recover.specs.Devices.{HasCauseIn, log_fault_of}
 
 pub IsUnchanged-then : (old middle new : Seen) → IsUnchanged old middle → IsUnchanged middle new → IsUnchanged old new
 IsUnchanged-then old middle new first second = record {
@@ -23,27 +22,7 @@ content-before old new P same known = subst (λ told. OnContent told P) same.tel
 pub content-after : (old new : Seen) (P : List ℕ → Type 0) → IsUnchanged old new → OnContent old.tells P → OnContent new.tells P
 content-after old new P same known = subst (λ told. OnContent told P) (sym same.tells) known
 
--- a device's answer names no cause, and only its own failure is that device's fault
+-- a device's answer names no cause
 pub log_fault-cause : (log data_told : Option Disk) (error : DevError) → HasCauseIn log data_told (log_fault_of error)
 log_fault-cause log data_told Failed = tt
 log_fault-cause log data_told NoMemory = tt
-
-pub log_fault-own : (error : DevError) → log_fault_of error ≡ LogDev → error ≡ Failed
-log_fault-own Failed e = refl
-log_fault-own NoMemory e = cc
-
-pub log_fault-other : (error : DevError) → log_fault_of error ≡ DataDev → ⊥
-log_fault-other Failed e = cc
-log_fault-other NoMemory e = cc
-
-pub data_fault-cause : (log data_told : Option Disk) (error : DevError) → HasCauseIn log data_told (data_fault_of error)
-data_fault-cause log data_told Failed = tt
-data_fault-cause log data_told NoMemory = tt
-
-pub data_fault-own : (error : DevError) → data_fault_of error ≡ DataDev → error ≡ Failed
-data_fault-own Failed e = refl
-data_fault-own NoMemory e = cc
-
-pub data_fault-other : (error : DevError) → data_fault_of error ≡ LogDev → ⊥
-data_fault-other Failed e = cc
-data_fault-other NoMemory e = cc

@@ -1,7 +1,9 @@
 // The blocks of a log from a checkpoint on, read off the log device.
 ghost use Rattle.std.specs.Prelude.{◌≡◌, ◌≤◌, ◌<◌, ◌+◌, ◌*◌, ◌%◌, ◌^◌, length, IfOk, IfSome, IsErrOf, None, nat_lt, if◌then◌else◌};
 ghost use Rattle.model_base.specs.{HasRisen, IsWithinLimits};
+ghost use Rattle.model_base.specs.declared.limits.TheConstants.{MAX_LOG_BLOCKS, START_LSN};
 ghost use Rattle.model_log.specs.{is_full, log_device_length, offset_of, read_block};
+ghost use Rattle.model_log.specs.declared.layout.TheConstants.{BLOCK_HEADER};
 ghost use Rattle.model_store.specs.{groups_start};
 ghost use Rattle.redo_disk.specs.{error_of, MakesCalls};
 ghost use Rattle.redo_disk.specs.declared.error.DevError.{DevError};
@@ -38,11 +40,11 @@ fn is_full(view: BlockView) -> bool
 /// side by side up to the log's end.
 fn readable_end(shape: &Shape, at: u64, left: u32) -> u64
     requires limits { IsWithinLimits shape.now }
-    requires at { at % 512 ≡ 0 }
+    requires at { at % BLOCK_SIZE ≡ 0 }
     requires within { at + BLOCK_SIZE ≤ log_device_length shape.now }
     requires some { 1 ≤ left }
     requires few { left ≤ shape.now.log_blocks }
-    ensures sectors { result % 512 ≡ 0 }
+    ensures sectors { result % BLOCK_SIZE ≡ 0 }
     ensures some { at < result }
     ensures within { result ≤ log_device_length shape.now }
 {
@@ -60,9 +62,9 @@ pub(crate) fn read_blocks<L: Sectors>(
 ) -> Result<Blocks, DevError>
     requires limits { IsWithinLimits shape.now }
     requires long { log_device_length shape.now ≤ (L.seen log.old).size }
-    requires aligned { ckpt % 512 ≡ 0 }
-    requires started { 8192 ≤ ckpt }
-    requires small { ckpt < 2 ^ 60 }
+    requires aligned { ckpt % BLOCK_SIZE ≡ 0 }
+    requires started { START_LSN ≤ ckpt }
+    requires small { ckpt < LSN_LIMIT }
     ensures blocks { IfOk result (λ blocks. OnContent (L.seen log.old).tells (AreBlocksOf shape.now ckpt blocks.views.items blocks.joined.items)) }
     ensures few { IfOk result (λ blocks. AreFew shape.now blocks.views.items blocks.joined.items) }
     ensures firsts { IfOk result (λ blocks. HaveFirsts blocks.views.items) }
@@ -97,7 +99,7 @@ pub(crate) fn read_blocks<L: Sectors>(
 /// The block that the scan takes at the lsn off its 512 bytes; none at the lsn limit or above.
 fn taken(block: &[u8; 512], lsn: u64) -> Option<BlockView>
     ensures view { result ≡ (if nat_lt lsn LSN_LIMIT then read_block lsn block.now else None) }
-    ensures length { IfSome result (λ view. (12 ≤ view.length) × (view.length ≤ BLOCK_SIZE)) }
+    ensures length { IfSome result (λ view. (BLOCK_HEADER ≤ view.length) × (view.length ≤ BLOCK_SIZE)) }
     ensures first { IfSome result HasFirst }
 {
     if lsn < LSN_LIMIT {
@@ -110,10 +112,10 @@ fn taken(block: &[u8; 512], lsn: u64) -> Option<BlockView>
 /// Where the groups start that are read: at the first offset that isn't 0, in the first block that has one. The first
 /// of the blocks is the checkpoint's.
 pub(crate) fn groups_start(ckpt: u64, views: &[BlockView]) -> Option<u64>
-    requires small { ckpt < 2 ^ 60 }
-    requires few { length views.now ≤ 1048576 }
+    requires small { ckpt < LSN_LIMIT }
+    requires few { length views.now ≤ MAX_LOG_BLOCKS }
     ensures start { result ≡ groups_start ckpt views.now }
-    ensures small { IfSome result (λ start. start < 2 ^ 60 + 2 ^ 33) }
+    ensures small { IfSome result (λ start. start < LSN_LIMIT + 2 ^ 33) }
 {
     let mut lsn = ckpt;
     for view in views {

@@ -6,7 +6,7 @@ use crate::RecFault;
 use redo_disk::DevError;
 
 /// The fault of a program whose log device answered this.
-pub(crate) fn log_fault(error: DevError) -> RecFault
+pub fn log_fault(error: DevError) -> RecFault
     ensures { result ≡ log_fault_of error }
 {
     match error {
@@ -16,7 +16,7 @@ pub(crate) fn log_fault(error: DevError) -> RecFault
 }
 
 /// The fault of a program whose data device answered this.
-pub(crate) fn data_fault(error: DevError) -> RecFault
+pub fn data_fault(error: DevError) -> RecFault
     ensures { result ≡ data_fault_of error }
 {
     match error {

@@ -1,6 +1,7 @@
 // The groups in the data of a log.
-ghost use Rattle.std.specs.Prelude.{◌≡◌, ◌+◌, ◌-◌, ◌≤◌, ◌<◌, ◌%◌, ◌^◌, length, drop, IfOk, IfErr};
+ghost use Rattle.std.specs.Prelude.{◌≡◌, ◌+◌, ◌-◌, ◌≤◌, ◌<◌, ◌*◌, ◌%◌, length, drop, IfOk, IfErr};
 ghost use Rattle.model_base.specs.{IsWithinLimits};
+ghost use Rattle.model_base.specs.declared.limits.TheConstants.{LSN_LIMIT};
 ghost use Rattle.model_record.specs.{group_text};
 ghost use Rattle.model_log.specs.{sn_of};
 ghost use Rattle.model_store.specs.{groups_start};
@@ -43,7 +44,7 @@ pub(crate) fn scan_groups(
     start: u64,
     shape: &Shape,
 ) -> Result<(Vec<Whole>, u64), RecFault>
-    requires { sn_of start + length bytes.now < 2 ^ 61 }
+    requires { sn_of start + length bytes.now < 2 * LSN_LIMIT }
     ensures groups { IfOk result (λ found. EndAt shape.now bytes.now start found.0.items found.1) }
     ensures fault { IfErr result (IsBreakFault shape.now bytes.now start) }
 {
@@ -88,7 +89,7 @@ pub(crate) fn parse(
     requires few { AreFew shape.now blocks.now.views.items blocks.now.joined.items }
     requires firsts { HaveFirsts blocks.now.views.items }
     requires aligned { ckpt % BLOCK_SIZE ≡ 0 }
-    requires small { ckpt < 2 ^ 60 }
+    requires small { ckpt < LSN_LIMIT }
     ensures parsed { IfOk result (λ found. AreParsed ckpt (length blocks.now.views.items) shape.now blocks.now.joined.items
         (groups_start ckpt blocks.now.views.items) found.0.items found.1) }
     ensures end { IfOk result (λ found. IsEndOf shape.now ckpt found.0.items found.1) }

@@ -1,7 +1,7 @@
 // Kept pages, read off the data device place by place.
 ghost use Rattle.std.specs.Prelude.{List, ℕ, ◌≡◌, ◌≤◌, ◌<◌, ◌+◌, ◌*◌, length, take, OnOk, IfOk, IfErr, IfSome, IsErrOf, MatchOption};
 ghost use Rattle.model_base.specs.{HasRisen, IsWithinLimits};
-ghost use Rattle.model_page.specs.{data_device_length, frame_length, IsKept, IsLost, place_bytes, user_length, user_part};
+ghost use Rattle.model_page.specs.{data_device_length, IsKept, IsLost, place_bytes, user_length};
 ghost use Rattle.redo_apply.specs.{ArePagesOf};
 ghost use Rattle.redo_disk.specs.{MakesCalls};
 ghost use Rattle.redo_recover.specs.Calls.{ReadsPieces, data_error_of};
@@ -11,20 +11,11 @@ ghost use Rattle.redo_recover.specs.Pages.{AreKept, HoldsSlots, IsFirstLostFault
 use crate::RecFault;
 use crate::errors::data_fault;
 use crate::piece::read_part;
-use model_base::{Shape, USER_START};
-use model_page::TRAILER_LENGTH;
+use model_base::Shape;
 use redo_apply::Pages;
 use redo_disk::Sectors;
-use redo_page::{best_copy, place_lsn};
+use redo_page::{best_copy, place_lsn, user_part};
 use std::alloc::Global;
-
-/// The user bytes of a page.
-fn user_part(page: &[u8]) -> &[u8]
-    requires { frame_length ≤ length page.now }
-    ensures { result.now ≡ user_part page.now }
-{
-    &page[USER_START as usize..page.len() - TRAILER_LENGTH as usize]
-}
 
 /// The lsn of a page and its user bytes: what its place holds if that passes, else what the copy in the slots holds that
 /// counts.

@@ -16,6 +16,8 @@ mod start;
 #[cfg(test)]
 mod tests;
 
+pub use errors::{data_fault, log_fault};
 pub use fault::RecFault;
 pub use recovered::Recovered;
 pub use recovery::recover;
+pub use start::check_lengths;

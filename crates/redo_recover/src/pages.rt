@@ -24,7 +24,7 @@ use std::alloc::Global;
 
 /// Whether a page has an lsn above the log's end.
 fn check_ahead(pages: &Pages, end: u64) -> Result<(), RecFault>
-    requires { length pages.now ≤ 64 }
+    requires { length pages.now ≤ MAX_PAGES }
     ensures fine { IfOk result (λ _. AreNotAhead pages.now end) }
     ensures fault { IfErr result (IsAheadFault pages.now end) }
 {

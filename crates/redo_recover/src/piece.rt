@@ -1,5 +1,5 @@
 // Stretches of a device, read in pieces.
-ghost use Rattle.std.specs.Prelude.{◌≡◌, ◌≤◌, ◌<◌, ◌+◌, ◌-◌, ◌%◌, length, take, IfOk, IsErrOf, IsTrue, ◌↔◌, ◌^◌};
+ghost use Rattle.std.specs.Prelude.{◌≡◌, ◌≤◌, ◌<◌, ◌+◌, ◌-◌, ◌%◌, length, take, IfOk, IsErrOf, IsTrue, ◌↔◌};
 ghost use Rattle.model_base.specs.{HasRisen};
 ghost use Rattle.model_log.specs.{sector_at};
 ghost use Rattle.redo_disk.specs.{error_of, IsRange, MakesCalls, part};
@@ -8,6 +8,7 @@ ghost use Rattle.redo_recover.specs.Calls.{ReadsPieces};
 ghost use Rattle.redo_recover.specs.Devices.{IsUnchanged, OnContent};
 ghost use Rattle.redo_recover.specs.Piece.{IsPieceOf, HasSector};
 
+use model_base::BLOCK_SIZE;
 use redo_disk::{DevError, Sectors};
 use std::alloc::Global;
 
@@ -25,10 +26,10 @@ pub(crate) struct Piece {
 impl Piece {
     /// Whether it has the sector at this offset of the device.
     fn has_sector(&self, at: u64) -> bool
-        requires { at < 2 ^ 62 }
         ensures { IsTrue result ↔ HasSector self.now at }
     {
-        self.from <= at && at - self.from + 512 <= self.bytes.len() as u64
+        let length = self.bytes.len() as u64;
+        self.from <= at && BLOCK_SIZE <= length && at - self.from <= length - BLOCK_SIZE
     }
 
     /// The sector at this offset of the device.
@@ -47,11 +48,10 @@ impl Piece {
         at: u64,
         end: u64,
     ) -> Result<Piece, DevError>
-        requires at { at % 512 ≡ 0 }
-        requires end { end % 512 ≡ 0 }
+        requires at { at % BLOCK_SIZE ≡ 0 }
+        requires end { end % BLOCK_SIZE ≡ 0 }
         requires some { at < end }
         requires within { end ≤ (D.seen device.old).size }
-        requires small { at < 2 ^ 62 }
         ensures has { IfOk result (λ piece. HasSector piece at) }
         ensures content { IfOk result (λ piece. OnContent (D.seen device.old).tells (IsPieceOf self)
             → OnContent (D.seen device.old).tells (IsPieceOf piece)) }
@@ -70,7 +70,7 @@ impl Piece {
 
 /// The sector at this offset of what was read.
 pub(crate) fn sector_at(bytes: &[u8], at: usize) -> &[u8; 512]
-    requires { at + 512 ≤ length bytes.now }
+    requires { at + BLOCK_SIZE ≤ length bytes.now }
     ensures { result.now ≡ sector_at at bytes.now }
 {
     match bytes[at..].split_first_chunk::<512>() {

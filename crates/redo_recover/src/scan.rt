@@ -1,6 +1,7 @@
 // The scan of a log from a checkpoint on.
-ghost use Rattle.std.specs.Prelude.{ℕ, ◌≡◌, ◌≤◌, ◌<◌, ◌^◌, ◌%◌, length, All, IfOk, IfErr, IsErrOf};
+ghost use Rattle.std.specs.Prelude.{ℕ, ◌≡◌, ◌≤◌, ◌<◌, ◌%◌, length, All, IfOk, IfErr, IsErrOf};
 ghost use Rattle.model_base.specs.{HasRisen, IsWithinLimits};
+ghost use Rattle.model_base.specs.declared.limits.TheConstants.{BLOCK_SIZE, LSN_LIMIT, START_LSN};
 ghost use Rattle.model_log.specs.{log_device_length};
 ghost use Rattle.model_record.specs.{GroupFits};
 ghost use Rattle.model_store.specs.{IsScan};
@@ -36,9 +37,9 @@ pub(crate) fn scan_log<L: Sectors>(
 ) -> Result<Scanned, RecFault>
     requires limits { IsWithinLimits shape.now }
     requires long { log_device_length shape.now ≤ (L.seen log.old).size }
-    requires aligned { ckpt % 512 ≡ 0 }
-    requires started { 8192 ≤ ckpt }
-    requires small { ckpt < 2 ^ 60 }
+    requires aligned { ckpt % BLOCK_SIZE ≡ 0 }
+    requires started { START_LSN ≤ ckpt }
+    requires small { ckpt < LSN_LIMIT }
     ensures scan { IfOk result (λ scanned. OnContent (L.seen log.old).tells
         (λ content. IsScan shape.now content ckpt scanned.views.items scanned.groups.items scanned.end)) }
     ensures few { IfOk result (λ scanned. length scanned.views.items ≤ shape.now.log_blocks) }

@@ -1,7 +1,7 @@
 // Where recovery starts: the sizes of the store and its newest checkpoint, off the header of the log device.
 ghost use Rattle.std.specs.Prelude.{◌≡◌, ◌≤◌, ◌<◌, ◌*◌, length, None, Some, IfOk, IfErr, IfSome, IsErrOf, MatchOption};
 ghost use Rattle.model_base.specs.{HasRisen, IsWithinLimits};
-ghost use Rattle.model_log.specs.{header_block, log_device_length, newer, newest_checkpoint, read_head};
+ghost use Rattle.model_log.specs.{header_block, log_device_length, newest_checkpoint, read_head};
 ghost use Rattle.model_page.specs.{data_device_length};
 ghost use Rattle.redo_disk.specs.{HasSize, MakesCalls};
 ghost use Rattle.redo_recover.specs.Calls.{ReadsLog, log_error_of};
@@ -14,7 +14,7 @@ use crate::piece::sector_at;
 use model_base::{BLOCK_SIZE, Shape};
 use model_log::HEADER_BYTES;
 use redo_disk::Sectors;
-use redo_header::{Head, read_ckpt, read_head};
+use redo_header::{Head, newer, read_ckpt, read_head};
 
 /// Bytes of the header blocks.
 const HEADER: usize = HEADER_BYTES as usize;
@@ -44,7 +44,7 @@ fn shape_in(header: &[u8]) -> Result<Shape, RecFault>
 }
 
 /// Whether both devices are as long as the shape asks.
-fn check_lengths(shape: &Shape, log_len: u64, data_len: u64) -> Result<(), RecFault>
+pub fn check_lengths(shape: &Shape, log_len: u64, data_len: u64) -> Result<(), RecFault>
     requires { IsWithinLimits shape.now }
     ensures fit { IfOk result (λ _. (log_device_length shape.now ≤ log_len) × (data_device_length shape.now ≤ data_len)) }
     ensures fault { IfErr result (IsLengthFault shape.now log_len data_len) }
@@ -58,23 +58,6 @@ fn check_lengths(shape: &Shape, log_len: u64, data_len: u64) -> Result<(), RecFa
         return Err(RecFault::SmallData(data_asked));
     }
     Ok(())
-}
-
-/// Of two checkpoints the one with the greater number.
-fn newer(first: Option<(u64, u64)>, second: Option<(u64, u64)>) -> Option<(u64, u64)>
-    ensures { result ≡ newer first second }
-{
-    match (first, second) {
-        (None, second) => second,
-        (Some(first), None) => Some(first),
-        (Some(first), Some(second)) => {
-            if first.0 < second.0 {
-                Some(second)
-            } else {
-                Some(first)
-            }
-        }
-    }
 }
 
 /// The number and the lsn of the newest checkpoint that passes.

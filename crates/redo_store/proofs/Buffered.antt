@@ -1,39 +1,37 @@
 -- What the texts of a batch in the buffer make of the calls.
-use Rattle.std.proofs.Common.{◌≡◌, ◌≤◌, ◌<◌, ◌++◌, IfSome, arith, ℕ, Bool, false, List, length, take, drop, Option, None, is_some, sym, ap, subst, ◌∙◌, get_or}
-use Rattle.std.proofs.lemmas.List.{take_at}
+use Rattle.std.proofs.Common.{◌≡◌, ◌≤◌, ◌<◌, ◌++◌, IfSome, arith, ℕ, Bool, false, List, length, Option, None, is_some, sym, ap, subst, ◌∙◌, get_or}
 use Rattle.model_base.specs.{IsWithinLimits}
 use Rattle.model_base.specs.declared.shape.Shape.{Shape}
 use Rattle.model_page.specs.declared.content.Content.{Content}
-use Rattle.model_device.specs.{synced, written}
 use Rattle.model_device.specs.Disk.{Disk}
 use Rattle.model_device.specs.declared.write.Write.{Write}
-use Rattle.model_datadev.specs.{after_both, batch_of, batch_text, FailsBoth, Fresh, IsBatch, IsPutOrNot, IsUpTo, IsWritable, place_writes, slots_write}
+use Rattle.model_datadev.specs.{after_both, batch_of, batch_text, FailsBoth, Fresh, IsBatch, IsUpTo, IsWritable, place_writes, slots_write}
 use Rattle.model_datadev.specs.Stored.{Stored}
 use Rattle.model_datadev.proofs.Joined.{batch-from}
 use Rattle.model_page.specs.{data_device_length}
-use Rattle.redo_dblwr.proofs.Tells.{told-both}
+use Rattle.redo_disk.proofs.Told.{known-both}
 use Rattle.redo_disk.specs.{Call, HasSize, MakesCalls, put_requests, Serve, write_at}
 use Rattle.redo_disk.specs.declared.error.DevError.{DevError}
 use Rattle.redo_store.specs.Places.{text_writes}
 use Rattle.redo_store.specs.Requests.{all_put, batch_requests}
 use Rattle.redo_store.proofs.TextWrites.{text_writes-batch}
 
+-- the pairs and the user bytes make a batch
+pub fresh-batch : (shape : Shape) (pairs : List (ℕ × ℕ)) (users : List ℕ) → IsWithinLimits shape → IsWritable shape pairs users → ((j : ℕ) → get_or users j 0 < 256)
+    → IsBatch shape (batch_of pairs users)
+fresh-batch shape pairs users limits writable bytes = batch-from shape pairs users limits.slots writable bytes
+
 -- the texts in the buffer are those of the batch
 pub record AreTexts (shape : Shape) (pairs : List (ℕ × ℕ)) (users texts : List ℕ) : Type 0 where
-  pub shape_is : IsWithinLimits shape
-  pub batch_is : IsBatch shape (batch_of pairs users)
   pub slots : (let w : Write = write_at 0 texts in w) ≡ slots_write shape (batch_of pairs users)
   pub places : text_writes shape pairs texts ≡ place_writes shape (batch_of pairs users)
 
 pub texts-from : (shape : Shape) (pairs : List (ℕ × ℕ)) (users texts : List ℕ) → IsWithinLimits shape → IsWritable shape pairs users → ((j : ℕ) → get_or users j 0 < 256)
     → texts ≡ batch_text shape (batch_of pairs users) → AreTexts shape pairs users texts
 texts-from shape pairs users texts limits writable bytes same =
-    let batch_is : IsBatch shape (batch_of pairs users) = batch-from shape pairs users limits.slots writable bytes in
     record {
-      shape_is = limits;
-      batch_is = batch_is;
       slots = ap (write_at 0) same;
-      places = ap (text_writes shape pairs) same ∙ text_writes-batch shape pairs users limits.page_size batch_is.each;
+      places = ap (text_writes shape pairs) same ∙ text_writes-batch shape pairs users limits.page_size (fresh-batch shape pairs users limits writable bytes).each;
     }
 
 pub both-is : (shape : Shape) (pairs : List (ℕ × ℕ)) (users texts : List ℕ) (old new : Disk) → AreTexts shape pairs users texts → new ≡ after_both (write_at 0 texts) (text_writes shape pairs texts) old
@@ -54,17 +52,6 @@ pub back-stored : (shape : Shape) (top was : ℕ → Content) (batch : List Fres
     → Stored shape (IsUpTo top) was batch false disk → Stored shape (IsUpTo top) was batch (is_some failed) disk
 back-stored shape top was batch failed disk live stored = subst (λ (b : Bool). Stored shape (IsUpTo top) was batch b disk) (sym (ap (λ (f : Option DevError). is_some f) live)) stored
 
--- what the buffer holds is lent as it was filled
-pub lent-texts : (shape : Shape) (batch : List Fresh) (out rest lent : List ℕ) (n count len : ℕ) → lent ≡ take len (out ++ drop count rest) → len ≡ length out → take n out ≡ batch_text shape batch → take n lent ≡ batch_text shape batch
-lent-texts shape batch out rest lent n count len lent_is long filled =
-    ap (take n) (lent_is ∙ take_at out (drop count rest) len (sym long)) ∙ filled
-
-pub put-is : (shape : Shape) (pairs : List (ℕ × ℕ)) (users texts : List ℕ) (old new : Disk) → AreTexts shape pairs users texts → new ≡ synced (written old (write_at 0 texts)) → new ≡ synced (written old (slots_write shape (batch_of pairs users)))
-put-is shape pairs users texts old new are done = done ∙ ap (λ (w : Write). synced (written old w)) are.slots
-
-pub put_fails-is : (shape : Shape) (pairs : List (ℕ × ℕ)) (users texts : List ℕ) (old new : Disk) → AreTexts shape pairs users texts → IsPutOrNot (write_at 0 texts) old new → IsPutOrNot (slots_write shape (batch_of pairs users)) old new
-put_fails-is shape pairs users texts old new are fails = subst (λ (w : Write). IsPutOrNot w old new) are.slots fails
-
 -- the calls that are made of the texts are those of the batch
 pub both-asked : {D : Type 0} (gives : D → Call → D → Type 0) (old new : D) (shape : Shape) (pairs : List (ℕ × ℕ)) (users texts : List ℕ) (error : Option DevError) → AreTexts shape pairs users texts
     → MakesCalls gives old new (Serve (put_requests (write_at 0 texts) ++ all_put (text_writes shape pairs texts)) error)
@@ -77,4 +64,4 @@ both-asked gives old new shape pairs users texts error are made =
 pub long-known : (told : Option Disk) (shape : Shape) (size : ℕ) (P : Disk → Type 0) → data_device_length shape ≤ size → IfSome told (HasSize size) → IfSome told P
     → IfSome told (λ (disk : Disk). (data_device_length shape ≤ length disk.base) × P disk)
 long-known told shape size P enough sized known =
-    told-both told (HasSize size) P (λ (disk : Disk). (data_device_length shape ≤ length disk.base) × P disk) (λ disk s is. (omega (arith, s.base, enough), is)) sized known
+    known-both told (HasSize size) P (λ (disk : Disk). (data_device_length shape ≤ length disk.base) × P disk) (λ disk s is. (omega (arith, s.base, enough), is)) sized known

@@ -4,6 +4,7 @@
 //! no call but `new` taking memory.
 #![tactic(auto)]
 
+mod batch;
 mod mend;
 mod part;
 mod places;

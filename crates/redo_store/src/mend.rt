@@ -9,8 +9,8 @@ ghost use Rattle.redo_store.specs.Requests.{RepairCalls};
 
 use crate::places::PAGE;
 use model_base::Shape;
-use redo_dblwr::{place_at, put_bytes, read_slots};
-use redo_disk::{DevError, Sectors};
+use redo_dblwr::{place_at, read_slots};
+use redo_disk::{DevError, Sectors, write_and_sync};
 use redo_page::best_copy;
 
 /// The slot and the lsn of the copy of a page that counts. All slots are read by one read.
@@ -57,7 +57,7 @@ pub(crate) fn put_back<D: Sectors>(
         None => Ok(()),
         Some((slot, _)) => {
             let from = slot as usize * PAGE;
-            put_bytes(device, place_at(shape, page), &slots[from..from + PAGE])
+            write_and_sync(device, place_at(shape, page), &slots[from..from + PAGE])
         }
     }
 }

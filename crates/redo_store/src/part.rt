@@ -10,10 +10,10 @@ ghost use Rattle.redo_disk.specs.{error_of, MakesCalls, OnTold, put_requests, Se
 ghost use Rattle.redo_store.specs.Part.{PartStep, PartStores, PartKeeps};
 ghost use Rattle.redo_store.specs.Requests.{RepairCalls, batch_requests};
 
+use crate::batch::{put_pages, put_slots};
 use crate::mend::{find_copy, put_back};
-use crate::places::{PAGE, put_both};
 use model_base::Shape;
-use redo_dblwr::{fill_texts, put_bytes, read_stretch};
+use redo_dblwr::read_stretch;
 use redo_disk::{DevError, Sectors};
 use redo_lsn::NoMemory;
 use std::alloc::{AllocError, Global};
@@ -83,9 +83,7 @@ impl<D: Sectors> DataPart<D> {
             (Serve (put_requests (slots_write self.old.shape (batch_of batch.now frames.now))) (error_of result)) }
         ensures step { PartStep D.seen self.old result self.new }
     {
-        let len = PAGE * batch.len();
-        fill_texts(&mut self.buffer, &self.shape, batch, frames);
-        match put_bytes(&mut self.dev, 0, &self.buffer[..len]) {
+        match put_slots(&mut self.dev, &self.shape, batch, frames, &mut self.buffer) {
             Ok(()) => Ok(()),
             Err(error) => {
                 self.failed = Some(error);
@@ -118,9 +116,7 @@ impl<D: Sectors> DataPart<D> {
     {
         // What the device tells is as long as it says.
         let _size = self.dev.len();
-        let len = PAGE * batch.len();
-        fill_texts(&mut self.buffer, &self.shape, batch, frames);
-        match put_both(&mut self.dev, &self.shape, batch, &self.buffer[..len]) {
+        match put_pages(&mut self.dev, &self.shape, batch, frames, &mut self.buffer) {
             Ok(()) => Ok(()),
             Err(error) => {
                 self.failed = Some(error);

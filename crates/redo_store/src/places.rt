@@ -9,8 +9,8 @@ ghost use Rattle.redo_store.specs.Places.{text_writes};
 ghost use Rattle.redo_store.specs.Requests.{all_put};
 
 use model_base::{PAGE_SIZE, Shape};
-use redo_dblwr::{place_at, put_bytes};
-use redo_disk::{DevError, Sectors};
+use redo_dblwr::place_at;
+use redo_disk::{DevError, Sectors, write_and_sync};
 
 /// Bytes of a page.
 pub(crate) const PAGE: usize = PAGE_SIZE as usize;
@@ -85,6 +85,6 @@ pub(crate) fn put_both<D: Sectors>(
     ensures calls { MakesCalls D.gives device.old device.new
         (Serve (put_requests (write_at 0 texts.now) ++ all_put (text_writes shape.now batch.now texts.now)) (error_of result)) }
 {
-    put_bytes(device, 0, texts)?;
+    write_and_sync(device, 0, texts)?;
     put_texts(device, shape, batch, texts)
 }

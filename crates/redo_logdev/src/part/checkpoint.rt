@@ -1,23 +1,14 @@
 // The next checkpoint.
 ghost use Rattle.std.specs.Prelude.{◌≡◌, None, OnOk, OnErr};
-ghost use Rattle.model_log.specs.{place_of};
 ghost use Rattle.model_logdev.specs.{after_asked, after_checkpoint, MayBeNext, next_number};
 ghost use Rattle.redo_disk.specs.{error_of, MakesCalls, put_requests, Serve};
 ghost use Rattle.redo_logdev.specs.Calls.{checkpoint_write};
 ghost use Rattle.redo_logdev.specs.Part.{Stays, KeepsNumbered};
 
 use crate::LogPart;
-use crate::calls::put_sector;
 use model_base::BLOCK_SIZE;
-use redo_disk::{DevError, Sectors};
-use redo_header::fill_ckpt;
-
-/// Which header block the checkpoint of this number stands in.
-fn place_of(number: u64) -> u64
-    ensures { result ≡ place_of number }
-{
-    if number % 2 == 0 { 1 } else { 3 }
-}
+use redo_disk::{DevError, Sectors, write_and_sync};
+use redo_header::{fill_ckpt, place_of};
 
 impl<L: Sectors> LogPart<L> {
     /// Writes the next checkpoint, at this lsn, and makes it stay. Its number goes round behind the greatest.
@@ -35,9 +26,9 @@ impl<L: Sectors> LogPart<L> {
         let number = self.marks.number.wrapping_add(1);
         let mut block = [0; 512];
         fill_ckpt(&mut block, number, lsn, &self.shape);
-        let at = BLOCK_SIZE * place_of(number);
+        let at = BLOCK_SIZE * u64::from(place_of(number));
         self.marks.asked = lsn;
-        match put_sector(&mut self.dev, at, &block) {
+        match write_and_sync(&mut self.dev, at, &block) {
             Ok(()) => {
                 self.marks.number = number;
                 self.marks.ckpt = lsn;

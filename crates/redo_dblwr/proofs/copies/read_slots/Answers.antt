@@ -3,7 +3,7 @@ use Rattle.std.proofs.lemmas.Result.{on_ok_weaker}
 use Rattle.model_device.specs.Disk.{Disk}
 use Rattle.model_datadev.specs.{SameSlots}
 use Rattle.redo_dblwr.proofs.Slots.{front-slots}
-use Rattle.redo_dblwr.proofs.Tells.{told-weaker}
+use Rattle.redo_disk.proofs.Told.{known-as}
 use Rattle.redo_dblwr.proofs.copies.read_slots.Goals as goal
 
 pub returns-clause-bytes : goal.returns-clause-bytes
@@ -11,6 +11,6 @@ returns-clause-bytes g c =
     let shape = c.args.shape.now in
     let count = length c.args.slots.now in
     on_ok_weaker c.read.result
-    (told-weaker (g.D.Sectors.seen c.args.device.now).tells (λ (disk : Disk). c.read.new.out ≡ take count (drop 0 disk.reads)) (λ (disk : Disk). SameSlots shape disk.reads c.read.new.out)
+    (known-as (g.D.Sectors.seen c.args.device.now).tells (λ (disk : Disk). c.read.new.out ≡ take count (drop 0 disk.reads)) (λ (disk : Disk). SameSlots shape disk.reads c.read.new.out)
     (λ disk out. front-slots shape disk.reads c.read.new.out count c.requires.limits c.requires.room out))
     c.read.ensures.step.bytes

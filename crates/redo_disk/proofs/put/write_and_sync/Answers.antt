@@ -9,8 +9,8 @@ use Rattle.redo_disk.proofs.Told.{OnTold-then}
 use Rattle.redo_disk.proofs.Made.{put_synced}
 use Rattle.redo_disk.proofs.put.write_and_sync.Goals as goal
 
-pub returns-clause-ok : goal.returns-clause-ok
-returns-clause-ok g c =
+pub returns-clause-stays : goal.returns-clause-stays
+returns-clause-stays g c =
     let write = write_at c.args.at c.args.bytes.now in
     on_ok_weaker c.sync.result
     (OnTold-then _ _ _ (λ old new. new ≡ written old write) (λ old new. new ≡ synced old)

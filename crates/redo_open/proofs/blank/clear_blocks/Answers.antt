@@ -8,7 +8,8 @@ use Rattle.redo_disk.proofs.Made.{call_ends, ends_then}
 use Rattle.redo_open.specs.Blank.{HasNoBlocks, HasNoHead, IsHeadless}
 use Rattle.redo_open.specs.Erase.{Erases, HasErased}
 use Rattle.redo_open.proofs.Blanks.{erases-headless, synced-headless, synced-no_blocks}
-use Rattle.redo_open.proofs.Told.{told-then, told-as, told-same, either-way, cause-since}
+use Rattle.redo_disk.proofs.Told.{OnTold-then, told-as, told-same}
+use Rattle.redo_open.proofs.Told.{either-way, cause-since}
 use Rattle.redo_open.proofs.blank.clear_blocks.Goals as goal
 
 pub returns-in_err-erase-clause-headless : goal.returns-in_err-erase-clause-headless
@@ -25,10 +26,10 @@ returns-clause-headless g c =
     let After : Disk → Disk → Type 0 = λ old new. HasSize size old → HasErased size 1024 end old new in
     let Headless : Disk → Disk → Type 0 = λ old new. HasSize size old → HasNoHead old → IsHeadless new in
     either-way c.sync.result _ _ _
-    (λ ok. told-then _ _ _ After (λ (old new : Disk). new ≡ synced old) Headless
+    (λ ok. OnTold-then _ _ _ After (λ (old new : Disk). new ≡ synced old) Headless
     (λ a b d erased is sized no_head. subst IsHeadless (sym is) (synced-headless size 1024 end a b (omega (arith, c.requires.long)) (omega arith) no_head (erased sized)))
     c.in_ok-erase.ensures.ok ok)
-    (λ err. told-then _ _ _ After (λ (old new : Disk). new ≡ old) Headless
+    (λ err. OnTold-then _ _ _ After (λ (old new : Disk). new ≡ old) Headless
     (λ a b d erased is sized no_head. subst IsHeadless (sym is) (erases-headless size 1024 end a b (omega (arith, c.requires.long)) (omega arith) no_head (erased sized).erases))
     c.in_ok-erase.ensures.ok (told-same _ _ (λ (old new : Disk). new ≡ old) (λ a. refl) err))
     c.sync.ensures.step.ok c.sync.ensures.step.err
@@ -39,7 +40,7 @@ returns-clause-ok g c =
     let shape = c.args.shape.now in
     let end = 2048 + 512 * c.from.result in
     on_ok_weaker c.sync.result
-    (told-then _ _ _ (λ old new. HasSize size old → HasErased size 1024 end old new) (λ (old new : Disk). new ≡ synced old)
+    (OnTold-then _ _ _ (λ old new. HasSize size old → HasErased size 1024 end old new) (λ (old new : Disk). new ≡ synced old)
     (λ old new. HasSize size old → HasNoHead old → HasSize size new × HasNoBlocks shape new)
     (λ a b d erased is sized no_head. subst (λ (disk : Disk). HasSize size disk × HasNoBlocks shape disk) (sym is)
     (synced-no_blocks shape size end a b c.requires.limits (ap (λ n. 2048 + 512 * n) c.from.ensures) (omega (arith, c.from.ensures, c.requires.long)) no_head (erased sized)))

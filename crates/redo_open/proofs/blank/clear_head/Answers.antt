@@ -8,7 +8,8 @@ use Rattle.redo_disk.proofs.Made.{call_ends, ends_then}
 use Rattle.redo_open.specs.Blank.{HasNoHead, LosesHead}
 use Rattle.redo_open.specs.Erase.{Erases, HasErased}
 use Rattle.redo_open.proofs.Blanks.{erases-loses, synced-loses, synced-no_head}
-use Rattle.redo_open.proofs.Told.{told-then, told-as, told-same, either-way, cause-since}
+use Rattle.redo_disk.proofs.Told.{OnTold-then, told-as, told-same}
+use Rattle.redo_open.proofs.Told.{either-way, cause-since}
 use Rattle.redo_open.proofs.blank.clear_head.Goals as goal
 
 pub returns-in_err-erase-clause-loses : goal.returns-in_err-erase-clause-loses
@@ -23,9 +24,9 @@ returns-clause-loses g c =
     let After : Disk → Disk → Type 0 = λ old new. HasSize size old → HasErased size 0 512 old new in
     let Loses : Disk → Disk → Type 0 = λ old new. HasSize size old → LosesHead old new in
     either-way c.sync.result _ _ _
-    (λ ok. told-then _ _ _ After (λ (old new : Disk). new ≡ synced old) Loses
+    (λ ok. OnTold-then _ _ _ After (λ (old new : Disk). new ≡ synced old) Loses
     (λ a b d erased is sized. subst (LosesHead a) (sym is) (synced-loses size a b sized (erased sized))) c.in_ok-erase.ensures.ok ok)
-    (λ err. told-then _ _ _ After (λ (old new : Disk). new ≡ old) Loses
+    (λ err. OnTold-then _ _ _ After (λ (old new : Disk). new ≡ old) Loses
     (λ a b d erased is sized. subst (LosesHead a) (sym is) (erases-loses size a b c.requires sized (erased sized).erases))
     c.in_ok-erase.ensures.ok (told-same _ _ (λ (old new : Disk). new ≡ old) (λ a. refl) err))
     c.sync.ensures.step.ok c.sync.ensures.step.err
@@ -34,7 +35,7 @@ pub returns-clause-ok : goal.returns-clause-ok
 returns-clause-ok g c =
     let size = (g.L.Sectors.seen c.args.log.now).size in
     on_ok_weaker c.sync.result
-    (told-then _ _ _ (λ old new. HasSize size old → HasErased size 0 512 old new) (λ (old new : Disk). new ≡ synced old)
+    (OnTold-then _ _ _ (λ old new. HasSize size old → HasErased size 0 512 old new) (λ (old new : Disk). new ≡ synced old)
     (λ old new. HasSize size old → HasSize size new × HasNoHead new)
     (λ a b d erased is sized. subst (λ (disk : Disk). HasSize size disk × HasNoHead disk) (sym is) (synced-no_head size a b (erased sized))) c.in_ok-erase.ensures.ok)
     c.sync.ensures.step.ok

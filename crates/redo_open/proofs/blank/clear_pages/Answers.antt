@@ -9,7 +9,8 @@ use Rattle.redo_disk.proofs.Made.{call_ends, ends_then}
 use Rattle.redo_open.specs.Blank.{HasBlankPages}
 use Rattle.redo_open.specs.Erase.{HasErased}
 use Rattle.redo_open.proofs.Blanks.{synced-blank}
-use Rattle.redo_open.proofs.Told.{told-then, cause-since}
+use Rattle.redo_disk.proofs.Told.{OnTold-then}
+use Rattle.redo_open.proofs.Told.{cause-since}
 use Rattle.redo_open.proofs.blank.clear_pages.Goals as goal
 
 pub returns-clause-ok : goal.returns-clause-ok
@@ -19,7 +20,7 @@ returns-clause-ok g c =
     let end = c.from.result * c.from-2.result in
     let length_is : end ≡ data_device_length shape = cc in
     on_ok_weaker c.sync.result
-    (told-then _ _ _ (λ old new. HasSize size old → HasErased size 0 end old new) (λ (old new : Disk). new ≡ synced old)
+    (OnTold-then _ _ _ (λ old new. HasSize size old → HasErased size 0 end old new) (λ (old new : Disk). new ≡ synced old)
     (λ old new. HasSize size old → HasBlankPages shape new)
     (λ a b d erased is sized. subst (HasBlankPages shape) (sym is) (synced-blank shape size end a b length_is (omega (arith, length_is, c.requires.long)) (erased sized))) c.in_ok-erase.ensures.ok)
     c.sync.ensures.step.ok

@@ -11,7 +11,8 @@ use Rattle.redo_disk.proofs.Made.{call_ends, ends_then, none_ends}
 use Rattle.redo_disk.specs.{HasCause, write_at}
 use Rattle.redo_open.specs.Clear.{IsPiece, IsClearable, IsClearingTo, ClearsBlocks, HasCleared}
 use Rattle.redo_open.proofs.Clears.{zeros_at, cleared-clears, clearing-begins, clearing-goes_on, clearing-fails, clearing-synced, clears-blocks}
-use Rattle.redo_open.proofs.Told.{told-then, told-same, cause-since, either-way}
+use Rattle.redo_disk.proofs.Told.{OnTold-then, told-same}
+use Rattle.redo_open.proofs.Told.{cause-since, either-way}
 use Rattle.redo_open.proofs.clear.clear.Goals as goal
 
 pub write_zeros-requires-clause-range : goal.write_zeros-requires-clause-range
@@ -50,7 +51,7 @@ returns-in_err-write_zeros-clause-keeps g c =
       side_by_side = c.piece_length-count.ensures.side_by_side;
     } in
     let same : write_at c.offset_of.result (replicate count 0) ≡ zeros_at shape at count = ap (λ n. write_at n (replicate count 0)) c.offset_of.ensures in
-    told-then _ _ _ (λ old new. IsClearable shape old → IsClearingTo shape c.args.ckpt c.args.start at old.reads new)
+    OnTold-then _ _ _ (λ old new. IsClearable shape old → IsClearingTo shape c.args.ckpt c.args.start at old.reads new)
     (FailsWrite (write_at c.offset_of.result (replicate count 0)))
     (λ old new. IsClearable shape old → ClearsBlocks shape c.args.ckpt c.args.start old.reads new)
     (λ a b d so_far fails is. clears-blocks shape c.args.ckpt c.args.start a.reads d c.requires.start is.long
@@ -83,7 +84,7 @@ loop-at-preserved g c =
       up_to = c.piece_length-count.ensures.within;
       size = c.in_ok-write_zeros.ensures.step.size ∙ c.loop-at.invariant.size;
       later = omega (arith, c.loop-at.invariant.later, c.in_ok-write_zeros.ensures.step.cause.later);
-      told = told-then _ _ _ (λ old new. IsClearable shape old → IsClearingTo shape c.args.ckpt c.args.start at old.reads new)
+      told = OnTold-then _ _ _ (λ old new. IsClearable shape old → IsClearingTo shape c.args.ckpt c.args.start at old.reads new)
           (λ (old new : Disk). new ≡ written old (write_at c.offset_of.result (replicate count 0)))
           (λ old new. IsClearable shape old → IsClearingTo shape c.args.ckpt c.args.start (at + count) old.reads new)
           (λ a b d so_far is_written is. subst (λ (disk : Disk). IsClearingTo shape c.args.ckpt c.args.start (at + count) a.reads disk) (sym (is_written ∙ ap (written b) same))
@@ -100,11 +101,11 @@ returns-clause-keeps g c =
     let Keeps : Disk → Disk → Type 0 = λ old new. IsClearable shape old → ClearsBlocks shape c.args.ckpt c.args.start old.reads new in
     let all : c.args.ckpt + 512 * shape.log_blocks ≤ at = omega (arith, c.loop-at-test.false, c.from.ensures) in
     either-way c.sync.result _ _ _
-    (λ ok. told-then _ _ _ After (λ (old new : Disk). new ≡ synced old) Keeps
+    (λ ok. OnTold-then _ _ _ After (λ (old new : Disk). new ≡ synced old) Keeps
     (λ a b d so_far is_synced is. subst (λ (disk : Disk). ClearsBlocks shape c.args.ckpt c.args.start a.reads disk) (sym is_synced)
     (cleared-clears shape c.args.ckpt c.args.start a.reads (synced b) (clearing-synced shape c.args.ckpt c.args.start at a.reads b all (so_far is))))
     c.loop-at.invariant.told ok)
-    (λ err. told-then _ _ _ After (λ (old new : Disk). new ≡ old) Keeps
+    (λ err. OnTold-then _ _ _ After (λ (old new : Disk). new ≡ old) Keeps
     (λ a b d so_far same is. subst (λ (disk : Disk). ClearsBlocks shape c.args.ckpt c.args.start a.reads disk) (sym same)
     (clears-blocks shape c.args.ckpt c.args.start a.reads b c.requires.start is.long (so_far is).may_keep))
     c.loop-at.invariant.told (told-same _ _ (λ (old new : Disk). new ≡ old) (λ a. refl) err))
@@ -116,7 +117,7 @@ returns-clause-ok g c =
     let at : ℕ = c.loop-at.at in
     let all : c.args.ckpt + 512 * shape.log_blocks ≤ at = omega (arith, c.loop-at-test.false, c.from.ensures) in
     on_ok_weaker c.sync.result
-    (told-then _ _ _ (λ old new. IsClearable shape old → IsClearingTo shape c.args.ckpt c.args.start at old.reads new)
+    (OnTold-then _ _ _ (λ old new. IsClearable shape old → IsClearingTo shape c.args.ckpt c.args.start at old.reads new)
     (λ (old new : Disk). new ≡ synced old) (λ old new. IsClearable shape old → HasCleared shape c.args.ckpt c.args.start old.reads new)
     (λ a b d so_far is_synced is. subst (λ (disk : Disk). HasCleared shape c.args.ckpt c.args.start a.reads disk) (sym is_synced)
     (clearing-synced shape c.args.ckpt c.args.start at a.reads b all (so_far is)))

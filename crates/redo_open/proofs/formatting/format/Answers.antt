@@ -1,7 +1,13 @@
 use Rattle.std.proofs.Common.{ℕ, subst}
 use Rattle.redo_recover.specs.{IsLengthFault}
-use Rattle.redo_open.proofs.Causes.{length-calls, length-cause}
+use Rattle.redo_open.proofs.Causes.{judges-fault, length-calls, length-cause}
 use Rattle.redo_open.proofs.formatting.format.Goals as goal
+
+pub returns-in-Err-clause-lengths : goal.returns-in-Err-clause-lengths
+returns-in-Err-clause-lengths g c =
+    judges-fault c.args.shape.now (g.L.Sectors.seen c.args.log.now).size (g.D.Sectors.seen c.args.data_device.now).size c.in-Err.fault
+    (subst (λ (n : ℕ). IsLengthFault c.args.shape.now n (g.D.Sectors.seen c.args.data_device.now).size c.in-Err.fault) c.len.ensures.size
+    (subst (λ (n : ℕ). IsLengthFault c.args.shape.now c.len.result n c.in-Err.fault) c.len-2.ensures.size c.in-Err.ensures.fault))
 
 pub returns-in-Err-clause-cause : goal.returns-in-Err-clause-cause
 returns-in-Err-clause-cause g c =

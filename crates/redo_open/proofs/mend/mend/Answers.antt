@@ -7,7 +7,8 @@ use Rattle.redo_open.specs.Store.{MendStep}
 use Rattle.redo_disk.proofs.Made.{ends_then, none_ends}
 use Rattle.redo_open.proofs.Endings.{mend-done, mend-behind}
 use Rattle.redo_open.proofs.Mends.{settled-keeps, mended-none, mended-more, keeps-behind, settled-behind}
-use Rattle.redo_open.proofs.Told.{told-known, told-call, told-step, told-then, told-as}
+use Rattle.redo_disk.proofs.Told.{OnTold-then, OnTold-weaker, told-as, told-step}
+use Rattle.redo_open.proofs.Told.{told-known}
 use Rattle.redo_open.proofs.mend.mend.Goals as goal
 
 pub mend_page-requires-clause-settled : goal.mend_page-requires-clause-settled
@@ -41,7 +42,7 @@ loop-page-preserved g c =
       shape = c.in_ok-mend_page.ensures.step.shape_stays ∙ c.loop-page.invariant.shape;
       size = c.in_ok-mend_page.ensures.step.size ∙ c.loop-page.invariant.size;
       later = omega (arith, c.in_ok-mend_page.ensures.step.later, c.loop-page.invariant.later);
-      told = told-then _ _ _ (AreMended shape c.loop-page.page) (IsMended shape c.loop-page.page) (AreMended shape (c.loop-page.page + 1))
+      told = OnTold-then _ _ _ (AreMended shape c.loop-page.page) (IsMended shape c.loop-page.page) (AreMended shape (c.loop-page.page + 1))
           (λ a b d first second. subst (λ (n : ℕ). AreMended shape n a d) (sym (add-one c.loop-page.page))
           (mended-more shape c.loop-page.page a b d c.loop-page-test.true first second))
           c.loop-page.invariant.told c.in_ok-mend_page.ensures.step.ok;
@@ -52,7 +53,7 @@ pub returns-clause-step : goal.returns-clause-step
 returns-clause-step g c =
     let shape = c.args.shape.now in
     mend-done g.D.Sectors.seen shape (AreMended shape shape.pages) c.args.part.now c.loop-page.part
-    (told-call _ _ (IsSettledData shape) (AreMended shape c.loop-page.page) (KeepsAll shape)
+    (OnTold-weaker _ _ (IsSettledData shape) (AreMended shape c.loop-page.page) (KeepsAll shape)
     (λ a b is mended. keeps-behind shape c.loop-page.page a b b mended (settled-keeps shape b (settled-behind shape c.loop-page.page a b is mended))) c.requires.settled c.loop-page.invariant.told)
     (told-as _ _ (AreMended shape c.loop-page.page) (AreMended shape shape.pages)
     (λ a b mended. record { stays = mended.stays; pass = λ p below. mended.pass p (omega (arith, c.loop-page-test.false)) }) c.loop-page.invariant.told)

@@ -12,7 +12,8 @@ use Rattle.redo_disk.proofs.Made.{ends_then, serves_end}
 use Rattle.redo_open.proofs.Asked.{data_ends, repair_ends}
 use Rattle.redo_open.proofs.Endings.{mend-failed, mend-lost, mend-done}
 use Rattle.redo_open.proofs.Mends.{settled-keeps, mended-same, mended-repaired, place-passes, is-repairable, is-lost}
-use Rattle.redo_open.proofs.Told.{told-known, known-as, known-both, known-three, told-moved, told-both, risen-since}
+use Rattle.redo_disk.proofs.Told.{known-as, known-both}
+use Rattle.redo_open.proofs.Told.{told-known, known-three, told-moved, told-both, risen-since}
 use Rattle.redo_recover.specs.declared.fault.RecFault.TheVariants.{PageLost}
 use Rattle.redo_open.proofs.mend.mend_page.Goals as goal
 

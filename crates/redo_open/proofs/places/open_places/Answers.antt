@@ -15,7 +15,8 @@ use Rattle.redo_disk.proofs.Made.{ends_then, may_end, none_may_end, out_of_memor
 use Rattle.redo_open.proofs.Asked.{data_ends}
 use Rattle.redo_open.proofs.Endings.{any-known, device-cause, device-own, device-failed}
 use Rattle.redo_open.proofs.Opens.{repair-keeps, mended-may_write, unchanged-keeps, write-keeps, all-written}
-use Rattle.redo_open.proofs.Told.{told-step, risen-since}
+use Rattle.redo_disk.proofs.Told.{told-step}
+use Rattle.redo_open.proofs.Told.{risen-since}
 use Rattle.redo_recover.specs.{data_fault_of}
 use Rattle.redo_recover.specs.declared.fault.RecFault.{RecFault}
 use Rattle.redo_open.proofs.places.open_places.Goals as goal

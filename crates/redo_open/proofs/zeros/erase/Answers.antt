@@ -7,7 +7,8 @@ use Rattle.redo_disk.specs.{HasCause, HasSize, OnTold}
 use Rattle.redo_disk.proofs.Made.{call_ends, ends_then, none_ends}
 use Rattle.redo_open.specs.Erase.{Erases, HasErased}
 use Rattle.redo_open.proofs.Erases.{IsPart, zeros_write, erases-failed, erased-none, erased-more}
-use Rattle.redo_open.proofs.Told.{told-then, told-same, cause-since, on-err}
+use Rattle.redo_disk.proofs.Told.{OnTold-then, on-err, told-same}
+use Rattle.redo_open.proofs.Told.{cause-since}
 use Rattle.redo_open.proofs.zeros.erase.Goals as goal
 
 pub loop-at-init : goal.loop-at-init
@@ -32,7 +33,7 @@ returns-in_err-write_zeros-clause-err g c =
       range = record { from_sector = c.loop-at.invariant.aligned; whole_sectors = omega (arith, c.loop-at.invariant.aligned, c.requires.whole); within = omega (arith, c.requires.within) };
     } in
     on-err c.from_residual.result _
-    (told-then _ _ _ (λ old new. HasSize size old → HasErased size c.args.from at old new) (FailsWrite (zeros_write at c.min-count.result))
+    (OnTold-then _ _ _ (λ old new. HasSize size old → HasErased size c.args.from at old new) (FailsWrite (zeros_write at c.min-count.result))
     (λ old new. HasSize size old → Erases size c.args.from c.args.end old new)
     (λ a b d so_far fails sized. erases-failed size c.args.from c.args.end at c.min-count.result a b d part (so_far sized).erases fails)
     c.loop-at.invariant.told c.in_err-write_zeros.ensures.step.err)
@@ -52,7 +53,7 @@ loop-at-preserved g c =
       up_to = omega arith;
       size = c.in_ok-write_zeros.ensures.step.size ∙ c.loop-at.invariant.size;
       later = omega (arith, c.loop-at.invariant.later, c.in_ok-write_zeros.ensures.step.cause.later);
-      told = told-then _ _ _ (λ old new. HasSize size old → HasErased size c.args.from at old new) (λ (old new : Disk). new ≡ written old (zeros_write at c.min-count.result))
+      told = OnTold-then _ _ _ (λ old new. HasSize size old → HasErased size c.args.from at old new) (λ (old new : Disk). new ≡ written old (zeros_write at c.min-count.result))
           (λ old new. HasSize size old → HasErased size c.args.from (at + c.min-count.result) old new)
           (λ a b d so_far is_written sized. subst (HasErased size c.args.from (at + c.min-count.result) a) (sym is_written)
           (erased-more size c.args.from at c.min-count.result a b part (so_far sized)))

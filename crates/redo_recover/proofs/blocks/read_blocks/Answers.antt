@@ -1,6 +1,7 @@
 use Rattle.std.proofs.Common.{◌≡◌, ◌≤◌, ◌+◌, ◌∙◌, ℕ, List, length, length-append, sym, ap, arith}
 use Rattle.std.proofs.lemmas.List.{length_push}
 use Rattle.std.proofs.lemmas.Result.{err_from_is_err_and}
+use Rattle.model_log.specs.declared.layout.TheConstants.{BLOCK_DATA}
 use Rattle.redo_recover.specs.Blocks.{AreBlocksOf}
 use Rattle.redo_recover.specs.Piece.{IsPieceOf}
 use Rattle.redo_recover.proofs.Bounds.{firsts-push}
@@ -61,7 +62,7 @@ loop-i-preserved g c =
     let views : length c.push.new.self.items ≡ length c.loop-i.views.items + 1 = ap length c.in_ok-push.ensures.items ∙ length_push c.loop-i.views.items c.in-Some.view in
     let bytes : length c.extend_from_slice.new.self.items ≡ length c.loop-i.joined.items + length c.block_data.result.now =
     ap length c.in_ok-extend_from_slice.ensures.items ∙ length-append c.loop-i.joined.items c.block_data.result.now in
-    let room : length c.block_data.result.now ≤ 496 = omega (arith, ap length c.block_data.ensures, length-data_of c.in-Some.view c.sector-block.result.now) in
+    let room : length c.block_data.result.now ≤ BLOCK_DATA = omega (arith, ap length c.block_data.ensures, length-data_of c.in-Some.view c.sector-block.result.now) in
     record {
       unchanged = IsUnchanged-then old middle (g.L.Sectors.seen c.with_sector.new.device) c.loop-i.invariant.unchanged c.with_sector.ensures.unchanged;
       piece = of;

@@ -1,4 +1,5 @@
 use Rattle.std.proofs.Common.{◌≡◌, ◌≤◌, ◌*◌, length, None}
+use Rattle.model_log.specs.declared.layout.TheConstants.{BLOCK_DATA}
 use Rattle.redo_disk.specs.{MakesCalls}
 use Rattle.redo_recover.specs.Blocks.{HaveFirsts}
 use Rattle.redo_recover.specs.Calls.{ReadsPieces}
@@ -15,6 +16,6 @@ invariant-loop-i g l = record {
   calls : MakesCalls g.L.Sectors.gives l.fn.log l.log (ReadsPieces None);
   many : length l.views.items ≡ l.i;
   firsts : HaveFirsts l.views.items;
-  short : length l.joined.items ≤ 496 * l.i;
+  short : length l.joined.items ≤ BLOCK_DATA * l.i;
   so_far : OnContent (g.L.Sectors.seen l.fn.log).tells (AreBlocksSoFar l.shape l.ckpt l.views.items l.joined.items l.i);
 }

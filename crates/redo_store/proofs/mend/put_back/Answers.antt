@@ -24,13 +24,13 @@ returns-in-Some-clause-ok g c =
     let slot = c.in-Some.slot in
     let bytes : List ℕ = take (slot * 4096 + 4096 - slot * 4096) (drop (slot * 4096) slots) in
     let told = (g.D.Sectors.seen c.args.device.now).tells in
-    let after = (g.D.Sectors.seen c.put_bytes.new.device).tells in
+    let after = (g.D.Sectors.seen c.write_and_sync.new.device).tells in
     let R : Disk → Disk → Type 0 = λ a b. b ≡ synced (written a (write_at c.place_at.result bytes)) in
-    on_ok_weaker c.put_bytes.result
+    on_ok_weaker c.write_and_sync.result
     (λ done. OnTold-weaker told after (λ (disk : Disk). SameSlots shape disk.reads slots) R (IsPutBack shape c.args.page)
     (λ a b same is. put-back shape c.args.page slot c.in-Some.field-0-1 c.place_at.result slots bytes a b same c.in-Some.ensures c.place_at.ensures (slot-part shape slot slots c.requires.limits.page_size) is)
     c.in_ok-read_slots.ensures.bytes (subst (λ (o : Option Disk). OnTold o after R) c.in_ok-read_slots.ensures.same done))
-    c.put_bytes.ensures.ok
+    c.write_and_sync.ensures.ok
 
 pub returns-in-Some-clause-err : goal.returns-in-Some-clause-err
 returns-in-Some-clause-err g c =
@@ -39,13 +39,13 @@ returns-in-Some-clause-err g c =
     let slot = c.in-Some.slot in
     let bytes : List ℕ = take (slot * 4096 + 4096 - slot * 4096) (drop (slot * 4096) slots) in
     let told = (g.D.Sectors.seen c.args.device.now).tells in
-    let after = (g.D.Sectors.seen c.put_bytes.new.device).tells in
+    let after = (g.D.Sectors.seen c.write_and_sync.new.device).tells in
     let R : Disk → Disk → Type 0 = IsPutOrNot (write_at c.place_at.result bytes) in
-    on_err_weaker c.put_bytes.result
+    on_err_weaker c.write_and_sync.result
     (λ done. OnTold-weaker told after (λ (disk : Disk). SameSlots shape disk.reads slots) R (FailsPutBack shape c.args.page)
     (λ a b same is. put-failed shape c.args.page slot c.in-Some.field-0-1 c.place_at.result slots bytes a b same c.in-Some.ensures c.place_at.ensures (slot-part shape slot slots c.requires.limits.page_size) is)
     c.in_ok-read_slots.ensures.bytes (subst (λ (o : Option Disk). OnTold o after R) c.in_ok-read_slots.ensures.same done))
-    c.put_bytes.ensures.err
+    c.write_and_sync.ensures.err
 
 pub returns-in-Some-clause-calls : goal.returns-in-Some-clause-calls
 returns-in-Some-clause-calls g c =
@@ -53,5 +53,5 @@ returns-in-Some-clause-calls g c =
     let slots = c.read_slots.new.slots in
     let slot = c.in-Some.slot in
     let bytes : List ℕ = take (slot * 4096 + 4096 - slot * 4096) (drop (slot * 4096) slots) in
-    repair-put g.D.Sectors.gives c.args.device.now c.read_slots.new.device c.put_bytes.new.device shape c.args.page slot c.in-Some.field-0-1 c.place_at.result c.args.slots.now slots bytes c.in_ok-read_slots.field-0
-    (error_of c.put_bytes.result) c.requires.room c.in-Some.ensures c.place_at.ensures (slot-part shape slot slots c.requires.limits.page_size) c.in_ok-read_slots.ensures.call c.put_bytes.ensures.calls
+    repair-put g.D.Sectors.gives c.args.device.now c.read_slots.new.device c.write_and_sync.new.device shape c.args.page slot c.in-Some.field-0-1 c.place_at.result c.args.slots.now slots bytes c.in_ok-read_slots.field-0
+    (error_of c.write_and_sync.result) c.requires.room c.in-Some.ensures c.place_at.ensures (slot-part shape slot slots c.requires.limits.page_size) c.in_ok-read_slots.ensures.call c.write_and_sync.ensures.calls

@@ -9,8 +9,7 @@ use Rattle.model_device.specs.declared.write.Write.{Write}
 use Rattle.redo_disk.specs.{MakesCalls, Serve, ToWrite, write_at}
 use Rattle.redo_store.specs.Places.{text_writes}
 use Rattle.model_datadev.specs.{FailsOne, written_all}
-use Rattle.redo_disk.proofs.Told.{OnTold-then}
-use Rattle.redo_dblwr.proofs.Tells.{told-as, on-err}
+use Rattle.redo_disk.proofs.Told.{OnTold-then, on-err, told-as}
 use Rattle.model_datadev.proofs.Written.{written-one_more}
 use Rattle.redo_store.proofs.Asked.{writes-more, writes-cut}
 use Rattle.redo_store.proofs.TextWrites.{write-made, length-text_writes}

@@ -5,10 +5,9 @@ use Rattle.model_log.specs.{checkpoint_text}
 use Rattle.model_logdev.specs.{after_asked, after_checkpoint, HasNextNumber, MayBeNext, next_number, other_place}
 use Rattle.model_logdev.proofs.Checkpoints.{WritesSector}
 use Rattle.model_logdev.proofs.Places.{HasBlocks}
-use Rattle.redo_disk.specs.{write_at}
-use Rattle.redo_logdev.specs.Calls.{IsPutOrNot}
+use Rattle.redo_disk.specs.{IsPutOrNot, write_at}
 use Rattle.redo_logdev.specs.Part.{Part, PartHolds, DiskHolds}
-use Rattle.redo_logdev.proofs.Told.{told-step}
+use Rattle.redo_disk.proofs.Told.{told-step}
 use Rattle.redo_logdev.proofs.Parts.{checkpoint-write, checkpoint-unwritten, checkpoint-pending, checkpoint-made}
 use Rattle.redo_logdev.proofs.part.LogPart.checkpoint.Goals as goal
 
@@ -16,14 +15,14 @@ pub returns-in-Ok-clause-holds : goal.returns-in-Ok-clause-holds
 returns-in-Ok-clause-holds g c is_next s wholes known =
     let part = c.self.inside in
     let lsn = c.args.lsn in
-    let at = 512 * c.place_of-at.result in
+    let at = 512 * c.from-at.result in
     let block = c.fill_ckpt.new.out in
     let small : HasNextNumber part.marks = subst (λ (p : Part _). HasNextNumber p.marks) (sym c.self.view_is) is_next in
     let next : MayBeNext part.marks lsn = subst (λ (p : Part _). MayBeNext p.marks lsn) (sym c.self.view_is) c.requires.next in
     let before = subst (λ (p : Part _). PartHolds g.L.Sectors.seen s wholes p) (sym c.self.view_is) known in
     let blocks : HasBlocks part.shape = record { some = omega (arith, c.self.invariant.many_blocks); few = omega (arith, c.self.invariant.few_blocks) } in
     let writes : WritesSector (other_place part.marks.number) (checkpoint_text (part.marks.number + 1) lsn part.shape) (write_at at block) =
-    checkpoint-write part.shape part.marks lsn c.place_of-at.result block small c.place_of-at.ensures c.fill_ckpt.ensures (omega (arith, c.fill_ckpt.auto.out)) in
+    checkpoint-write part.shape part.marks lsn c.from-at.result block small (c.from-at.ensures ∙ c.place_of.ensures) c.fill_ckpt.ensures (omega (arith, c.fill_ckpt.auto.out)) in
     told-step _ _ (DiskHolds part.shape s wholes part.marks part.failed)
     (DiskHolds part.shape s wholes (after_checkpoint (next_number part.marks.number) lsn part.marks) part.failed) (λ (old new : Disk). new ≡ synced (written old (write_at at block)))
     (λ a b before is. checkpoint-made part.shape s wholes part.marks part.failed lsn at block a b blocks (ap (λ (p : Part _). p.failed) c.self.view_is ∙ c.requires.live) next small writes before is)
@@ -33,13 +32,13 @@ pub returns-in-Err-clause-holds : goal.returns-in-Err-clause-holds
 returns-in-Err-clause-holds g c is_next s wholes known =
     let part = c.self.inside in
     let lsn = c.args.lsn in
-    let at = 512 * c.place_of-at.result in
+    let at = 512 * c.from-at.result in
     let block = c.fill_ckpt.new.out in
     let small : HasNextNumber part.marks = subst (λ (p : Part _). HasNextNumber p.marks) (sym c.self.view_is) is_next in
     let next : MayBeNext part.marks lsn = subst (λ (p : Part _). MayBeNext p.marks lsn) (sym c.self.view_is) c.requires.next in
     let before = subst (λ (p : Part _). PartHolds g.L.Sectors.seen s wholes p) (sym c.self.view_is) known in
     let writes : WritesSector (other_place part.marks.number) (checkpoint_text (part.marks.number + 1) lsn part.shape) (write_at at block) =
-    checkpoint-write part.shape part.marks lsn c.place_of-at.result block small c.place_of-at.ensures c.fill_ckpt.ensures (omega (arith, c.fill_ckpt.auto.out)) in
+    checkpoint-write part.shape part.marks lsn c.from-at.result block small (c.from-at.ensures ∙ c.place_of.ensures) c.fill_ckpt.ensures (omega (arith, c.fill_ckpt.auto.out)) in
     told-step _ _ (DiskHolds part.shape s wholes part.marks part.failed)
     (DiskHolds part.shape s wholes (after_asked lsn part.marks) (Some c.in-Err.error)) (IsPutOrNot (write_at at block))
     (λ a b before is. ⊎_elim (λ fails. checkpoint-unwritten part.shape s wholes part.marks part.failed c.in-Err.error lsn at block a b next small writes before fails)

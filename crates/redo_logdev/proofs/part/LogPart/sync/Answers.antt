@@ -3,7 +3,7 @@ use Rattle.model_device.specs.Disk.{Disk}
 use Rattle.model_device.specs.{synced}
 use Rattle.model_logdev.specs.{after_synced}
 use Rattle.redo_logdev.specs.Part.{Part, PartHolds, DiskHolds}
-use Rattle.redo_logdev.proofs.Told.{told-step}
+use Rattle.redo_disk.proofs.Told.{told-step}
 use Rattle.redo_logdev.proofs.Parts.{sync-ok}
 use Rattle.redo_disk.specs.{MakesCalls, Serve, ToSync}
 use Rattle.redo_disk.proofs.Made.{call_serves}

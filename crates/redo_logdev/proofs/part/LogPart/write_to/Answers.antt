@@ -5,7 +5,7 @@ use Rattle.model_log.specs.{block_of, framed, IsGivenTo}
 use Rattle.model_logdev.specs.{after_given, after_written}
 use Rattle.redo_logdev.specs.Calls.{written_round, FailsRound}
 use Rattle.redo_logdev.specs.Part.{Part, MayWrite, PartHolds, DiskHolds}
-use Rattle.redo_logdev.proofs.Told.{told-step}
+use Rattle.redo_disk.proofs.Told.{told-step}
 use Rattle.redo_logdev.proofs.Parts.{cut-from, write-ok, write-err, few-blocks, ends-small}
 use Rattle.redo_logdev.proofs.WriteTo.{IsCut}
 use Rattle.redo_logdev.proofs.part.LogPart.write_to.Goals as goal

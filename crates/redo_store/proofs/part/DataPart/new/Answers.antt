@@ -2,11 +2,11 @@ use Rattle.std.proofs.Common.{[], false}
 use Rattle.model_datadev.specs.{IsOpened, IsUpTo}
 use Rattle.model_datadev.specs.Stored.{Stored}
 use Rattle.model_datadev.proofs.Parts.{opened-stored}
-use Rattle.redo_dblwr.proofs.Tells.{told-weaker}
+use Rattle.redo_disk.proofs.Told.{known-as}
 use Rattle.redo_store.proofs.part.DataPart.new.Goals as goal
 
 pub returns-in-Ok-clause-stores : goal.returns-in-Ok-clause-stores
 returns-in-Ok-clause-stores g c top was known =
     let shape = c.args.shape.now in
-    told-weaker (g.D.Sectors.seen c.args.dev).tells (IsOpened shape top was) (Stored shape (IsUpTo top) was [] false)
+    known-as (g.D.Sectors.seen c.args.dev).tells (IsOpened shape top was) (Stored shape (IsUpTo top) was [] false)
     (λ a opened. opened-stored shape top was a c.requires.limits opened) known
