@@ -5,6 +5,7 @@ use Rattle.std.proofs.lemmas.Bool.Decides.{nat_tests}
 use Rattle.model_script.specs.{bytes_at, draw, item_at, item_draws, items_at, kind_at, length_at, line_at, lines_at, next_state, offset_at, page_at, script_line_text, script_text, state_after, state_after_items, state_after_line}
 use Rattle.model_script.specs.declared.item.Item.{Item}
 use Rattle.model_script.specs.declared.item.Item.TheVariants.{Text}
+use Rattle.model_script.specs.declared.script.ScriptLine.{ScriptLine}
 
 one_left : (n i : ℕ) → i < n → n - i ≡ suc (n - (i + 1))
 one_left n i below = omega arith
@@ -54,6 +55,18 @@ pub items_at_end : (done : List Item) (n i state : ℕ) → n ≤ i → done ++ 
 items_at_end done n i state over = rw (none_left n i over) (append-nil done)
 
 pub ruleset items = (state_after_items_step, state_after_items_end, items_at_step, items_at_end)
+
+-- a line, and those that are left
+pub some_lines_step : (done : List ScriptLine) (users n i state : ℕ) → i < n
+    → (done ++ line_at (1 + i % users) state ∷ []) ++ lines_at users (i + 1) (n - (i + 1)) (state_after_line state)
+    ≡ done ++ lines_at users i (n - i) state
+some_lines_step done users n i state below =
+    rw (one_left n i below) (append_assoc done (line_at (1 + i % users) state ∷ []) (lines_at users (i + 1) (n - (i + 1)) (state_after_line state)))
+
+pub some_lines_end : (done : List ScriptLine) (users n i state : ℕ) → n ≤ i → done ++ lines_at users i (n - i) state ≡ done
+some_lines_end done users n i state over = rw (none_left n i over) (append-nil done)
+
+pub ruleset scripts = (some_lines_step, some_lines_end)
 
 -- the text of a line, its line feed and those of the lines that are left
 pub lines_at_step : (done : List ℕ) (users n i state : ℕ) → i < n

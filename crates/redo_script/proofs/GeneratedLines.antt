@@ -80,6 +80,11 @@ lines_ranged users j zero state some few = tt
 lines_ranged users j (suc count) state some few =
     (line_ranged (1 + j % users) state (omega arith), lines_ranged users (j + 1) count (state_after_line state) some few)
 
+pub generated_lines-ranged : (seed users groups : ℕ) → 1 ≤ users → users ≤ MAX_USERS
+    → AllByRecursion IsScriptLine (generated_lines seed users groups)
+unfolding generated_lines
+generated_lines-ranged seed users groups some few = lines_ranged users 0 groups (first_state seed) some few
+
 pub script_of-generated_text : (seed users groups : ℕ) → 1 ≤ users → users ≤ MAX_USERS
     → script_of (generated_text seed users groups) ≡ Ok (generated_lines seed users groups)
 unfolding generated_text generated_lines

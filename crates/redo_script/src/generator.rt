@@ -1,13 +1,13 @@
 // The script of a seed.
 ghost use Rattle.std.specs.Prelude.{◌≡◌, ◌≤◌, ◌%◌, ◌+◌, IfOk, OnOk};
-ghost use Rattle.model_script.specs.{bytes_at, count_at, draw, generated_text, item_at, item_draws, items_at, line_at, state_after, state_after_items, state_after_line};
+ghost use Rattle.model_script.specs.{bytes_at, count_at, draw, generated_lines, generated_text, item_at, item_draws, items_at, line_at, state_after, state_after_items, state_after_line};
 ghost use Rattle.model_script.specs.declared.item.Item.TheVariants.{Num};
 ghost use Rattle.model_script.specs.declared.misfit.TheConstants.{MAX_USERS};
 
 use crate::draws::Draws;
 use crate::printing::push_line;
 use model_base::Bytes;
-use model_script::{Item, Items, ScriptLine};
+use model_script::{Item, Items, Script, ScriptLine};
 use redo_io::Text;
 use redo_lsn::NoMemory;
 use std::alloc::{AllocError, Global};
@@ -91,8 +91,31 @@ fn draw_line(alloc: Global, user: u32, draws: &mut Draws) -> Result<ScriptLine, 
     Ok(ScriptLine { user, mode, items })
 }
 
-/// The script of the seed: so many lines, a group each, of which the users take turns. It takes little more memory
-/// than the text.
+/// The user of the line of this number: the users take turns.
+fn user_of(number: u64, users: u32) -> u32
+    requires some { 1 ≤ users }
+    requires few { users ≤ MAX_USERS }
+    ensures { result ≡ 1 + number % users }
+{
+    1 + (number % u64::from(users)) as u32
+}
+
+/// The script of the seed: so many lines, a group each, of which the users take turns.
+#[tactic(auto, using(crate::proofs::Drawing::scripts), unfolding(model_script::specs::Generator::generated_lines))]
+pub fn generate_lines(alloc: Global, seed: u64, users: u32, groups: u64) -> Result<Script, NoMemory>
+    requires some_users { 1 ≤ users }
+    requires few_users { users ≤ MAX_USERS }
+    ensures { IfOk result (λ script. script ≡ generated_lines seed users groups) }
+{
+    let mut draws = Draws::new(seed);
+    let mut lines = Vec::new(alloc);
+    for number in 0..groups {
+        lines.push(draw_line(alloc, user_of(number, users), &mut draws)?)?;
+    }
+    Ok(Script(lines))
+}
+
+/// Its text. That takes little more memory than the text.
 #[tactic(auto, using(crate::proofs::Drawing::lines), unfolding(model_script::specs::Generator::generated_text, model_script::specs::Generator::generated_lines))]
 pub fn generate(alloc: Global, seed: u64, users: u32, groups: u64) -> Result<Text, NoMemory>
     requires some_users { 1 ≤ users }
@@ -103,8 +126,7 @@ pub fn generate(alloc: Global, seed: u64, users: u32, groups: u64) -> Result<Tex
     let mut draws = Draws::new(seed);
     let mut text = String::new(alloc);
     for number in 0..groups {
-        let user = 1 + (number % u64::from(users)) as u32;
-        let line = draw_line(alloc, user, &mut draws)?;
+        let line = draw_line(alloc, user_of(number, users), &mut draws)?;
         push_line(alloc, &mut text, &line)?;
         text.push_str("\n")?;
     }

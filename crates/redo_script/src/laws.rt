@@ -27,3 +27,9 @@ pub fn generated_script_reads_back()
     ensures { (seed users groups : ℕ) → 1 ≤ users → users ≤ MAX_USERS
         → script_of (generated_text seed users groups) ≡ Ok (generated_lines seed users groups) }
 {}
+
+/// The lines of a seed are in their ranges.
+pub fn generated_lines_are_ranged()
+    ensures { (seed users groups : ℕ) → 1 ≤ users → users ≤ MAX_USERS
+        → AllByRecursion IsScriptLine (generated_lines seed users groups) }
+{}

@@ -19,11 +19,11 @@ mod unfit;
 pub use draws::Draws;
 pub use fault::ScriptFault;
 pub use fit::judge;
-pub use generator::generate;
+pub use generator::{generate, generate_lines};
 pub use group::group_of;
 pub use laws::{
-    generated_script_reads_back, printed_line_reads_back, printed_operation_reads_back,
-    printed_script_reads_back,
+    generated_lines_are_ranged, generated_script_reads_back, printed_line_reads_back,
+    printed_operation_reads_back, printed_script_reads_back,
 };
 pub use model_script::{Item, Items, Script, ScriptLine};
 pub use number::number_up_to;

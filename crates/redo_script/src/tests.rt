@@ -1,6 +1,8 @@
 // Scripts: which text is one, what its lines say, and the script of a seed.
 use crate::printing::push_line;
-use crate::{Script, ScriptFault, Unfit, generate, group_of, judge, number_up_to, parse};
+use crate::{
+    Script, ScriptFault, Unfit, generate, generate_lines, group_of, judge, number_up_to, parse,
+};
 use model_base::{DEFAULT_LOG_BLOCKS, DEFAULT_PAGES, DEFAULT_SPACE, PAGE_SIZE, SLOTS, Shape};
 use model_script::Quantity;
 use std::alloc::{AllocError, Global};
@@ -277,6 +279,10 @@ fn generated_scripts(rt: HostRuntime) -> Result<(), Fail> {
     assert_eq!(rt; script.0.len(), 1000);
     assert_eq!(rt; script.0[16].user, 1);
     let mut lines = printed(alloc, &script)?;
+    lines.push_str("\n")?;
+    assert_eq!(rt; lines.as_bytes(), many.as_slice());
+    let generated = generate_lines(alloc, 7, 16, 1000)?;
+    let mut lines = printed(alloc, &generated)?;
     lines.push_str("\n")?;
     assert_eq!(rt; lines.as_bytes(), many.as_slice());
     Ok(())

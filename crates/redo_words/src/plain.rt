@@ -44,6 +44,7 @@ impl PlainWords {
     }
 
     /// Plays an Op on a word, and answers what stood there.
+    #[inline(always)]
     pub fn play(&mut self, op: Op) -> Answer
         requires on_word { OnWord op }
         requires there { OpWords self.old.pages op }
