@@ -14,7 +14,7 @@ use Rattle.model_pagecore.specs.{AfterBatch, CanBatch, renewed}
 use Rattle.model_pagecore.specs.DataLaws.{DataLaws}
 use Rattle.redo_dataside.proofs.Batches.{later, renewed_is}
 use Rattle.redo_dataside.specs.DataPartSide.{DataWrote, HasFailedBy, HoldsPages, data_side, fault_code, fresh_batch, result_code}
-use Rattle.redo_dblwr.proofs.Tells.{told-weaker}
+use Rattle.redo_disk.proofs.Told.{known-as}
 use Rattle.redo_disk.specs.Seen.{Seen}
 use Rattle.redo_disk.specs.declared.error.DevError.{DevError}
 use Rattle.redo_disk.specs.declared.error.DevError.TheVariants.{Failed, NoMemory}
@@ -40,7 +40,7 @@ fault_is NoMemory = inr refl
 stores_failed : {D : Type 0} (seen : D → Seen) (top was : ℕ → Content) (batch : List Fresh) (part : Part D) (fault : DevError) → part.failed ≡ Some fault → PartKeeps seen top was batch part → PartStores seen top was batch part
 stores_failed seen top was batch part fault failed keeps =
     let broken : is_some part.failed ≡ true = ap is_some failed in
-    told-weaker (seen part.dev).tells (Keeps part.shape (IsUpTo top) was batch) (Stored part.shape (IsUpTo top) was batch (is_some part.failed))
+    known-as (seen part.dev).tells (Keeps part.shape (IsUpTo top) was batch) (Stored part.shape (IsUpTo top) was batch (is_some part.failed))
     (λ disk kept. record { keeps = kept; steady = λ live. absurd (cc) }) keeps
 
 module _ {D : Type 0} (seen : D → Seen) (faults : ℕ) (shape : Shape) (Begun : Type 0) where

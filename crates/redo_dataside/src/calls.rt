@@ -1,9 +1,10 @@
 // The call of the data part, answered by a code.
 ghost use Rattle.std.specs.Prelude.{List, None, ◌≡◌};
 ghost use Rattle.model_core.specs.{BatchPage};
-ghost use Rattle.model_datadev.specs.{IsWritable};
+ghost use Rattle.model_datadev.specs.{batch_of, IsWritable};
 ghost use Rattle.redo_dataside.specs.DataPartSide.{DataWrote, IsBatchOf, result_code};
-ghost use Rattle.redo_disk.specs.{EndWith, MakesCalls};
+ghost use Rattle.redo_disk.specs.{MakesCalls, Serve};
+ghost use Rattle.redo_store.specs.Requests.{batch_requests};
 
 use redo_disk::{DevError, Sectors};
 use redo_store::DataPart;
@@ -25,7 +26,8 @@ pub fn write_batch<D: Sectors>(part: &mut DataPart<D>, pairs: &[(u32, u64)], use
     requires batch { IsWritable part.old.shape pairs.now users.now }
     ensures wrote { (batch : List BatchPage) → IsBatchOf pairs.now users.now batch
         → DataWrote D.seen batch result part.old part.new }
-    ensures calls { MakesCalls D.gives part.old.dev part.new.dev (EndWith part.new.failed) }
+    ensures calls { MakesCalls D.gives part.old.dev part.new.dev
+        (Serve (batch_requests part.old.shape (batch_of pairs.now users.now)) part.new.failed) }
 {
     let answer = part.write_batch(pairs, users);
     code_of(&answer)

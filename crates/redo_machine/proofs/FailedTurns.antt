@@ -1,5 +1,5 @@
 -- A turn that ends by a failure leaves a code in FAILED, and that has a cause.
-use Rattle.std.proofs.Common.{Bool, List, ap, cond, false, get_or, inr, refl, subst, sym, true, ℕ, ◌<◌, ◌==◌, ◌∙◌, ◌≡◌, ◌⊎◌}
+use Rattle.std.proofs.Common.{Bool, List, ap, cond, false, inr, refl, subst, sym, true, ℕ, ◌<◌, ◌==◌, ◌∙◌, ◌≡◌, ◌⊎◌}
 use Rattle.std.specs.Prelude.{slice_index}
 use lib.ListN.{get_elem?}
 use mathlib.Core.Option.{some}

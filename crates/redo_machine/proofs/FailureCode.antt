@@ -1,5 +1,5 @@
 -- The code in FAILED has 32 bits.
-use Rattle.std.proofs.Common.{List, ap, arith, slice_index, ℕ, ⊎_elim, ◌<◌, ◌^◌, ◌∙◌, ◌≡◌}
+use Rattle.std.proofs.Common.{List, ap, arith, slice_index, ℕ, ⊎_elim, ◌<◌, ◌^◌, ◌≡◌}
 use native.Mathlib.Decide.{dec_le}
 use Rattle.model_core.specs.{index}
 use Rattle.model_core.specs.declared.words.Word.TheVariants as word
@@ -8,7 +8,6 @@ use Rattle.redo_disk.specs.Seen.{Seen}
 use Rattle.redo_disk.specs.declared.error.DevError.{DevError}
 use Rattle.redo_disk.specs.declared.error.DevError.TheVariants.{Failed, NoMemory}
 use Rattle.redo_logside.proofs.PartEnds.{small_cause}
-use Rattle.redo_logside.specs.LogPartSide as log_part
 use Rattle.redo_machine.specs.Playing.{RunOf}
 use Rattle.redo_machine.specs.Running.{RunsOn}
 use Rattle.redo_machine.specs.declared.actor.Actor.{Actor}

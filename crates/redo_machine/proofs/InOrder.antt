@@ -1,6 +1,6 @@
 -- A list of entries that ascends by its starts is known by its sums: two such lists are one if each number of an entry has the
 -- same sum over both, and the starts of one are apart.
-use Rattle.std.proofs.Common.{Bool, List, [], ap, arith, cond, eq-eqb, eqb, get_or, length, ne_eqb, refl, suc, sym, zero, ℕ, ◌+◌, ◌<◌, ◌∙◌, ◌∷◌, ◌≡◌, ◌≢◌, ◌≤◌}
+use Rattle.std.proofs.Common.{Bool, List, [], ap, arith, cond, eq-eqb, eqb, get_or, length, ne_eqb, refl, suc, sym, ℕ, ◌+◌, ◌<◌, ◌∙◌, ◌∷◌, ◌≡◌, ◌≢◌, ◌≤◌}
 use Rattle.std.proofs.lemmas.List.Sorted.{sum_by-IsPermutation}
 use Rattle.std.proofs.lemmas.List.Sums.{sum_by-cons}
 use Rattle.std.specs.List.{sum_by}

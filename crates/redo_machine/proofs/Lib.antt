@@ -1,3 +1,4 @@
+pub mod Asked
 pub mod Begun
 pub mod CallsOn
 pub mod ClosedRun
@@ -23,6 +24,7 @@ pub mod StartWordsNames
 pub mod StartWordsPages
 pub mod StartWordsStore
 pub mod StartWordsZero
+pub mod SyncedParts
 pub mod Told
 pub mod TurnsOf
 pub mod UserLines

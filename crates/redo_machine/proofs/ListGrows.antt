@@ -1,5 +1,5 @@
 -- The history as it grows, group by group and actor by actor, where there is room for all.
-use Rattle.std.proofs.Common.{List, [], add-one, ap, append_assoc, arith, drop, drop-cons, get_or, length, length-append, refl, slice_index, subst, suc, sym, ℕ, ◌++◌, ◌+◌, ◌<◌, ◌∙◌, ◌∷◌, ◌≡◌, ◌≤◌}
+use Rattle.std.proofs.Common.{List, [], add-one, ap, append_assoc, arith, drop, drop-cons, get_or, length, length-append, refl, slice_index, suc, sym, ℕ, ◌++◌, ◌+◌, ◌<◌, ◌∙◌, ◌∷◌, ◌≡◌, ◌≤◌}
 use Rattle.std.proofs.lemmas.List.{append-nil, at_drop_all}
 use Rattle.std.proofs.lemmas.List.Concat.{flat_map-cons}
 use Rattle.model_core.specs.{UserState}

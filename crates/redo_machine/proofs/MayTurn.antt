@@ -1,6 +1,5 @@
 -- Whoever has a turn may take it: the conditions of what an actor asks for follow from the invariant of the running store.
-use Rattle.std.proofs.Common.{Bool, List, None, [], ap, arith, cond, false, length, subst, sym, true, ℕ, ◌+◌, ◌<◌, ◌^◌, ◌∙◌, ◌≡◌}
-use Rattle.std.specs.Prelude.{slice_index}
+use Rattle.std.proofs.Common.{Bool, List, [], ap, arith, cond, false, length, subst, sym, true, ℕ, ◌<◌, ◌^◌, ◌∙◌, ◌≡◌}
 use lib.ListN.{get_elem?}
 use mathlib.Core.Option.{some}
 use Rattle.model_core.proofs.Lsns.{lsn_le}
@@ -10,7 +9,7 @@ use Rattle.model_core.specs.Actors as model
 use Rattle.model_core.specs.AnswerFits.{AnswerFits}
 use Rattle.model_core.specs.DataSide.{DataSide}
 use Rattle.model_core.specs.Fitting.{Fitting}
-use Rattle.model_core.specs.{answer_of, BatchPage, checkpointer_op, cleaner_op, closer_op, flusher_op, is_checking, KeptPage, lent, Listed, lsn, next, old_of, OpWords, own_op, shared_answer, user_fits, user_op, UserState, writer_op}
+use Rattle.model_core.specs.{answer_of, BatchPage, checkpointer_op, cleaner_op, closer_op, flusher_op, KeptPage, lent, Listed, lsn, next, old_of, OpWords, shared_answer, user_fits, user_op, UserState, writer_op}
 use Rattle.model_core.specs.LogSide.{LogSide}
 use Rattle.model_core.specs.Setup.{Setup}
 use Rattle.model_core.specs.declared.ops.Answer.{Answer}

@@ -1,5 +1,5 @@
 -- That an Op was played, for each kind of Op.
-use Rattle.std.proofs.Common.{List, None, ap, cond, refl, subst, sym, ℕ, ◌%◌, ◌==◌, ◌≡◌}
+use Rattle.std.proofs.Common.{None, ap, cond, refl, subst, sym, ℕ, ◌%◌, ◌==◌, ◌≡◌}
 use Rattle.std.specs.Prelude.{slice_set}
 use Rattle.model_core.specs.Actors as model
 use Rattle.model_core.specs.DataSide.{DataSide}

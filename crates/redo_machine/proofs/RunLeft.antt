@@ -5,6 +5,7 @@ use Rattle.model_base.specs.declared.shape.Shape.{Shape}
 use Rattle.model_core.specs.DataSide.{DataSide}
 use Rattle.model_core.specs.LogSide.{LogSide}
 use Rattle.model_core.specs.{lsn}
+use Rattle.model_device.specs.{synced}
 use Rattle.model_device.specs.Disk.{Disk}
 use Rattle.model_finish.proofs.Finished.{finished_losses, finished_run, marks_same}
 use Rattle.model_finish.proofs.OpenLines as open_lines
@@ -17,7 +18,7 @@ use Rattle.model_log.specs.{start_after}
 use Rattle.model_page.specs.declared.content.Content.{Content}
 use Rattle.model_run.proofs.Start.{start-given}
 use Rattle.model_run.specs.{IsClosed, IsStart, opened_as}
-use Rattle.model_running.specs.{HaveEnded, IsDone, IsSpent}
+use Rattle.model_running.specs.{IsDone, IsSpent}
 use Rattle.model_script.specs.declared.script.ScriptLine.{ScriptLine}
 use Rattle.model_store.specs.Reading.{Reading}
 use Rattle.model_theorem.specs.{IsRun, LosesOnlyByFailure}
@@ -33,17 +34,16 @@ use Rattle.redo_logside.proofs.PartEnds.{log_tells}
 use Rattle.redo_logside.proofs.ShapeStays.{run_shape}
 use Rattle.redo_logside.specs.LogPartSide as log_part
 use Rattle.redo_machine.proofs.ClosedRun.{closed_as_told}
+use Rattle.redo_machine.proofs.SyncedParts.{data_is_synced, log_tells_synced}
 use Rattle.redo_machine.specs.Beginning.{HaveBegun, IsOpenedAs, MayBegin}
 use Rattle.redo_machine.specs.Calls.{CallOnBoth, CallsOn}
-use Rattle.redo_machine.specs.Drive.{ComesToRun, HasMemory, HasMetError, IsOwed, RunsByTurns, failed_in, ran_of}
+use Rattle.redo_machine.specs.Drive.{ComesToRun, HasMemory, HasMetError, IsOwed, IsOwedSynced, RunsByTurns, failed_in, ran_of}
 use Rattle.redo_machine.specs.Playing.{RunOf, data_of, log_of}
-use Rattle.redo_machine.specs.Running.{RunsOn, core_of}
+use Rattle.redo_machine.specs.Running.{core_of}
 use Rattle.redo_machine.specs.Turns.{EndsAs}
 use Rattle.redo_machine.specs.Views.{views_of}
-use Rattle.redo_machine.specs.declared.actor.Actor.{Actor}
 use Rattle.redo_machine.specs.declared.drive.Driven.{Driven}
 use Rattle.redo_machine.specs.declared.drive.Turns.{Turns}
-use Rattle.redo_machine.specs.declared.parts.Parts.{Parts}
 use Rattle.redo_machine.specs.declared.running.Ran.{Ran}
 use Rattle.redo_machine.specs.declared.running.Ran.TheVariants as ended
 use Rattle.redo_pageactors.specs.declared.opened.Opened.{Opened}
@@ -172,19 +172,49 @@ module _ {L D : Type 0} (log_seen : L → Seen) (data_seen : D → Seen) (opened
         data_tells data_seen (data_seen run.first_data.dev).faults run.shape (data_part.HasBegun data_seen run.setup.opened run.first_data) run.setup (opened_as reading) by.last.store disk its_pages
         (sym as_read.shape ∙ sym by.begins.is_run.shape) begun.data_part (ap (λ (z : store.Part D). (data_seen z.dev).tells) (sym by.data_part) ∙ told)
 
-    closed : (left : List (ℕ × ℕ)) (log_disk data_disk log_now data_now : Disk) → driven.ended ≡ ended.Done → HasMemory driven.closed → IsLeft script driven.closed.history left → HaveBegun log_seen data_seen run
-        → IsStart reading script log_disk data_disk → (log_seen driven.closed.log.dev).tells ≡ Some log_now → (data_seen driven.closed.store.dev).tells ≡ Some data_now
+    -- and what a sync would leave of them, where no call failed
+    log_synced : driven.ended ≡ ended.Done → HaveBegun log_seen data_seen run → driven.closed.log.failed ≡ None → (disk : Disk) → (log_seen driven.closed.log.dev).tells ≡ Some disk
+        → LogTells logs run.setup reading.shape (reading.number + 1) by.last.log (synced disk)
+    log_synced done begun live disk told =
+        subst (λ (n : ℕ). LogTells logs run.setup reading.shape n by.last.log (synced disk)) (ap (λ (z : log.Part L). z.marks.number) by.begins.is_run.first_log ∙ as_read.number)
+        (log_tells_synced log_seen (log_seen run.first_log.dev).faults run.first_log.marks.number (log_part.HasBegun log_seen (lsn run.setup.base) run.first_log) run.setup reading.shape by.last.log disk begun.log (log_shape done)
+        (ap (λ (z : log.Part L). (log_seen z.dev).tells) (sym by.log) ∙ told) (ap (λ (z : log.Part L). z.failed) (sym by.log) ∙ live))
+
+    data_synced : HaveBegun log_seen data_seen run → driven.closed.store.failed ≡ None → (disk : Disk) → (data_seen driven.closed.store.dev).tells ≡ Some disk → DataTells datas (opened_as reading) by.last.store (synced disk)
+    data_synced begun live disk told =
+        subst (DataTells datas (opened_as reading) by.last.store)
+        (data_is_synced data_seen (data_seen run.first_data.dev).faults run.shape (data_part.HasBegun data_seen run.setup.opened run.first_data) by.runs.running.page_ghost.kept_page by.runs.running.page_ghost.unfinished by.last.store disk
+        by.runs.running.both.paged.paged.stored begun.data_part (ap (λ (z : store.Part D). (data_seen z.dev).tells) (sym by.data_part) ∙ told) (ap (λ (z : store.Part D). z.failed) (sym by.data_part) ∙ live))
+        (data_device begun disk told)
+
+    closed : (left : List (ℕ × ℕ)) (log_disk data_disk log_now data_now : Disk) → driven.ended ≡ ended.Done → HasMemory driven.closed → IsLeft script driven.closed.history left
+        → IsStart reading script log_disk data_disk → LogTells logs run.setup reading.shape (reading.number + 1) by.last.log log_now → DataTells datas (opened_as reading) by.last.store data_now
         → IsClosed (failed_in driven.closed) (record { script = script; opened = opened_as reading; number = reading.number + 1; run = ran; left = left; log_disk = log_now; data_disk = data_now })
-    closed left log_disk data_disk log_now data_now done memory left_is begun start log_told data_told =
+    closed left log_disk data_disk log_now data_now done memory left_is start log_tells_now data_tells_now =
         subst (λ (z : theorem.Ran). IsClosed (failed_in driven.closed) (record { script = script; opened = opened_as reading; number = reading.number + 1; run = z; left = left; log_disk = log_now; data_disk = data_now })) ran_is
         (closed_as_told logs datas run.setup script (opened_as reading) (reading.number + 1) (failed_in driven.closed) left log_now data_now (core_of log_seen data_seen run by.last by.actors) by.runs.running by.runs.seated (is_done done).ended
         (subst (λ (z : Shape). IsOfScript run.setup script z.space) as_read.shape by.begins.is_run.of_script) (by.begins.is_run.start ∙ as_read.start) (start-given reading script log_disk data_disk start) its_pages
-        (log_device done begun log_now log_told) (data_device begun data_now data_told) (causes memory) (left_of_run left left_is))
+        log_tells_now data_tells_now (causes memory) (left_of_run left left_is))
+
+  -- both devices held what was opened, where they told
+  has_begun : (reading : Reading) → IsOpenedAs reading opened → (log_disk data_disk : Disk) → (log_seen opened.log.dev).tells ≡ Some log_disk → (data_seen opened.store.dev).tells ≡ Some data_disk
+      → IsStart reading script log_disk data_disk → HaveBegun log_seen data_seen run
+  has_begun reading as_read log_disk data_disk log_told data_told =
+      as_told (data_seen opened.store.dev).tells (λ disk. IsStart reading script log_disk disk → HaveBegun log_seen data_seen run) data_disk data_told
+      (as_told (log_seen opened.log.dev).tells (λ disk. IfSome (data_seen opened.store.dev).tells (λ other. IsStart reading script disk other → HaveBegun log_seen data_seen run)) log_disk log_told (by.begins.begun reading as_read))
 
   pub is_owed : MayBegin opened script turns.log_only → IsOwed log_seen data_seen opened script driven
   is_owed may reading left done memory as_read left_is =
       if_told (log_seen opened.log.dev).tells _ (λ log_disk log_told. if_told (data_seen opened.store.dev).tells _ (λ data_disk data_told start.
-      if_told (log_seen driven.closed.log.dev).tells _ (λ log_now log_tells_now. if_told (data_seen driven.closed.store.dev).tells _ (λ data_now data_tells_now.
-      let begun : HaveBegun log_seen data_seen run = as_told (data_seen opened.store.dev).tells (λ disk. IsStart reading script log_disk disk → HaveBegun log_seen data_seen run) data_disk data_told
-      (as_told (log_seen opened.log.dev).tells (λ disk. IfSome (data_seen opened.store.dev).tells (λ other. IsStart reading script disk other → HaveBegun log_seen data_seen run)) log_disk log_told (by.begins.begun reading as_read)) start in
-      closed may reading as_read left log_disk data_disk log_now data_now done memory left_is begun start log_tells_now data_tells_now))))
+      if_told (log_seen driven.closed.log.dev).tells _ (λ log_now log_now_told. if_told (data_seen driven.closed.store.dev).tells _ (λ data_now data_now_told.
+      let begun = has_begun reading as_read log_disk data_disk log_told data_told start in
+      closed may reading as_read left log_disk data_disk log_now data_now done memory left_is start
+      (log_device may reading as_read done begun log_now log_now_told) (data_device may reading as_read begun data_now data_now_told)))))
+
+  pub is_owed_synced : MayBegin opened script turns.log_only → IsOwedSynced log_seen data_seen opened script driven
+  is_owed_synced may log_live data_live reading left done memory as_read left_is =
+      if_told (log_seen opened.log.dev).tells _ (λ log_disk log_told. if_told (data_seen opened.store.dev).tells _ (λ data_disk data_told start.
+      if_told (log_seen driven.closed.log.dev).tells _ (λ log_now log_now_told. if_told (data_seen driven.closed.store.dev).tells _ (λ data_now data_now_told.
+      let begun = has_begun reading as_read log_disk data_disk log_told data_told start in
+      closed may reading as_read left log_disk data_disk (synced log_now) (synced data_now) done memory left_is start
+      (log_synced may reading as_read done begun log_live log_now log_now_told) (data_synced may reading as_read begun data_live data_now data_now_told)))))

@@ -4,7 +4,7 @@ use Rattle.std.specs.List.{flat_map}
 use Rattle.std.specs.Prelude.{map}
 use Rattle.model_base.specs.declared.shape.Shape.{Shape}
 use Rattle.model_core.specs.Actors as model
-use Rattle.model_core.specs.{BatchPage, DataServed, KeptPage, LogServed}
+use Rattle.model_core.specs.{BatchPage, DataServed, LogServed}
 use Rattle.model_core.specs.declared.ops.Op.TheVariants as op
 use Rattle.model_page.specs.{user_part}
 use Rattle.redo_dataside.proofs.Lent.{lent_batch}

@@ -8,10 +8,8 @@ use Rattle.model_base.specs.declared.limits.TheConstants.{LSN_LIMIT}
 use Rattle.model_core.proofs.Groups.{tiles_at}
 use Rattle.model_core.proofs.Lsns.{lsn_less, sn_below}
 use Rattle.model_core.specs.Actors as model
-use Rattle.model_core.specs.DataSide.{DataSide}
 use Rattle.model_core.specs.{end_of, entries, entries_from, entry, Line, line_at, lsn, sum_of, Tiles, UserState}
 use Rattle.model_core.specs.Groups as core
-use Rattle.model_core.specs.LogSide.{LogSide}
 use Rattle.model_finish.specs.{entry_of, history_of, word_marks}
 use Rattle.model_history.specs.declared.entry.Entry.{Entry}
 use Rattle.model_history.specs.declared.entry.Marks.{Marks}
@@ -21,8 +19,8 @@ use Rattle.model_logcore.specs.LogHalf.{LogHalf}
 use Rattle.redo_disk.specs.Seen.{Seen}
 use Rattle.redo_machine.proofs.InOrder.{Rises, same_in_order, total, total_moved}
 use Rattle.redo_machine.proofs.Viewed.{view_at}
-use Rattle.redo_machine.specs.History.{HasGroups, HasReserved, ListsInOrder, all_listed, listed, listed_from}
-use Rattle.redo_machine.specs.Playing.{RunOf, data_of, log_of}
+use Rattle.redo_machine.specs.History.{HasGroups, HasReserved, ListsInOrder, all_listed, listed}
+use Rattle.redo_machine.specs.Playing.{RunOf, log_of}
 use Rattle.redo_machine.specs.Running.{RunsOn}
 use Rattle.redo_machine.specs.Views.{view_of, views_of}
 use Rattle.redo_machine.specs.declared.actor.Actor.{Actor}

@@ -1,10 +1,8 @@
 -- The device calls of a run.
-use Rattle.std.specs.Prelude.{None, Option, ◌≡◌, ◌⊎◌}
+use Rattle.std.specs.Prelude.{None, Option, ◌≡◌}
 use Rattle.redo_disk.specs.{Call, EndWith, MakesCalls}
 use Rattle.redo_disk.specs.declared.error.DevError.{DevError}
-use Rattle.redo_logdev.specs.Part as log
 use Rattle.redo_machine.specs.declared.parts.Parts.{Parts}
-use Rattle.redo_store.specs.Part as store
 
 -- A device went from the one to the other by calls of which the last one alone may have answered an error, this one; where
 -- an error stood before, no call was made.

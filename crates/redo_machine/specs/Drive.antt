@@ -2,6 +2,8 @@
 use Rattle.std.specs.Prelude.{IfSome, List, None, Some, slice_index, ℕ, ◌+◌, ◌<◌, ◌≡◌, ◌≢◌, ◌⊎◌}
 use Rattle.model_core.specs.{index}
 use Rattle.model_core.specs.declared.words.Word.TheVariants as word
+use Rattle.model_device.specs.{synced}
+use Rattle.model_device.specs.Disk.{Disk}
 use Rattle.model_finish.specs.{history_of, LeavesOpen, marks_in, word_marks}
 use Rattle.model_history.specs.{IsLeft}
 use Rattle.model_log.specs.{start_after}
@@ -11,7 +13,6 @@ use Rattle.model_store.specs.Reading.{Reading}
 use Rattle.model_theorem.specs.{IsRun, LosesOnlyByFailure, Ran}
 use Rattle.redo_disk.specs.{Call, failures}
 use Rattle.redo_disk.specs.Seen.{Seen}
-use Rattle.redo_disk.specs.declared.error.DevError.{DevError}
 use Rattle.redo_disk.specs.declared.error.DevError.TheVariants.{NoMemory}
 use Rattle.redo_machine.specs.Beginning.{BeginsRun, IsOpenedAs}
 use Rattle.redo_machine.specs.Calls.{CallsOn}
@@ -71,9 +72,9 @@ pub record ComesToRun {L D : Type 0} (log_gives : L → Call → L → Type 0) (
   pub log_calls : CallsOn log_gives opened.log.dev None driven.closed.log.dev driven.closed.log.failed
   pub data_calls : CallsOn data_gives opened.store.dev None driven.closed.store.dev driven.closed.store.failed
 
--- WHAT A DRIVE OWES, where the devices tell and the store was ready.
-abbrev pub IsOwed : {L D : Type 0} → (L → Seen) → (D → Seen) → Opened L D → List ScriptLine → Driven L D → Type 0
-IsOwed log_seen data_seen opened script driven =
+-- WHAT A DRIVE OWES, where the devices tell and the store was ready: a closed run, with what becomes so of both devices.
+abbrev pub IsOwedWith : {L D : Type 0} → (Disk → Disk) → (L → Seen) → (D → Seen) → Opened L D → List ScriptLine → Driven L D → Type 0
+IsOwedWith becomes log_seen data_seen opened script driven =
     (reading : Reading) (left : List (ℕ × ℕ)) → driven.ended ≡ ended.Done → HasMemory driven.closed
     → IsOpenedAs reading opened → IsLeft script driven.closed.history left
     → IfSome (log_seen opened.log.dev).tells (λ log_disk. IfSome (data_seen opened.store.dev).tells (λ data_disk.
@@ -85,6 +86,14 @@ IsOwed log_seen data_seen opened script driven =
       number = reading.number + 1;
       run = ran_of opened.start driven.closed;
       left = left;
-      log_disk = log_now;
-      data_disk = data_now;
+      log_disk = becomes log_now;
+      data_disk = becomes data_now;
     })))))
+
+abbrev pub IsOwed : {L D : Type 0} → (L → Seen) → (D → Seen) → Opened L D → List ScriptLine → Driven L D → Type 0
+IsOwed log_seen data_seen opened script driven = IsOwedWith (λ disk. disk) log_seen data_seen opened script driven
+
+-- Where no call answered an error, a sync of both devices would leave a closed run too, whose images are what reads give.
+abbrev pub IsOwedSynced : {L D : Type 0} → (L → Seen) → (D → Seen) → Opened L D → List ScriptLine → Driven L D → Type 0
+IsOwedSynced log_seen data_seen opened script driven =
+    driven.closed.log.failed ≡ None → driven.closed.store.failed ≡ None → IsOwedWith synced log_seen data_seen opened script driven

@@ -1,3 +1,4 @@
+pub mod Asking
 pub mod Beginning
 pub mod Calls
 pub mod Drive
@@ -11,5 +12,6 @@ pub mod Setups
 pub mod StartWords
 pub mod Turns
 pub mod Views
+pub use Rattle.redo_machine.specs.Asking.{AskOfBoth}
 pub use Rattle.redo_machine.specs.Beginning.{IsOpenedAs, room_from}
-pub use Rattle.redo_machine.specs.Drive.{ComesToRun, HasMemory, IsOwed, RunsByTurns, ran_of}
+pub use Rattle.redo_machine.specs.Drive.{ComesToRun, HasMemory, IsOwed, IsOwedSynced, IsOwedWith, RunsByTurns, ran_of}

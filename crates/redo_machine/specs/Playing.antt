@@ -1,14 +1,14 @@
 -- What playing an Op asks for, and what it does.
-use Rattle.std.specs.Prelude.{List, None, length, ℕ, ◌%◌, ◌<◌, ◌≡◌}
+use Rattle.std.specs.Prelude.{None, length, ℕ, ◌<◌, ◌≡◌}
 use lib.ListN.{get_elem?}
 use mathlib.Core.Option.{some}
 use Rattle.model_base.specs.declared.shape.Shape.{Shape}
 use Rattle.model_core.specs.Actors as model
 use Rattle.model_core.specs.DataSide.{DataSide}
-use Rattle.model_core.specs.{answer_of, BatchPage, DataServed, Each, list_word, lists_left, LogServed, lsn, oldest_of, OpWords, words_left}
+use Rattle.model_core.specs.{answer_of, BatchPage, DataServed, Each, list_word, lists_left, LogServed, lsn, OpWords, words_left}
 use Rattle.model_core.specs.LogSide.{LogSide}
 use Rattle.model_core.specs.Setup.{Setup}
-use Rattle.model_core.specs.declared.limits.TheConstants.{FLUSH_LISTS, FRAME_CELLS}
+use Rattle.model_core.specs.declared.limits.TheConstants.{FRAME_CELLS}
 use Rattle.model_core.specs.declared.ops.Answer.{Answer}
 use Rattle.model_core.specs.declared.ops.Op.{Op}
 use Rattle.model_core.specs.declared.ops.Op.TheVariants as op
@@ -20,7 +20,7 @@ use Rattle.redo_disk.specs.Seen.{Seen}
 use Rattle.redo_logdev.specs.{MayWrite}
 use Rattle.redo_logdev.specs.Part as log
 use Rattle.redo_logside.specs.LogPartSide as log_part
-use Rattle.redo_machine.specs.Lists.{Listings, lists_of}
+use Rattle.redo_machine.specs.Lists.{lists_of}
 use Rattle.redo_machine.specs.declared.parts.Parts.{Parts}
 use Rattle.redo_store.specs.Part as store
 use Rattle.redo_words.specs.{HoldsSum}

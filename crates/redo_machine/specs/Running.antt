@@ -3,9 +3,7 @@ use Rattle.std.specs.Prelude.{List, slice_index, ℕ, ◌≡◌, ◌⊎◌}
 use Rattle.model_base.specs.{IsWithinLimits}
 use Rattle.model_core.specs.Actors as model
 use Rattle.model_core.specs.AnswerFits.{AnswerFits}
-use Rattle.model_core.specs.DataSide.{DataSide}
 use Rattle.model_core.specs.{answer_of, Core, index, lent, next, step_of, took}
-use Rattle.model_core.specs.LogSide.{LogSide}
 use Rattle.model_core.specs.Turn.{Turn}
 use Rattle.model_core.specs.declared.ops.Answer.{Answer}
 use Rattle.model_core.specs.declared.ops.Step.{Step}
@@ -14,8 +12,8 @@ use Rattle.model_running.specs.{AreSeated, HasBytes, IsRunning}
 use Rattle.redo_disk.specs.Seen.{Seen}
 use Rattle.redo_logside.specs.{has_failed}
 use Rattle.redo_machine.specs.Lists.{lists_of}
-use Rattle.redo_machine.specs.Playing.{HasSamePages, HasWholePages, IsPlayable, IsPlayed, RunOf, data_of, log_of}
-use Rattle.redo_machine.specs.Views.{view_of, views_of}
+use Rattle.redo_machine.specs.Playing.{HasWholePages, IsPlayable, IsPlayed, RunOf, data_of, log_of}
+use Rattle.redo_machine.specs.Views.{views_of}
 use Rattle.redo_machine.specs.declared.actor.Actor.{Actor}
 use Rattle.redo_machine.specs.declared.parts.Parts.{Parts}
 use Rattle.redo_words.specs.{Lends}

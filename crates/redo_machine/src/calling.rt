@@ -5,9 +5,10 @@ ghost use Rattle.model_core.specs.Actors as model;
 ghost use Rattle.model_core.specs.{DataServed, KeptPage, LogServed};
 ghost use Rattle.model_core.specs.declared.ops.Op.TheVariants as op;
 ghost use Rattle.redo_dataside.specs.DataPartSide as data_part;
-ghost use Rattle.redo_disk.specs.{EndWith, MakesCalls};
+ghost use Rattle.redo_disk.specs.{EndWith, MakesCalls, Serve};
 ghost use Rattle.redo_logdev.specs.Part as log_dev;
 ghost use Rattle.redo_logside.specs.LogPartSide as log_part;
+ghost use Rattle.redo_machine.specs.Asking.{lent_pages, lent_writes};
 ghost use Rattle.redo_machine.specs.Playing.{HasWholePages, MayBatchLent, MayWriteLent};
 ghost use Rattle.redo_store.specs.Part as store_dev;
 ghost use Rattle.redo_words.specs.{Lends};
@@ -35,6 +36,8 @@ pub fn call_write<L: Sectors>(log: &mut LogPart<L>, mark: u64, lent: Lent<'_>) -
     requires { MayWriteLent log.old mark lent }
     ensures served { (faults start : ℕ) (first : log_dev.Part L) (l : model.Lent) → Lends lent.entry l
         → LogServed (log_part.log_side L.seen faults first.marks.number (log_part.HasBegun L.seen start first)) log.old l (op.WriteTo mark) result log.new }
+    ensures asked { (l : model.Lent) → Lends lent.entry l
+        → MakesCalls L.gives log.old.dev log.new.dev (Serve (lent_writes log.old l) log.new.failed) }
     ensures calls { MakesCalls L.gives log.old.dev log.new.dev (EndWith log.new.failed) }
 {
     match lent {
@@ -49,6 +52,8 @@ pub fn call_batch<D: Sectors>(store: &mut DataPart<D>, lent: Lent<'_>) -> u32
     ensures served { (faults : ℕ) (shape : Shape) (opened : ℕ → KeptPage) (first : store_dev.Part D) (l : model.Lent) → Lends lent.entry l
         → HasWholePages op.WriteBatch l
         → DataServed (data_part.data_side D.seen faults shape (data_part.HasBegun D.seen opened first)) store.old l op.WriteBatch result store.new }
+    ensures asked { (l : model.Lent) → Lends lent.entry l → HasWholePages op.WriteBatch l
+        → MakesCalls D.gives store.old.dev store.new.dev (Serve (lent_pages store.old l) store.new.failed) }
     ensures calls { MakesCalls D.gives store.old.dev store.new.dev (EndWith store.new.failed) }
 {
     match lent {

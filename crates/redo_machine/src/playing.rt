@@ -6,6 +6,7 @@ ghost use Rattle.model_core.specs.declared.limits.TheConstants.{CLOSED_LINKS};
 ghost use Rattle.model_core.specs.declared.ops.Op.TheVariants as op;
 ghost use Rattle.model_core.specs.declared.words.Word.TheVariants as word_is;
 ghost use Rattle.redo_logside.specs.{has_failed};
+ghost use Rattle.redo_machine.specs.Asking.{AskOfBoth};
 ghost use Rattle.redo_machine.specs.Calls.{CallOnBoth};
 ghost use Rattle.redo_machine.specs.Lists.{added, lists_of, removed};
 ghost use Rattle.redo_machine.specs.Playing.{HasSameDevices, HasSamePages, HasWholePages, IsPlayable, IsPlayed, RunOf};
@@ -120,6 +121,7 @@ impl<L: Sectors, D: Sectors> Parts<L, D> {
         ensures pages { HasSamePages self.old self.new }
         ensures played { (run : RunOf L D) (l : model.Lent) → Lends lent.entry l → HasWholePages op l
             → IsPlayed L.seen D.seen run op l self.old result self.new }
+        ensures asked { (l : model.Lent) → Lends lent.entry l → HasWholePages op l → AskOfBoth L.gives D.gives l op self.old self.new }
         ensures calls { CallOnBoth L.gives D.gives self.old self.new }
     {
         self.lists.are_lists();

@@ -1,5 +1,7 @@
 // One turn.
-ghost use Rattle.std.specs.Prelude.{◌≡◌, ◌<◌, ℕ, length};
+ghost use Rattle.std.specs.Prelude.{◌≡◌, ◌<◌, ℕ, IfSome, length, slice_get};
+ghost use Rattle.model_core.specs.{lent, next};
+ghost use Rattle.redo_machine.specs.Asking.{AskOfBoth};
 ghost use Rattle.redo_machine.specs.Calls.{CallOnBoth};
 ghost use Rattle.redo_machine.specs.Playing.{HasSamePages, RunOf};
 ghost use Rattle.redo_machine.specs.Running.{HasCause, IsOnRun, IsServed, MayServe, RunsOn, TakesTurn};
@@ -19,6 +21,7 @@ impl<L: Sectors, D: Sectors> Parts<L, D> {
         requires { MayServe self.old (view_of actor.old) }
         ensures pages { HasSamePages self.old self.new }
         ensures served { (run : RunOf L D) → IsServed L.seen D.seen run self.old (view_of actor.old) result self.new (view_of actor.new) }
+        ensures asked { AskOfBoth L.gives D.gives (lent (view_of actor.old)) (next (view_of actor.old)) self.old self.new }
         ensures calls { CallOnBoth L.gives D.gives self.old self.new }
     {
         let op = actor.next();
@@ -35,6 +38,7 @@ impl<L: Sectors, D: Sectors> Parts<L, D> {
         ensures runs { (run : RunOf L D) → RunsOn L.seen D.seen run self.old actors.old.items → RunsOn L.seen D.seen run self.new actors.new.items }
         ensures cause { (run : RunOf L D) (code : ℕ) → RunsOn L.seen D.seen run self.old actors.old.items → result ≡ Step.Failed code → HasCause L.seen D.seen run self.new }
         ensures seats { length actors.new.items ≡ length actors.old.items }
+        ensures asked { IfSome (slice_get actors.old.items seat) (λ actor. AskOfBoth L.gives D.gives (lent (view_of actor)) (next (view_of actor)) self.old self.new) }
         ensures calls { CallOnBoth L.gives D.gives self.old self.new }
     {
         log_part_meets_laws::<L>();
@@ -62,6 +66,7 @@ impl<L: Sectors, D: Sectors> Machine<L, D> {
         ensures cause { (run : RunOf L D) (code : ℕ) → RunsOn L.seen D.seen run self.old.parts self.old.actors.items → result ≡ Step.Failed code
             → HasCause L.seen D.seen run self.new.parts }
         ensures seats { length self.new.actors.items ≡ length self.old.actors.items }
+        ensures asked { IfSome (slice_get self.old.actors.items seat) (λ actor. AskOfBoth L.gives D.gives (lent (view_of actor)) (next (view_of actor)) self.old.parts self.new.parts) }
         ensures calls { CallOnBoth L.gives D.gives self.old.parts self.new.parts }
         ensures start { self.new.start ≡ self.old.start }
         ensures entries { self.new.entries ≡ self.old.entries }

@@ -1,9 +1,7 @@
 -- The machine begins the run, its turns lead to the end, and what `finish` tells of that end is what the run comes to.
-use Rattle.std.proofs.Common.{arith, length, rules, sym, ◌∙◌, ◌≡◌, ◌≤◌}
-use Rattle.std.specs.Prelude.{vec_capacity}
-use Rattle.model_core.specs.{lsn}
+use Rattle.std.proofs.Common.{arith, rules, sym, ◌∙◌}
 use Rattle.redo_machine.proofs.LogCount.{log_within_script}
-use Rattle.redo_machine.proofs.RunLeft.{comes_to_run, is_owed}
+use Rattle.redo_machine.proofs.RunLeft.{comes_to_run, is_owed, is_owed_synced}
 use Rattle.redo_machine.proofs.drive.run_by_turns.Goals as goal
 
 pub run-ended-requires : goal.run-ended-requires
@@ -42,3 +40,7 @@ returns-clause-comes_to g c =
 pub returns-clause-owed : goal.returns-clause-owed
 returns-clause-owed g c =
     is_owed g.L.Sectors.seen g.D.Sectors.seen c.args.opened c.args.script.now c.args.turns.now _ (returns-clause-turns g c) c.requires
+
+pub returns-clause-owed_synced : goal.returns-clause-owed_synced
+returns-clause-owed_synced g c =
+    is_owed_synced g.L.Sectors.seen g.D.Sectors.seen c.args.opened c.args.script.now c.args.turns.now _ (returns-clause-turns g c) c.requires

@@ -1,7 +1,7 @@
 use Rattle.std.proofs.Common.{List, ap, arith, length, sym, ◌++◌, ◌∙◌, ◌≡◌}
 use Rattle.model_history.specs.declared.entry.Entry.{Entry}
 use Rattle.redo_machine.proofs.ListGrows.{length_from}
-use Rattle.redo_machine.specs.History.{HasGroups, listed, listed_from}
+use Rattle.redo_machine.specs.History.{listed, listed_from}
 use Rattle.redo_machine.specs.Views.{view_of}
 use Rattle.redo_machine.specs.declared.actor.Actor.{Actor}
 use Rattle.redo_machine.proofs.history.add_actor.Goals as goal

@@ -1,4 +1,4 @@
-use Rattle.std.proofs.Common.{List, [], ap, arith, drop, length, vec_capacity, ◌++◌, ◌+◌, ◌∙◌, ◌∷◌, ◌≡◌}
+use Rattle.std.proofs.Common.{List, [], ap, arith, drop, vec_capacity, ◌++◌, ◌+◌, ◌∙◌, ◌∷◌, ◌≡◌}
 use Rattle.model_history.specs.declared.entry.Entry.{Entry}
 use Rattle.redo_machine.proofs.ListGrows.{all_groups_added, group_added, has_room}
 use Rattle.redo_machine.specs.History.{listed_from}

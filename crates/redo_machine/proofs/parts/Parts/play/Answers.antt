@@ -1,9 +1,6 @@
-use Rattle.std.proofs.Common.{rules, subst}
-use Rattle.model_core.specs.Actors as model
-use Rattle.model_core.specs.{lsn, OnWord}
-use Rattle.model_core.specs.declared.ops.Op.{Op}
+use Rattle.std.proofs.Common.{rules}
+use Rattle.model_core.specs.{OnWord}
 use Rattle.redo_machine.proofs.Played as played
-use Rattle.redo_machine.specs.Playing.{HasWholePages}
 use Rattle.redo_machine.proofs.parts.Parts.play.Goals as goal
 
 pub returns-in-Load-clause-played : goal.returns-in-Load-clause-played

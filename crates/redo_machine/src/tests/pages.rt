@@ -1,0 +1,140 @@
+// Runs whose pages are written to the data device.
+use super::ring::add_full_line;
+use super::runs::{Run, byte_in_place, marks, outcome_of, page_read, see_full, see_left};
+use super::store::DATA_CALLS;
+use crate::Ran;
+use crate::Turned::{Ended, Failed, Idle, Moved};
+use model_history::State::Flushed;
+use std::test::Fail;
+
+/// A line of each of two users, on one page.
+const ONE_PAGE: &[u8] = b"1 w b1 3 100 7\n2 w b1 3 101 8\n";
+
+/// Two lines of a user on one page, and a line of another user on another page.
+const THREE_LINES: &[u8] = b"1 n b1 3 100 7\n1 n b1 3 100 9\n2 n b1 4 100 8\n";
+
+/// A line whose group of 13 bytes is on two pages.
+const TWO_PAGES: &[u8] = b"1 f b1 3 100 7;b1 4 100 8\n";
+
+/// Two users on one page: the second waits until the first has released the latch. The cleaner writes both bytes.
+#[test]
+fn two_users_on_one_page(rt: HostRuntime) -> Result<(), Fail> {
+    let (first, second, writer, flusher, cleaner) = (0, 1, 2, 3, 5);
+    let turns = [
+        (first, 4, Moved),
+        (second, 4, Idle),
+        (first, 18, Moved),
+        (second, 2, Idle),
+        (first, 1, Moved),
+        (second, 18, Moved),
+        (writer, 25, Moved),
+        (first, 1, Ended),
+        (second, 1, Ended),
+        (flusher, 5, Moved),
+        (cleaner, 4112, Moved),
+    ];
+    let mut outcome = outcome_of(&rt, rt.alloc(), &Run::by_hand(ONE_PAGE, &turns))?;
+    assert_eq!(rt; (outcome.ended, outcome.code), (Ran::Done, 0));
+    let history = [(1, 0, 8204, 8210, Flushed), (2, 0, 8210, 8216, Flushed)];
+    see_left(&rt, &outcome, &history, marks(8216, 8216, 8216, 8192));
+    assert_eq!(rt; byte_in_place(&rt, &mut outcome, 3, 100)?, 7);
+    assert_eq!(rt; byte_in_place(&rt, &mut outcome, 3, 101)?, 8);
+    Ok(())
+}
+
+/// The cleaner goes on to the next page where a latch is held, and leaves the page of the latch in its list: the user that
+/// holds it finds the oldest change still there, and doesn't list the page again, which would take it three turns more.
+#[test]
+fn a_held_latch_is_left(rt: HostRuntime) -> Result<(), Fail> {
+    let (first, second, writer, flusher, cleaner) = (0, 1, 2, 3, 5);
+    let turns = [
+        (first, 23, Moved),
+        (second, 23, Ended),
+        (writer, 25, Moved),
+        (flusher, 5, Moved),
+        (first, 4, Moved),
+        (cleaner, 4113, Moved),
+        (cleaner, 10, Idle),
+        (first, 16, Ended),
+    ];
+    let mut outcome = outcome_of(&rt, rt.alloc(), &Run::by_hand(THREE_LINES, &turns))?;
+    assert_eq!(rt; (outcome.ended, outcome.code), (Ran::Done, 0));
+    assert_eq!(rt; byte_in_place(&rt, &mut outcome, 3, 100)?, 0);
+    assert_eq!(rt; byte_in_place(&rt, &mut outcome, 4, 100)?, 8);
+    Ok(())
+}
+
+/// The log is flushed up to 25,116, but no checkpoint goes above the oldest change of a page that isn't written yet, less
+/// 16,384: at first that of page 3, then that of page 4 at 16,652.
+#[test]
+fn a_checkpoint_waits_for_old_pages(rt: HostRuntime) -> Result<(), Fail> {
+    let mut text = Vec::new(rt.alloc());
+    add_full_line(&mut text, b'1', b'n', b'3', b'5')?;
+    add_full_line(&mut text, b'2', b'n', b'4', b'6')?;
+    let (first, second, writer, flusher) = (0, 1, 2, 3);
+    let (closer, cleaner, checkpointer) = (4, 5, 6);
+    let turns = [
+        (first, 12_259, Ended),
+        (writer, 8235, Moved),
+        (flusher, 5, Moved),
+        (second, 12_259, Ended),
+        (closer, 6, Moved),
+        (checkpointer, 10, Idle),
+        // page 4 is ahead of what the cleaner knows to be flushed
+        (cleaner, 2, Moved),
+        (writer, 8235, Moved),
+        (flusher, 5, Moved),
+        (checkpointer, 11, Idle),
+        (cleaner, 4113, Moved),
+        (checkpointer, 11, Idle),
+        (cleaner, 4112, Moved),
+        (checkpointer, 15, Moved),
+    ];
+    let outcome = outcome_of(&rt, rt.alloc(), &Run::by_hand(text.as_slice(), &turns))?;
+    assert_eq!(rt; (outcome.ended, outcome.code), (Ran::Done, 0));
+    let history = [
+        (1, 0, 8204, 16_652, Flushed),
+        (2, 0, 16_652, 25_116, Flushed),
+    ];
+    see_left(
+        &rt,
+        &outcome,
+        &history,
+        marks(25_116, 25_116, 25_116, 25_088),
+    );
+    assert_eq!(rt; outcome.read, (0, 25_116));
+    see_full(&rt, &outcome, 3, 16_652, 0x55);
+    see_full(&rt, &outcome, 4, 25_116, 0x66);
+    Ok(())
+}
+
+/// The data device fails in the middle of a batch of two pages, at each of its five calls, and the crash tears what was
+/// written since its last sync: the flushed group is on both pages.
+#[test]
+fn a_batch_is_stopped(rt: HostRuntime) -> Result<(), Fail> {
+    let (user, writer, flusher, cleaner) = (0, 1, 2, 4);
+    let turns = [
+        (user, 38, Moved),
+        (writer, 24, Moved),
+        (flusher, 5, Moved),
+        (user, 1, Ended),
+        (cleaner, 8207, Failed(2)),
+    ];
+    for calls in 0..5 {
+        for pick in [0, 0x5555_5555_5555_5555, u64::MAX] {
+            let run = Run {
+                data_calls: Some(DATA_CALLS + calls),
+                pick,
+                ..Run::by_hand(TWO_PAGES, &turns)
+            };
+            let outcome = outcome_of(&rt, rt.alloc(), &run)?;
+            assert_eq!(rt; (outcome.ended, outcome.code), (Ran::Done, 2));
+            assert_eq!(rt; outcome.read, (1, 8217));
+            for (page, byte) in [(3, 7), (4, 8)] {
+                let (lsn, user) = page_read(&rt, &outcome, page);
+                assert_eq!(rt; (lsn, user.get(62)), (8217, Some(&byte)), "page {page}");
+            }
+        }
+    }
+    Ok(())
+}
