@@ -5,7 +5,7 @@ use Rattle.std.specs.Str.{bytes_eq}
 use Rattle.model_base.specs.{IsWithinLimits, space_limit}
 use Rattle.model_base.specs.declared.limits.TheConstants.{DEFAULT_LOG_BLOCKS, DEFAULT_PAGES, DEFAULT_SPACE, MAX_LOG_BLOCKS, MAX_PAGES, MIN_LOG_BLOCKS}
 use Rattle.model_command.specs.Commands as commands
-use Rattle.model_command.specs.{are_among, are_different, asked_of, crash_of, drive_names, drive_of, format_of, gen_of, given_number, is_given, number_or, number_within, plain_command, said_from, where_allowed}
+use Rattle.model_command.specs.{are_among, are_different, asked_of, crash_of, drive_names, drive_of, format_of, gen_of, given_number, number_or, number_within, plain_command, said_from, where_allowed}
 use Rattle.model_command.specs.declared.asked.Asked.{Asked}
 use Rattle.model_command.specs.declared.asked.Command.{Command}
 use Rattle.model_command.specs.declared.asked.Command.TheVariants.{Format, Run, Recover, Dump}

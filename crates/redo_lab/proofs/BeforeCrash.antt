@@ -12,7 +12,7 @@ use Rattle.model_store.specs.Reading.{Reading}
 use Rattle.model_theorem.specs.{entries_of, IsOpenedBefore, LosesOnlyByFailure, Opened, Ran, ReadsPrefix, RunResult, RunSafe}
 use Rattle.redo_open.specs.{WhereBothTell}
 use Rattle.redo_lab.specs.Call.{Call, Guarded}
-use Rattle.redo_lab.specs.Answer.{TookPlace}
+use Rattle.redo_lab.specs.Took.{TookPlace}
 use Rattle.redo_lab.specs.Course.{ArePlayed, AreStopped, AreUnderWay, ran_of}
 use Rattle.redo_lab.specs.declared.playing.Played.{Played}
 use Rattle.redo_lab.specs.declared.playing.Stops.{Stops}

@@ -17,12 +17,12 @@ use Rattle.redo_lab.specs.Call.{Call, Guarded}
 use Rattle.redo_lab.specs.Cause.{IsLeftRefused}
 use Rattle.redo_lab.specs.Complete.{CanCrash}
 use Rattle.redo_lab.specs.Course.{IsPlayedBy, IsStoppedBy, ran_of}
-use Rattle.redo_lab.specs.Crashed.{AreCrashedSince, AreReadBack, AreRefusedBack, ReadsBack}
+use Rattle.redo_lab.specs.Crashed.{AreCrashedSince, AreReadBack, ReadsBack}
 use Rattle.redo_lab.specs.Devices.{IsCrashedAs, IsOpenedFirst, IsToldAtMost}
 use Rattle.redo_lab.specs.Outcome.{EndsCommand, IsDoneOrKeptFrom, IsOutcome, IsSafeOutcome}
+use Rattle.redo_lab.specs.Reread.{AreRefusedSince}
 use Rattle.redo_lab.specs.Script.{IsScriptRead}
 use Rattle.redo_lab.specs.Stages.{IsCrashedWith}
-use Rattle.redo_lab.specs.Store.{IsShorter}
 use Rattle.redo_lab.specs.declared.outcome.Outcome.{Outcome}
 use Rattle.redo_lab.specs.declared.outcome.Outcome.TheVariants as outcome
 use Rattle.redo_lab.specs.declared.playing.Played.{Played}
@@ -34,6 +34,7 @@ use Rattle.redo_lab.proofs.CrashTheorem.{CrashLaws, crash-theorem}
 use Rattle.redo_lab.proofs.RunPlayed.{ClosedLaws, are-found, armed-same, told-still, was-found}
 use Rattle.redo_lab.proofs.SomeLeft.{some-left}
 use Rattle.redo_lab.proofs.Told.{both-told}
+use Rattle.redo_lab.proofs.UnderWay.{same-shorter}
 
 -- BOTH DEVICES ARE CRASHED, and so many calls failed since.
 pub record AreBothCrashed (call : Call) (stops : Stops) (pick log_failed data_failed log_since data_since : ℕ) (log_found data_found : Guarded) : Type 0 where
@@ -107,15 +108,16 @@ crash-text call stops drive pick script run text log_failed data_failed log_old 
       run = run;
       reading = back.reading;
       report = record {
-        source_text = read.text;
         script = script;
         left = back.report.left;
-        source = read.of_text;
-        ran = before.took_place;
-        left_is = back.report.left_is;
-        loses = subst (λ (n : ℕ). LosesOnlyByFailure n run back.report.left) counted (before.loses back.report.left back.report.left_is);
-        once = record { log_device = omega (arith, both.log_device.mid, before.log_once); data_device = omega (arith, both.data_device.mid, before.data_once) };
-        found = are-found call before.way.log_found before.way.data_found laws.formatted before.way.prepared both.log_device.armed_from both.data_device.armed_from;
+        source = read;
+        told = record {
+          ran = before.took_place;
+          left_is = back.report.left_is;
+          loses = subst (λ (n : ℕ). LosesOnlyByFailure n run back.report.left) counted (before.loses back.report.left back.report.left_is);
+          once = record { log_device = omega (arith, both.log_device.mid, before.log_once); data_device = omega (arith, both.data_device.mid, before.data_once) };
+          found = are-found call before.way.log_found before.way.data_found laws.formatted before.way.prepared both.log_device.armed_from both.data_device.armed_from;
+        };
         text_is = back.report.text_is;
       };
       opened_first = crash-first call stops drive.log_only script run log_failed data_failed log_old data_old laws before back.report.left back.report.left_is
@@ -136,9 +138,9 @@ unfailed-aside call stops pick log_failed data_failed log_found data_found both 
 possible-read-back : (call : Call) (stops : Stops) (log_only : Bool) (pick : ℕ) (script : List ScriptLine) (run : Option Ran) (refusal : Refusal) (log_failed data_failed : ℕ) (log_old data_old : Guarded)
     → CrashLaws → (before : IsBeforeCrash call stops log_only script run log_failed data_failed log_old data_old)
     → AreBothCrashed call stops pick log_failed data_failed 0 0 before.way.log_found before.way.data_found
-    → AreRefusedBack pick refusal log_old data_old call.log_device_now call.data_device_now → CanCrash call log_only → ⊥
+    → AreRefusedSince (AreCrashedSince pick 0 0 log_old data_old call.log_device_now call.data_device_now) refusal call.log_device_now call.data_device_now → CanCrash call log_only → ⊥
 possible-read-back call stops log_only pick script run refusal log_failed data_failed log_old data_old laws before both back crash =
-    let can = crash.can in
+    let can = crash.can.plays in
     let found = was-found call.log_device call.data_device before.way.log_found before.way.data_found can.log can.data_disk
     call.log_device.faults call.data_device.faults can.opened laws.one_answer laws.formatted before.way.prepared can.log_fresh.tells can.data_fresh.tells
     can.log_fresh.fresh can.data_fresh.fresh can.opens in
@@ -148,21 +150,16 @@ possible-read-back call stops log_only pick script run refusal log_failed data_f
     let data_left = told-still call.data_device.tells call.data_device_now.seen.tells can.data_disk both.data_device.same.tells can.data_fresh.tells in
     let left = some-left script (entries_of run) in
     let on = before.safe can.opened found left.0 left.1 log_met.0 data_met.0 log_met.1 data_met.1 in
-    let log_crash = crashes-told log_old.seen.tells call.log_device_now.seen.tells log_met.0 log_left.0 back.crashed.log_device.left log_met.1 log_left.1 in
+    let log_crash = crashes-told log_old.seen.tells call.log_device_now.seen.tells log_met.0 log_left.0 back.since.log_device.left log_met.1 log_left.1 in
     let fair = both-told call.data_device_now.seen.crashed_from call.data_device_now.seen.tells
     (λ (from : Disk) (left : Disk). IsFair can.opened.shape from left.reads) crash.fair data_met.0 data_left.0
-    (back.crashed.data_device.from ∙ data_met.1) data_left.1 in
+    (back.since.data_device.from ∙ data_met.1) data_left.1 in
     let kept = on.safe.every_image log_left.0.reads data_left.0.reads (left-image log_met.0 log_left.0 log_crash) fair in
     laws.one_answer log_left.0.reads data_left.0.reads kept.reading refusal kept.is_read (back.refused log_left.0 data_left.0 log_left.1 data_left.1)
 
-same-shorter : (refusal : Refusal) (log_now data_now log_entry data_entry : ℕ) → log_now ≡ log_entry → data_now ≡ data_entry → IsShorter log_now data_now refusal
-    → IsShorter log_entry data_entry refusal
-same-shorter refusal log_now data_now log_entry data_entry log_same data_same short =
-    subst (λ size. IsShorter log_entry size refusal) data_same (subst (λ size. IsShorter size data_now refusal) log_same short)
-
 left-refused : (call : Call) (stops : Stops) (pick : ℕ) (refusal : Refusal) (log_failed data_failed : ℕ) (log_found data_found log_old data_old : Guarded)
     → AreBothCrashed call stops pick log_failed data_failed 0 0 log_found data_found
-    → AreRefusedBack pick refusal log_old data_old call.log_device_now call.data_device_now → IsLeftRefused call stops.log stops.store pick refusal
+    → AreRefusedSince (AreCrashedSince pick 0 0 log_old data_old call.log_device_now call.data_device_now) refusal call.log_device_now call.data_device_now → IsLeftRefused call stops.log stops.store pick refusal
 left-refused call stops pick refusal log_failed data_failed log_found data_found log_old data_old both back = record {
   log_crashed = crashed-as _ _ _ _ _ _ _ both.log_device;
   data_crashed = crashed-as _ _ _ _ _ _ _ both.data_device;
@@ -209,7 +206,7 @@ crash-done call stops drive pick script run log_failed data_failed log_old data_
     )
     (λ can unfailed. absurd (omega (arith, both.data_device.late, unfailed.data_late))) tt
 crash-done call stops drive pick script run log_failed data_failed log_old data_old (outcome.Fault (fault.Store refusal)) read laws before back =
-    let both = both-crashed call stops drive.log_only pick script run log_failed data_failed 0 0 log_old data_old before back.crashed in
+    let both = both-crashed call stops drive.log_only pick script run log_failed data_failed 0 0 log_old data_old before back.since in
     ends-crash call stops drive pick log_failed data_failed 0 0 _ _ (outcome.Fault (fault.Store refusal)) both (
       (
         past-crash call script drive stops.log stops.store pick read,
@@ -237,7 +234,7 @@ pub crash-played : (call : Call) (stops : Stops) (drive : Drive) (pick : ℕ) (s
     → EndsCommand call (Crash drive stops.log stops.store pick) o
 crash-played call stops drive pick script played None log_old data_old o read laws safe run back =
     crash-done call stops drive pick script (Some (ran_of played)) 0 0 log_old data_old o read laws
-    (before-played call stops drive.log_only script played 0 0 log_old data_old safe (omega arith) (omega arith) run) back
+    (before-played call stops drive.log_only script played 0 0 log_old data_old safe (omega arith) (omega arith) run.are) back
 crash-played call stops drive pick script played (Some fault.LogDevice) log_old data_old o read laws safe run back =
     crash-done call stops drive pick script (Some (ran_of played)) 1 run.data_failed log_old data_old o read laws
     (before-played call stops drive.log_only script played 1 run.data_failed log_old data_old safe (omega arith) run.once run.are) back

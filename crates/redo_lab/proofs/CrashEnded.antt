@@ -17,7 +17,7 @@ use Rattle.redo_lab.specs.declared.playing.Stops.{Stops}
 use Rattle.redo_lab.proofs.Found.{begun-or-kept, leaves-unstarted}
 use Rattle.redo_lab.proofs.RunEnds.{misfit-cause, spent-cause, steady-ended, store-cause}
 use Rattle.redo_lab.proofs.RunPlayed.{FormattedLaw}
-use Rattle.redo_lab.proofs.RunPossible.{OneReading, UnfitLaw, ended-kept}
+use Rattle.redo_lab.proofs.RunPossible.{OneReading, UnfitLaw, can-play, ended-kept}
 use Rattle.redo_lab.proofs.Told.{OneAnswer}
 
 pub past-crash : (call : Call) (script : List ScriptLine) (drive : Drive) (stop_log stop_data : Option ℕ) (pick : ℕ) → IsScriptRead call.source call.source_now script
@@ -49,7 +49,7 @@ crash-ended call stops drive pick script fault.DataDevice read one formatted end
 crash-ended call stops drive pick script (fault.Store cause) read one formatted ended =
     ((past-crash call script drive stops.log stops.store pick read, inl (store-cause call stops cause ended)), tt)
 crash-ended call stops drive pick script (fault.Fit misfit) read one formatted ended =
-    ((refl, inr (misfit-cause call (Crash drive stops.log stops.store pick) drive stops script misfit refl read ended)), leaves-unstarted call stops 0 0 one formatted ended.way ended.keeps)
+    (inr (misfit-cause call (Crash drive stops.log stops.store pick) drive stops script misfit refl read ended), leaves-unstarted call stops 0 0 one formatted ended.way ended.keeps)
 crash-ended call stops drive pick script (fault.Turns count user) read one formatted ended =
     (spent-cause call (Crash drive stops.log stops.store pick) drive stops script count user refl read ended, tt)
 crash-ended call stops drive pick script f read one formatted ended = absurd ended
@@ -67,6 +67,6 @@ crash-ends-early call stops drive pick script f read one same formatted unfit en
       log_tells = steady.log_tells;
       data_tells = steady.data_tells;
       complete = λ possible source unfailed.
-          ended-kept call (Crash drive stops.log stops.store pick) stops (turns_of drive) script f refl read one same unfit possible.can unfailed.log_early unfailed.data_early ended;
+          ended-kept call (Crash drive stops.log stops.store pick) stops (turns_of drive) script f refl one same unfit (can-play call script read drive.log_only possible.can) unfailed.log_early unfailed.data_early ended;
       safe = tt;
     }

@@ -10,7 +10,7 @@ use Rattle.model_theorem.specs.{Account, AreArmedFirst, CrashSafe, Device, failu
 use Rattle.model_theorem.specs.Values as values
 use Rattle.redo_disk.specs.{OnTold}
 use Rattle.redo_disk.specs.Seen.{Seen}
-use Rattle.redo_lab.specs.Answer.{TookPlace}
+use Rattle.redo_lab.specs.Took.{TookPlace}
 use Rattle.redo_lab.specs.Call.{Call, Guarded}
 use Rattle.redo_lab.specs.Course.{AreUnderWay}
 use Rattle.redo_lab.specs.Promise.{IsDevice, stop_of}

@@ -5,6 +5,7 @@ use Rattle.model_device.specs.Disk.{Disk}
 use Rattle.model_script.specs.declared.script.ScriptLine.{ScriptLine}
 use Rattle.model_store.specs.{IsReading, Refuses}
 use Rattle.model_store.specs.Reading.{Reading}
+use Rattle.model_store.specs.declared.refusal.Refusal.{Refusal}
 use Rattle.model_store.specs.declared.refusal.Refusal.TheVariants as refusal
 use Rattle.model_theorem.specs.{Ran}
 use Rattle.redo_disk.specs.{Call, failures, MakesCalls, OnTold, ReadsMayEndWith}
@@ -25,6 +26,8 @@ use Rattle.redo_lab.specs.Faults.{fault_of}
 use Rattle.redo_lab.specs.Outcome.{outcome_of}
 use Rattle.redo_lab.specs.Prepared.{WhereTold}
 use Rattle.redo_lab.specs.Reported.{IsReportOf}
+use Rattle.redo_lab.specs.Reread.{AreRefusedSince, FailsReading}
+use Rattle.redo_lab.specs.Store.{IsShorter}
 use Rattle.redo_lab.specs.declared.outcome.Outcome.TheVariants as outcome
 use Rattle.redo_lab.proofs.Behind.{reads-of-pieces}
 use Rattle.redo_lab.proofs.Stages.{after-crashed, crashed-now, crashed-reads}
@@ -70,7 +73,7 @@ pub record IsAsMet (met now : Seen) : Type 0 where
   pub size : now.size ≡ met.size
 
 -- what is read of what the devices told is what they tell
-told-now : (log_met data_met log_now data_now : Seen) (P : List ℕ → List ℕ → Type 0) → IsAsMet log_met log_now → IsAsMet data_met data_now
+pub told-now : (log_met data_met log_now data_now : Seen) (P : List ℕ → List ℕ → Type 0) → IsAsMet log_met log_now → IsAsMet data_met data_now
     → OnContents log_met.tells data_met.tells P → WhereTold log_now data_now (λ log data_disk. P log.reads data_disk.reads)
 told-now log_met data_met log_now data_now P log_same data_same holds log data_disk log_is data_is =
     on-contents log_met.tells data_met.tells P holds log data_disk (sym log_same.tells ∙ log_is) (sym data_same.tells ∙ data_is)
@@ -95,50 +98,45 @@ same-lengths log_met data_met log_now data_now f log_same data_same lengths =
     subst (λ size. HasLengthCause log_now.size size f) (sym data_same.size) (subst (λ size. HasLengthCause size data_met.size f) (sym log_same.size) lengths)
 
 -- THE STORE WASN'T READ.
+refused-since : (Since : Type 0) (cause : Refusal) (log_now data_now : Guarded) (log_met data_met : Seen) → Since → IsAsMet log_met log_now.seen → IsAsMet data_met data_now.seen
+    → OnContents log_met.tells data_met.tells (λ log_bytes data_bytes. Refuses log_bytes data_bytes cause) → IsShorter log_now.seen.size data_now.seen.size cause
+    → AreRefusedSince Since cause log_now data_now
+refused-since Since cause log_now data_now log_met data_met since log_same data_same refused shorter = record {
+  since = since;
+  shorter = shorter;
+  refused = told-now log_met data_met log_now.seen data_now.seen (λ log_bytes data_bytes. Refuses log_bytes data_bytes cause) log_same data_same refused;
+}
+
+pub reading-fails : (Since : ℕ → ℕ → Type 0) (log_now data_now : Guarded) (log_met data_met : Seen) (f : RecFault)
+    → Since (failures (log_error f)) (failures (data_error f))
+    → IsAsMet log_met log_now.seen → IsAsMet data_met data_now.seen → HasCauseIn log_met.tells data_met.tells f
+    → HasLengthCause log_met.size data_met.size f → FailsReading Since (fault_of f) log_now data_now
+reading-fails Since log_now data_now log_met data_met (SmallLog n) since log_same data_same cause lengths =
+    refused-since _ (refusal.SmallLog n) log_now data_now log_met data_met since log_same data_same cause
+    (same-lengths log_met data_met log_now.seen data_now.seen (SmallLog n) log_same data_same lengths)
+reading-fails Since log_now data_now log_met data_met (SmallData n) since log_same data_same cause lengths =
+    refused-since _ (refusal.SmallData n) log_now data_now log_met data_met since log_same data_same cause
+    (same-lengths log_met data_met log_now.seen data_now.seen (SmallData n) log_same data_same lengths)
+reading-fails Since log_now data_now log_met data_met NotFormatted since log_same data_same cause lengths =
+    refused-since _ refusal.NotFormatted log_now data_now log_met data_met since log_same data_same cause tt
+reading-fails Since log_now data_now log_met data_met (BadFormat n) since log_same data_same cause lengths =
+    refused-since _ (refusal.BadFormat n) log_now data_now log_met data_met since log_same data_same cause tt
+reading-fails Since log_now data_now log_met data_met NoCheckpoint since log_same data_same cause lengths =
+    refused-since _ refusal.NoCheckpoint log_now data_now log_met data_met since log_same data_same cause tt
+reading-fails Since log_now data_now log_met data_met (BadRecord lsn) since log_same data_same cause lengths =
+    refused-since _ (refusal.BadRecord lsn) log_now data_now log_met data_met since log_same data_same cause tt
+reading-fails Since log_now data_now log_met data_met (PageLost p) since log_same data_same cause lengths =
+    refused-since _ (refusal.PageLost p) log_now data_now log_met data_met since log_same data_same cause tt
+reading-fails Since log_now data_now log_met data_met (PageAhead p lsn) since log_same data_same cause lengths =
+    refused-since _ (refusal.PageAhead p lsn) log_now data_now log_met data_met since log_same data_same cause tt
+reading-fails Since log_now data_now log_met data_met LogDev since log_same data_same cause lengths = since
+reading-fails Since log_now data_now log_met data_met DataDev since log_same data_same cause lengths = since
+reading-fails Since log_now data_now log_met data_met NoMemory since log_same data_same cause lengths = since
+
 pub back-fails : (pick : ℕ) (script : List ScriptLine) (run : Option Ran) (log_old data_old log_now data_now : Guarded) (log_met data_met : Seen) (f : RecFault)
     → AreCrashedSince pick (failures (log_error f)) (failures (data_error f)) log_old data_old log_now data_now
     → IsAsMet log_met log_now.seen → IsAsMet data_met data_now.seen → HasCauseIn log_met.tells data_met.tells f
     → HasLengthCause log_met.size data_met.size f → ReadsBack pick script run (outcome.Fault (fault_of f)) log_old data_old log_now data_now
-back-fails pick script run log_old data_old log_now data_now log_met data_met (SmallLog n) crashed log_same data_same cause lengths = record {
-  crashed = crashed;
-  shorter = same-lengths log_met data_met log_now.seen data_now.seen (SmallLog n) log_same data_same lengths;
-  refused = told-now log_met data_met log_now.seen data_now.seen (λ log_bytes data_bytes. Refuses log_bytes data_bytes (refusal.SmallLog n)) log_same data_same cause;
-}
-back-fails pick script run log_old data_old log_now data_now log_met data_met NotFormatted crashed log_same data_same cause lengths = record {
-  crashed = crashed;
-  shorter = tt;
-  refused = told-now log_met data_met log_now.seen data_now.seen (λ log_bytes data_bytes. Refuses log_bytes data_bytes refusal.NotFormatted) log_same data_same cause;
-}
-back-fails pick script run log_old data_old log_now data_now log_met data_met (BadFormat n) crashed log_same data_same cause lengths = record {
-  crashed = crashed;
-  shorter = tt;
-  refused = told-now log_met data_met log_now.seen data_now.seen (λ log_bytes data_bytes. Refuses log_bytes data_bytes (refusal.BadFormat n)) log_same data_same cause;
-}
-back-fails pick script run log_old data_old log_now data_now log_met data_met (SmallData n) crashed log_same data_same cause lengths = record {
-  crashed = crashed;
-  shorter = same-lengths log_met data_met log_now.seen data_now.seen (SmallData n) log_same data_same lengths;
-  refused = told-now log_met data_met log_now.seen data_now.seen (λ log_bytes data_bytes. Refuses log_bytes data_bytes (refusal.SmallData n)) log_same data_same cause;
-}
-back-fails pick script run log_old data_old log_now data_now log_met data_met NoCheckpoint crashed log_same data_same cause lengths = record {
-  crashed = crashed;
-  shorter = tt;
-  refused = told-now log_met data_met log_now.seen data_now.seen (λ log_bytes data_bytes. Refuses log_bytes data_bytes refusal.NoCheckpoint) log_same data_same cause;
-}
-back-fails pick script run log_old data_old log_now data_now log_met data_met (BadRecord lsn) crashed log_same data_same cause lengths = record {
-  crashed = crashed;
-  shorter = tt;
-  refused = told-now log_met data_met log_now.seen data_now.seen (λ log_bytes data_bytes. Refuses log_bytes data_bytes (refusal.BadRecord lsn)) log_same data_same cause;
-}
-back-fails pick script run log_old data_old log_now data_now log_met data_met (PageLost p) crashed log_same data_same cause lengths = record {
-  crashed = crashed;
-  shorter = tt;
-  refused = told-now log_met data_met log_now.seen data_now.seen (λ log_bytes data_bytes. Refuses log_bytes data_bytes (refusal.PageLost p)) log_same data_same cause;
-}
-back-fails pick script run log_old data_old log_now data_now log_met data_met (PageAhead p lsn) crashed log_same data_same cause lengths = record {
-  crashed = crashed;
-  shorter = tt;
-  refused = told-now log_met data_met log_now.seen data_now.seen (λ log_bytes data_bytes. Refuses log_bytes data_bytes (refusal.PageAhead p lsn)) log_same data_same cause;
-}
-back-fails pick script run log_old data_old log_now data_now log_met data_met LogDev crashed log_same data_same cause lengths = crashed
-back-fails pick script run log_old data_old log_now data_now log_met data_met DataDev crashed log_same data_same cause lengths = crashed
-back-fails pick script run log_old data_old log_now data_now log_met data_met NoMemory crashed log_same data_same cause lengths = crashed
+back-fails pick script run log_old data_old log_now data_now log_met data_met f crashed log_same data_same cause lengths =
+    reading-fails (λ log_failed data_failed. AreCrashedSince pick log_failed data_failed log_old data_old log_now data_now) log_now data_now log_met data_met f
+    crashed log_same data_same cause lengths

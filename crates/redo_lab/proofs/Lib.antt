@@ -11,6 +11,7 @@ pub mod Crashing
 pub mod Endings
 pub mod Formatting
 pub mod Found
+pub mod GenDone
 pub mod Keeping
 pub mod LinesRun
 pub mod Once
@@ -19,12 +20,15 @@ pub mod OpenedRun
 pub mod PlainEnds
 pub mod Preparing
 pub mod Printed
+pub mod ReadBehind
 pub mod RunDone
 pub mod RunEnds
 pub mod RunPlayed
 pub mod RunPossible
+pub mod RunTold
 pub mod SomeLeft
 pub mod Stages
+pub mod Summed
 pub mod Telling
 pub mod Told
 pub mod Turned

@@ -1,6 +1,7 @@
 -- What the lines of a script come to that were run on an opened store.
-use Rattle.std.proofs.Common.{ℕ, ◌≡◌, ◌<◌, ◌+◌, ◌⊎◌, List, Option, Some, None, IfSome, refl, sym, ap, subst, ◌∙◌, inl, inr, ⊎_elim, arith}
-use Rattle.model_run.specs.{IsClosed, IsStart, opened_as}
+use Rattle.std.proofs.Common.{ℕ, ◌≡◌, ◌<◌, ◌+◌, ◌⊎◌, List, Option, Some, None, refl, sym, ap, subst, ◌∙◌, inl, inr, ⊎_elim, arith}
+use Rattle.model_device.specs.{synced}
+use Rattle.model_device.specs.Disk.{Disk}
 use Rattle.model_report.specs.declared.fault.Fault.TheVariants as fault
 use Rattle.model_script.specs.{ScriptFits}
 use Rattle.model_script.specs.declared.script.ScriptLine.{ScriptLine}
@@ -10,7 +11,7 @@ use Rattle.redo_disk.specs.Seen.{Seen}
 use Rattle.redo_disk.specs.declared.error.DevError.{DevError}
 use Rattle.redo_disk.specs.declared.error.DevError.TheVariants.{Failed, NoMemory}
 use Rattle.redo_disk.proofs.Made.{may_end, none_may_end, out_of_memory}
-use Rattle.redo_machine.specs.{ComesToRun, HasMemory, IsOwed, ran_of, room_from}
+use Rattle.redo_machine.specs.{ComesToRun, HasMemory, IsOwed, IsOwedSynced, ran_of, room_from}
 use Rattle.redo_machine.specs.declared.drive.Driven.{Driven}
 use Rattle.redo_machine.specs.declared.drive.Turns.{Turns}
 use Rattle.redo_machine.specs.declared.running.Ran.{Ran}
@@ -20,7 +21,7 @@ use Rattle.redo_pageactors.specs.declared.opened.Opened.{Opened}
 use Rattle.redo_script.specs.{IsUnfitScript}
 use Rattle.redo_script.specs.declared.unfit.Unfit.{Unfit}
 use Rattle.redo_script.specs.declared.unfit.Unfit.TheVariants as unfit
-use Rattle.redo_lab.specs.Playing.{AreRun, AreSpentOn, IsWithoutMemory, MakeCalls, Plays, course_done, course_of, ended_by, fault_of_unfit, played_of}
+use Rattle.redo_lab.specs.Playing.{AreRun, AreSpentOn, IsWithoutMemory, MakeCalls, OwesRun, Plays, course_done, course_of, ended_by, fault_of_unfit, played_of}
 use Rattle.redo_lab.specs.declared.playing.Course.TheVariants as course
 
 -- calls of which none failed, as those that want of memory may have ended
@@ -45,6 +46,7 @@ record IsDriven {L D : Type 0} (log_seen : L → Seen) (log_gives : L → Call �
   pub fits : ScriptFits opened.shape opened.start (room_from turns.log_only opened.shape opened.start) script
   pub comes_to : ComesToRun log_gives data_gives opened script driven
   pub owed : IsOwed log_seen data_seen opened script driven
+  pub owed_synced : IsOwedSynced log_seen data_seen opened script driven
 
 module _ {L D : Type 0} (log_seen : L → Seen) (log_gives : L → Call → L → Type 0) (data_seen : D → Seen) (data_gives : D → Call → D → Type 0)
     (opened : Opened L D) (turns : Turns) (script : List ScriptLine) (driven : Driven L D) (is : IsDriven log_seen log_gives data_seen data_gives opened turns script driven) where
@@ -62,24 +64,15 @@ module _ {L D : Type 0} (log_seen : L → Seen) (log_gives : L → Call → L �
   run-by log_error data_error log_is data_is done memory =
       let both : failures driven.closed.log.failed + failures driven.closed.store.failed ≡ failures log_error + failures data_error =
       ap (λ (e : Option DevError). failures e + failures driven.closed.store.failed) log_is ∙ ap (λ (e : Option DevError). failures log_error + failures e) data_is in
+      let Owes : (Disk → Disk) → ℕ → Type 0 = λ becomes n.
+      OwesRun becomes log_seen data_seen opened script (played_of opened.start driven.closed) n driven.closed.log.dev driven.closed.store.dev in
       record {
         fits = is.fits;
         is_run = is.comes_to.is_run;
         loses = λ left left_is. subst (λ (n : ℕ). LosesOnlyByFailure n (Some (ran_of opened.start driven.closed)) left) both (is.comes_to.loses left done memory left_is);
-        owed = λ reading left opens left_is.
-            (let Owed : ℕ → Type 0 = λ n. IfSome (log_seen opened.log.dev).tells (λ log_disk. IfSome (data_seen opened.store.dev).tells (λ data_disk.
-            IsStart reading script log_disk data_disk
-            → IfSome (log_seen driven.closed.log.dev).tells (λ log_now. IfSome (data_seen driven.closed.store.dev).tells (λ data_now.
-            IsClosed n (record {
-              script = script;
-              opened = opened_as reading;
-              number = reading.number + 1;
-              run = ran_of opened.start driven.closed;
-              left = left;
-              log_disk = log_now;
-              data_disk = data_now;
-            }))))) in
-            subst Owed both (is.owed reading left done memory opens left_is));
+        owed = subst (Owes (λ disk. disk)) both (λ reading left opens left_is. is.owed reading left done memory opens left_is);
+        owed_synced = λ log_none data_none. subst (Owes synced) both
+            (λ reading left opens left_is. is.owed_synced (log_is ∙ log_none) (data_is ∙ data_none) reading left done memory opens left_is);
         calls = calls-by log_error data_error log_is data_is;
       }
 
@@ -101,6 +94,7 @@ module _ {L D : Type 0} (log_seen : L → Seen) (log_gives : L → Call → L �
     is_run = run.is_run;
     loses = run.loses;
     owed = run.owed;
+    owed_synced = λ lacks. absurd (cc);
     calls = record { log = out_of_memory run.calls.log; data_part = run.calls.data_part };
   }
 
@@ -144,12 +138,12 @@ module _ {L D : Type 0} (log_seen : L → Seen) (log_gives : L → Call → L �
 pub lines-run : {L D : Type 0} (log_seen : L → Seen) (log_gives : L → Call → L → Type 0) (data_seen : D → Seen) (data_gives : D → Call → D → Type 0)
     (opened : Opened L D) (turns : Turns) (script : List ScriptLine) (driven : Driven L D)
     → ScriptFits opened.shape opened.start (room_from turns.log_only opened.shape opened.start) script
-    → ComesToRun log_gives data_gives opened script driven → IsOwed log_seen data_seen opened script driven
+    → ComesToRun log_gives data_gives opened script driven → IsOwed log_seen data_seen opened script driven → IsOwedSynced log_seen data_seen opened script driven
     → Plays log_seen log_gives data_seen data_gives opened turns script
     (course_of turns.max driven.ended (played_of opened.start driven.closed) (ended_by driven.closed.log.failed driven.closed.store.failed))
     driven.closed.log.dev driven.closed.store.dev
-lines-run log_seen log_gives data_seen data_gives opened turns script driven fits comes_to owed =
-    ended-by log_seen log_gives data_seen data_gives opened turns script driven (record { fits = fits; comes_to = comes_to; owed = owed }) driven.ended refl
+lines-run log_seen log_gives data_seen data_gives opened turns script driven fits comes_to owed owed_synced =
+    ended-by log_seen log_gives data_seen data_gives opened turns script driven (record { fits = fits; comes_to = comes_to; owed = owed; owed_synced = owed_synced }) driven.ended refl
 
 -- LINES THAT WEREN'T RUN: the script doesn't fit, or memory ran out.
 without-memory : {L D : Type 0} (log_gives : L → Call → L → Type 0) (data_gives : D → Call → D → Type 0) (opened : Opened L D) (log_now : L) (data_now : D)

@@ -1,10 +1,11 @@
 -- A store that was opened on two devices whose fuses are armed, and the run of a script on it.
-use Rattle.std.proofs.Common.{ℕ, ◌≡◌, ◌≤◌, ◌+◌, cond, List, Option, Some, None, IfSome, sym, ap, subst, ◌∙◌, inl, inr, ⊎_elim, arith}
+use Rattle.std.proofs.Common.{ℕ, ◌≡◌, ◌≤◌, ◌+◌, cond, List, Option, Some, None, IfSome, refl, sym, ap, subst, ◌∙◌, inl, inr, ⊎_elim, arith}
 use Rattle.std.specs.List.{AllByRecursion}
 use Rattle.std.proofs.lemmas.Bool.{eq-eqb}
 use Rattle.model_base.specs.{default_shape}
 use Rattle.model_base.specs.declared.limits.TheConstants.{BLOCK_SIZE}
 use Rattle.model_base.specs.declared.shape.Shape.{Shape}
+use Rattle.model_device.specs.{synced}
 use Rattle.model_device.specs.Disk.{Disk}
 use Rattle.model_history.specs.{IsLeft}
 use Rattle.model_log.specs.{block_of, IsAtDataStart, start_after}
@@ -32,8 +33,8 @@ use Rattle.redo_lab.specs.Call.{Guarded, guarded}
 use Rattle.redo_machine.specs.{room_from}
 use Rattle.redo_machine.specs.declared.drive.Driven.{Driven}
 use Rattle.redo_machine.specs.declared.drive.Turns.{Turns}
-use Rattle.redo_lab.specs.Course.{AreMisfitted, ArePlayed, AreSpent, ComesTo, ran_of}
-use Rattle.redo_lab.specs.Playing.{AreArmed, AreRun, AreSpentOn, Plays}
+use Rattle.redo_lab.specs.Course.{AreMisfitted, ArePlayed, ArePlayedThrough, AreSpent, ClosesRun, ComesTo, ran_of}
+use Rattle.redo_lab.specs.Playing.{AreArmed, AreRun, AreSpentOn, OwesRun, Plays}
 use Rattle.redo_lab.specs.Prepared.{ArePrepared, WhereTold}
 use Rattle.redo_lab.specs.Store.{IsOpenedAs}
 use Rattle.redo_lab.specs.Turned.{AreCountedFailures, ComesByTurnsTo, IsDrivenTo, IsOpenedOn, MakePartCalls, opened_at}
@@ -135,21 +136,22 @@ one-failure None = omega arith
 one-failure (Some device.Failed) = omega arith
 one-failure (Some device.NoMemory) = omega arith
 
--- on a store that could be opened when the fuses were armed the run is a closed one
+-- on a store that could be opened when the fuses were armed the run is a closed one, with what becomes so of both devices
 closed-told : {L D : Type 0} {log_seen : L → Seen} {log_gives : L → Call → L → Type 0} {data_seen : D → Seen} {data_gives : D → Call → D → Type 0}
-    (laws : ReadingLaws) (log : Fused L) (data_device : Fused D) (store : Opened (Fused L) (Fused D)) (end : ℕ) (turns : Turns) (script : List ScriptLine) (played : Played)
-    (log_error data_error : Option DevError) (log_now : Fused L) (data_now : Fused D) (reading : Reading) (left : List (ℕ × ℕ)) (log_told data_told : Option Disk)
+    (laws : ReadingLaws) (log : Fused L) (data_device : Fused D) (store : Opened (Fused L) (Fused D)) (end : ℕ) (script : List ScriptLine) (played : Played)
+    (log_now : Fused L) (data_now : Fused D) (becomes : Disk → Disk) (failed : ℕ) (reading : Reading) (left : List (ℕ × ℕ)) (log_told data_told : Option Disk)
     → IsOpened log_seen log_gives data_seen data_gives log data_device store
-    → AreRun (seen_through log_seen) (CallsThrough log_seen log_gives) (seen_through data_seen) (CallsThrough data_seen data_gives) store turns script played log_error data_error log_now data_now
+    → AllByRecursion (LineFits store.shape) script
+    → OwesRun becomes (seen_through log_seen) (seen_through data_seen) store script played failed log_now data_now
     → IsLeft script played.history left → (log_seen log.inner).tells ≡ log_told → (data_seen data_device.inner).tells ≡ data_told
     → OnContents log_told data_told (IsReadOff store end)
     → WhereBothTell log_told data_told (λ log_disk data_disk. IsOpenable reading log_disk data_disk → IsOpenedReady (seen_through log_seen) (seen_through data_seen) reading store)
     → WhereBothTell log_told data_told (λ log_disk data_disk. IsOpenable reading log_disk data_disk
     → (opened_at store end ≡ opened_as reading) × WhereBothTell (log_seen log_now.inner).tells (data_seen data_now.inner).tells (λ log_after data_after.
-    IsClosed (failures log_error + failures data_error) (record { script = script; opened = opened_at store end; number = reading.number + 1; run = ran_of played; left = left; log_disk = log_after; data_disk = data_after })))
-closed-told laws log data_device store end turns script played log_error data_error log_now data_now reading left None data_told opened run left_is log_is data_is read ready = tt
-closed-told laws log data_device store end turns script played log_error data_error log_now data_now reading left (Some log_disk) None opened run left_is log_is data_is read ready = tt
-closed-told {log_seen = log_seen} {log_gives = log_gives} {data_seen = data_seen} {data_gives = data_gives} laws log data_device store end turns script played log_error data_error log_now data_now reading left (Some log_disk) (Some data_disk) opened run left_is log_is data_is read ready = λ openable.
+    IsClosed failed (record { script = script; opened = opened_at store end; number = reading.number + 1; run = ran_of played; left = left; log_disk = becomes log_after; data_disk = becomes data_after })))
+closed-told laws log data_device store end script played log_now data_now becomes failed reading left None data_told opened lines owes left_is log_is data_is read ready = tt
+closed-told laws log data_device store end script played log_now data_now becomes failed reading left (Some log_disk) None opened lines owes left_is log_is data_is read ready = tt
+closed-told {log_seen = log_seen} {log_gives = log_gives} {data_seen = data_seen} {data_gives = data_gives} laws log data_device store end script played log_now data_now becomes failed reading left (Some log_disk) (Some data_disk) opened lines owes left_is log_is data_is read ready = λ openable.
     let is : IsOpenedReady (seen_through log_seen) (seen_through data_seen) reading store = ready openable in
     let same : opened_at store end ≡ opened_as reading =
     read.same ∙ ap opened_as (laws.one_reading log_disk.reads data_disk.reads read.reading reading read.is_read openable.orderly.reads) in
@@ -162,13 +164,13 @@ closed-told {log_seen = log_seen} {log_gives = log_gives} {data_seen = data_seen
       data_bytes = data_disk.reads;
       orderly = openable.orderly;
       ready = both-told _ _ (IsReady reading) is.ready log_after.0 data_after.0 log_after.1 data_after.1;
-      fits = subst (λ (shape : Shape). AllByRecursion (LineFits shape) script) is.opened.shape run.fits.lines;
+      fits = subst (λ (shape : Shape). AllByRecursion (LineFits shape) script) is.opened.shape lines;
     } in
     let After : values.Opened → Type 0 = λ opened. WhereBothTell (log_seen log_now.inner).tells (data_seen data_now.inner).tells (λ log_after data_after.
-    IsClosed (failures log_error + failures data_error) (record { script = script; opened = opened; number = reading.number + 1; run = ran_of played; left = left; log_disk = log_after; data_disk = data_after })) in
+    IsClosed failed (record { script = script; opened = opened; number = reading.number + 1; run = ran_of played; left = left; log_disk = becomes log_after; data_disk = becomes data_after })) in
     let closed : After (opened_as reading) = both-told (log_seen store.log.dev.inner).tells (data_seen store.store.dev.inner).tells
     (λ log_disk data_disk. IsStart reading script log_disk data_disk → After (opened_as reading))
-    (run.owed reading left (record { shape = is.opened.shape; pages = is.opened.pages; start = is.opened.start; number = is.number }) left_is)
+    (owes reading left (record { shape = is.opened.shape; pages = is.opened.pages; start = is.opened.start; number = is.number }) left_is)
     log_after.0 data_after.0 log_after.1 data_after.1 start in
     (same, subst After (sym same) closed)
 
@@ -197,6 +199,23 @@ end-found {log_seen = log_seen} {data_seen = data_seen} {log_found = log_found} 
     (log_seen log.inner).tells (data_seen data_device.inner).tells
     (ap (λ (seen : Seen). seen.tells) is.armed.log_same) (ap (λ (seen : Seen). seen.tells) is.armed.data_same) is.opened.read)
 
+-- the run on it is closed
+closes-on : {L D : Type 0} {log_seen : L → Seen} {log_gives : L → Call → L → Type 0} {data_seen : D → Seen} {data_gives : D → Call → D → Type 0}
+    {log_entry data_entry : Seen} {stops : Stops} {log_found data_found : Guarded} {log : Fused L} {data_device : Fused D} {store : Opened (Fused L) (Fused D)}
+    {script : List ScriptLine} (played : Played) (log_now : Fused L) (data_now : Fused D)
+    (is : IsOpenedUnderWay log_seen log_gives data_seen data_gives log_entry data_entry stops log_found data_found log data_device store)
+    → AllByRecursion (LineFits store.shape) script → (becomes : Disk → Disk) (failed : ℕ)
+    → OwesRun becomes (seen_through log_seen) (seen_through data_seen) store script played failed log_now data_now
+    → ClosesRun becomes log_found data_found (opened_at store (end-found is).end) script played failed (guarded log_seen log_now) (guarded data_seen data_now)
+closes-on {log_seen = log_seen} {data_seen = data_seen} {log_found = log_found} {data_found = data_found} {log = log} {data_device = data_device} {store = store} {script = script} played log_now data_now is lines becomes failed owes reading left left_is =
+    let ends : HasEnd log_found.seen.tells data_found.seen.tells store = end-found is in
+    let log_tells : (log_seen log.inner).tells ≡ log_found.seen.tells = ap (λ (seen : Seen). seen.tells) is.armed.log_same in
+    let data_tells : (data_seen data_device.inner).tells ≡ data_found.seen.tells = ap (λ (seen : Seen). seen.tells) is.armed.data_same in
+    closed-told is.laws log data_device store ends.end script played log_now data_now becomes failed reading left log_found.seen.tells data_found.seen.tells
+    is.opened lines owes left_is log_tells data_tells ends.read
+    (same-both (λ log_disk data_disk. IsOpenable reading log_disk data_disk → IsOpenedReady (seen_through log_seen) (seen_through data_seen) reading store)
+    log_found.seen.tells data_found.seen.tells (log_seen log.inner).tells (data_seen data_device.inner).tells log_tells data_tells (is.opened.ready reading))
+
 played-on : {L D : Type 0} {log_seen : L → Seen} {log_gives : L → Call → L → Type 0} {data_seen : D → Seen} {data_gives : D → Call → D → Type 0}
     {log_entry data_entry : Seen} {stops : Stops} {log_found data_found : Guarded} {log : Fused L} {data_device : Fused D} {store : Opened (Fused L) (Fused D)}
     {turns : Turns} {script : List ScriptLine} {played : Played} (log_error data_error : Option DevError) {log_now : Fused L} {data_now : Fused D}
@@ -205,8 +224,6 @@ played-on : {L D : Type 0} {log_seen : L → Seen} {log_gives : L → Call → L
     → ArePlayed log_entry data_entry stops turns.log_only script played (failures log_error) (failures data_error) (guarded log_seen log_now) (guarded data_seen data_now)
 played-on {log_seen = log_seen} {log_gives = log_gives} {data_seen = data_seen} {data_gives = data_gives} {log_entry = log_entry} {data_entry = data_entry} {log_found = log_found} {data_found = data_found} {log = log} {data_device = data_device} {store = store} {turns = turns} {script = script} {played = played} log_error data_error {log_now = log_now} {data_now = data_now} is run =
     let ends : HasEnd log_found.seen.tells data_found.seen.tells store = end-found is in
-    let log_tells : (log_seen log.inner).tells ≡ log_found.seen.tells = ap (λ (seen : Seen). seen.tells) is.armed.log_same in
-    let data_tells : (data_seen data_device.inner).tells ≡ data_found.seen.tells = ap (λ (seen : Seen). seen.tells) is.armed.data_same in
     record {
       way = way-of log_found data_found is.armed.prepared (counted-more (counted-opened is) run.calls.log run.calls.data_part);
       opened = opened_at store ends.end;
@@ -215,12 +232,21 @@ played-on {log_seen = log_seen} {log_gives = log_gives} {data_seen = data_seen} 
       fits = subst (λ start. ScriptFits store.shape start (room_from turns.log_only store.shape start) script) ends.start run.fits;
       is_run = run.is_run ends.end ends.start;
       loses = run.loses;
-      closed = λ reading left left_is.
-          closed-told is.laws log data_device store ends.end turns script played log_error data_error log_now data_now reading left log_found.seen.tells data_found.seen.tells
-          is.opened run left_is log_tells data_tells ends.read
-          (same-both (λ log_disk data_disk. IsOpenable reading log_disk data_disk → IsOpenedReady (seen_through log_seen) (seen_through data_seen) reading store)
-          log_found.seen.tells data_found.seen.tells (log_seen log.inner).tells (data_seen data_device.inner).tells log_tells data_tells (is.opened.ready reading));
+      closed = closes-on played log_now data_now is run.fits.lines (λ disk. disk) (failures log_error + failures data_error) run.owed;
     }
+
+-- no call answered an error
+played-through : {L D : Type 0} {log_seen : L → Seen} {log_gives : L → Call → L → Type 0} {data_seen : D → Seen} {data_gives : D → Call → D → Type 0}
+    {log_entry data_entry : Seen} {stops : Stops} {log_found data_found : Guarded} {log : Fused L} {data_device : Fused D} {store : Opened (Fused L) (Fused D)}
+    {turns : Turns} {script : List ScriptLine} {played : Played} {log_now : Fused L} {data_now : Fused D}
+    → IsOpenedUnderWay log_seen log_gives data_seen data_gives log_entry data_entry stops log_found data_found log data_device store
+    → AreRun (seen_through log_seen) (CallsThrough log_seen log_gives) (seen_through data_seen) (CallsThrough data_seen data_gives) store turns script played None None log_now data_now
+    → ArePlayedThrough log_entry data_entry stops turns.log_only script played (guarded log_seen log_now) (guarded data_seen data_now)
+unfolding played-on
+played-through {played = played} {log_now = log_now} {data_now = data_now} is run = record {
+  are = played-on None None is run;
+  if_synced = closes-on played log_now data_now is run.fits.lines synced 0 (run.owed_synced refl refl);
+}
 
 -- a script that doesn't fit
 misfitted : {L D : Type 0} {log_seen : L → Seen} {log_gives : L → Call → L → Type 0} {data_seen : D → Seen} {data_gives : D → Call → D → Type 0}
@@ -286,7 +312,7 @@ opened-comes turns script (course.Ended fault.LogDevice) log_now data_now is pla
 opened-comes turns script (course.Ended fault.DataDevice) log_now data_now is plays = absurd plays
 opened-comes turns script (course.Ended (fault.Store cause)) log_now data_now is plays = absurd plays
 opened-comes turns script (course.Stopped f) log_now data_now is plays = absurd plays
-opened-comes turns script (course.Played played None) log_now data_now is plays = played-on None None is plays
+opened-comes turns script (course.Played played None) log_now data_now is plays = played-through is plays
 opened-comes turns script (course.Played played (Some fault.LogDevice)) log_now data_now is plays = record {
   data_failed = failures plays.data_error;
   once = one-failure plays.data_error;

@@ -1,5 +1,5 @@
 -- What the commands that run no script come to.
-use Rattle.std.proofs.Common.{ℕ, ◌≡◌, ◌≤◌, Bool, List, Option, Result, Ok, Err, IfSome, IfOk, refl, sym, ap, subst, inl, inr, arith}
+use Rattle.std.proofs.Common.{ℕ, ◌≡◌, ◌≤◌, true, false, List, Option, Result, Ok, Err, IfSome, IfOk, refl, sym, ap, subst, inl, inr, arith}
 use Rattle.model_base.specs.{HasRisen}
 use Rattle.model_command.specs.declared.asked.Command.{Command}
 use Rattle.model_command.specs.declared.asked.Command.TheVariants.{Recover, Dump, Gen}
@@ -67,13 +67,19 @@ alone-end call command out alone unread means complete safe = record {
 }
 
 -- GEN.
-pub gen-ends : {E : Type 0} (call : Call) (seed users groups : ℕ) (run : Bool) (max : ℕ) (r : Result (List ℕ) E) → AreLeftAlone call → IsUnread call
-    → IfOk r (λ text. text ≡ generated_text seed users groups) → EndsCommand call (Gen seed users groups run max) (outcome_of r)
-gen-ends call seed users groups run max (Ok text) alone unread is =
-    alone-end call (Gen seed users groups run max) (outcome.Text text) alone unread
+pub gen-ends : {E : Type 0} (call : Call) (seed users groups max : ℕ) (r : Result (List ℕ) E) → AreLeftAlone call → IsUnread call
+    → IfOk r (λ text. text ≡ generated_text seed users groups) → EndsCommand call (Gen seed users groups false max) (outcome_of r)
+gen-ends call seed users groups max (Ok text) alone unread is =
+    alone-end call (Gen seed users groups false max) (outcome.Text text) alone unread
     (unfailed-alone call alone, record { unread = unread; alone = alone; text_is = is }) (λ possible source unfailed. tt) tt
-gen-ends call seed users groups run max (Err e) alone unread is =
-    alone-end call (Gen seed users groups run max) (outcome.Fault fault.Memory) alone unread (tt, tt) (λ possible source unfailed. tt) tt
+gen-ends call seed users groups max (Err e) alone unread is =
+    alone-end call (Gen seed users groups false max) (outcome.Fault fault.Memory) alone unread (tt, tt) (λ possible source unfailed. tt) tt
+
+-- where memory ran out over its script, there is no run
+pub gen-unscripted : (call : Call) (seed users groups max : ℕ) → AreLeftAlone call → IsUnread call
+    → EndsCommand call (Gen seed users groups true max) (outcome.Fault fault.Memory)
+gen-unscripted call seed users groups max alone unread =
+    alone-end call (Gen seed users groups true max) (outcome.Fault fault.Memory) alone unread (tt, tt) (λ possible source unfailed. tt) tt
 
 -- what the stage before the arming says of a fuse
 pub told-unarmed : (entry : Seen) (failed : ℕ) (now : Guarded) (limit pick : Option ℕ) → IsUnarmed entry failed now → IsToldAtMost limit pick now.fuse

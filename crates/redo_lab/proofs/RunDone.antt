@@ -25,8 +25,9 @@ use Rattle.redo_lab.specs.declared.playing.Played.{Played}
 use Rattle.redo_lab.proofs.Found.{leaves-stopped}
 use Rattle.redo_lab.proofs.Keeping.{OpenableLaw}
 use Rattle.redo_lab.proofs.RunEnds.{AreSteady, aside-way, past-read, run-ended, steady-ended, steady-way, unfailed-armed, unfailed-way}
-use Rattle.redo_lab.proofs.RunPlayed.{ClosedLaws, FormattedLaw, played-text}
-use Rattle.redo_lab.proofs.RunPossible.{OneReading, UnfitLaw, ended-kept}
+use Rattle.redo_lab.proofs.RunPlayed.{ClosedLaws, FormattedLaw}
+use Rattle.redo_lab.proofs.RunPossible.{OneReading, UnfitLaw, can-play, ended-kept}
+use Rattle.redo_lab.proofs.RunTold.{played-text}
 use Rattle.redo_lab.proofs.Told.{OneAnswer}
 
 -- what is known of every store and of every run
@@ -53,7 +54,7 @@ run-ends-with call drive o steady means complete = record {
 }
 
 -- a device that isn't stopped fails by itself
-failed-unstopped : (entry : Seen) (found now : Guarded) → IsArmed None entry found 1 now → HasRisen entry.faults now.seen.faults × HasFailed now.fuse
+pub failed-unstopped : (entry : Seen) (found now : Guarded) → IsArmed None entry found 1 now → HasRisen entry.faults now.seen.faults × HasFailed now.fuse
 failed-unstopped entry found now was =
     (⊎_elim (λ risen. risen) (λ passed. absurd passed) (was.cause (omega arith)), omega (arith, was.mid))
 
@@ -73,7 +74,7 @@ pub run-early : (call : Call) (drive : Drive) (script : List ScriptLine) (f : Fa
     → IsEndedBy call.log_device call.data_device no_stops (turns_of drive) script f call.log_device_now call.data_device_now → EndsCommand call (Run drive) (outcome.Fault f)
 run-early call drive script f read laws ended = run-ends-with call drive _ (steady-ended call no_stops None (turns_of drive) script f ended)
     (run-ended call no_stops drive script f read laws.one laws.openable laws.formatted ended)
-    (λ possible unfailed. ended-kept call (Run drive) no_stops (turns_of drive) script f refl read laws.one laws.same laws.unfit possible
+    (λ possible unfailed. ended-kept call (Run drive) no_stops (turns_of drive) script f refl laws.one laws.same laws.unfit (can-play call script read drive.log_only possible)
     unfailed.log_device.early unfailed.data_device.early ended)
 
 -- MEMORY RAN OUT over the report.
@@ -115,15 +116,15 @@ run-uncleaned call drive script played text read laws was report = run-ends-with
 run-printed : (call : Call) (drive : Drive) (script : List ScriptLine) (played : Played) (f : Option Fault) (text : List ℕ) → IsScriptRead call.source call.source_now script
     → RunLaws → IsPlayedBy call.log_device call.data_device no_stops drive.log_only script played f call.log_device_now call.data_device_now
     → IsReportOf script (Some (ran_of played)) None text → EndsCommand call (Run drive) (report_outcome text f)
-run-printed call drive script played None text read laws was report = run-whole call drive script played text read laws was report
+run-printed call drive script played None text read laws was report = run-whole call drive script played text read laws was.are report
 run-printed call drive script played (Some fault.LogDevice) text read laws was report =
     run-cut call drive script played was.data_failed text read laws was.once was.are report
 run-printed call drive script played (Some fault.DataDevice) text read laws was report = run-uncleaned call drive script played text read laws was report
 run-printed call drive script played (Some f) text read laws was report = absurd was
 
-steady-played : (call : Call) (log_only : Bool) (script : List ScriptLine) (played : Played) (f : Option Fault)
+pub steady-played : (call : Call) (log_only : Bool) (script : List ScriptLine) (played : Played) (f : Option Fault)
     → IsPlayedBy call.log_device call.data_device no_stops log_only script played f call.log_device_now call.data_device_now → AreSteady call no_stops None
-steady-played call log_only script played None was = steady-way call no_stops None 0 0 was.way
+steady-played call log_only script played None was = steady-way call no_stops None 0 0 was.are.way
 steady-played call log_only script played (Some fault.LogDevice) was = steady-way call no_stops None 1 was.data_failed was.are.way
 steady-played call log_only script played (Some fault.DataDevice) was = steady-way call no_stops None 0 1 was.way
 steady-played call log_only script played (Some f) was = absurd was

@@ -18,7 +18,7 @@ use Rattle.redo_lab.specs.Cause.{AreTurnsSpent, IsCauseOf, IsOpeningRefused, IsP
 use Rattle.redo_lab.specs.Course.{AreMisfitted, AreRefusedOpened, AreSpent, AreUnderWay, IsEndedBy}
 use Rattle.redo_lab.specs.Devices.{IsToldAtMost, IsUnfailed}
 use Rattle.redo_lab.specs.Prepared.{AreTooShort, EndUnprepared}
-use Rattle.redo_lab.specs.Script.{IsScriptRead}
+use Rattle.redo_lab.specs.Script.{IsScriptFor, IsScriptRead}
 use Rattle.redo_lab.specs.Stages.{IsArmed}
 use Rattle.redo_lab.specs.declared.playing.Stops.{Stops}
 use Rattle.redo_lab.proofs.Found.{leaves-refused, leaves-short, leaves-unprepared, leaves-unstarted}
@@ -96,15 +96,14 @@ aside-way call stops log_failed data_failed way = record {
 
 -- a script that doesn't fit
 pub misfit-cause : (call : Call) (command : Command) (drive : Drive) (stops : Stops) (script : List ScriptLine) (misfit : Misfit) → drive_of command ≡ Some drive
-    → IsScriptRead call.source call.source_now script
+    → IsScriptFor command call.source call.source_now script
     → AreMisfitted call.log_device call.data_device stops drive.log_only script misfit call.log_device_now call.data_device_now → IsScriptMisfit call command misfit
-misfit-cause call command drive stops script misfit asked read ended = record {
+misfit-cause call command drive stops script misfit asked is_script ended = record {
   drive = drive;
   asked = asked;
-  text = read.text;
   script = script;
   opened = ended.opened;
-  source = read.of_text;
+  is_script = is_script;
   opens = ended.opens;
   limits = ended.limits;
   unfailed = unfailed-way call stops ended.way;
@@ -113,21 +112,17 @@ misfit-cause call command drive stops script misfit asked read ended = record {
 
 -- turns that were spent
 pub spent-cause : (call : Call) (command : Command) (drive : Drive) (stops : Stops) (script : List ScriptLine) (count user : ℕ) → drive_of command ≡ Some drive
-    → IsScriptRead call.source call.source_now script
+    → IsScriptFor command call.source call.source_now script
     → AreSpent call.log_device call.data_device stops (turns_of drive) script count user call.log_device_now call.data_device_now → AreTurnsSpent call command count user
-spent-cause call command drive stops script count user asked read ended = record {
+spent-cause call command drive stops script count user asked is_script ended = record {
   drive = drive;
   asked = asked;
   turns_are = ended.count_is;
-  text = read.text;
   script = script;
   opened = ended.opened;
   run = ended.run;
-  source = read.of_text;
-  opens = ended.opens;
-  limits = ended.limits;
-  fits = ended.fits;
-  in_lsn_order = ended.is_run;
+  is_script = is_script;
+  took_place = record { opens = ended.opens; limits = ended.limits; fits = ended.fits; in_lsn_order = ended.is_run };
   log_error = ended.log_error;
   data_error = ended.data_error;
   leaves = ended.leaves;
@@ -185,7 +180,7 @@ run-ended call stops drive script (fault.Store cause) read one law formatted end
   ⊎_elim (leaves-short call cause law) (leaves-refused call stops cause one formatted) ended,
 )
 run-ended call stops drive script (fault.Fit misfit) read one law formatted ended =
-    ((refl, inr (misfit-cause call (Run drive) drive stops script misfit refl read ended)), leaves-unstarted call stops 0 0 one formatted ended.way ended.keeps)
+    (inr (misfit-cause call (Run drive) drive stops script misfit refl read ended), leaves-unstarted call stops 0 0 one formatted ended.way ended.keeps)
 run-ended call stops drive script fault.Words read one law formatted ended = absurd ended
 run-ended call stops drive script (fault.Script n) read one law formatted ended = absurd ended
 run-ended call stops drive script fault.Source read one law formatted ended = absurd ended

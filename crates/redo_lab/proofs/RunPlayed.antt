@@ -1,8 +1,7 @@
 -- A run whose lines were played: what its report is owed.
-use Rattle.std.proofs.Common.{ℕ, ◌≡◌, ◌≢◌, ◌≤◌, ◌+◌, Bool, List, [], Option, Some, None, IfSome, refl, sym, ap, subst, ◌∙◌, ⊎_elim, arith}
+use Rattle.std.proofs.Common.{ℕ, ◌≡◌, ◌≢◌, ◌+◌, Bool, List, [], Option, Some, None, IfSome, refl, sym, ap, subst, ◌∙◌, ⊎_elim, arith}
 use Rattle.model_base.specs.{default_shape, IsWithinLimits}
 use Rattle.model_base.specs.declared.shape.Shape.{Shape}
-use Rattle.model_command.specs.declared.asked.Drive.{Drive}
 use Rattle.model_device.specs.Disk.{Disk}
 use Rattle.model_history.specs.{IsLeft}
 use Rattle.model_opening.specs.{formatted_store, IsFormatted, IsOpenable}
@@ -12,15 +11,13 @@ use Rattle.model_run.specs.Closed.{Closed}
 use Rattle.model_script.specs.declared.script.ScriptLine.{ScriptLine}
 use Rattle.model_store.specs.{Opens, OpensOrderly, OpensUnused}
 use Rattle.model_store.specs.Reading.{Reading}
-use Rattle.model_theorem.specs.{AreUnopened, FitsOpened, HeldOlder, IsFresh, IsOpenedBefore, IsWholeScript, LosesOnlyByFailure, Opened, RunSafe}
+use Rattle.model_theorem.specs.{AreUnopened, HeldOlder, IsFresh, IsOpenedBefore, IsWholeScript, Opened, RunSafe}
 use Rattle.redo_disk.specs.Seen.{Seen}
 use Rattle.redo_open.specs.{HasSameCheckpoint, WhereBothTell}
-use Rattle.redo_lab.specs.Answer.{IsRunSafe, IsRunText}
 use Rattle.redo_lab.specs.Call.{Call, Guarded}
-use Rattle.redo_lab.specs.Course.{ArePlayed, KeepsCheckpoint, ran_of}
-use Rattle.redo_lab.specs.Devices.{AreFound, IsOpenedFirst, WhereToldAtEntry}
+use Rattle.redo_lab.specs.Course.{ArePlayed, ClosesRun, KeepsCheckpoint, ran_of}
+use Rattle.redo_lab.specs.Devices.{AreFound, WhereToldAtEntry}
 use Rattle.redo_lab.specs.Prepared.{ArePrepared}
-use Rattle.redo_lab.specs.Reported.{IsReportOf}
 use Rattle.redo_lab.specs.Script.{IsScriptRead}
 use Rattle.redo_lab.specs.declared.playing.Played.{Played}
 use Rattle.redo_lab.specs.declared.playing.Stops.{Stops}
@@ -189,27 +186,37 @@ pub record IsClosedAs (script : List ScriptLine) (opened : Opened) (number : ℕ
     data_disk = data_left;
   })
 
+-- with what becomes so of both devices
+pub closed-with : (becomes : Disk → Disk) (log_found data_found : Guarded) (script : List ScriptLine) (played : Played) (failed : ℕ) (was opened : Opened) (log_now data_now : Guarded)
+    → ClosesRun becomes log_found data_found was script played failed log_now data_now
+    → (found : WasFound log_found data_found opened) → (left : List (ℕ × ℕ)) → IsLeft script played.history left
+    → (log_left data_left : Disk) → log_now.seen.tells ≡ Some log_left → data_now.seen.tells ≡ Some data_left
+    → (was ≡ opened) × IsClosedAs script was (found.reading.number + 1) played left failed (becomes log_left) (becomes data_left)
+closed-with becomes log_found data_found script played failed was opened log_now data_now closes found left left_is log_left data_left log_is data_is =
+    let Closes : Disk → Disk → Type 0 = λ log_disk data_disk. IsClosed failed (record {
+      script = script;
+      opened = was;
+      number = found.reading.number + 1;
+      run = ran_of played;
+      left = left;
+      log_disk = becomes log_disk;
+      data_disk = becomes data_disk;
+    }) in
+    let Finds : Disk → Disk → Type 0 = λ log data_disk. IsOpenable found.reading log data_disk
+    → (was ≡ opened_as found.reading) × WhereBothTell log_now.seen.tells data_now.seen.tells Closes in
+    let closed = both-told log_found.seen.tells data_found.seen.tells Finds (closes found.reading left left_is)
+    found.log found.data_disk found.log_is found.data_is found.openable in
+    let now = both-told log_now.seen.tells data_now.seen.tells Closes closed.1 log_left data_left log_is data_is in
+    (closed.0 ∙ sym found.same, record { closed = now })
+
 pub closed-as : (log_entry data_entry : Seen) (stops : Stops) (log_only : Bool) (script : List ScriptLine) (played : Played) (log_failed data_failed : ℕ) (log_now data_now : Guarded)
     → (was : ArePlayed log_entry data_entry stops log_only script played log_failed data_failed log_now data_now) (opened : Opened)
     → (found : WasFound was.way.log_found was.way.data_found opened) → (left : List (ℕ × ℕ)) → IsLeft script played.history left
     → (log_left data_left : Disk) → log_now.seen.tells ≡ Some log_left → data_now.seen.tells ≡ Some data_left
     → (was.opened ≡ opened) × IsClosedAs script was.opened (found.reading.number + 1) played left (log_failed + data_failed) log_left data_left
 closed-as log_entry data_entry stops log_only script played log_failed data_failed log_now data_now was opened found left left_is log_left data_left log_is data_is =
-    let Closes : Disk → Disk → Type 0 = λ log_disk data_disk. IsClosed (log_failed + data_failed) (record {
-      script = script;
-      opened = was.opened;
-      number = found.reading.number + 1;
-      run = ran_of played;
-      left = left;
-      log_disk = log_disk;
-      data_disk = data_disk;
-    }) in
-    let Finds : Disk → Disk → Type 0 = λ log data_disk. IsOpenable found.reading log data_disk
-    → (was.opened ≡ opened_as found.reading) × WhereBothTell log_now.seen.tells data_now.seen.tells Closes in
-    let closed = both-told was.way.log_found.seen.tells was.way.data_found.seen.tells Finds (was.closed found.reading left left_is)
-    found.log found.data_disk found.log_is found.data_is found.openable in
-    let now = both-told log_now.seen.tells data_now.seen.tells Closes closed.1 log_left data_left log_is data_is in
-    (closed.0 ∙ sym found.same, record { closed = now })
+    closed-with (λ disk. disk) was.way.log_found was.way.data_found script played (log_failed + data_failed) was.opened opened log_now data_now was.closed
+    found left left_is log_left data_left log_is data_is
 
 pub whole-script : (call : Call) (script : List ScriptLine) (source source_left : Option (List ℕ)) → source ≡ call.source.left → source_left ≡ call.source_now.left
     → (read : IsScriptRead call.source call.source_now script) → IsWholeScript source source_left read.text script
@@ -253,72 +260,3 @@ stopped-on log_found data_found log_now opened found unmoved disk now_is =
 -- the device that was found is the one that is told to have been armed
 pub armed-same : (armed found : Option Disk) (log_found armed_from : Disk) → armed ≡ found → found ≡ Some log_found → armed ≡ Some armed_from → log_found ≡ armed_from
 armed-same armed found log_found armed_from same found_is armed_is = cc
-
--- THE PROMISE OF RUN.
-pub played-safe : (call : Call) (stops : Stops) (log_only : Bool) (script : List ScriptLine) (played : Played) (log_failed data_failed : ℕ) (text : List ℕ)
-    → OneAnswer → FormattedLaw → ClosedLaws → IsScriptRead call.source call.source_now script
-    → ArePlayed call.log_device call.data_device stops log_only script played log_failed data_failed call.log_device_now call.data_device_now
-    → IsReportOf script (Some (ran_of played)) None text → IsRunSafe call log_only text
-played-safe call stops log_only script played log_failed data_failed text one law laws read was report run is_call opened premises =
-    let found = was-found call.log_device call.data_device was.way.log_found was.way.data_found run.log_device.at_entry run.data_device.at_entry
-    run.log_device.faults_at_entry run.data_device.faults_at_entry opened one law was.way.prepared is_call.log_device.at_entry is_call.data_device.at_entry
-    premises.log_fresh premises.data_fresh premises.opens in
-    let closed = closed-as call.log_device call.data_device stops log_only script played log_failed data_failed call.log_device_now call.data_device_now was opened found
-    report.left report.left_is run.log_device.left run.data_device.left is_call.log_device.left is_call.data_device.left in
-    let failures : log_failed + data_failed ≡ run.log_device.failures + run.data_device.failures =
-    omega (arith, is_call.log_device.failures, is_call.data_device.failures, was.way.log_device.mid, was.way.data_device.mid) in (
-      record { text = read.text; script = script; run = ran_of played; left = report.left },
-      record {
-        every_script = whole-script call script run.source run.source_left is_call.source is_call.source_left read;
-        fits = subst (λ log_only. FitsOpened log_only opened script) (sym is_call.log_only_is)
-            (subst (λ (o : Opened). FitsOpened log_only o script) closed.0 was.fits);
-        prints = is_call.report ∙ report.text_is;
-        unopened = unopened-as call.log_device call.data_device was.way.log_found was.way.data_found run.log_device.at_entry run.data_device.at_entry
-            run.log_device.armed_from run.data_device.armed_from law was.way.prepared is_call.log_device.at_entry is_call.data_device.at_entry
-            (sym was.way.log_device.armed_from ∙ is_call.log_device.armed_from) (sym was.way.data_device.armed_from ∙ is_call.data_device.armed_from);
-        opened_first = subst (λ (armed_from : Disk). IsOpenedBefore opened.shape armed_from run.log_device.left (Some (ran_of played)))
-            (armed-same _ _ found.log run.log_device.armed_from was.way.log_device.armed_from found.log_is is_call.log_device.armed_from)
-            (opened-before script played report.left (log_failed + data_failed) was.way.log_found was.way.data_found was.opened opened run.log_device.left run.data_device.left laws.opened closed.0 found closed.1);
-        safe = safe-as script (found.reading.number + 1) played report.left (log_failed + data_failed) _ was.opened opened run.log_device.left run.data_device.left laws.safe failures closed.0 closed.1;
-      },
-    )
-
--- on the log device that is left
-played-first : (call : Call) (stops : Stops) (log_only : Bool) (script : List ScriptLine) (played : Played) (log_failed data_failed : ℕ) (left : List (ℕ × ℕ)) → OneAnswer → FormattedLaw → OpenedLaw
-    → ArePlayed call.log_device call.data_device stops log_only script played log_failed data_failed call.log_device_now call.data_device_now → IsLeft script played.history left
-    → IsOpenedFirst call call.log_device_now.seen.tells (Some (ran_of played))
-played-first call stops log_only script played log_failed data_failed left one law opened_law was left_is log data_disk opened log_is data_is log_fresh data_fresh opens armed_from disk armed_is now_is =
-    let found = was-found call.log_device call.data_device was.way.log_found was.way.data_found log data_disk call.log_device.faults call.data_device.faults
-    opened one law was.way.prepared log_is data_is log_fresh data_fresh opens in
-    let data_now = told-still call.data_device.tells call.data_device_now.seen.tells data_disk was.way.data_device.same.tells data_is in
-    let closed = closed-as call.log_device call.data_device stops log_only script played log_failed data_failed call.log_device_now call.data_device_now was opened found
-    left left_is disk data_now.0 now_is data_now.1 in
-    subst (λ (armed_from : Disk). IsOpenedBefore opened.shape armed_from disk (Some (ran_of played)))
-    (armed-same _ _ found.log armed_from was.way.log_device.armed_from found.log_is armed_is)
-    (opened-before script played left (log_failed + data_failed) was.way.log_found was.way.data_found was.opened opened disk data_now.0 opened_law closed.0 found closed.1)
-
--- THE REPORT OF RUN.
-pub played-text : (call : Call) (stops : Stops) (drive : Drive) (script : List ScriptLine) (played : Played) (log_failed data_failed : ℕ) (text : List ℕ) → log_failed ≤ 1 → data_failed ≤ 1
-    → OneAnswer → FormattedLaw → ClosedLaws → IsScriptRead call.source call.source_now script
-    → ArePlayed call.log_device call.data_device stops drive.log_only script played log_failed data_failed call.log_device_now call.data_device_now
-    → IsReportOf script (Some (ran_of played)) None text → IsRunText call drive text
-played-text call stops drive script played log_failed data_failed text log_once data_once one law laws read was report =
-    let failures : log_failed + data_failed ≡ call.log_device_now.fuse.mid + call.data_device_now.fuse.mid = omega (arith, was.way.log_device.mid, was.way.data_device.mid) in
-    record {
-      opened = was.opened;
-      run = ran_of played;
-      report = record {
-        source_text = read.text;
-        script = script;
-        left = report.left;
-        source = read.of_text;
-        ran = record { opens = was.opens; limits = was.limits; fits = was.fits; in_lsn_order = was.is_run };
-        left_is = report.left_is;
-        loses = subst (λ (n : ℕ). LosesOnlyByFailure n (Some (ran_of played)) report.left) failures (was.loses report.left report.left_is);
-        once = record { log_device = omega (arith, was.way.log_device.mid); data_device = omega (arith, was.way.data_device.mid) };
-        found = are-found call was.way.log_found was.way.data_found law was.way.prepared was.way.log_device.armed_from was.way.data_device.armed_from;
-        text_is = report.text_is;
-      };
-      opened_first = played-first call stops drive.log_only script played log_failed data_failed report.left one law laws.opened was report.left_is;
-      safe = played-safe call stops drive.log_only script played log_failed data_failed text one law laws read was report;
-    }

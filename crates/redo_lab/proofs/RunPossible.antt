@@ -18,9 +18,9 @@ use Rattle.model_store.specs.declared.refusal.Refusal.TheVariants as refusal
 use Rattle.model_theorem.specs.{FitsOpened, Opened, room_of}
 use Rattle.redo_disk.specs.{HasSize}
 use Rattle.redo_machine.specs.declared.drive.Turns.{Turns}
-use Rattle.redo_lab.specs.Asked.{reads_script}
+use Rattle.redo_lab.specs.Asked.{runs_script}
 use Rattle.redo_lab.specs.Call.{Call}
-use Rattle.redo_lab.specs.Complete.{AreLongEnough, CanRun, MayKeepFrom}
+use Rattle.redo_lab.specs.Complete.{AreLongEnough, CanPlay, CanRun, MayKeepFrom}
 use Rattle.redo_lab.specs.Course.{AreMisfitted, AreRefusedOpened, IsEndedBy}
 use Rattle.redo_lab.specs.Prepared.{AreTooShort}
 use Rattle.redo_lab.specs.Script.{IsScriptRead}
@@ -55,8 +55,8 @@ long-not-short log_size data_size (refusal.SmallLog n) long short = absurd (omeg
 long-not-short log_size data_size (refusal.SmallData n) long short = absurd (omega (arith, long.data_long, short.1))
 long-not-short log_size data_size cause long short = absurd short
 
-has-header : (call : Call) (log_only : Bool) → CanRun call log_only → IfSome call.log_device.tells (HasSize call.log_device.size) → HEADER_BYTES ≤ call.log_device.size
-has-header call log_only can sized = ⊎_elim
+has-header : (call : Call) (log_only : Bool) (script : List ScriptLine) → CanPlay call log_only script → IfSome call.log_device.tells (HasSize call.log_device.size) → HEADER_BYTES ≤ call.log_device.size
+has-header call log_only script can sized = ⊎_elim
     (λ unused. let long = (can.long unused.unused).log_long in omega (arith, long))
     (λ orderly.
     let size = at-some call.log_device.tells (HasSize call.log_device.size) can.log sized can.log_fresh.tells in
@@ -64,21 +64,21 @@ has-header call log_only can sized = ⊎_elim
     omega (arith, size.reads, header))
     can.opens
 
-possible-not-short : (call : Call) (log_only : Bool) (cause : Refusal) → OneAnswer → CanRun call log_only
+possible-not-short : (call : Call) (log_only : Bool) (script : List ScriptLine) (cause : Refusal) → OneAnswer → CanPlay call log_only script
     → AreTooShort call.log_device call.data_device cause call.log_device_now call.data_device_now → ⊥
-possible-not-short call log_only cause one can short = ⊎_elim
+possible-not-short call log_only script cause one can short = ⊎_elim
     (λ none.
     let no_room = no-header-short call.log_device.size cause none in
-    let room = has-header call log_only can short.sized in
+    let room = has-header call log_only script can short.sized in
     absurd (omega (arith, no_room, room)))
     (λ unused.
     let is_unused = unused.2 can.log can.data_disk can.log_fresh.tells can.data_fresh.tells in
     long-not-short call.log_device.size call.data_device.size cause (can.long is_unused) unused.1)
     short.short
 
-possible-not-refused : (call : Call) (log_only : Bool) (stops : Stops) (cause : Refusal) → OneAnswer → CanRun call log_only
+possible-not-refused : (call : Call) (log_only : Bool) (script : List ScriptLine) (stops : Stops) (cause : Refusal) → OneAnswer → CanPlay call log_only script
     → AreRefusedOpened call.log_device call.data_device stops cause call.log_device_now call.data_device_now → ⊥
-possible-not-refused call log_only stops cause one can ended =
+possible-not-refused call log_only script stops cause one can ended =
     let refused = ended.refused can.log can.data_disk can.log_fresh.tells can.data_fresh.tells in ⊎_elim
     (λ unused. refused.0 unused.unused)
     (λ orderly. one can.log.reads can.data_disk.reads orderly.reading cause orderly.orderly.reads refused.1)
@@ -104,35 +104,37 @@ one-opened log data_disk a b one same opens_a opens_b = ⊎_elim
     opens_a
 
 -- the script that was read is the one that can be run
-one-script : (call : Call) (script : List ScriptLine) → IsScriptRead call.source call.source_now script → (log_only : Bool) (can : CanRun call log_only) → script ≡ can.script
+one-script : (call : Call) (script : List ScriptLine) → IsScriptRead call.source call.source_now script → (log_only : Bool) (can : CanRun call log_only) → can.script ≡ script
 one-script call script read log_only can =
     let left = at-some call.source.left (λ left. (read.text ≡ left) × (call.source_now.left ≡ Some _)) can.text read.of_text.read.all_read can.source in
     let is = sym read.of_text.is_script ∙ (ap script_of left.0 ∙ can.is_script) in
     cc
 
-possible-no-misfit : (call : Call) (log_only : Bool) (stops : Stops) (script : List ScriptLine) (misfit : Misfit) → IsScriptRead call.source call.source_now script
-    → OneAnswer → OneReading → UnfitLaw → CanRun call log_only
+pub can-play : (call : Call) (script : List ScriptLine) → IsScriptRead call.source call.source_now script → (log_only : Bool) → CanRun call log_only → CanPlay call log_only script
+can-play call script read log_only can = subst (CanPlay call log_only) (one-script call script read log_only can) can.plays
+
+possible-no-misfit : (call : Call) (log_only : Bool) (stops : Stops) (script : List ScriptLine) (misfit : Misfit)
+    → OneAnswer → OneReading → UnfitLaw → CanPlay call log_only script
     → AreMisfitted call.log_device call.data_device stops log_only script misfit call.log_device_now call.data_device_now → ⊥
-possible-no-misfit call log_only stops script misfit read one same unfit can ended =
+possible-no-misfit call log_only stops script misfit one same unfit can ended =
     let opened : ended.opened ≡ can.opened =
     one-opened can.log can.data_disk ended.opened can.opened one same (ended.opens can.log can.data_disk can.log_fresh.tells can.data_fresh.tells) can.opens in
     let fits : FitsOpened log_only ended.opened script =
-    subst (λ (o : Opened). FitsOpened log_only o script) (sym opened)
-    (subst (λ (lines : List ScriptLine). FitsOpened log_only can.opened lines) (sym (one-script call script read log_only can)) can.fits) in
+    subst (λ (o : Opened). FitsOpened log_only o script) (sym opened) can.fits in
     let none = sym ended.first ∙ unfit ended.opened.shape (start_after ended.opened.end) (room_of log_only ended.opened) script fits in
     cc
 
 -- SO A RUN THAT CAN BE DONE is ended by want of memory or its turns alone, where no call of a device failed.
-pub ended-kept : (call : Call) (command : Command) (stops : Stops) (turns : Turns) (script : List ScriptLine) (f : Fault) → reads_script command ≡ true
-    → IsScriptRead call.source call.source_now script → OneAnswer → OneReading → UnfitLaw → CanRun call turns.log_only
+pub ended-kept : (call : Call) (command : Command) (stops : Stops) (turns : Turns) (script : List ScriptLine) (f : Fault) → runs_script command ≡ true
+    → OneAnswer → OneReading → UnfitLaw → CanPlay call turns.log_only script
     → call.log_device_now.fuse.early ≡ 0 → call.data_device_now.fuse.early ≡ 0
     → IsEndedBy call.log_device call.data_device stops turns script f call.log_device_now call.data_device_now → MayKeepFrom command f
-ended-kept call command stops turns script fault.Memory runs read one same unfit can log_good data_good ended = tt
-ended-kept call command stops turns script fault.LogDevice runs read one same unfit can log_good data_good ended = absurd (omega (arith, ended.log_device.early))
-ended-kept call command stops turns script fault.DataDevice runs read one same unfit can log_good data_good ended = absurd (omega (arith, ended.data_device.early))
-ended-kept call command stops turns script (fault.Store cause) runs read one same unfit can log_good data_good ended =
-    absurd (⊎_elim (possible-not-short call turns.log_only cause one can) (possible-not-refused call turns.log_only stops cause one can) ended)
-ended-kept call command stops turns script (fault.Turns count user) runs read one same unfit can log_good data_good ended = runs
-ended-kept call command stops turns script (fault.Fit misfit) runs read one same unfit can log_good data_good ended =
-    absurd (possible-no-misfit call turns.log_only stops script misfit read one same unfit can ended)
-ended-kept call command stops turns script f runs read one same unfit can log_good data_good ended = absurd ended
+ended-kept call command stops turns script fault.Memory runs one same unfit can log_good data_good ended = tt
+ended-kept call command stops turns script fault.LogDevice runs one same unfit can log_good data_good ended = absurd (omega (arith, ended.log_device.early))
+ended-kept call command stops turns script fault.DataDevice runs one same unfit can log_good data_good ended = absurd (omega (arith, ended.data_device.early))
+ended-kept call command stops turns script (fault.Store cause) runs one same unfit can log_good data_good ended =
+    absurd (⊎_elim (possible-not-short call turns.log_only script cause one can) (possible-not-refused call turns.log_only script stops cause one can) ended)
+ended-kept call command stops turns script (fault.Turns count user) runs one same unfit can log_good data_good ended = runs
+ended-kept call command stops turns script (fault.Fit misfit) runs one same unfit can log_good data_good ended =
+    absurd (possible-no-misfit call turns.log_only stops script misfit one same unfit can ended)
+ended-kept call command stops turns script f runs one same unfit can log_good data_good ended = absurd ended

@@ -1,10 +1,11 @@
 -- A run that is told is the run by the turns of its drive.
-use Rattle.std.proofs.Common.{ℕ, ◌≡◌, ◌⊎◌, List, Option, Some, None, refl, sym, ap, subst, ◌∙◌, inl, inr, ⊎_elim, arith}
+use Rattle.std.proofs.Common.{ℕ, ◌≡◌, ◌⊎◌, true, false, List, Option, Some, None, refl, sym, ap, subst, ◌∙◌, inl, inr, ⊎_elim, arith}
 use Rattle.model_command.specs.declared.asked.Command.{Command}
 use Rattle.model_command.specs.declared.asked.Command.TheVariants.{Format, Run, Crash, Recover, Dump, Gen}
 use Rattle.model_command.specs.declared.asked.Drive.{Drive}
 use Rattle.model_report.specs.declared.fault.Fault.{Fault}
 use Rattle.model_report.specs.declared.fault.Fault.TheVariants as fault
+use Rattle.model_script.specs.{generated_lines}
 use Rattle.model_script.specs.declared.script.ScriptLine.{ScriptLine}
 use Rattle.redo_disk.specs.{Call}
 use Rattle.redo_disk.specs.Seen.{Seen}
@@ -24,7 +25,8 @@ use Rattle.redo_recover.specs.declared.fault.RecFault.TheVariants.{SmallLog, Not
 use Rattle.redo_recover.specs.declared.fault.RecFault.TheVariants as rec
 use Rattle.redo_script.specs.declared.unfit.Unfit.{Unfit}
 use Rattle.redo_script.specs.declared.unfit.Unfit.TheVariants as unfit
-use Rattle.redo_lab.specs.Asked.{command_of, turns_of}
+use Rattle.redo_lab.specs.Asked.{command_of, drive_of_seed, turns_of}
+use Rattle.redo_lab.specs.Behind.{ReadsBehind}
 use Rattle.redo_lab.specs.Call as lab
 use Rattle.redo_lab.specs.Call.{Guarded, guarded}
 use Rattle.redo_lab.specs.Course.{IsStoppedBy, ran_of}
@@ -158,9 +160,9 @@ module _ {L D : Type 0} (log_seen : L → Seen) (data_seen : D → Seen) (source
       → ComesByTurnsTo log_seen data_seen log_entry data_entry no_stops (turns_of drive) script (course.Played played f) log_now data_now
       → IsReportOf script (Some (ran_of played)) None text
       → TellsByTurns log_seen data_seen source source_now log_entry data_entry (Run drive) (report_outcome text f) log_now data_now
-  run-text-told drive script played None text log_now data_now read comes report = record { script = script; is_script = read; played = played; comes = comes; report = report }
+  run-text-told drive script played None text log_now data_now read comes report = record { runs = record { script = script; is_script = read; played = played; comes = comes }; report = report }
   run-text-told drive script played (Some (fault.Turns count user)) text log_now data_now read comes report = absurd (not-spent _ _ count user comes.done.fault_is)
-  run-text-told drive script played (Some f) text log_now data_now read comes report = record { script = script; is_script = read; played = played; comes = comes; report = report }
+  run-text-told drive script played (Some f) text log_now data_now read comes report = record { runs = record { script = script; is_script = read; played = played; comes = comes }; report = report }
 
   pub run-played-told : (drive : Drive) (script : List ScriptLine) (played : Played) (f : Option Fault) (o : Outcome) (log_now : Fused L) (data_now : Fused D) → IsScriptRead source source_now script
       → ComesByTurnsTo log_seen data_seen log_entry data_entry no_stops (turns_of drive) script (course.Played played f) log_now data_now
@@ -198,11 +200,46 @@ module _ {L D : Type 0} (log_seen : L → Seen) (data_seen : D → Seen) (source
     crashed = back.crashed;
     read = (back.reading.end, back.reading.pages);
     fault = f;
-    run = record { script = script; is_script = read; played = played; comes = comes; report = back.report };
+    run = record { runs = record { script = script; is_script = read; played = played; comes = comes }; report = back.report };
   })
   crash-played-told drive stops pick script played f (outcome.Report text g) log_then log_now data_then data_now read comes back = absurd back
   crash-played-told drive stops pick script played f (outcome.Fault (fault.Turns count user)) log_then log_now data_then data_now read comes back = absurd back
   crash-played-told drive stops pick script played f (outcome.Fault g) log_then log_now data_then data_now read comes back = tt
+
+  -- of `gen`
+  pub gen-ended-told : (seed users groups max : ℕ) (script : List ScriptLine) (f : Fault) (log_now : Fused L) (data_now : Fused D) → script ≡ generated_lines seed users groups
+      → ComesByTurnsTo log_seen data_seen log_entry data_entry no_stops (turns_of (drive_of_seed seed max)) script (course.Ended f) log_now data_now
+      → TellsByTurns log_seen data_seen source source_now log_entry data_entry (Gen seed users groups true max) (outcome.Fault f) log_now data_now
+  gen-ended-told seed users groups max script (fault.Turns count user) log_now data_now is comes = record { script = script; is_script = is; comes = comes }
+  gen-ended-told seed users groups max script f log_now data_now is comes = tt
+
+  pub gen-stopped-told : (seed users groups max : ℕ) (f : Fault) (log_guarded data_guarded : Guarded) (log_now : Fused L) (data_now : Fused D)
+      → IsStoppedBy log_entry data_entry no_stops f log_guarded data_guarded
+      → TellsByTurns log_seen data_seen source source_now log_entry data_entry (Gen seed users groups true max) (outcome.Fault f) log_now data_now
+  gen-stopped-told seed users groups max (fault.Turns count user) log_guarded data_guarded log_now data_now stopped = absurd stopped
+  gen-stopped-told seed users groups max f log_guarded data_guarded log_now data_now stopped = tt
+
+  pub gen-cut-told : (seed users groups max : ℕ) (script : List ScriptLine) (played : Played) (f : Fault) (log_now : Fused L) (data_now : Fused D)
+      → ComesByTurnsTo log_seen data_seen log_entry data_entry no_stops (turns_of (drive_of_seed seed max)) script (course.Played played (Some f)) log_now data_now
+      → TellsByTurns log_seen data_seen source source_now log_entry data_entry (Gen seed users groups true max) (outcome.Fault f) log_now data_now
+  gen-cut-told seed users groups max script played (fault.Turns count user) log_now data_now comes = absurd (not-spent _ _ count user comes.done.fault_is)
+  gen-cut-told seed users groups max script played f log_now data_now comes = tt
+
+  pub gen-played-told : (seed users groups max : ℕ) (script : List ScriptLine) (played : Played) (o : Outcome) (log_then log_now : Fused L) (data_then data_now : Fused D) → script ≡ generated_lines seed users groups
+      → ComesByTurnsTo log_seen data_seen log_entry data_entry no_stops (turns_of (drive_of_seed seed max)) script (course.Played played None) log_then data_then
+      → ReadsBehind (ran_of played) o (guarded log_seen log_then) (guarded data_seen data_then) (guarded log_seen log_now) (guarded data_seen data_now)
+      → TellsByTurns log_seen data_seen source source_now log_entry data_entry (Gen seed users groups true max) o log_now data_now
+  gen-played-told seed users groups max script played (outcome.Text text) log_then log_now data_then data_now is comes behind = record {
+    log_then = log_then;
+    data_then = data_then;
+    read_since = behind.read_since;
+    runs = record { script = script; is_script = is; played = played; comes = comes };
+    reading = behind.reading;
+    text_is = behind.text_is;
+  }
+  gen-played-told seed users groups max script played (outcome.Report text f) log_then log_now data_then data_now is comes behind = absurd behind
+  gen-played-told seed users groups max script played (outcome.Fault (fault.Turns count user)) log_then log_now data_then data_now is comes behind = absurd behind
+  gen-played-told seed users groups max script played (outcome.Fault f) log_then log_now data_then data_now is comes behind = tt
 
   -- a command whose script wasn't read tells of no run
   pub run-unscripted-told : (drive : Drive) (f : Fault) (log_now : Fused L) (data_now : Fused D) → IsScriptFault source source_now f
@@ -224,7 +261,8 @@ memory-untold log_seen data_seen source source_now log_entry data_entry (Run dri
 memory-untold log_seen data_seen source source_now log_entry data_entry (Crash drive stop_log stop_data pick) log_now data_now = tt
 memory-untold log_seen data_seen source source_now log_entry data_entry Recover log_now data_now = tt
 memory-untold log_seen data_seen source source_now log_entry data_entry Dump log_now data_now = tt
-memory-untold log_seen data_seen source source_now log_entry data_entry (Gen seed users groups run max) log_now data_now = tt
+memory-untold log_seen data_seen source source_now log_entry data_entry (Gen seed users groups true max) log_now data_now = tt
+memory-untold log_seen data_seen source source_now log_entry data_entry (Gen seed users groups false max) log_now data_now = tt
 
 -- and that is what it means, whatever was done
 memory-means : (call : lab.Call) (command : Command) → IsOutcome call command (outcome.Fault fault.Memory)

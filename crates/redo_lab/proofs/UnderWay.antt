@@ -102,7 +102,7 @@ weaker-both None data_told weaker holds = tt
 weaker-both (Some log) None weaker holds = tt
 weaker-both (Some log) (Some data_told) weaker holds = weaker log data_told holds
 
-same-shorter : (cause : Refusal) (log_size data_size log_entry data_entry : ℕ) → log_size ≡ log_entry → data_size ≡ data_entry
+pub same-shorter : (cause : Refusal) (log_size data_size log_entry data_entry : ℕ) → log_size ≡ log_entry → data_size ≡ data_entry
     → IsShorter log_size data_size cause → IsShorter log_entry data_entry cause
 same-shorter cause log_size data_size log_entry data_entry log_same data_same short =
     subst (λ size. IsShorter log_entry size cause) data_same (subst (λ size. IsShorter size data_size cause) log_same short)

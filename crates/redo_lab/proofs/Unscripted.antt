@@ -67,7 +67,7 @@ run-unscripted call drive fault.Source alone cause law = record {
   safe = tt;
 }
 run-unscripted call drive (fault.Fit misfit) alone cause law = record {
-  means = ((refl, inl (cause, alone)), leaves-alone call law alone);
+  means = (inl (refl, cause, alone), leaves-alone call law alone);
   unread = λ plain. absurd (false≢true (sym plain));
   kept = λ leaves. absurd (false≢true leaves);
   told = record { log_device = told-fresh _ _ _ alone.log_device.fuse; data_device = told-fresh _ _ _ alone.data_device.fuse };
@@ -116,7 +116,7 @@ crash-unscripted call drive stop_log stop_data pick fault.Source alone cause law
   safe = tt;
 }
 crash-unscripted call drive stop_log stop_data pick (fault.Fit misfit) alone cause law = record {
-  means = ((refl, inl (cause, alone)), leaves-alone call law alone);
+  means = (inl (refl, cause, alone), leaves-alone call law alone);
   unread = λ plain. absurd (false≢true (sym plain));
   kept = λ leaves. absurd (false≢true leaves);
   told = record { log_device = told-fresh _ _ _ alone.log_device.fuse; data_device = told-fresh _ _ _ alone.data_device.fuse };

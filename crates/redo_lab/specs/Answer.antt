@@ -1,22 +1,23 @@
 -- What the text of each command says.
-use Rattle.std.specs.Prelude.{ℕ, ◌≡◌, ◌≤◌, ◌+◌, Bool, List, Option, Some, None, IfSome}
-use Rattle.model_base.specs.{default_shape, IsWithinLimits}
+use Rattle.std.specs.Prelude.{ℕ, ◌≡◌, Bool, true, false, List, Option, Some, None}
+use Rattle.model_base.specs.{default_shape}
 use Rattle.model_base.specs.declared.shape.Shape.{Shape}
 use Rattle.model_command.specs.declared.asked.Command.{Command}
 use Rattle.model_command.specs.declared.asked.Command.TheVariants.{Format, Run, Crash, Recover, Dump, Gen}
 use Rattle.model_command.specs.declared.asked.Drive.{Drive}
-use Rattle.model_history.specs.{IsLeft}
 use Rattle.model_page.specs.declared.content.Content.{Content}
 use Rattle.model_report.specs.{dump_text, format_text, recover_text, report_text}
-use Rattle.model_script.specs.{generated_text}
+use Rattle.model_script.specs.{generated_lines, generated_text}
 use Rattle.model_script.specs.declared.script.ScriptLine.{ScriptLine}
 use Rattle.model_store.specs.{IsReading}
 use Rattle.model_store.specs.Reading.{Reading}
-use Rattle.model_theorem.specs.{entries_of, FitsOpened, IsRun, LosesOnlyByFailure, marks_of, Opened, Ran, RunAccount, RunCall, RunPremises, RunPromise, start_of}
+use Rattle.model_theorem.specs.{entries_of, marks_of, Opened, Ran, RunAccount, RunCall, RunPremises, RunPromise, start_of}
 use Rattle.redo_lab.specs.Call.{AreKept, AreLeftAlone, Call, IsUnread}
-use Rattle.redo_lab.specs.Devices.{AreFound, IsCrashedAs, IsOpenedFirst, IsRunDevice, IsUnfailed, WhereToldAtEntry, WhereToldNow}
-use Rattle.redo_lab.specs.Script.{IsScriptOf}
-use Rattle.redo_lab.specs.Store.{AreBlank, IsOpenedAs}
+use Rattle.redo_lab.specs.Devices.{IsCrashedAs, IsOpenedFirst, IsRunDevice, IsUnfailed, WhereToldAtEntry, WhereToldNow}
+use Rattle.redo_lab.specs.Script.{IsScriptRead}
+use Rattle.redo_lab.specs.Store.{AreBlank}
+use Rattle.redo_lab.specs.Summary.{IsSummary}
+use Rattle.redo_lab.specs.Took.{IsToldOf}
 
 -- the sizes that the words of `format` ask for
 abbrev pub shape_of : (pages space log_blocks : ℕ) → Shape
@@ -47,32 +48,14 @@ abbrev pub read_of : Option Reading → Option (ℕ × List Content)
 read_of None = None
 read_of (Some reading) = Some (reading.end, reading.pages)
 
--- no device failed more than once from when its fuse was armed to the crash: a part whose call failed takes no more
-pub record FailsOnce (call : Call) : Type 0 where
-  pub log_device : call.log_device_now.fuse.mid ≤ 1
-  pub data_device : call.data_device_now.fuse.mid ≤ 1
-
--- A run took place: a legal history of the script on the store that was opened, which it fits.
-pub record TookPlace (call : Call) (log_only : Bool) (opened : Opened) (script : List ScriptLine) (run : Ran) : Type 0 where
-  pub opens : WhereToldAtEntry call (IsOpenedAs opened)
-  pub limits : IsWithinLimits opened.shape
-  pub fits : FitsOpened log_only opened script
-  pub in_lsn_order : IsRun script opened run
-
 -- The text says what became of the script of the source: the history of its run, what is left of it, the marks, and, after
--- a crash, what was read. Something is lost only where a call of a device failed between opening and crash; so it is where
--- opening was stopped, and there is no run. The fuses were armed before opening.
+-- a crash, what was read.
 pub record IsReport (call : Call) (log_only : Bool) (opened : Opened) (run : Option Ran) (read : Option Reading) (text : List ℕ)
     : Type 0 where
-  pub source_text : List ℕ
   pub script : List ScriptLine
   pub left : List (ℕ × ℕ)
-  pub source : IsScriptOf call.source call.source_now source_text script
-  pub ran : IfSome run (TookPlace call log_only opened script)
-  pub left_is : IsLeft script (entries_of run) left
-  pub loses : LosesOnlyByFailure (call.log_device_now.fuse.mid + call.data_device_now.fuse.mid) run left
-  pub once : FailsOnce call
-  pub found : WhereToldAtEntry call (AreFound call)
+  pub source : IsScriptRead call.source call.source_now script
+  pub told : IsToldOf call log_only opened script run left
   pub text_is : text ≡ report_text (start_of run) (entries_of run) left (marks_of run) (read_of read)
 
 -- the call of the promise of `run` is this one, with this report
@@ -129,4 +112,5 @@ IsAnswer call (Run drive) text = AreUnfailed call × IsRunText call drive text
 IsAnswer call (Crash drive stop_log stop_data pick) text = AreUnfailedAside call × IsCrashText call drive stop_log stop_data pick text
 IsAnswer call Recover text = AreUnfailed call × IsReadOff call recover_text text
 IsAnswer call Dump text = AreUnfailed call × IsReadOff call dump_text text
-IsAnswer call (Gen seed users groups run max) text = AreUnfailed call × IsGenerated call seed users groups text
+IsAnswer call (Gen seed users groups true max) text = AreUnfailed call × IsSummary call (generated_lines seed users groups) text
+IsAnswer call (Gen seed users groups false max) text = AreUnfailed call × IsGenerated call seed users groups text

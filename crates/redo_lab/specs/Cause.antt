@@ -19,7 +19,7 @@ use Rattle.model_script.specs.declared.script.ScriptLine.{ScriptLine}
 use Rattle.model_store.specs.{IsUnused, OpensOrderly}
 use Rattle.model_store.specs.Reading.{Reading}
 use Rattle.model_store.specs.declared.refusal.Refusal.{Refusal}
-use Rattle.model_theorem.specs.{FitsOpened, IsFresh, IsRun, Opened, Ran, room_of}
+use Rattle.model_theorem.specs.{IsFresh, Opened, Ran, room_of}
 use Rattle.redo_disk.specs.{failures}
 use Rattle.redo_disk.specs.Seen.{Seen}
 use Rattle.redo_disk.specs.declared.error.DevError.{DevError}
@@ -29,8 +29,9 @@ use Rattle.redo_lab.specs.Answer.{AreUnfailed, AreUnfailedAside, shape_of}
 use Rattle.redo_lab.specs.Asked.{calls_devices, command_of, drive_of, leaves_devices, reads_script, stops_of}
 use Rattle.redo_lab.specs.Call.{AreKept, AreLeftAlone, Call, Guarded, IsUnread}
 use Rattle.redo_lab.specs.Devices.{AreFound, HasFailed, IsCrashedAs, IsOpenedFirst, IsUnfailed, WhereToldAtEntry, WhereToldNow}
-use Rattle.redo_lab.specs.Script.{IsBadLine, IsLongScript, IsScriptOf}
+use Rattle.redo_lab.specs.Script.{IsBadLine, IsLongScript, IsScriptFor, IsScriptOf}
 use Rattle.redo_lab.specs.Store.{AreReadAsOpened, AreRefused, HasNoHeader, IsOpenedAs, IsShorter, IsTooShort}
+use Rattle.redo_lab.specs.Took.{TookPlace}
 
 -- the script of a command that reads one was read; of any other command the source was left alone
 abbrev pub IsPastSource : Call → Command → Type 0
@@ -100,7 +101,19 @@ pub record IsLeftRefused (call : Call) (stop_log stop_data : Option ℕ) (pick :
   pub shorter : IsShorter call.log_device.size call.data_device.size refusal
   pub refused : WhereToldNow call (AreRefused refusal)
 
--- The store is refused. What a crash left may be so too, where the premises of the crash theorem don't hold.
+-- the store that a run of the script left is refused when it is read behind it, and no call of a device failed
+pub record IsRunRefused (call : Call) (command : Command) (refusal : Refusal) : Type 0 where
+  pub script : List ScriptLine
+  pub opened : Opened
+  pub run : Ran
+  pub is_script : IsScriptFor command call.source call.source_now script
+  pub took_place : TookPlace call false opened script run
+  pub unfailed : AreUnfailed call
+  pub shorter : IsShorter call.log_device.size call.data_device.size refusal
+  pub refused : WhereToldNow call (AreRefused refusal)
+
+-- The store is refused. What a crash left may be so too, where the premises of the crash theorem don't hold; and what a run
+-- left, where those of the promise of `gen --run` don't.
 abbrev pub IsRefused : Call → Command → Refusal → Type 0
 IsRefused call (Format pages space log_blocks) refusal =
     AreLeftAlone call × IsTooShort (shape_of pages space log_blocks) call.log_device.size call.data_device.size refusal
@@ -109,17 +122,18 @@ IsRefused call (Crash drive stop_log stop_data pick) refusal =
     IsOpeningRefused call refusal ⊎ IsLeftRefused call stop_log stop_data pick refusal
 IsRefused call Recover refusal = IsReadingRefused call refusal
 IsRefused call Dump refusal = IsReadingRefused call refusal
-IsRefused call (Gen seed users groups run max) refusal = ⊥
+IsRefused call (Gen seed users groups true max) refusal =
+    IsOpeningRefused call refusal ⊎ IsRunRefused call (Gen seed users groups true max) refusal
+IsRefused call (Gen seed users groups false max) refusal = ⊥
 
 -- A quantity of the script is the first that doesn't fit the store that was opened, without a failure of a device. Where the
 -- log runs alone it has room for one round from the opened checkpoint on.
 pub record IsScriptMisfit (call : Call) (command : Command) (misfit : Misfit) : Type 0 where
   pub drive : Drive
   pub asked : drive_of command ≡ Some drive
-  pub text : List ℕ
   pub script : List ScriptLine
   pub opened : Opened
-  pub source : IsScriptOf call.source call.source_now text script
+  pub is_script : IsScriptFor command call.source call.source_now script
   pub opens : WhereToldAtEntry call (IsOpenedAs opened)
   pub limits : IsWithinLimits opened.shape
   pub unfailed : AreUnfailed call
@@ -127,7 +141,8 @@ pub record IsScriptMisfit (call : Call) (command : Command) (misfit : Misfit) : 
 
 -- a quantity doesn't fit
 abbrev pub IsMisfit : Call → Command → Misfit → Type 0
-IsMisfit call command misfit = (IsLongScript call.source misfit × AreLeftAlone call) ⊎ IsScriptMisfit call command misfit
+IsMisfit call command misfit =
+    ((reads_script command ≡ true) × IsLongScript call.source misfit × AreLeftAlone call) ⊎ IsScriptMisfit call command misfit
 
 -- The turns were spent: so many were allowed; a run of the script on the store that was opened, which it fits, leaves a line
 -- of this user that isn't answered, and it is the least user of those that met no error. No call failed before the fuses were
@@ -136,15 +151,11 @@ pub record AreTurnsSpent (call : Call) (command : Command) (turns user : ℕ) : 
   pub drive : Drive
   pub asked : drive_of command ≡ Some drive
   pub turns_are : turns ≡ drive.max
-  pub text : List ℕ
   pub script : List ScriptLine
   pub opened : Opened
   pub run : Ran
-  pub source : IsScriptOf call.source call.source_now text script
-  pub opens : WhereToldAtEntry call (IsOpenedAs opened)
-  pub limits : IsWithinLimits opened.shape
-  pub fits : FitsOpened drive.log_only opened script
-  pub in_lsn_order : IsRun script opened run
+  pub is_script : IsScriptFor command call.source call.source_now script
+  pub took_place : TookPlace call drive.log_only opened script run
   -- which error a call of each device answered, if one did; of these want of memory isn't seen from outside
   pub log_error : Option DevError
   pub data_error : Option DevError
@@ -168,7 +179,7 @@ IsCauseOf call command DataDevice =
     × IsDeviceFault call command (stops_of command).1 call.data_device call.data_device_now
 IsCauseOf call command (Store refusal) = IsPastSource call command × IsRefused call command refusal
 IsCauseOf call command (Turns turns user) = AreTurnsSpent call command turns user
-IsCauseOf call command (Fit misfit) = (reads_script command ≡ true) × IsMisfit call command misfit
+IsCauseOf call command (Fit misfit) = IsMisfit call command misfit
 IsCauseOf call command _ = ⊥
 
 -- What is left of a store in use, on fresh devices, where a run ended before its first line: it is read with the pages that
@@ -210,6 +221,7 @@ LeavesBehind call (Run drive) LogDevice = LeavesStopped call
 LeavesBehind call (Run drive) DataDevice = LeavesStopped call
 LeavesBehind call (Run drive) fault = LeavesStore call
 LeavesBehind call (Crash drive stop_log stop_data pick) (Fit misfit) = LeavesStore call
+LeavesBehind call (Gen seed users groups run max) (Fit misfit) = LeavesStore call
 LeavesBehind call command fault = ⊤
 
 -- the words ask for no command that is served, and nothing was done

@@ -1,5 +1,5 @@
 -- What is owed of a call on devices that don't fail: it does what it is asked, or memory ran out, or turns were spent.
-use Rattle.std.specs.Prelude.{ℕ, ◌≡◌, ◌≤◌, ◌⊎◌, Bool, true, List, ⊤, length, Some, Ok, IfSome}
+use Rattle.std.specs.Prelude.{ℕ, ◌≡◌, ◌≤◌, ◌⊎◌, Bool, true, false, List, ⊤, length, Some, Ok, IfSome}
 use Rattle.model_base.specs.{default_shape, HasRisen}
 use Rattle.model_base.specs.declared.limits.TheConstants.{MAX_SCRIPT}
 use Rattle.model_base.specs.declared.shape.Shape.{Shape}
@@ -11,14 +11,14 @@ use Rattle.model_page.specs.{data_device_length}
 use Rattle.model_report.specs.{status_of}
 use Rattle.model_report.specs.declared.fault.Fault.{Fault}
 use Rattle.model_report.specs.declared.fault.Fault.TheVariants.{Memory, Turns}
-use Rattle.model_script.specs.{script_of}
+use Rattle.model_script.specs.{generated_lines, script_of}
 use Rattle.model_script.specs.declared.script.ScriptLine.{ScriptLine}
 use Rattle.model_store.specs.{IsFair, IsReading, IsUnused, Opens}
 use Rattle.model_store.specs.Reading.{Reading}
 use Rattle.model_theorem.specs.{FitsOpened, IsFresh, Opened}
 use Rattle.redo_disk.specs.Seen.{Seen}
 use Rattle.redo_lab.specs.Answer.{AreUnfailed, AreUnfailedAside, shape_of}
-use Rattle.redo_lab.specs.Asked.{command_of, reads_script}
+use Rattle.redo_lab.specs.Asked.{command_of, runs_script}
 use Rattle.redo_lab.specs.Call.{Call, Guarded, LabCall}
 use Rattle.redo_lab.specs.Ending.{success}
 
@@ -37,26 +37,30 @@ abbrev pub IsLeftFair : Guarded → Opened → Type 0
 IsLeftFair device opened =
     IfSome device.seen.crashed_from (λ from. IfSome device.seen.tells (λ left. IsFair opened.shape from left.reads))
 
--- The source holds a script, which fits the store that fresh devices open.
-pub record CanRun (call : Call) (log_only : Bool) : Type 0 where
-  pub text : List ℕ
-  pub script : List ScriptLine
+-- The script fits the store that fresh devices open.
+pub record CanPlay (call : Call) (log_only : Bool) (script : List ScriptLine) : Type 0 where
   pub log : Disk
   pub data_disk : Disk
   pub opened : Opened
-  pub source : call.source.left ≡ Some text
-  pub short : length text ≤ MAX_SCRIPT
-  pub is_script : script_of text ≡ Ok script
   pub log_fresh : IsFreshAs call.log_device log
   pub data_fresh : IsFreshAs call.data_device data_disk
   pub opens : Opens log.reads data_disk.reads opened.shape opened.pages opened.end
   pub long : IsUnused log.reads → AreLongEnough default_shape call.log_device.size call.data_device.size
   pub fits : FitsOpened log_only opened script
 
+-- The source holds such a script.
+pub record CanRun (call : Call) (log_only : Bool) : Type 0 where
+  pub text : List ℕ
+  pub script : List ScriptLine
+  pub source : call.source.left ≡ Some text
+  pub short : length text ≤ MAX_SCRIPT
+  pub is_script : script_of text ≡ Ok script
+  pub plays : CanPlay call log_only script
+
 -- It can be run, and what the crash left can be read.
 pub record CanCrash (call : Call) (log_only : Bool) : Type 0 where
   pub can : CanRun call log_only
-  pub fair : IsLeftFair call.data_device_now can.opened
+  pub fair : IsLeftFair call.data_device_now can.plays.opened
 
 -- the devices hold a store that can be read
 pub record CanRead (call : Call) : Type 0 where
@@ -75,7 +79,8 @@ IsPossible call (Run drive) = CanRun call drive.log_only
 IsPossible call (Crash drive stop_log stop_data pick) = CanCrash call drive.log_only
 IsPossible call Recover = CanRead call
 IsPossible call Dump = CanRead call
-IsPossible call (Gen seed users groups run max) = Unit {0}
+IsPossible call (Gen seed users groups true max) = CanPlay call false (generated_lines seed users groups)
+IsPossible call (Gen seed users groups false max) = Unit {0}
 
 -- No device failed; in a crash none failed before opening or behind the crash, since a failure between is no reason not to
 -- crash and read.
@@ -92,7 +97,7 @@ pub record IsUnfailedCall (lab : LabCall) (command : Command) : Type 0 where
 -- what may keep a command from being done where nothing failed: want of memory, or, where it runs a script, spent turns
 abbrev pub MayKeepFrom : Command → Fault → Type 0
 MayKeepFrom command Memory = ⊤
-MayKeepFrom command (Turns turns user) = reads_script command ≡ true
+MayKeepFrom command (Turns turns user) = runs_script command ≡ true
 MayKeepFrom command _ = ⊥
 
 -- A command that can be done is done, where nothing failed, or one of these kept it from that.

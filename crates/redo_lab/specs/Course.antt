@@ -1,6 +1,8 @@
 -- How far a run came, and what it leaves of the two devices.
 use Rattle.std.specs.Prelude.{ℕ, ◌≡◌, ◌≢◌, ◌≤◌, ◌<◌, ◌+◌, ◌⊎◌, Bool, List, Option, Some, None, IfSome}
 use Rattle.model_base.specs.{IsWithinLimits}
+use Rattle.model_device.specs.{synced}
+use Rattle.model_device.specs.Disk.{Disk}
 use Rattle.model_finish.specs.{LeavesOpen}
 use Rattle.model_history.specs.{IsLeft}
 use Rattle.model_log.specs.{start_after}
@@ -120,6 +122,24 @@ IsEndedBy log_entry data_entry stops turns script _ log_now data_now = ⊥
 abbrev pub ran_of : Played → Ran
 ran_of played = record { start = played.start; entries = played.history; marks = played.marks }
 
+-- On a store that could be opened when the fuses were armed the run is a closed one, in which so many calls failed: with what
+-- becomes so of both devices.
+abbrev pub ClosesRun : (Disk → Disk) → (log_found data_found : Guarded) → Opened → List ScriptLine → Played → (failed : ℕ)
+    → (log_now data_now : Guarded) → Type 0
+ClosesRun becomes log_found data_found opened script played failed log_now data_now =
+    (reading : Reading) (left : List (ℕ × ℕ)) → IsLeft script played.history left
+    → WhereBothTell log_found.seen.tells data_found.seen.tells (λ log data_disk. IsOpenable reading log data_disk
+    → (opened ≡ opened_as reading) × WhereBothTell log_now.seen.tells data_now.seen.tells (λ log_disk data_disk.
+    IsClosed failed (record {
+      script = script;
+      opened = opened;
+      number = reading.number + 1;
+      run = ran_of played;
+      left = left;
+      log_disk = becomes log_disk;
+      data_disk = becomes data_disk;
+    })))
+
 -- THE LINES WERE RUN, and so many calls of the two devices failed.
 pub record ArePlayed (log_entry data_entry : Seen) (stops : Stops) (log_only : Bool) (script : List ScriptLine) (played : Played)
     (log_failed data_failed : ℕ) (log_now data_now : Guarded) : Type 0 where
@@ -131,19 +151,13 @@ pub record ArePlayed (log_entry data_entry : Seen) (stops : Stops) (log_only : B
   pub is_run : IsRun script opened (ran_of played)
   pub loses : (left : List (ℕ × ℕ)) → IsLeft script played.history left
       → LosesOnlyByFailure (log_failed + data_failed) (Some (ran_of played)) left
-  -- on a store that could be opened when the fuses were armed it is a closed run
-  pub closed : (reading : Reading) (left : List (ℕ × ℕ)) → IsLeft script played.history left
-      → WhereBothTell way.log_found.seen.tells way.data_found.seen.tells (λ log data_disk. IsOpenable reading log data_disk
-      → (opened ≡ opened_as reading) × WhereBothTell log_now.seen.tells data_now.seen.tells (λ log_disk data_disk.
-      IsClosed (log_failed + data_failed) (record {
-        script = script;
-        opened = opened;
-        number = reading.number + 1;
-        run = ran_of played;
-        left = left;
-        log_disk = log_disk;
-        data_disk = data_disk;
-      })))
+  pub closed : ClosesRun (λ disk. disk) way.log_found way.data_found opened script played (log_failed + data_failed) log_now data_now
+
+-- No call answered an error: a sync of both devices would leave a closed run too, whose images are what reads give.
+pub record ArePlayedThrough (log_entry data_entry : Seen) (stops : Stops) (log_only : Bool) (script : List ScriptLine)
+    (played : Played) (log_now data_now : Guarded) : Type 0 where
+  pub are : ArePlayed log_entry data_entry stops log_only script played 0 0 log_now data_now
+  pub if_synced : ClosesRun synced are.way.log_found are.way.data_found are.opened script played 0 log_now data_now
 
 -- The log device failed, and the data device may have failed too.
 pub record ArePlayedToFault (log_entry data_entry : Seen) (stops : Stops) (log_only : Bool) (script : List ScriptLine)
@@ -155,7 +169,7 @@ pub record ArePlayedToFault (log_entry data_entry : Seen) (stops : Stops) (log_o
 -- the lines were run, and this fault ended the run, if one did: that of the log device where both failed
 abbrev pub IsPlayedBy : Seen → Seen → Stops → Bool → List ScriptLine → Played → Option Fault → Guarded → Guarded → Type 0
 IsPlayedBy log_entry data_entry stops log_only script played None log_now data_now =
-    ArePlayed log_entry data_entry stops log_only script played 0 0 log_now data_now
+    ArePlayedThrough log_entry data_entry stops log_only script played log_now data_now
 IsPlayedBy log_entry data_entry stops log_only script played (Some fault.LogDevice) log_now data_now =
     ArePlayedToFault log_entry data_entry stops log_only script played log_now data_now
 IsPlayedBy log_entry data_entry stops log_only script played (Some fault.DataDevice) log_now data_now =

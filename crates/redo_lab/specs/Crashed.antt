@@ -1,19 +1,17 @@
 -- What a crash leaves of both devices, and what reading behind it comes to.
 use Rattle.std.specs.Prelude.{ℕ, ◌≡◌, List, Option, Some}
 use Rattle.model_device.specs.{Crashes}
-use Rattle.model_report.specs.declared.fault.Fault.TheVariants as fault
 use Rattle.model_script.specs.declared.script.ScriptLine.{ScriptLine}
 use Rattle.model_store.specs.{IsReading}
 use Rattle.model_store.specs.Reading.{Reading}
-use Rattle.model_store.specs.declared.refusal.Refusal.{Refusal}
 use Rattle.model_theorem.specs.{Ran}
 use Rattle.redo_disk.specs.{OnTold}
 use Rattle.redo_disk.specs.Seen.{Seen}
 use Rattle.redo_lab.specs.Call.{Guarded}
 use Rattle.redo_lab.specs.Prepared.{WhereTold}
 use Rattle.redo_lab.specs.Reported.{IsReportOf}
+use Rattle.redo_lab.specs.Reread.{FailsReading}
 use Rattle.redo_lab.specs.Stages.{IsArmed, IsCrashedWith}
-use Rattle.redo_lab.specs.Store.{AreRefused, IsShorter}
 use Rattle.redo_lab.specs.declared.outcome.Outcome.{Outcome}
 use Rattle.redo_lab.specs.declared.outcome.Outcome.TheVariants as outcome
 
@@ -39,22 +37,9 @@ pub record AreReadBack (pick : ℕ) (script : List ScriptLine) (run : Option Ran
   pub is_read : WhereTold log_now.seen data_now.seen (λ log data_disk. IsReading log.reads data_disk.reads reading)
   pub report : IsReportOf script run (Some (reading.end, reading.pages)) text
 
--- THE STORE WAS REFUSED.
-pub record AreRefusedBack (pick : ℕ) (refusal : Refusal) (log_old data_old log_now data_now : Guarded) : Type 0 where
-  pub crashed : AreCrashedSince pick 0 0 log_old data_old log_now data_now
-  pub shorter : IsShorter log_now.seen.size data_now.seen.size refusal
-  pub refused : WhereTold log_now.seen data_now.seen (AreRefused refusal)
-
 -- WHAT IS READ BACK behind a crash with this pick, of a run of this script, or of none: a report, or why there is none.
 abbrev pub ReadsBack : ℕ → List ScriptLine → Option Ran → Outcome → (log_old data_old log_now data_now : Guarded) → Type 0
 ReadsBack pick script run (outcome.Text text) log_old data_old log_now data_now = AreReadBack pick script run text log_old data_old log_now data_now
 ReadsBack pick script run (outcome.Report text f) log_old data_old log_now data_now = ⊥
-ReadsBack pick script run (outcome.Fault fault.Memory) log_old data_old log_now data_now =
-    AreCrashedSince pick 0 0 log_old data_old log_now data_now
-ReadsBack pick script run (outcome.Fault fault.LogDevice) log_old data_old log_now data_now =
-    AreCrashedSince pick 1 0 log_old data_old log_now data_now
-ReadsBack pick script run (outcome.Fault fault.DataDevice) log_old data_old log_now data_now =
-    AreCrashedSince pick 0 1 log_old data_old log_now data_now
-ReadsBack pick script run (outcome.Fault (fault.Store refusal)) log_old data_old log_now data_now =
-    AreRefusedBack pick refusal log_old data_old log_now data_now
-ReadsBack pick script run (outcome.Fault _) log_old data_old log_now data_now = ⊥
+ReadsBack pick script run (outcome.Fault f) log_old data_old log_now data_now =
+    FailsReading (λ log_failed data_failed. AreCrashedSince pick log_failed data_failed log_old data_old log_now data_now) f log_now data_now

@@ -1,5 +1,6 @@
 pub mod Answer
 pub mod Asked
+pub mod Behind
 pub mod Call
 pub mod Cause
 pub mod Complete
@@ -16,5 +17,8 @@ pub mod Promised
 pub mod Script
 pub mod Stages
 pub mod Store
+pub mod Summary
+pub mod Took
 pub mod Reported
+pub mod Reread
 pub mod Turned

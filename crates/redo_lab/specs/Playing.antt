@@ -1,6 +1,8 @@
 -- What the inner functions of a run come to: both devices once their fuses are armed, and the lines of a script on the store
 -- that was opened.
 use Rattle.std.specs.Prelude.{ℕ, ◌≡◌, ◌≢◌, ◌+◌, ◌⊎◌, List, Option, Some, None}
+use Rattle.model_device.specs.{synced}
+use Rattle.model_device.specs.Disk.{Disk}
 use Rattle.model_finish.specs.{LeavesOpen}
 use Rattle.model_history.specs.{IsLeft}
 use Rattle.model_log.specs.{start_after}
@@ -95,6 +97,25 @@ pub record MakeCalls {L D : Type 0} (log_gives : L → Call → L → Type 0) (d
   pub log : MakesCalls log_gives opened.log.dev log_now (MayEndWith log_error)
   pub data_part : MakesCalls data_gives opened.store.dev data_now (MayEndWith data_error)
 
+-- Where the devices tell, and the store was ready, the run is a closed one, in which so many calls failed: with what becomes so
+-- of both devices.
+abbrev pub OwesRun : {L D : Type 0} → (Disk → Disk) → (L → Seen) → (D → Seen) → Opened L D → List ScriptLine → Played
+    → (failed : ℕ) → L → D → Type 0
+OwesRun becomes log_seen data_seen opened script played failed log_now data_now =
+    (reading : Reading) (left : List (ℕ × ℕ)) → IsOpenedAs reading opened → IsLeft script played.history left
+    → WhereBothTell (log_seen opened.log.dev).tells (data_seen opened.store.dev).tells (λ log data_disk.
+    IsStart reading script log data_disk
+    → WhereBothTell (log_seen log_now).tells (data_seen data_now).tells (λ log_disk data_disk.
+    IsClosed failed (record {
+      script = script;
+      opened = opened_as reading;
+      number = reading.number + 1;
+      run = ran_of played;
+      left = left;
+      log_disk = becomes log_disk;
+      data_disk = becomes data_disk;
+    })))
+
 -- The lines were run on the opened store, which the script fits, until all users had ended; a call of each device may have
 -- answered an error.
 pub record AreRun {L D : Type 0} (log_seen : L → Seen) (log_gives : L → Call → L → Type 0)
@@ -107,20 +128,10 @@ pub record AreRun {L D : Type 0} (log_seen : L → Seen) (log_gives : L → Call
       → IsRun script (record { shape = opened.shape; pages = opened.pages; end = end }) (ran_of played)
   pub loses : (left : List (ℕ × ℕ)) → IsLeft script played.history left
       → LosesOnlyByFailure (failures log_error + failures data_error) (Some (ran_of played)) left
-  -- where the devices tell, and the store was ready, it is a closed one
-  pub owed : (reading : Reading) (left : List (ℕ × ℕ)) → IsOpenedAs reading opened → IsLeft script played.history left
-      → WhereBothTell (log_seen opened.log.dev).tells (data_seen opened.store.dev).tells (λ log data_disk.
-      IsStart reading script log data_disk
-      → WhereBothTell (log_seen log_now).tells (data_seen data_now).tells (λ log_disk data_disk.
-      IsClosed (failures log_error + failures data_error) (record {
-        script = script;
-        opened = opened_as reading;
-        number = reading.number + 1;
-        run = ran_of played;
-        left = left;
-        log_disk = log_disk;
-        data_disk = data_disk;
-      })))
+  pub owed : OwesRun (λ disk. disk) log_seen data_seen opened script played (failures log_error + failures data_error) log_now data_now
+  -- and where no call answered an error, with what a sync would leave of both devices
+  pub owed_synced : log_error ≡ None → data_error ≡ None
+      → OwesRun synced log_seen data_seen opened script played (failures log_error + failures data_error) log_now data_now
   pub calls : MakeCalls log_gives data_gives opened log_error data_error log_now data_now
 
 -- The turns were spent, so many, before each user had ended; this is the least of those that hadn't.

@@ -1,8 +1,8 @@
 -- A run that is told is the run by the turns of its drive: those of its seed, as many as it allows, on the store that was
 -- opened on the two devices that were handed in.
-use Rattle.std.specs.Prelude.{ℕ, ◌≡◌, ◌⊎◌, List, Option, Some, None}
+use Rattle.std.specs.Prelude.{ℕ, ◌≡◌, ◌⊎◌, true, List, Option, Some, None}
 use Rattle.model_command.specs.declared.asked.Command.{Command}
-use Rattle.model_command.specs.declared.asked.Command.TheVariants.{Run, Crash}
+use Rattle.model_command.specs.declared.asked.Command.TheVariants.{Run, Crash, Gen}
 use Rattle.model_command.specs.declared.asked.Drive.{Drive}
 use Rattle.model_log.specs.{start_after}
 use Rattle.model_opening.specs.{IsOpenable}
@@ -24,7 +24,8 @@ use Rattle.redo_memdisk.specs.{fuse_of, seen_through}
 use Rattle.redo_memdisk.specs.declared.fused.Fused.{Fused}
 use Rattle.redo_open.specs.{IsOpenedReady, WhereBothTell}
 use Rattle.redo_pageactors.specs.declared.opened.Opened.{Opened}
-use Rattle.redo_lab.specs.Asked.{command_of, turns_of}
+use Rattle.redo_lab.specs.Asked.{command_of, drive_of_seed, turns_of}
+use Rattle.redo_lab.specs.Behind.{AreReadSince}
 use Rattle.redo_lab.specs.Call.{LabCall, guarded}
 use Rattle.redo_lab.specs.Course.{AreUnderWay, ran_of}
 use Rattle.redo_lab.specs.Crashed.{AreCrashedSince}
@@ -32,8 +33,9 @@ use Rattle.redo_lab.specs.Outcome.{IsOutcome, IsOutcomePrinted}
 use Rattle.redo_lab.specs.Playing.{MakeCalls, ended_by, played_of}
 use Rattle.redo_lab.specs.Prepared.{WhereTold}
 use Rattle.redo_lab.specs.Reported.{IsReportOf}
-use Rattle.redo_lab.specs.Script.{IsScriptRead}
+use Rattle.redo_lab.specs.Script.{IsScriptFor}
 use Rattle.redo_lab.specs.Store.{IsOpenedAs}
+use Rattle.redo_lab.specs.Summary.{summary_of}
 use Rattle.redo_lab.specs.declared.outcome.Outcome.{Outcome}
 use Rattle.redo_lab.specs.declared.outcome.Outcome.TheVariants as outcome
 use Rattle.redo_lab.specs.declared.playing.Course.{Course}
@@ -141,8 +143,10 @@ ComesByTurnsTo log_seen data_seen log_entry data_entry stops turns script (cours
 
 -- WHAT IS TOLD OF IT.
 
--- a call that reads its script off a source: the two devices as they were handed in, how they are stopped, and the turns
+-- a call of a command that runs a script: its source, the two devices as they were handed in, how they are stopped, and the
+-- turns
 pub record Handed : Type 0 where
+  pub command : Command
   pub source : SourceSeen
   pub source_now : SourceSeen
   pub log_entry : Seen
@@ -150,16 +154,21 @@ pub record Handed : Type 0 where
   pub stops : Stops
   pub turns : drive.Turns
 
--- The text is the report of a run by turns, which this fault ended, if one did, and at the end of which the devices were
--- these; behind a crash it has what was read.
-pub record TellsRun {L D : Type 0} (log_seen : L → Seen) (data_seen : D → Seen) (handed : Handed)
-    (read : Option (ℕ × List Content)) (fault : Option Fault) (text : List ℕ) (log_then : Fused L) (data_then : Fused D) : Type 0 where
+-- A run by turns took place of the script that the command runs; this fault ended it, if one did, and at its end the devices were
+-- these.
+pub record RunsAsHanded {L D : Type 0} (log_seen : L → Seen) (data_seen : D → Seen) (handed : Handed) (fault : Option Fault)
+    (log_then : Fused L) (data_then : Fused D) : Type 0 where
   pub script : List ScriptLine
-  pub is_script : IsScriptRead handed.source handed.source_now script
+  pub is_script : IsScriptFor handed.command handed.source handed.source_now script
   pub played : Played
   pub comes : ComesToEnd log_seen data_seen handed.log_entry handed.data_entry handed.stops handed.turns script
       played fault log_then data_then
-  pub report : IsReportOf script (Some (ran_of played)) read text
+
+-- The text is the report of such a run; behind a crash it has what was read.
+pub record TellsRun {L D : Type 0} (log_seen : L → Seen) (data_seen : D → Seen) (handed : Handed)
+    (read : Option (ℕ × List Content)) (fault : Option Fault) (text : List ℕ) (log_then : Fused L) (data_then : Fused D) : Type 0 where
+  pub runs : RunsAsHanded log_seen data_seen handed fault log_then data_then
+  pub report : IsReportOf runs.script (Some (ran_of runs.played)) read text
 
 -- The same of a text of `crash`: the devices were crashed at the end of the run, whatever ended it, and then read.
 pub record TellsCrash {L D : Type 0} (log_seen : L → Seen) (data_seen : D → Seen)
@@ -172,10 +181,21 @@ pub record TellsCrash {L D : Type 0} (log_seen : L → Seen) (data_seen : D → 
   pub fault : Option Fault
   pub run : TellsRun log_seen data_seen handed (Some read) fault text log_then data_then
 
+-- The text is the summary of such a run that no fault ended, and of a reading: since the end of the run the devices mean the same.
+pub record TellsSummary {L D : Type 0} (log_seen : L → Seen) (data_seen : D → Seen)
+    (handed : Handed) (text : List ℕ) (log_now : Fused L) (data_now : Fused D) : Type 0 where
+  pub log_then : Fused L
+  pub data_then : Fused D
+  pub read_since : AreReadSince 0 0 (guarded log_seen log_then) (guarded data_seen data_then)
+      (guarded log_seen log_now) (guarded data_seen data_now)
+  pub runs : RunsAsHanded log_seen data_seen handed None log_then data_then
+  pub reading : Reading
+  pub text_is : text ≡ summary_of (ran_of runs.played) reading
+
 -- the text tells that there was no run
 pub record TellsNone (handed : Handed) (text : List ℕ) : Type 0 where
   pub script : List ScriptLine
-  pub is_script : IsScriptRead handed.source handed.source_now script
+  pub is_script : IsScriptFor handed.command handed.source handed.source_now script
   pub read : ℕ × List Content
   pub report : IsReportOf script None (Some read) text
 
@@ -183,7 +203,7 @@ pub record TellsNone (handed : Handed) (text : List ℕ) : Type 0 where
 pub record TellsSpent {L D : Type 0} (log_seen : L → Seen) (data_seen : D → Seen)
     (handed : Handed) (count user : ℕ) (log_now : Fused L) (data_now : Fused D) : Type 0 where
   pub script : List ScriptLine
-  pub is_script : IsScriptRead handed.source handed.source_now script
+  pub is_script : IsScriptFor handed.command handed.source handed.source_now script
   pub comes : ComesToSpent log_seen data_seen handed.log_entry handed.data_entry handed.stops handed.turns script
       count user log_now data_now
 
@@ -194,8 +214,9 @@ no_stops = record { log = None; store = None }
 module _ {L D : Type 0} (log_seen : L → Seen) (data_seen : D → Seen)
     (source source_now : SourceSeen) (log_entry data_entry : Seen) where
   -- the call of a command that runs a script so
-  abbrev pub handed_as : Stops → Drive → Handed
-  handed_as stops drive = record {
+  abbrev pub handed_as : Command → Stops → Drive → Handed
+  handed_as command stops drive = record {
+    command = command;
     source = source;
     source_now = source_now;
     log_entry = log_entry;
@@ -208,18 +229,23 @@ module _ {L D : Type 0} (log_seen : L → Seen) (data_seen : D → Seen)
   -- reported of a crash.
   abbrev pub TellsByTurns : Command → Outcome → Fused L → Fused D → Type 0
   TellsByTurns (Run drive) (outcome.Text text) log_now data_now =
-      TellsRun log_seen data_seen (handed_as no_stops drive) None None text log_now data_now
+      TellsRun log_seen data_seen (handed_as (Run drive) no_stops drive) None None text log_now data_now
   TellsByTurns (Run drive) (outcome.Report text (Turns count user)) log_now data_now = ⊥
   TellsByTurns (Run drive) (outcome.Report text fault) log_now data_now =
-      TellsRun log_seen data_seen (handed_as no_stops drive) None (Some fault) text log_now data_now
+      TellsRun log_seen data_seen (handed_as (Run drive) no_stops drive) None (Some fault) text log_now data_now
   TellsByTurns (Run drive) (outcome.Fault (Turns count user)) log_now data_now =
-      TellsSpent log_seen data_seen (handed_as no_stops drive) count user log_now data_now
+      TellsSpent log_seen data_seen (handed_as (Run drive) no_stops drive) count user log_now data_now
   TellsByTurns (Crash drive stop_log stop_data pick) (outcome.Text text) log_now data_now =
-      TellsNone (handed_as (record { log = stop_log; store = stop_data }) drive) text
-      ⊎ TellsCrash log_seen data_seen (handed_as (record { log = stop_log; store = stop_data }) drive) pick text log_now data_now
+      TellsNone (handed_as (Crash drive stop_log stop_data pick) (record { log = stop_log; store = stop_data }) drive) text
+      ⊎ TellsCrash log_seen data_seen (handed_as (Crash drive stop_log stop_data pick) (record { log = stop_log; store = stop_data }) drive) pick text log_now data_now
   TellsByTurns (Crash drive stop_log stop_data pick) (outcome.Report text fault) log_now data_now = ⊥
   TellsByTurns (Crash drive stop_log stop_data pick) (outcome.Fault (Turns count user)) log_now data_now =
-      TellsSpent log_seen data_seen (handed_as (record { log = stop_log; store = stop_data }) drive) count user log_now data_now
+      TellsSpent log_seen data_seen (handed_as (Crash drive stop_log stop_data pick) (record { log = stop_log; store = stop_data }) drive) count user log_now data_now
+  TellsByTurns (Gen seed users groups true max) (outcome.Text text) log_now data_now =
+      TellsSummary log_seen data_seen (handed_as (Gen seed users groups true max) no_stops (drive_of_seed seed max)) text log_now data_now
+  TellsByTurns (Gen seed users groups true max) (outcome.Report text fault) log_now data_now = ⊥
+  TellsByTurns (Gen seed users groups true max) (outcome.Fault (Turns count user)) log_now data_now =
+      TellsSpent log_seen data_seen (handed_as (Gen seed users groups true max) no_stops (drive_of_seed seed max)) count user log_now data_now
   TellsByTurns command outcome log_now data_now = Unit {0}
 
 -- What the words' command came to was printed; it means what it says of the call, and a run that it tells of is one by its

@@ -36,8 +36,7 @@ fn is_served(command: &Command) -> bool
     match command {
         Command::Run { drive } => is_by_turns(drive),
         Command::Crash { drive, .. } => is_by_turns(drive),
-        Command::Gen { run, .. } => !*run,
-        Command::Format { .. } | Command::Recover | Command::Dump => true,
+        Command::Format { .. } | Command::Recover | Command::Dump | Command::Gen { .. } => true,
     }
 }
 

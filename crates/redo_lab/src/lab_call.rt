@@ -7,38 +7,26 @@ ghost use Rattle.redo_io.specs.declared.read.TheConstants.{PIECE};
 ghost use Rattle.model_command.specs.declared.asked.Command.TheVariants.{Crash, Run};
 ghost use Rattle.redo_lab.specs.Asked.{IsWithin};
 ghost use Rattle.redo_lab.specs.Call.{lab_call_of};
-ghost use Rattle.redo_lab.specs.Outcome.{EndsCommand, IsOutcomePrinted, IsUnasked, call_of};
+ghost use Rattle.redo_lab.specs.Outcome.{EndsCommand, IsOutcomePrinted, call_of};
 ghost use Rattle.redo_lab.specs.Promised.{IsCallOf};
 ghost use Rattle.redo_lab.specs.Turned.{IsByTurns, TellsByTurns};
 
 use crate::asked::read_command;
 use crate::crash_command::crash_command;
 use crate::ended::Ended;
-use crate::outcome::{Done, Outcome};
+use crate::gen_command::gen_command;
+use crate::outcome::{Done, Outcome, unasked};
 use crate::playing::Stops;
 use crate::printing::{print_fault, print_report, print_text};
 use crate::run_command::run_command;
 use crate::script::read_script;
-use crate::simple::{format_devices, print_pages, print_script, print_store};
+use crate::simple::{format_devices, print_pages, print_store};
 use model_command::{Command, Drive};
 use model_opening::openable_reads;
-use model_report::Fault;
 use model_script::read_lines_are_ranged;
 use redo_disk::Sectors;
 use redo_io::{Sink, Source};
-use redo_memdisk::Fused;
 use std::alloc::Global;
-
-/// What is left of a command that is ended by this fault before a device is called.
-fn unasked<L, D>(fault: Fault, log: L, store: D) -> Done<L, D>
-    ensures { IsUnasked fault log store result }
-{
-    Done {
-        outcome: Outcome::Fault(fault),
-        log: Fused::plain(log),
-        store: Fused::plain(store),
-    }
-}
 
 /// The command `run`, on the script of the source.
 fn run_source<S: Source, L: Sectors, D: Sectors>(
@@ -129,7 +117,7 @@ fn done<S: Source, L: Sectors, D: Sectors>(
             groups,
             run,
             max,
-        } => print_script(alloc, seed, users, groups, run, max, log, store),
+        } => gen_command(alloc, seed, users, groups, run, max, log, store),
     }
 }
 

@@ -6,6 +6,7 @@ mod asked;
 mod crash_command;
 mod ended;
 mod faults;
+mod gen_command;
 mod lab_call;
 mod outcome;
 mod playing;

@@ -1,5 +1,6 @@
 // What a command leaves to be printed.
 ghost use Rattle.std.specs.Prelude.{◌≡◌};
+ghost use Rattle.redo_lab.specs.Outcome.{IsUnasked};
 
 use model_report::Fault;
 use redo_io::Text;
@@ -36,5 +37,16 @@ impl Outcome {
             Ok(text) => Outcome::Text(text),
             Err(_) => Outcome::Fault(Fault::Memory),
         }
+    }
+}
+
+/// What is left of a command that is ended by this fault before a device is called.
+pub(crate) fn unasked<L, D>(fault: Fault, log: L, store: D) -> Done<L, D>
+    ensures { IsUnasked fault log store result }
+{
+    Done {
+        outcome: Outcome::Fault(fault),
+        log: Fused::plain(log),
+        store: Fused::plain(store),
     }
 }

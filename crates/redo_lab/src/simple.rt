@@ -1,8 +1,7 @@
-// The commands that run no script.
-ghost use Rattle.std.specs.Prelude.{ℕ, List, ◌≤◌};
+// The commands that take no script.
+ghost use Rattle.std.specs.Prelude.{ℕ, List};
 ghost use Rattle.model_base.specs.{IsWithinLimits};
-ghost use Rattle.model_command.specs.declared.asked.Command.TheVariants.{Format, Recover, Dump, Gen};
-ghost use Rattle.model_script.specs.declared.misfit.TheConstants.{MAX_USERS};
+ghost use Rattle.model_command.specs.declared.asked.Command.TheVariants.{Format, Recover, Dump};
 ghost use Rattle.redo_io.specs.{SourceSeen};
 ghost use Rattle.redo_lab.specs.Answer.{shape_of};
 ghost use Rattle.redo_lab.specs.Outcome.{EndsCommand, call_of};
@@ -18,7 +17,6 @@ use redo_memdisk::Fused;
 use redo_open::format;
 use redo_recover::recover;
 use redo_report::formatted;
-use redo_script::generate;
 use std::alloc::Global;
 
 /// Formats both devices.
@@ -92,30 +90,5 @@ pub(crate) fn print_store<L: Sectors, D: Sectors>(alloc: Global, log: L, store: 
             log,
             store,
         },
-    }
-}
-
-/// Generates a script.
-pub(crate) fn print_script<L: Sectors, D: Sectors>(
-    alloc: Global,
-    seed: u64,
-    users: u32,
-    groups: u64,
-    run: bool,
-    max: u64,
-    log: L,
-    store: D,
-) -> Done<L, D>
-    requires some_users { 1 ≤ users }
-    requires few_users { users ≤ MAX_USERS }
-    ensures { (words : List (List ℕ)) (source : SourceSeen)
-        → EndsCommand (call_of L.seen D.seen words source source log store result) (Gen seed users groups run max) result.outcome }
-{
-    let log = Fused::plain(log);
-    let store = Fused::plain(store);
-    Done {
-        outcome: Outcome::of_text(generate(alloc, seed, users, groups)),
-        log,
-        store,
     }
 }

@@ -3,6 +3,8 @@ mod answers;
 mod calls;
 mod failures;
 mod logs;
+mod premises;
 mod rounds;
 mod stops;
 mod stores;
+mod summaries;

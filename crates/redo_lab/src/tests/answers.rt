@@ -1,5 +1,5 @@
 // Calls on devices that hold zeros.
-use super::calls::{LINE, LINE_PAGE, LINE_RUN, call, expect, expect_on, repeated};
+use super::calls::{LINE, LINE_PAGE, LINE_RUN, call, expect, expect_on, has_line, repeated};
 use std::alloc::{AllocError, Global};
 use std::test::Fail;
 
@@ -52,7 +52,6 @@ fn refuses_calls(rt: HostRuntime) -> Result<(), Fail> {
         ("dump", LINE, 8, "fault store unformatted\n"),
         ("", LINE, 2, "fault words\n"),
         ("crash --threads", LINE, 2, "fault words\n"),
-        ("gen 1 1 1 --run", LINE, 2, "fault words\n"),
         ("format --pages 9", LINE, 10, "fault fit store 69632\n"),
         ("format --pages 64", LINE, 10, "fault fit store 294912\n"),
         (
@@ -122,11 +121,6 @@ fn refuses_a_script_for_which_the_log_alone_has_no_room(rt: HostRuntime) -> Resu
         let _devices = expect(&rt, words, &script, 10, "fault fit total 1107516\n")?;
     }
     Ok(())
-}
-
-/// Whether the text has this line.
-fn has_line(text: &[u8], wanted: &str) -> Result<bool, Fail> {
-    Ok(str::from_utf8(text)?.lines().any(|line| line == wanted))
 }
 
 #[test]

@@ -129,3 +129,8 @@ pub(super) fn repeated(alloc: Global, text: &str, count: u64) -> Result<String, 
     }
     Ok(all)
 }
+
+/// Whether the text has this line.
+pub(super) fn has_line(text: &[u8], wanted: &str) -> Result<bool, Fail> {
+    Ok(str::from_utf8(text)?.lines().any(|line| line == wanted))
+}

@@ -149,6 +149,7 @@ fn tells_by_its_status_that_the_sink_failed(rt: HostRuntime) -> Result<(), Fail>
         ("run", 5),
         ("crash", 5),
         ("gen 1 1 1", 5),
+        ("gen 1 1 1 --run", 5),
         ("recover", 8),
         ("", 2),
     ];

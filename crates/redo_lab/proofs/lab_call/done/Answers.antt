@@ -16,7 +16,7 @@ pub returns-in-Dump-clause-ends : goal.returns-in-Dump-clause-ends
 returns-in-Dump-clause-ends g c = λ words. rw c.in-Dump.is (c.print_store.ensures words _)
 
 pub returns-in-Gen-clause-ends : goal.returns-in-Gen-clause-ends
-returns-in-Gen-clause-ends g c = λ words. rw c.in-Gen.is (c.print_script.ensures words _)
+returns-in-Gen-clause-ends g c = λ words. rw c.in-Gen.is (c.gen_command.ensures.ends words _)
 
 pub returns-in-Format-clause-turns : goal.returns-in-Format-clause-turns
 returns-in-Format-clause-turns g c = rw c.in-Format.is tt
@@ -34,4 +34,4 @@ pub returns-in-Dump-clause-turns : goal.returns-in-Dump-clause-turns
 returns-in-Dump-clause-turns g c = rw c.in-Dump.is tt
 
 pub returns-in-Gen-clause-turns : goal.returns-in-Gen-clause-turns
-returns-in-Gen-clause-turns g c = rw c.in-Gen.is tt
+returns-in-Gen-clause-turns g c = rw c.in-Gen.is (c.gen_command.ensures.turns _)

@@ -1,0 +1,66 @@
+-- Two devices that are read behind a run.
+use Rattle.std.proofs.Common.{ℕ, ◌≡◌, List, Option, Result, Ok, Err, IfOk}
+use Rattle.model_store.specs.{IsReading}
+use Rattle.model_store.specs.Reading.{Reading}
+use Rattle.model_theorem.specs.{Ran}
+use Rattle.redo_disk.specs.{Call, failures, MakesCalls, ReadsMayEndWith}
+use Rattle.redo_disk.specs.Seen.{Seen}
+use Rattle.redo_disk.specs.declared.error.DevError.{DevError}
+use Rattle.redo_disk.proofs.Made.{weaker_calls}
+use Rattle.redo_memdisk.specs.{CallsThrough}
+use Rattle.redo_memdisk.specs.declared.fused.Fused.{Fused}
+use Rattle.redo_memdisk.proofs.Behind.{counts-calls}
+use Rattle.redo_recover.specs.{data_error, HasCauseIn, HasLengthCause, log_error, OnContents, ReadsLog, ReadsPieces}
+use Rattle.redo_recover.specs.declared.fault.RecFault.{RecFault}
+use Rattle.redo_lab.specs.Behind.{AreReadSince, IsReadSince, ReadsBehind}
+use Rattle.redo_lab.specs.Call.{Guarded, guarded}
+use Rattle.redo_lab.specs.Faults.{fault_of}
+use Rattle.redo_lab.specs.Outcome.{outcome_of}
+use Rattle.redo_lab.specs.Summary.{summary_of}
+use Rattle.redo_lab.specs.declared.outcome.Outcome.TheVariants as outcome
+use Rattle.redo_lab.proofs.Behind.{reads-of-pieces}
+use Rattle.redo_lab.proofs.Crashing.{IsAsMet, reading-fails, told-now}
+use Rattle.redo_lab.proofs.Stages.{armed-calls}
+use Rattle.redo_lab.proofs.Telling.{reads-keep}
+
+-- a device that was only read
+read-since : {D : Type 0} {seen : D → Seen} {gives : D → Call → D → Type 0} {old new : Fused D} {error : Option DevError}
+    → MakesCalls (CallsThrough seen gives) old new (ReadsMayEndWith error) → IsReadSince (failures error) (guarded seen old) (guarded seen new)
+read-since {seen = seen} {gives = gives} {old = old} {new = new} made =
+    let counts = counts-calls seen gives old new made.calls made.made in
+    record {
+      tells = (reads-keep seen gives old new made.calls made.are.reads made.made).tells;
+      stage = λ limit entry found armed. armed-calls armed (weaker_calls (λ calls are. are.ends) made);
+      passed = counts.passed;
+    }
+
+-- by recovery
+pub log-read : {D : Type 0} {seen : D → Seen} {gives : D → Call → D → Type 0} {old new : Fused D} {size : ℕ} {error : Option DevError}
+    → MakesCalls (CallsThrough seen gives) old new (ReadsLog size error) → IsReadSince (failures error) (guarded seen old) (guarded seen new)
+log-read {error = error} made = read-since (weaker_calls (λ calls log. reads-of-pieces error calls log.reads) made)
+
+pub data-read : {D : Type 0} {seen : D → Seen} {gives : D → Call → D → Type 0} {old new : Fused D} {error : Option DevError}
+    → MakesCalls (CallsThrough seen gives) old new (ReadsPieces error) → IsReadSince (failures error) (guarded seen old) (guarded seen new)
+data-read {error = error} made = read-since (weaker_calls (reads-of-pieces error) made)
+
+-- THE STORE WAS READ.
+pub behind-read : {E : Type 0} (run : Ran) (reading : Reading) (log_old data_old log_now data_now : Guarded) (log_met data_met : Seen) (r : Result (List ℕ) E)
+    → AreReadSince 0 0 log_old data_old log_now data_now → IsAsMet log_met log_now.seen → IsAsMet data_met data_now.seen
+    → OnContents log_met.tells data_met.tells (λ log_bytes data_bytes. IsReading log_bytes data_bytes reading)
+    → IfOk r (λ text. text ≡ summary_of run reading) → ReadsBehind run (outcome_of r) log_old data_old log_now data_now
+behind-read run reading log_old data_old log_now data_now log_met data_met (Ok text) since log_same data_same read is = record {
+  read_since = since;
+  reading = reading;
+  is_read = told-now log_met data_met log_now.seen data_now.seen (λ log_bytes data_bytes. IsReading log_bytes data_bytes reading) log_same data_same read;
+  text_is = is;
+}
+behind-read run reading log_old data_old log_now data_now log_met data_met (Err error) since log_same data_same read is = since
+
+-- IT WASN'T.
+pub behind-fails : (run : Ran) (log_old data_old log_now data_now : Guarded) (log_met data_met : Seen) (f : RecFault)
+    → AreReadSince (failures (log_error f)) (failures (data_error f)) log_old data_old log_now data_now
+    → IsAsMet log_met log_now.seen → IsAsMet data_met data_now.seen → HasCauseIn log_met.tells data_met.tells f
+    → HasLengthCause log_met.size data_met.size f → ReadsBehind run (outcome.Fault (fault_of f)) log_old data_old log_now data_now
+behind-fails run log_old data_old log_now data_now log_met data_met f since log_same data_same cause lengths =
+    reading-fails (λ log_failed data_failed. AreReadSince log_failed data_failed log_old data_old log_now data_now) log_now data_now log_met data_met f
+    since log_same data_same cause lengths

@@ -1,0 +1,164 @@
+-- A run that no call kept from its end, and behind which both devices were read: its summary.
+use Rattle.std.proofs.Common.{ℕ, ◌≡◌, ◌<◌, ◌+◌, Bool, false, List, Option, Some, refl, sym, subst, arith}
+use Rattle.model_base.specs.declared.shape.Shape.{Shape}
+use Rattle.model_device.specs.{synced}
+use Rattle.model_device.specs.Disk.{Disk}
+use Rattle.model_opening.specs.{IsOpenable}
+use Rattle.model_run.specs.{IsClosed, opened_as}
+use Rattle.model_script.specs.declared.script.ScriptLine.{ScriptLine}
+use Rattle.model_store.specs.{IsFair}
+use Rattle.model_store.specs.declared.refusal.Refusal.{Refusal}
+use Rattle.model_theorem.specs.{IsPrefixRead, Opened, ReadsPrefix}
+use Rattle.redo_disk.specs.Seen.{Seen}
+use Rattle.redo_open.specs.{WhereBothTell}
+use Rattle.redo_lab.specs.Behind.{AreReadBehind, AreReadSince}
+use Rattle.redo_lab.specs.Call.{Call, Guarded, IsUnread}
+use Rattle.redo_lab.specs.Complete.{CanPlay}
+use Rattle.redo_lab.specs.Course.{ArePlayedThrough, AreUnderWay, ClosesRun, ran_of}
+use Rattle.redo_lab.specs.Devices.{WhereToldNow}
+use Rattle.redo_lab.specs.Prepared.{ArePrepared}
+use Rattle.redo_lab.specs.Store.{AreRefused}
+use Rattle.redo_lab.specs.Summary.{IsSummary, IsSummarySafe}
+use Rattle.redo_lab.specs.declared.playing.Played.{Played}
+use Rattle.redo_lab.specs.declared.playing.Stops.{Stops}
+use Rattle.redo_lab.proofs.RunPlayed.{ClosedLaws, FormattedLaw, WasFound, closed-with, safe-as, told-still, was-found}
+use Rattle.redo_lab.proofs.RunPossible.{OneReading}
+use Rattle.redo_lab.proofs.RunTold.{played-first, played-on, played-told}
+use Rattle.redo_lab.proofs.SomeLeft.{some-left}
+use Rattle.redo_lab.proofs.Told.{OneAnswer}
+
+-- what stood on a device at its last good sync is a fair image of it
+abbrev pub FairLaw : Type 0
+FairLaw = (shape : Shape) (disk : Disk) → IsFair shape disk disk.base
+
+-- READS LEAVE a run as it was: both devices are under way, and tell the same.
+abbrev pub read-way : {log_entry data_entry : Seen} {stops : Stops} {log_failed data_failed : ℕ} {log_old data_old log_now data_now : Guarded}
+    → AreUnderWay log_entry data_entry stops 0 0 log_old data_old → AreReadSince log_failed data_failed log_old data_old log_now data_now
+    → AreUnderWay log_entry data_entry stops log_failed data_failed log_now data_now
+read-way way since = record {
+  log_found = way.log_found;
+  data_found = way.data_found;
+  prepared = way.prepared;
+  log_device = since.log_device.stage _ _ _ way.log_device;
+  data_device = since.data_device.stage _ _ _ way.data_device;
+  counted = some-counted _ _ _ _ way.counted way.log_device.mid since.log_device.passed;
+}
+  where
+    some-counted : (passed mid passed_now mid_now : ℕ) → 0 < passed + mid → mid ≡ 0 → (0 < passed → 0 < passed_now) → 0 < passed_now + mid_now
+    some-counted passed mid passed_now mid_now counted none later = let some = later (omega arith) in omega arith
+
+closes-read : (becomes : Disk → Disk) (log_found data_found : Guarded) (opened : Opened) (script : List ScriptLine) (played : Played) (failed : ℕ) (log_old data_old log_now data_now : Guarded)
+    → log_now.seen.tells ≡ log_old.seen.tells → data_now.seen.tells ≡ data_old.seen.tells
+    → ClosesRun becomes log_found data_found opened script played failed log_old data_old → ClosesRun becomes log_found data_found opened script played failed log_now data_now
+closes-read becomes log_found data_found opened script played failed log_old data_old log_now data_now log_same data_same closes reading left left_is =
+    let Closes : Option Disk → Option Disk → Type 0 = λ log data_told.
+    WhereBothTell log_found.seen.tells data_found.seen.tells (λ log_disk data_disk. IsOpenable reading log_disk data_disk
+    → (opened ≡ opened_as reading) × WhereBothTell log data_told (λ log_disk data_disk. IsClosed failed (record {
+      script = script;
+      opened = opened;
+      number = reading.number + 1;
+      run = ran_of played;
+      left = left;
+      log_disk = becomes log_disk;
+      data_disk = becomes data_disk;
+    }))) in
+    subst (λ (log : Option Disk). Closes log data_now.seen.tells) (sym log_same)
+    (subst (Closes log_old.seen.tells) (sym data_same) (closes reading left left_is))
+
+pub read-played : (log_entry data_entry : Seen) (stops : Stops) (log_only : Bool) (script : List ScriptLine) (played : Played) (log_old data_old log_now data_now : Guarded)
+    → ArePlayedThrough log_entry data_entry stops log_only script played log_old data_old → AreReadSince 0 0 log_old data_old log_now data_now
+    → ArePlayedThrough log_entry data_entry stops log_only script played log_now data_now
+read-played log_entry data_entry stops log_only script played log_old data_old log_now data_now was since =
+    let Closes : (Disk → Disk) → Guarded → Guarded → Type 0 = λ becomes log data_device.
+    ClosesRun becomes was.are.way.log_found was.are.way.data_found was.are.opened script played 0 log data_device in
+    let closes : (becomes : Disk → Disk) → Closes becomes log_old data_old → Closes becomes log_now data_now = λ becomes.
+    closes-read becomes was.are.way.log_found was.are.way.data_found was.are.opened script played 0 log_old data_old log_now data_now since.log_device.tells since.data_device.tells in
+    record {
+      are = record {
+        way = read-way was.are.way since;
+        opened = was.are.opened;
+        opens = was.are.opens;
+        limits = was.are.limits;
+        fits = was.are.fits;
+        is_run = was.are.is_run;
+        loses = was.are.loses;
+        closed = closes (λ disk. disk) was.are.closed;
+      };
+      if_synced = closes synced was.if_synced;
+    }
+
+-- WHAT READS GIVE is a prefix of the run.
+pub reads-prefix : (call : Call) (stops : Stops) (log_only : Bool) (script : List ScriptLine) (played : Played) → ClosedLaws → FairLaw
+    → (was : ArePlayedThrough call.log_device call.data_device stops log_only script played call.log_device_now call.data_device_now)
+    → (opened : Opened) → WasFound was.are.way.log_found was.are.way.data_found opened → (log_left data_left : Disk)
+    → call.log_device_now.seen.tells ≡ Some log_left → call.data_device_now.seen.tells ≡ Some data_left
+    → ReadsPrefix script opened (Some (ran_of played)) log_left.reads data_left.reads
+reads-prefix call stops log_only script played laws fair was opened found log_left data_left log_is data_is =
+    let left = some-left script played.history in
+    let closed = closed-with synced was.are.way.log_found was.are.way.data_found script played 0 was.are.opened opened call.log_device_now call.data_device_now was.if_synced
+    found left.0 left.1 log_left data_left log_is data_is in
+    let safe = safe-as script (found.reading.number + 1) played left.0 0 0 was.are.opened opened (synced log_left) (synced data_left) laws.safe refl closed.0 closed.1 in
+    safe.every_image log_left.reads data_left.reads (fair opened.shape (synced log_left)).possible (fair opened.shape (synced data_left))
+
+-- THE PROMISE OF THE SUMMARY.
+summary-safe : (call : Call) (stops : Stops) (script : List ScriptLine) (played : Played) (text : List ℕ) (log_old data_old : Guarded)
+    → OneAnswer → OneReading → FormattedLaw → ClosedLaws → FairLaw
+    → ArePlayedThrough call.log_device call.data_device stops false script played call.log_device_now call.data_device_now
+    → AreReadBehind (ran_of played) text log_old data_old call.log_device_now call.data_device_now → IsSummarySafe call script text
+summary-safe call stops script played text log_old data_old one same law laws fair was behind log_device data_device is_log is_data opened log_fresh data_fresh opens =
+    let found = was-found call.log_device call.data_device was.are.way.log_found was.are.way.data_found log_device.at_entry data_device.at_entry
+    log_device.faults_at_entry data_device.faults_at_entry opened one law was.are.way.prepared is_log.at_entry is_data.at_entry log_fresh data_fresh opens in
+    let left = some-left script played.history in
+    let on = played-on call stops false script played 0 0 left.0 law laws was.are left.1 log_device data_device opened is_log is_data found in
+    let kept = reads-prefix call stops false script played laws fair was opened found log_device.left data_device.left is_log.left is_data.left in
+    let is_read = behind.is_read log_device.left data_device.left is_log.left is_data.left in (
+      record { run = ran_of played; left = left.0; reading = behind.reading },
+      record {
+        fits = on.fits;
+        prints = behind.text_is;
+        unopened = on.unopened;
+        opened_first = on.opened_first;
+        safe = on.safe;
+        is_read = is_read;
+        prefix = subst (IsPrefixRead script opened (Some (ran_of played)))
+            (same log_device.left.reads data_device.left.reads kept.reading behind.reading kept.is_read is_read) kept.prefix;
+      },
+    )
+
+-- THE SUMMARY.
+pub summed-up : (call : Call) (stops : Stops) (script : List ScriptLine) (played : Played) (text : List ℕ) (log_old data_old : Guarded)
+    → IsUnread call → OneAnswer → OneReading → FormattedLaw → ClosedLaws → FairLaw
+    → ArePlayedThrough call.log_device call.data_device stops false script played call.log_device_now call.data_device_now
+    → AreReadBehind (ran_of played) text log_old data_old call.log_device_now call.data_device_now → IsSummary call script text
+summed-up call stops script played text log_old data_old unread one same law laws fair was behind =
+    let left = some-left script played.history in
+    record {
+      unread = unread;
+      opened = was.are.opened;
+      run = ran_of played;
+      left = left.0;
+      reading = behind.reading;
+      told = played-told call stops false script played 0 0 left.0 (omega arith) (omega arith) law was.are left.1;
+      opened_first = played-first call stops false script played 0 0 left.0 one law laws.opened was.are left.1;
+      is_read = behind.is_read;
+      text_is = behind.text_is;
+      safe = summary-safe call stops script played text log_old data_old one same law laws fair was behind;
+    }
+
+-- THE STORE OF A RUN THAT CAN BE DONE can be read behind it.
+found-possible : (call : Call) (log_found data_found : Guarded) (log_only : Bool) (script : List ScriptLine) → ArePrepared call.log_device call.data_device log_found data_found
+    → OneAnswer → FormattedLaw → (can : CanPlay call log_only script) → WasFound log_found data_found can.opened
+found-possible call log_found data_found log_only script prepared one law can =
+    was-found call.log_device call.data_device log_found data_found can.log can.data_disk call.log_device.faults call.data_device.faults can.opened one law prepared
+    can.log_fresh.tells can.data_fresh.tells can.log_fresh.fresh can.data_fresh.fresh can.opens
+
+pub possible-read-behind : (call : Call) (stops : Stops) (log_only : Bool) (script : List ScriptLine) (played : Played) (refusal : Refusal)
+    → OneAnswer → FormattedLaw → ClosedLaws → FairLaw
+    → ArePlayedThrough call.log_device call.data_device stops log_only script played call.log_device_now call.data_device_now
+    → WhereToldNow call (AreRefused refusal) → CanPlay call log_only script → ⊥
+possible-read-behind call stops log_only script played refusal one law laws fair was refused can =
+    let found = found-possible call was.are.way.log_found was.are.way.data_found log_only script was.are.way.prepared one law can in
+    let log_left = told-still call.log_device.tells call.log_device_now.seen.tells can.log was.are.way.log_device.same.tells can.log_fresh.tells in
+    let data_left = told-still call.data_device.tells call.data_device_now.seen.tells can.data_disk was.are.way.data_device.same.tells can.data_fresh.tells in
+    let kept = reads-prefix call stops log_only script played laws fair was can.opened found log_left.0 data_left.0 log_left.1 data_left.1 in
+    one log_left.0.reads data_left.0.reads kept.reading refusal kept.is_read (refused log_left.0 data_left.0 log_left.1 data_left.1)

@@ -1,0 +1,22 @@
+use Rattle.redo_recover.specs.{reading_of}
+use Rattle.redo_lab.specs.Course.{ran_of}
+use Rattle.redo_lab.proofs.ReadBehind.{behind-fails, behind-read, data-read, log-read}
+use Rattle.redo_lab.proofs.gen_command.read_behind.Goals as goal
+
+pub returns-in-Ok : goal.returns-in-Ok
+returns-in-Ok g c =
+    let now = c.in-Ok.ensures in
+    rw c.of_text.ensures (behind-read (ran_of c.args.played.now) (reading_of c.in-Ok.recovered) _ _ _ _
+    (g.L.Sectors.seen c.args.log.inner) (g.D.Sectors.seen c.args.store.inner) _
+    (record { log_device = log-read now.log_calls; data_device = data-read now.data_calls })
+    (record { tells = now.log.tells; size = now.log.size }) (record { tells = now.data_device.tells; size = now.data_device.size })
+    now.read c.summarize.ensures)
+
+pub returns-in-Err : goal.returns-in-Err
+returns-in-Err g c =
+    let now = c.in-Err.ensures in
+    rw c.fault_of.ensures (behind-fails (ran_of c.args.played.now) _ _ _ _
+    (g.L.Sectors.seen c.args.log.inner) (g.D.Sectors.seen c.args.store.inner) c.in-Err.fault
+    (record { log_device = log-read now.log_calls; data_device = data-read now.data_calls })
+    (record { tells = now.log.tells; size = now.log.size }) (record { tells = now.data_device.tells; size = now.data_device.size })
+    now.cause now.lengths)

@@ -1,0 +1,26 @@
+use Rattle.std.proofs.Common.{ap, refl}
+use Rattle.redo_lab.proofs.PlainEnds.{gen-unscripted}
+use Rattle.redo_lab.proofs.gen_command.run_seed.Goals as goal
+
+pub run_script-requires : goal.run_script-requires
+run_script-requires g c =
+    rw c.in-Ok.ensures (c.generated_lines_are_ranged.ensures c.args.seed c.args.users c.args.groups c.requires.some_users c.requires.few_users)
+
+pub returns-in-Ok-clause-ends : goal.returns-in-Ok-clause-ends
+returns-in-Ok-clause-ends g c = λ words source. c.run_script.ensures.ends words source c.args.users c.args.groups c.in-Ok.ensures
+
+pub returns-in-Ok-clause-turns : goal.returns-in-Ok-clause-turns
+returns-in-Ok-clause-turns g c = λ source. c.run_script.ensures.turns source c.args.users c.args.groups c.in-Ok.ensures
+
+pub returns-in-Err-clause-ends : goal.returns-in-Err-clause-ends
+returns-in-Err-clause-ends g c = λ words source.
+    let unasked = c.unasked.ensures in
+    rw unasked.outcome_is (gen-unscripted _ c.args.seed c.args.users c.args.groups c.args.max
+    (record {
+      log_device = record { seen = ap g.L.Sectors.seen unasked.log_inner; fuse = unasked.log_fuse };
+      data_device = record { seen = ap g.D.Sectors.seen unasked.data_inner; fuse = unasked.data_fuse };
+    })
+    refl)
+
+pub returns-in-Err-clause-turns : goal.returns-in-Err-clause-turns
+returns-in-Err-clause-turns g c = λ source. rw c.unasked.ensures.outcome_is tt

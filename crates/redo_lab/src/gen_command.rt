@@ -1,0 +1,212 @@
+// The command `gen`.
+ghost use Rattle.std.specs.Prelude.{ℕ, ◌≡◌, ◌≤◌, List, IfOk, length, true, false};
+ghost use Rattle.std.specs.List.{AllByRecursion};
+ghost use Rattle.model_base.specs.declared.limits.TheConstants.{MAX_PAGES};
+ghost use Rattle.model_command.specs.declared.asked.Command.TheVariants.{Gen};
+ghost use Rattle.model_script.specs.{generated_lines, IsScriptLine};
+ghost use Rattle.model_script.specs.declared.misfit.TheConstants.{MAX_USERS};
+ghost use Rattle.redo_io.specs.{SourceSeen};
+ghost use Rattle.redo_recover.specs.{reading_of};
+ghost use Rattle.redo_lab.specs.Asked.{drive_of_seed, turns_of};
+ghost use Rattle.redo_lab.specs.Behind.{ReadsBehind};
+ghost use Rattle.redo_lab.specs.Call.{guarded};
+ghost use Rattle.redo_lab.specs.Course.{ran_of};
+ghost use Rattle.redo_lab.specs.Outcome.{EndsCommand, call_of};
+ghost use Rattle.redo_lab.specs.Summary.{summary_of};
+ghost use Rattle.redo_lab.specs.Turned.{TellsByTurns};
+
+use crate::faults::fault_of;
+use crate::outcome::{Done, Outcome, unasked};
+use crate::playing::{Course, Played, Ran, Stops, run_lines};
+use crate::reading::contents;
+use model_opening::formatted_is_openable;
+use model_report::Fault;
+use model_run::{closed_run_is_opened, closed_run_is_safe};
+use model_script::{Script, unfit_is_misfit};
+use model_store::{base_is_fair, one_answer, one_reading};
+use redo_disk::Sectors;
+use redo_io::Text;
+use redo_lsn::NoMemory;
+use redo_machine::Turns;
+use redo_memdisk::Fused;
+use redo_recover::{Recovered, recover};
+use redo_report::summary;
+use redo_script::{generate, generate_lines, generated_lines_are_ranged};
+use std::alloc::Global;
+
+/// Prints the script of the seed.
+fn print_script<L: Sectors, D: Sectors>(
+    alloc: Global,
+    seed: u64,
+    users: u32,
+    groups: u64,
+    max: u64,
+    log: L,
+    store: D,
+) -> Done<L, D>
+    requires some_users { 1 ≤ users }
+    requires few_users { users ≤ MAX_USERS }
+    ensures { (words : List (List ℕ)) (source : SourceSeen)
+        → EndsCommand (call_of L.seen D.seen words source source log store result) (Gen seed users groups false max) result.outcome }
+{
+    let log = Fused::plain(log);
+    let store = Fused::plain(store);
+    Done {
+        outcome: Outcome::of_text(generate(alloc, seed, users, groups)),
+        log,
+        store,
+    }
+}
+
+/// The summary of a run, and of what was read behind it.
+fn summarize(alloc: Global, played: &Played, recovered: &Recovered) -> Result<Text, NoMemory>
+    requires { length recovered.now.pages ≤ MAX_PAGES }
+    ensures { IfOk result (λ text. text ≡ summary_of (ran_of played.now) (reading_of recovered.now)) }
+{
+    let pages = contents(alloc, &recovered.pages)?;
+    summary(
+        alloc,
+        played.history.0.len(),
+        played.marks.flushed,
+        played.marks.ckpt,
+        pages.as_slice(),
+    )
+}
+
+/// Reads the store behind a run, and sums both up.
+fn read_behind<L: Sectors, D: Sectors>(
+    alloc: Global,
+    played: &Played,
+    mut log: Fused<L>,
+    mut store: Fused<D>,
+) -> Done<L, D>
+    ensures { ReadsBehind (ran_of played.now) result.outcome (guarded L.seen log) (guarded D.seen store)
+        (guarded L.seen result.log) (guarded D.seen result.store) }
+{
+    match recover(alloc, &mut log, &mut store) {
+        Ok(recovered) => Done {
+            outcome: Outcome::of_text(summarize(alloc, played, &recovered)),
+            log,
+            store,
+        },
+        Err(fault) => Done {
+            outcome: Outcome::Fault(fault_of(fault)),
+            log,
+            store,
+        },
+    }
+}
+
+/// The turns of the run: those of the script's seed.
+fn turns_of_seed(seed: u64, max: u64) -> Turns
+    ensures { result ≡ turns_of (drive_of_seed seed max) }
+{
+    Turns {
+        seed,
+        max,
+        log_only: false,
+    }
+}
+
+/// Runs the script of the seed by the turns of the same seed, and sums the run up; of a fault there is its line alone.
+fn run_script<L: Sectors, D: Sectors>(
+    alloc: Global,
+    script: &Script,
+    seed: u64,
+    max: u64,
+    log: L,
+    store: D,
+) -> Done<L, D>
+    requires { AllByRecursion IsScriptLine script.now }
+    ensures ends { (words : List (List ℕ)) (source : SourceSeen) (users groups : ℕ) → script.now ≡ generated_lines seed users groups
+        → EndsCommand (call_of L.seen D.seen words source source log store result) (Gen seed users groups true max) result.outcome }
+    ensures turns { (source : SourceSeen) (users groups : ℕ) → script.now ≡ generated_lines seed users groups
+        → TellsByTurns L.seen D.seen source source (L.seen log) (D.seen store) (Gen seed users groups true max) result.outcome result.log result.store }
+{
+    one_answer();
+    one_reading();
+    formatted_is_openable();
+    closed_run_is_opened();
+    closed_run_is_safe();
+    base_is_fair();
+    unfit_is_misfit();
+    let stops = Stops {
+        log: None,
+        store: None,
+    };
+    let Ran { course, log, store } = run_lines(
+        alloc,
+        script,
+        &turns_of_seed(seed, max),
+        stops,
+        log,
+        store,
+    );
+    match course {
+        Course::Ended(fault) => Done {
+            outcome: Outcome::Fault(fault),
+            log,
+            store,
+        },
+        Course::Stopped(fault) => Done {
+            outcome: Outcome::Fault(fault),
+            log,
+            store,
+        },
+        Course::Played(_, Some(fault)) => Done {
+            outcome: Outcome::Fault(fault),
+            log,
+            store,
+        },
+        Course::Played(played, None) => read_behind(alloc, &played, log, store),
+    }
+}
+
+/// Generates the script of the seed, and runs it.
+fn run_seed<L: Sectors, D: Sectors>(
+    alloc: Global,
+    seed: u64,
+    users: u32,
+    groups: u64,
+    max: u64,
+    log: L,
+    store: D,
+) -> Done<L, D>
+    requires some_users { 1 ≤ users }
+    requires few_users { users ≤ MAX_USERS }
+    ensures ends { (words : List (List ℕ)) (source : SourceSeen)
+        → EndsCommand (call_of L.seen D.seen words source source log store result) (Gen seed users groups true max) result.outcome }
+    ensures turns { (source : SourceSeen)
+        → TellsByTurns L.seen D.seen source source (L.seen log) (D.seen store) (Gen seed users groups true max) result.outcome result.log result.store }
+{
+    generated_lines_are_ranged();
+    match generate_lines(alloc, seed, users, groups) {
+        Ok(script) => run_script(alloc, &script, seed, max, log, store),
+        Err(_) => unasked(Fault::Memory, log, store),
+    }
+}
+
+/// Generates the script of the seed, and prints or runs it. It reads no source.
+pub(crate) fn gen_command<L: Sectors, D: Sectors>(
+    alloc: Global,
+    seed: u64,
+    users: u32,
+    groups: u64,
+    run: bool,
+    max: u64,
+    log: L,
+    store: D,
+) -> Done<L, D>
+    requires some_users { 1 ≤ users }
+    requires few_users { users ≤ MAX_USERS }
+    ensures ends { (words : List (List ℕ)) (source : SourceSeen)
+        → EndsCommand (call_of L.seen D.seen words source source log store result) (Gen seed users groups run max) result.outcome }
+    ensures turns { (source : SourceSeen)
+        → TellsByTurns L.seen D.seen source source (L.seen log) (D.seen store) (Gen seed users groups run max) result.outcome result.log result.store }
+{
+    if run {
+        run_seed(alloc, seed, users, groups, max, log, store)
+    } else {
+        print_script(alloc, seed, users, groups, max, log, store)
+    }
+}
