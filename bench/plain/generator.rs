@@ -4,10 +4,10 @@
 const NOISE_LENGTH: usize = 64 << 20;
 const GROUPS: usize = 100_000;
 
-const SINGLE: u8 = 0x80;
-const END_MARK: u8 = 31;
-const STRING: u8 = 30;
-const INIT: u8 = 59;
+pub const SINGLE: u8 = 0x80;
+pub const END_MARK: u8 = 31;
+pub const STRING: u8 = 30;
+pub const INIT: u8 = 59;
 
 const SPACE: u32 = 1;
 const PAGES: u32 = 64;
@@ -16,10 +16,10 @@ const OFFSETS: u32 = 4_000;
 const LONGEST_STRING: u32 = 40;
 
 /// A linear congruential generator with the constants of Knuth's MMIX.
-struct Draws(u64);
+pub struct Draws(pub u64);
 
 impl Draws {
-    fn draw(&mut self) -> u32 {
+    pub fn draw(&mut self) -> u32 {
         self.0 = self
             .0
             .wrapping_mul(6_364_136_223_846_793_005)
@@ -27,7 +27,7 @@ impl Draws {
         (self.0 >> 32) as u32
     }
 
-    fn below(&mut self, limit: u32) -> u32 {
+    pub fn below(&mut self, limit: u32) -> u32 {
         self.draw() % limit
     }
 }
@@ -111,7 +111,7 @@ fn put_page(stream: &mut Vec<u8>, kind: u8, draws: &mut Draws) {
     put_spelled(stream, draws.below(PAGES));
 }
 
-fn put_spelled(stream: &mut Vec<u8>, n: u32) {
+pub fn put_spelled(stream: &mut Vec<u8>, n: u32) {
     match n {
         0..=0x7F => stream.push(n as u8),
         0x80..=0x3FFF => stream.extend((n as u16 | 0x8000).to_be_bytes()),

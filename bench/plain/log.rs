@@ -15,6 +15,8 @@ pub const BLOCK_DATA: usize = 496;
 pub const HEADER_BYTES: usize = 2048;
 pub const START_LSN: u64 = 8192;
 const LOG_BYTES: usize = 131_073 * BLOCK_SIZE;
+/// Bytes of the device on which the marks are written.
+pub const LENGTH: usize = HEADER_BYTES + LOG_BYTES;
 
 struct Write {
     at: usize,
@@ -28,27 +30,28 @@ pub struct Device {
 }
 
 impl Device {
-    pub fn new() -> Self {
+    /// A device of so many zeros.
+    pub fn new(length: usize) -> Self {
         Device {
-            base: vec![0; HEADER_BYTES + LOG_BYTES],
+            base: vec![0; length],
             pending: Vec::new(),
         }
     }
 
-    fn write(&mut self, at: usize, bytes: &[u8]) {
+    pub fn write(&mut self, at: usize, bytes: &[u8]) {
         let bytes = bytes.to_vec();
         self.pending.push(Write { at, bytes });
     }
 
-    fn sync(&mut self) {
+    pub fn sync(&mut self) {
         for Write { at, bytes } in self.pending.drain(..) {
             self.base[at..at + bytes.len()].copy_from_slice(&bytes);
         }
     }
 
-    /// The sum of the checksums of the sectors.
-    pub fn sum(&self) -> u64 {
-        let sectors = self.base.chunks_exact(BLOCK_SIZE);
+    /// The sum of the checksums of the sectors from this one on.
+    pub fn sum_from(&self, sector: usize) -> u64 {
+        let sectors = self.base.chunks_exact(BLOCK_SIZE).skip(sector);
         sectors.map(|sector| u64::from(crc32c(sector))).sum()
     }
 }

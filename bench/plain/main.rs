@@ -4,10 +4,15 @@
 mod checksum;
 mod decoder;
 mod generator;
+mod group;
 mod log;
+mod machine;
 mod recovering;
 mod recovery;
+mod script;
+mod scripts;
 mod store;
+mod turning;
 
 use decoder::{Got, Rec, decode};
 use std::hint::black_box;
@@ -18,6 +23,8 @@ const NOISE_FILE: &str = "noise.bin";
 const GROUPS_FILE: &str = "groups.bin";
 const LOG_FILE: &str = "log.bin";
 const DATA_FILE: &str = "data.bin";
+const TURNS_FILE: &str = "turns.txt";
+const SCRIPT_FILE: &str = "script.txt";
 /// How often each work is done; the fastest time counts.
 const ROUNDS: u32 = 10;
 
@@ -25,7 +32,9 @@ fn write() -> io::Result<()> {
     fs::write(NOISE_FILE, generator::noise())?;
     fs::write(GROUPS_FILE, generator::groups())?;
     fs::write(LOG_FILE, store::log_bytes())?;
-    fs::write(DATA_FILE, store::data_bytes())
+    fs::write(DATA_FILE, store::data_bytes())?;
+    fs::write(TURNS_FILE, scripts::turns())?;
+    fs::write(SCRIPT_FILE, scripts::long())
 }
 
 fn time() -> io::Result<()> {
@@ -35,10 +44,12 @@ fn time() -> io::Result<()> {
     let stream = fs::read(GROUPS_FILE)?;
     let (best, tally) = fastest(|| decode_all(black_box(&stream)));
     report("decode", stream.len(), best, &tally);
-    let mut device = log::Device::new();
+    let mut device = log::Device::new(log::LENGTH);
     let (best, ()) = fastest(|| log::write_all(black_box(&mut device), black_box(&noise)));
-    report("write_to", log::MARK * log::MARKS, best, &format!("{:08x}", device.sum()));
+    report("write_to", log::MARK * log::MARKS, best, &format!("{:08x}", device.sum_from(0)));
     recovering::time(fs::read(LOG_FILE)?, fs::read(DATA_FILE)?);
+    turning::time_turns(&fs::read(TURNS_FILE)?);
+    turning::time_parser(&fs::read(SCRIPT_FILE)?);
     Ok(())
 }
 

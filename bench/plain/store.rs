@@ -21,7 +21,7 @@ pub fn log_bytes() -> Vec<u8> {
     let stream = stream();
     let mut log = vec![0; HEADER_BYTES + BLOCK_SIZE * LOG_BLOCKS];
     head(&mut log[..BLOCK_SIZE]);
-    checkpoint(&mut log[BLOCK_SIZE..2 * BLOCK_SIZE]);
+    checkpoint(&mut log[BLOCK_SIZE..2 * BLOCK_SIZE], 0, START_LSN, HEADER_BYTES as u64);
     let blocks = log[HEADER_BYTES..].chunks_exact_mut(BLOCK_SIZE);
     for (i, (block, data)) in blocks.zip(stream.chunks(BLOCK_DATA)).enumerate() {
         let first = if i == 0 { BLOCK_HEADER } else { 0 };
@@ -46,10 +46,9 @@ fn head(block: &mut [u8]) {
     seal(block, &[&1u32.to_be_bytes(), &[0; 4], &START_LSN.to_be_bytes(), &creator, &sizes]);
 }
 
-/// The checkpoint of the number 0, at the log's start.
-fn checkpoint(block: &mut [u8]) {
-    let place = (HEADER_BYTES as u64).to_be_bytes();
-    seal(block, &[&[0; 8], &START_LSN.to_be_bytes(), &place, &RING.to_be_bytes()]);
+/// The checkpoint of a number at an lsn, whose block stands there on the device.
+pub fn checkpoint(block: &mut [u8], number: u64, lsn: u64, place: u64) {
+    seal(block, &[number, lsn, place, RING].map(u64::to_be_bytes).each_ref().map(|field| &field[..]));
 }
 
 /// What the checkpoint says of the ring, which has no other value.
@@ -60,7 +59,8 @@ pub fn data_bytes() -> Vec<u8> {
     let mut data = vec![0; PAGE_SIZE * (SLOTS + PAGES)];
     let places = data.chunks_exact_mut(PAGE_SIZE).skip(SLOTS);
     for (number, place) in places.enumerate().filter(|(number, _)| number % 2 == 1) {
-        page(place, number as u32, lsn_of(number));
+        place[38..PAGE_SIZE - 8].fill(number as u8);
+        seal_page(place, number as u32, lsn_of(number));
     }
     data
 }
@@ -70,11 +70,11 @@ fn lsn_of(number: usize) -> u64 {
     START_LSN + (number * LOG_BLOCKS / PAGES * BLOCK_SIZE + BLOCK_HEADER) as u64
 }
 
-fn page(place: &mut [u8], number: u32, lsn: u64) {
+/// Makes these user bytes the page of a number and an lsn.
+pub fn seal_page(place: &mut [u8], number: u32, lsn: u64) {
     place[4..8].copy_from_slice(&number.to_be_bytes());
     place[16..24].copy_from_slice(&lsn.to_be_bytes());
     place[34..38].copy_from_slice(&SPACE.to_be_bytes());
-    place[38..PAGE_SIZE - 8].fill(number as u8);
     let checksum = crc32c(&place[4..PAGE_SIZE - 8]).to_be_bytes();
     place[..4].copy_from_slice(&checksum);
     place[PAGE_SIZE - 8..PAGE_SIZE - 4].copy_from_slice(&checksum);

@@ -1,0 +1,188 @@
+//! The page cleaner: it goes round the pages, writes those whose groups are flushed in batches, and takes them out of the
+//! flush lists.
+
+use super::words::*;
+use std::collections::VecDeque;
+
+pub const BATCH: usize = 8;
+pub const USER_START: usize = 38;
+pub const USER_END: usize = 4_088;
+
+#[derive(Clone, Copy)]
+enum Step {
+    LoadFlushed,
+    LoadOldest,
+    TakeLatch,
+    LoadNewest,
+    ReleaseSkipped,
+    LoadFrame,
+    WriteBatch,
+    RemoveFromList,
+    ClearOldest,
+    GiveList,
+    ReleaseLatch,
+    StoreFailed,
+    Failed,
+}
+
+pub struct Cleaner {
+    pages: u32,
+    flushed: u64,
+    page: u32,
+    left: u32,
+    newest: u64,
+    kept: Vec<u8>,
+    /// The pages of the batch with their lsns.
+    pub batch: VecDeque<(u32, u64)>,
+    /// Their user bytes, joined.
+    pub users: Vec<u8>,
+    code: u32,
+    checks: bool,
+    step: Step,
+}
+
+impl Cleaner {
+    pub fn new(pages: u32) -> Cleaner {
+        Cleaner {
+            pages,
+            flushed: 0,
+            page: 0,
+            left: 0,
+            newest: 0,
+            kept: Vec::with_capacity(PAGE_SIZE),
+            batch: VecDeque::with_capacity(BATCH),
+            users: Vec::with_capacity(BATCH * (USER_END - USER_START)),
+            code: 0,
+            checks: false,
+            step: Step::LoadFlushed,
+        }
+    }
+
+    fn first(&self) -> u32 {
+        self.batch[0].0
+    }
+
+    pub fn next(&self) -> Op {
+        if self.checks {
+            return Op::Load(FAILED);
+        }
+        match self.step {
+            Step::LoadFlushed => Op::Load(FLUSHED),
+            Step::LoadOldest => Op::Load(oldest(self.page)),
+            Step::TakeLatch => Op::Swap(latch(self.page), 0, 1),
+            Step::LoadNewest => Op::Load(newest(self.page)),
+            Step::ReleaseSkipped => Op::Store(latch(self.page), 0),
+            Step::LoadFrame => Op::Load(frame(self.page, self.kept.len())),
+            Step::WriteBatch => Op::WriteBatch,
+            Step::RemoveFromList => Op::TakeRemove(self.first()),
+            Step::ClearOldest => Op::Store(oldest(self.first()), 0),
+            Step::GiveList => Op::Store(list(self.first()), 0),
+            Step::ReleaseLatch => Op::Store(latch(self.first()), 0),
+            Step::StoreFailed => Op::Store(FAILED, u64::from(self.code)),
+            Step::Failed => Op::Rest,
+        }
+    }
+
+    fn goes_on(&mut self, step: Step) -> Turn {
+        self.step = step;
+        Turn::Moved
+    }
+
+    fn waits(&mut self) -> Turn {
+        self.checks = true;
+        Turn::Idle
+    }
+
+    fn fails(&mut self) -> Turn {
+        self.step = Step::Failed;
+        Turn::Failed(self.code)
+    }
+
+    fn checked(&mut self, n: u64) -> Turn {
+        self.checks = false;
+        if n == 0 {
+            return Turn::Moved;
+        }
+        self.code = n as u32;
+        self.fails()
+    }
+
+    fn begins_round(&mut self, flushed: u64) -> Turn {
+        self.flushed = flushed;
+        self.left = self.pages;
+        self.users.clear();
+        self.goes_on(Step::LoadOldest)
+    }
+
+    fn next_in_round(&mut self) -> Turn {
+        let is_over = self.left == 1 || self.batch.len() == BATCH;
+        self.page = (self.page + 1) % self.pages;
+        self.left -= 1;
+        if !is_over {
+            self.goes_on(Step::LoadOldest)
+        } else if self.batch.is_empty() {
+            self.step = Step::LoadFlushed;
+            self.waits()
+        } else {
+            self.goes_on(Step::WriteBatch)
+        }
+    }
+
+    fn loaded_newest(&mut self, newest: u64) -> Turn {
+        if self.flushed < newest {
+            return self.goes_on(Step::ReleaseSkipped);
+        }
+        self.newest = newest;
+        self.kept.clear();
+        self.goes_on(Step::LoadFrame)
+    }
+
+    fn loaded_byte(&mut self, byte: u8) -> Turn {
+        self.kept.push(byte);
+        if self.kept.len() < PAGE_SIZE {
+            return Turn::Moved;
+        }
+        self.batch.push_back((self.page, self.newest));
+        self.users
+            .extend_from_slice(&self.kept[USER_START..USER_END]);
+        self.next_in_round()
+    }
+
+    pub fn took(&mut self, answer: Answer) -> Turn {
+        let n = answer.number();
+        if self.checks {
+            return self.checked(n);
+        }
+        match self.step {
+            Step::LoadFlushed => self.begins_round(n),
+            Step::LoadOldest if n == 0 => self.next_in_round(),
+            Step::LoadOldest => self.goes_on(Step::TakeLatch),
+            Step::TakeLatch if n == 0 => self.goes_on(Step::LoadNewest),
+            Step::TakeLatch | Step::ReleaseSkipped => self.next_in_round(),
+            Step::LoadNewest => self.loaded_newest(n),
+            Step::LoadFrame => self.loaded_byte(n as u8),
+            Step::WriteBatch => match answer {
+                Answer::Failed(code) => {
+                    self.code = code;
+                    self.goes_on(Step::StoreFailed)
+                }
+                _ => self.goes_on(Step::RemoveFromList),
+            },
+            Step::RemoveFromList => match answer {
+                Answer::Taken(_) => self.goes_on(Step::ClearOldest),
+                _ => self.waits(),
+            },
+            Step::ClearOldest => self.goes_on(Step::GiveList),
+            Step::GiveList => self.goes_on(Step::ReleaseLatch),
+            Step::ReleaseLatch => {
+                self.batch.pop_front();
+                if self.batch.is_empty() {
+                    self.goes_on(Step::LoadFlushed)
+                } else {
+                    self.goes_on(Step::RemoveFromList)
+                }
+            }
+            Step::StoreFailed | Step::Failed => self.fails(),
+        }
+    }
+}

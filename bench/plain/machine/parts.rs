@@ -1,0 +1,133 @@
+//! The devices as a running store writes them: the log part and the data part.
+
+use super::cleaner::{USER_END, USER_START};
+use super::lsn::floor;
+use super::words::{LOG_BUFFER, PAGE_SIZE};
+use crate::log::{BLOCK_DATA, BLOCK_SIZE, Device, HEADER_BYTES, START_LSN, fill};
+use crate::store::{SLOTS, checkpoint, seal_page};
+use std::collections::VecDeque;
+
+const USERS: usize = USER_END - USER_START;
+
+/// A call that its device failed.
+#[derive(Clone, Copy)]
+pub struct Failure;
+
+pub struct LogPart {
+    device: Device,
+    blocks: u64,
+    written: u64,
+    pub stable: u64,
+    number: u64,
+    buffer: Vec<u8>,
+    pub failed: Option<Failure>,
+}
+
+impl LogPart {
+    /// The log part of a run that starts there, on a device with the two checkpoints that formatting and opening leave.
+    pub fn new(blocks: u64, start: u64) -> LogPart {
+        let mut part = LogPart {
+            device: Device::new(HEADER_BYTES + blocks as usize * BLOCK_SIZE),
+            blocks,
+            written: start,
+            stable: start,
+            number: 0,
+            buffer: vec![0; LOG_BUFFER as usize],
+            failed: None,
+        };
+        part.put_checkpoint(floor(start));
+        part.number = 1;
+        part.put_checkpoint(floor(start));
+        part
+    }
+
+    fn offset_of(&self, lsn: u64) -> usize {
+        HEADER_BYTES + ((floor(lsn) - START_LSN) % (self.blocks * BLOCK_SIZE as u64)) as usize
+    }
+
+    pub fn write_to(&mut self, mark: u64, bytes: &[u8], firsts: &[u16]) -> Result<(), Failure> {
+        let from = floor(self.written);
+        let at = self.offset_of(from);
+        let blocks = self.buffer.chunks_exact_mut(BLOCK_SIZE);
+        let lsns = (from..).step_by(BLOCK_SIZE);
+        for (((block, data), first), lsn) in
+            blocks.zip(bytes.chunks(BLOCK_DATA)).zip(firsts).zip(lsns)
+        {
+            fill(block, lsn, data, *first, self.number as u32);
+        }
+        let end = HEADER_BYTES + self.blocks as usize * BLOCK_SIZE;
+        let length = firsts.len() * BLOCK_SIZE;
+        let (front, back) = self.buffer[..length].split_at(length.min(end - at));
+        self.device.write(at, front);
+        if !back.is_empty() {
+            self.device.write(HEADER_BYTES, back);
+        }
+        self.written = mark;
+        Ok(())
+    }
+
+    pub fn sync(&mut self) -> Result<(), Failure> {
+        self.device.sync();
+        self.stable = self.written;
+        Ok(())
+    }
+
+    pub fn checkpoint(&mut self, lsn: u64) -> Result<(), Failure> {
+        self.number += 1;
+        self.put_checkpoint(lsn);
+        Ok(())
+    }
+
+    fn put_checkpoint(&mut self, lsn: u64) {
+        let mut block = [0; BLOCK_SIZE];
+        checkpoint(&mut block, self.number, lsn, self.offset_of(lsn) as u64);
+        let place = if self.number.is_multiple_of(2) { 1 } else { 3 };
+        self.device.write(place * BLOCK_SIZE, &block);
+        self.device.sync();
+    }
+
+    /// The sum of the checksums of the sectors behind the header's.
+    pub fn sum(&self) -> u64 {
+        self.device.sum_from(1)
+    }
+}
+
+pub struct DataPart {
+    device: Device,
+    buffer: Vec<u8>,
+}
+
+impl DataPart {
+    pub fn new(pages: u32) -> DataPart {
+        DataPart {
+            device: Device::new((SLOTS + pages as usize) * PAGE_SIZE),
+            buffer: vec![0; SLOTS * PAGE_SIZE],
+        }
+    }
+
+    pub fn write_batch(
+        &mut self,
+        batch: &VecDeque<(u32, u64)>,
+        users: &[u8],
+    ) -> Result<(), Failure> {
+        let texts = self.buffer.chunks_exact_mut(PAGE_SIZE);
+        for ((text, (number, lsn)), user) in texts.zip(batch).zip(users.chunks_exact(USERS)) {
+            text[USER_START..USER_END].copy_from_slice(user);
+            seal_page(text, *number, *lsn);
+        }
+        self.device
+            .write(0, &self.buffer[..batch.len() * PAGE_SIZE]);
+        self.device.sync();
+        for (text, (number, _)) in self.buffer.chunks_exact(PAGE_SIZE).zip(batch) {
+            self.device
+                .write((SLOTS + *number as usize) * PAGE_SIZE, text);
+        }
+        self.device.sync();
+        Ok(())
+    }
+
+    /// The sum of the checksums of the sectors.
+    pub fn sum(&self) -> u64 {
+        self.device.sum_from(0)
+    }
+}

@@ -1,0 +1,194 @@
+//! The writer: it follows the links of the recent-written buffer, reads the groups out of the log buffer and writes them.
+
+use super::lsn::{lsn_of, sn_of};
+use super::words::*;
+use crate::log::{BLOCK_DATA, BLOCK_SIZE};
+
+#[derive(Clone, Copy)]
+enum Step {
+    LoadLink,
+    ClearLink,
+    StoreWtail,
+    LoadCheckpoint,
+    LoadFirst,
+    ClearFirst,
+    LoadCell,
+    TakeDevice,
+    GiveBroken,
+    WriteTo,
+    StoreWrite,
+    GiveDevice,
+    StoreFailed,
+    GiveFailed,
+    Failed,
+}
+
+pub struct Writer {
+    blocks: u64,
+    tail: u64,
+    write: u64,
+    from: u64,
+    pub kept: Vec<u8>,
+    pub firsts: Vec<u16>,
+    link: u64,
+    first: u16,
+    code: u32,
+    checks: bool,
+    step: Step,
+}
+
+impl Writer {
+    pub fn new(start: u64, blocks: u64) -> Writer {
+        Writer {
+            blocks,
+            tail: start,
+            write: start,
+            from: sn_of(start),
+            kept: Vec::with_capacity(LOG_BUFFER as usize),
+            firsts: Vec::with_capacity(BUFFER_BLOCKS as usize),
+            link: 0,
+            first: 0,
+            code: 0,
+            checks: false,
+            step: Step::LoadLink,
+        }
+    }
+
+    fn place(&self) -> u64 {
+        lsn_of(self.from + self.kept.len() as u64)
+    }
+
+    pub fn next(&self) -> Op {
+        if self.checks {
+            return Op::Load(FAILED);
+        }
+        match self.step {
+            Step::LoadLink => Op::Load(written_link(self.tail)),
+            Step::ClearLink => Op::Store(written_link(self.tail), 0),
+            Step::StoreWtail => Op::Store(WTAIL, self.tail),
+            Step::LoadCheckpoint => Op::Load(CKPT),
+            Step::LoadFirst => Op::Load(first(self.place())),
+            Step::ClearFirst => Op::Store(first(self.place()), 0),
+            Step::LoadCell => Op::Load(cell(self.place())),
+            Step::TakeDevice => Op::TakeDevice,
+            Step::GiveBroken | Step::GiveDevice | Step::GiveFailed => Op::Store(DEVICE, 0),
+            Step::WriteTo => Op::WriteTo(self.tail),
+            Step::StoreWrite => Op::Store(WRITE, self.tail),
+            Step::StoreFailed => Op::Store(FAILED, u64::from(self.code)),
+            Step::Failed => Op::Rest,
+        }
+    }
+
+    fn goes_on(&mut self, step: Step) -> Turn {
+        self.step = step;
+        Turn::Moved
+    }
+
+    fn waits(&mut self) -> Turn {
+        self.checks = true;
+        Turn::Idle
+    }
+
+    fn fails(&mut self) -> Turn {
+        self.step = Step::Failed;
+        Turn::Failed(self.code)
+    }
+
+    fn checked(&mut self, n: u64) -> Turn {
+        self.checks = false;
+        if n == 0 {
+            return Turn::Moved;
+        }
+        self.code = n as u32;
+        self.fails()
+    }
+
+    fn to_byte(&mut self) -> Turn {
+        if self.kept.len() == BLOCK_DATA * self.firsts.len() {
+            self.goes_on(Step::LoadFirst)
+        } else {
+            self.goes_on(Step::LoadCell)
+        }
+    }
+
+    fn followed_link(&mut self) -> Turn {
+        self.tail += self.link;
+        if self.tail < self.write + WRITTEN_LINKS {
+            self.goes_on(Step::LoadLink)
+        } else {
+            self.goes_on(Step::StoreWtail)
+        }
+    }
+
+    fn checks_space(&mut self, ckpt: u64) -> Turn {
+        let end = self.tail.next_multiple_of(BLOCK_SIZE as u64);
+        if end <= ckpt + BLOCK_SIZE as u64 * self.blocks {
+            self.to_byte()
+        } else {
+            self.waits()
+        }
+    }
+
+    fn written(&mut self) -> Turn {
+        let full = self.kept.len() / BLOCK_DATA;
+        self.write = self.tail;
+        self.from += (BLOCK_DATA * full) as u64;
+        self.kept.drain(..BLOCK_DATA * full);
+        self.firsts.drain(..full);
+        self.goes_on(Step::GiveDevice)
+    }
+
+    pub fn took(&mut self, answer: Answer) -> Turn {
+        let n = answer.number();
+        if self.checks {
+            return self.checked(n);
+        }
+        match self.step {
+            Step::LoadLink if n != 0 => {
+                self.link = n;
+                self.goes_on(Step::ClearLink)
+            }
+            Step::LoadLink if self.tail == self.write => self.waits(),
+            Step::LoadLink => self.goes_on(Step::StoreWtail),
+            Step::ClearLink => self.followed_link(),
+            Step::StoreWtail => self.goes_on(Step::LoadCheckpoint),
+            Step::LoadCheckpoint => self.checks_space(n),
+            Step::LoadFirst => {
+                self.first = n as u16;
+                self.goes_on(Step::ClearFirst)
+            }
+            Step::ClearFirst => {
+                self.firsts.push(self.first);
+                self.goes_on(Step::LoadCell)
+            }
+            Step::LoadCell => {
+                self.kept.push(n as u8);
+                if self.place() == self.tail {
+                    self.goes_on(Step::TakeDevice)
+                } else {
+                    self.to_byte()
+                }
+            }
+            Step::TakeDevice => match answer {
+                Answer::Taken(_) => self.goes_on(Step::WriteTo),
+                Answer::Broken => self.goes_on(Step::GiveBroken),
+                _ => self.waits(),
+            },
+            Step::GiveBroken => {
+                self.checks = true;
+                self.goes_on(Step::TakeDevice)
+            }
+            Step::WriteTo => match answer {
+                Answer::Failed(code) => {
+                    self.code = code;
+                    self.goes_on(Step::StoreFailed)
+                }
+                _ => self.goes_on(Step::StoreWrite),
+            },
+            Step::StoreWrite => self.written(),
+            Step::GiveDevice => self.goes_on(Step::LoadLink),
+            Step::StoreFailed => self.goes_on(Step::GiveFailed),
+            Step::GiveFailed | Step::Failed => self.fails(),
+        }
+    }
+}

@@ -1,0 +1,250 @@
+//! The call or the calls of one seed, and what they have to print.
+
+use crate::chain::Chain;
+use crate::checking::{Asked, Store, check, check_read};
+use crate::draws::Draws;
+use crate::generated;
+use crate::listing::read_of;
+use crate::lsn::start_after;
+use crate::making::{draw_script, spoil_fit, spoil_text, text_of};
+use crate::options::Options;
+use crate::program::{Call, Program};
+use crate::report::Report;
+use crate::script::{Line, misfit};
+use std::path::Path;
+
+/// What was run.
+#[derive(Clone, Copy, Default)]
+pub struct Tally {
+    pub calls: u64,
+    pub groups: u64,
+    pub crashes: u64,
+    pub stops: u64,
+    pub chains: u64,
+    /// How often a log has gone round.
+    pub rounds: u64,
+    pub refused: u64,
+}
+
+impl Tally {
+    pub fn add(&mut self, other: Tally) {
+        self.calls += other.calls;
+        self.groups += other.groups;
+        self.crashes += other.crashes;
+        self.stops += other.stops;
+        self.chains += other.chains;
+        self.rounds += other.rounds;
+        self.refused += other.refused;
+    }
+}
+
+/// A seed at work.
+pub struct Case<'a> {
+    pub program: &'a Program,
+    pub folder: &'a Path,
+    pub draws: Draws,
+    pub tally: Tally,
+    /// The calls so far.
+    pub calls: Vec<Call>,
+}
+
+/// What a run left.
+pub enum Left {
+    /// All is known of the store.
+    Known(Store),
+    /// The text is no script, and the devices weren't called.
+    Unread,
+    /// The store was opened, or not.
+    Unrun,
+    /// The turns were spent.
+    Spent,
+}
+
+impl Case<'_> {
+    pub fn run(&mut self) -> Result<(), String> {
+        match self.draws.below(32) {
+            0 => self.run_generated(),
+            1 => self.run_words(),
+            2..=4 => {
+                self.tally.chains += 1;
+                Chain::new(self).run()
+            }
+            _ => {
+                let store = Store::default_sizes();
+                self.run_script(&store, false, false).map(|_| ())
+            }
+        }
+    }
+
+    pub fn call(&mut self, words: &[String], script: &str) -> Result<Call, String> {
+        let call = self.program.call(self.folder, words, script)?;
+        self.tally.calls += 1;
+        self.calls.push(call.clone());
+        Ok(call)
+    }
+
+    /// Draws a script, and runs it on this store.
+    pub fn run_script(
+        &mut self,
+        store: &Store,
+        files: bool,
+        is_wide: bool,
+    ) -> Result<Left, String> {
+        let mut script = draw_script(&mut self.draws, &store.shape, is_wide);
+        if self.draws.once_in(24) {
+            spoil_fit(&mut self.draws, &mut script, &store.shape);
+        }
+        let options = Options::draw(&mut self.draws, files, script.len());
+        let mut text = text_of(&mut self.draws, &script);
+        if self.draws.once_in(24) {
+            let line = spoil_text(&mut self.draws, &mut text);
+            let call = self.call(&options.words(), &text)?;
+            self.tally.refused += 1;
+            call.answers(3, &format!("fault script line {line}\n"))?;
+            return Ok(Left::Unread);
+        }
+        let call = self.call(&options.words(), &text)?;
+        let left = self.check_call(store, &script, &options, &call)?;
+        if !files && self.draws.once_in(50) {
+            // the turns are those of the seed, so the same call prints the same
+            self.call(&options.words(), &text)?
+                .answers(call.status, &call.printed)?;
+        }
+        Ok(left)
+    }
+
+    fn check_call(
+        &mut self,
+        store: &Store,
+        script: &[Line],
+        options: &Options,
+        call: &Call,
+    ) -> Result<Left, String> {
+        let stopped = options.stops() && call.printed.starts_with("open none\n");
+        if let Some(words) = misfit(
+            script,
+            &store.shape,
+            start_after(store.end),
+            options.log_only,
+        ) && !stopped
+        {
+            self.tally.refused += 1;
+            call.answers(10, &format!("fault fit {words}\n"))?;
+            return Ok(Left::Unrun);
+        }
+        if let Some(most) = options.most_turns
+            && call.printed.starts_with("fault turns ")
+        {
+            self.tally.refused += 1;
+            check_spent(script, most, call)?;
+            return Ok(Left::Spent);
+        }
+        call.has_succeeded()?;
+        let report = Report::of(&call.printed)?;
+        if report.recovered.is_some() != options.crashes {
+            return Err("`recovered` stands there in a crash and nowhere else".to_string());
+        }
+        self.tally.groups += report.entries.len() as u64;
+        self.tally.crashes += u64::from(options.crashes);
+        self.tally.stops += u64::from(report.tells_failure());
+        let asked = Asked {
+            script,
+            stops: options.stops(),
+            log_only: options.log_only,
+            keeps_all: options.keeps_all(),
+        };
+        let known = check(store, asked, &report)?;
+        if options.crashes || !options.files {
+            return Ok(Left::Known(known));
+        }
+        let call = self.call(&["recover".to_string(), "--files".to_string()], "")?;
+        let read = read_of(&call.printed)?;
+        check_read(store, asked, &report, read.end, read.pages).map(Left::Known)
+    }
+
+    /// The script of `gen`, run and crashed.
+    fn run_generated(&mut self) -> Result<(), String> {
+        let seed = self.draws.number() >> self.draws.below(64);
+        let users = self.draws.within(1, 16) as u32;
+        let groups = self.draws.below(40);
+        let script = generated::script_of(seed, users, groups);
+        let text: String = script.iter().map(|line| format!("{line}\n")).collect();
+        let words = format!("gen {seed} {users} {groups}");
+        let call = self.call(&words_of(&words), "")?;
+        call.answers(0, &text)?;
+        let mut options = Options::draw(&mut self.draws, false, script.len());
+        let is_summed = self.program.runs_generated && self.draws.once_in(2);
+        if is_summed {
+            options = Options::of_generated(seed);
+        }
+        let call = self.call(&options.words(), &text)?;
+        self.check_call(&Store::default_sizes(), &script, &options, &call)?;
+        if is_summed {
+            self.check_summary(&words, &call)
+        } else {
+            Ok(())
+        }
+    }
+
+    /// The summary of `gen --run` is that of the same script, run by the turns of the same seed, where nothing of what was
+    /// written is dropped.
+    fn check_summary(&mut self, words: &str, crash: &Call) -> Result<(), String> {
+        let report = Report::of(&crash.printed)?;
+        let (Some(marks), Some(recovered)) = (&report.marks, &report.recovered) else {
+            return Err("no marks, or nothing was read".to_string());
+        };
+        let groups = report.entries.len();
+        let line = generated::summary(groups, marks.flushed, marks.checkpoint, &recovered.pages);
+        let call = self.call(&words_of(&format!("{words} --run")), "")?;
+        call.answers(0, &line)
+    }
+
+    /// Words that are no command.
+    fn run_words(&mut self) -> Result<(), String> {
+        let words = self.draws.one_of(&[
+            "",
+            "rum",
+            "run run",
+            "crash --pick",
+            "crash --pick x",
+            "crash --pick 18446744073709551616",
+            "crash --stop-log 1 --stop-log 1",
+            "run --stop-log 1",
+            "run --pick 1",
+            "run --max 1000000000000000001",
+            "recover --turns 1",
+            "dump 1",
+            "gen 1 1",
+            "gen 1 0 1",
+            "gen 1 17 1",
+            "gen 1 1 1000001",
+            "gen 1 1 1 1",
+            "format --pages 0",
+            "format --pages 65",
+            "format --space 4294967296",
+            "format --log-blocks 1023",
+            "format --log-blocks 1048577",
+            "--files run",
+        ]);
+        let call = self.call(&words_of(words), "1 f i 3\n")?;
+        self.tally.refused += 1;
+        call.answers(2, "fault words\n")
+    }
+}
+
+pub fn words_of(text: &str) -> Vec<String> {
+    text.split_whitespace().map(str::to_string).collect()
+}
+
+/// The turns were spent while this user hadn't ended.
+fn check_spent(script: &[Line], most: u64, call: &Call) -> Result<(), String> {
+    let has_lines = |user: &u32| script.iter().any(|line| line.user == *user);
+    let lines = (1..=16)
+        .filter(has_lines)
+        .map(|user| format!("fault turns {most} user {user}\n"));
+    if call.status == 9 && lines.clone().any(|line| line == call.printed) {
+        Ok(())
+    } else {
+        Err("status 9 should come, with a user that has lines".to_string())
+    }
+}

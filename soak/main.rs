@@ -1,0 +1,133 @@
+//! Runs scripts by seeds through the program, and checks each report against the crash theorem.
+
+mod case;
+mod chain;
+mod checking;
+mod draws;
+mod generated;
+mod listing;
+mod lsn;
+mod making;
+mod options;
+mod pages;
+mod program;
+mod report;
+mod script;
+
+use case::{Case, Tally};
+use draws::Draws;
+use program::Program;
+use std::path::{Path, PathBuf};
+use std::sync::Mutex;
+use std::sync::atomic::{AtomicU64, Ordering};
+use std::time::Instant;
+use std::{env, fs, process, thread};
+
+/// So many failures end it.
+const MOST_FAILURES: u64 = 10;
+
+struct Soak {
+    program: Program,
+    next: AtomicU64,
+    last: u64,
+    failures: AtomicU64,
+    tally: Mutex<Tally>,
+}
+
+impl Soak {
+    fn run_seed(&self, seed: u64, folder: &Path) {
+        let mut case = Case {
+            program: &self.program,
+            folder,
+            draws: Draws::new(seed),
+            tally: Tally::default(),
+            calls: Vec::new(),
+        };
+        let outcome = case.run();
+        self.tally.lock().unwrap().add(case.tally);
+        if let Err(message) = outcome {
+            self.failures.fetch_add(1, Ordering::Relaxed);
+            let calls: Vec<String> = case.calls.iter().map(|call| call.shown()).collect();
+            println!("soak/run {seed} 1\n{message}\n{}", calls.join("\n"));
+        }
+    }
+
+    /// Takes seeds until there is none.
+    fn work(&self, folder: &Path) {
+        loop {
+            let seed = self.next.fetch_add(1, Ordering::Relaxed);
+            if seed >= self.last || self.failures.load(Ordering::Relaxed) >= MOST_FAILURES {
+                return;
+            }
+            self.run_seed(seed, folder);
+        }
+    }
+}
+
+fn number(word: Option<String>, default: u64) -> u64 {
+    let word = word.map_or(Some(default), |word| word.parse().ok());
+    word.unwrap_or_else(|| {
+        eprintln!("usage: soak [FIRST_SEED] [RUNS]");
+        process::exit(2)
+    })
+}
+
+fn main() {
+    let mut words = env::args().skip(1);
+    let first = number(words.next(), 1);
+    let runs = number(words.next(), 1_000);
+    let program =
+        env::var_os("REDOLAB").map_or(PathBuf::from("crates/redolab/out/redolab"), PathBuf::from);
+    let Ok(program) = program.canonicalize() else {
+        eprintln!(
+            "{}: no such program; `rt run` in crates/redolab leaves it, or name another by REDOLAB",
+            program.display()
+        );
+        process::exit(2);
+    };
+    let program = Program::new(program).unwrap_or_else(|message| {
+        eprintln!("{message}");
+        process::exit(2)
+    });
+    if !program.runs_generated {
+        println!("the program has no `gen --run`, so that isn't tried");
+    }
+    let start = Instant::now();
+    let soak = Soak {
+        program,
+        next: AtomicU64::new(first),
+        last: first.saturating_add(runs),
+        failures: AtomicU64::new(0),
+        tally: Mutex::new(Tally::default()),
+    };
+    let shared = Path::new("/dev/shm");
+    let top = if shared.is_dir() {
+        shared.to_path_buf()
+    } else {
+        env::temp_dir()
+    };
+    let top = top.join(format!("soak-{}", process::id()));
+    thread::scope(|scope| {
+        for worker in 0..thread::available_parallelism().map_or(1, usize::from) {
+            let folder = top.join(worker.to_string());
+            fs::create_dir_all(&folder).expect("a folder for files");
+            let soak = &soak;
+            scope.spawn(move || soak.work(&folder));
+        }
+    });
+    let _ = fs::remove_dir_all(&top);
+    let failures = soak.failures.load(Ordering::Relaxed);
+    let tally = soak.tally.lock().unwrap();
+    println!(
+        "{runs} runs, {} calls, {} groups, {} crashes, {} stops that hit, {} chains, {} rounds of a log, {} refused, {failures} failures, {} seconds",
+        tally.calls,
+        tally.groups,
+        tally.crashes,
+        tally.stops,
+        tally.chains,
+        tally.rounds,
+        tally.refused,
+        start.elapsed().as_secs()
+    );
+    process::exit(i32::from(failures > 0));
+}

@@ -1,0 +1,119 @@
+//! The words of a run: its turns, its stops, its pick.
+
+use crate::draws::Draws;
+
+#[derive(Clone, Copy)]
+pub struct Options {
+    /// `crash`, and not `run`.
+    pub crashes: bool,
+    pub files: bool,
+    pub log_only: bool,
+    pub turns: Option<u64>,
+    pub most_turns: Option<u64>,
+    pub stop_log: Option<u64>,
+    pub stop_data: Option<u64>,
+    pub pick: Option<u64>,
+}
+
+impl Options {
+    pub fn draw(draws: &mut Draws, files: bool, groups: usize) -> Options {
+        let crashes = !draws.once_in(8);
+        let stops = crashes && !draws.once_in(4);
+        let which = draws.below(3);
+        Options {
+            crashes,
+            files,
+            log_only: draws.once_in(6),
+            turns: draw_turns(draws),
+            most_turns: draws
+                .once_in(40)
+                .then(|| draws.number() >> draws.within(40, 63)),
+            stop_log: (stops && which != 0).then(|| draw_stop(draws, 21, 4 * groups as u64)),
+            stop_data: (stops && which != 1).then(|| draw_stop(draws, 26, 22)),
+            pick: crashes.then(|| draw_pick(draws)).flatten(),
+        }
+    }
+
+    /// A crash that drops nothing, of a run by the turns of this seed.
+    pub fn of_generated(seed: u64) -> Options {
+        Options {
+            crashes: true,
+            files: false,
+            log_only: false,
+            turns: Some(seed),
+            most_turns: None,
+            stop_log: None,
+            stop_data: None,
+            pick: Some(u64::MAX),
+        }
+    }
+
+    pub fn stops(&self) -> bool {
+        self.stop_log.is_some() || self.stop_data.is_some()
+    }
+
+    /// Whether the crash drops nothing that was written.
+    pub fn keeps_all(&self) -> bool {
+        self.files || self.pick == Some(u64::MAX)
+    }
+
+    pub fn words(&self) -> Vec<String> {
+        let mut words = vec![if self.crashes { "crash" } else { "run" }.to_string()];
+        let numbers = [
+            ("--turns", self.turns),
+            ("--max", self.most_turns),
+            ("--stop-log", self.stop_log),
+            ("--stop-data", self.stop_data),
+            ("--pick", self.pick),
+        ];
+        for (name, number) in numbers {
+            if let Some(number) = number {
+                words.extend([name.to_string(), number.to_string()]);
+            }
+        }
+        let flags = [("--files", self.files), ("--log-only", self.log_only)];
+        words.extend(
+            flags
+                .iter()
+                .filter(|flag| flag.1)
+                .map(|flag| flag.0.to_string()),
+        );
+        words
+    }
+}
+
+fn draw_turns(draws: &mut Draws) -> Option<u64> {
+    match draws.below(4) {
+        0 => None,
+        1 => Some(draws.below(100)),
+        _ => Some(draws.number()),
+    }
+}
+
+/// A number of calls: in opening, just behind it, in the run, or behind all.
+fn draw_stop(draws: &mut Draws, opening: u64, run: u64) -> u64 {
+    match draws.below(10) {
+        0 => draws.below(4),
+        1 | 2 => draws.below(opening + 1),
+        3 | 4 => opening + draws.below(8),
+        9 => draws.number() >> draws.below(64),
+        _ => opening + draws.below(run + 1),
+    }
+}
+
+fn draw_pick(draws: &mut Draws) -> Option<u64> {
+    match draws.below(8) {
+        0 => None,
+        1 => Some(0),
+        2 => Some(u64::MAX),
+        3 => Some(1 << draws.below(64)),
+        4 => Some(u64::MAX >> draws.below(64)),
+        5 => Some(u64::MAX << draws.below(64)),
+        6 => Some(draws.one_of(&[
+            0x5555_5555_5555_5555,
+            0xAAAA_AAAA_AAAA_AAAA,
+            0xF0F0_F0F0_F0F0_F0F0,
+        ])),
+        _ => Some(draws.number()),
+    }
+}

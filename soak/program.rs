@@ -1,0 +1,90 @@
+//! Calls of the program.
+
+use std::env;
+use std::io::{ErrorKind, Write};
+use std::path::{Path, PathBuf};
+use std::process::{Command, Stdio};
+
+pub struct Program {
+    path: PathBuf,
+    /// Whether it has `gen --run`.
+    pub runs_generated: bool,
+}
+
+/// A call with what it read, how it ended and what it printed, to be shown where it fails a check.
+#[derive(Clone)]
+pub struct Call {
+    pub words: Vec<String>,
+    pub script: String,
+    pub status: i32,
+    pub printed: String,
+}
+
+impl Call {
+    pub fn shown(&self) -> String {
+        let words = self.words.join(" ");
+        format!(
+            "$ redolab {words}\n--- script\n{}\n--- status {}, printed\n{}",
+            self.script, self.status, self.printed
+        )
+    }
+
+    pub fn has_succeeded(&self) -> Result<(), String> {
+        if self.status == 0 {
+            Ok(())
+        } else {
+            Err(format!("status {}", self.status))
+        }
+    }
+
+    /// Whether it ended with this status and printed this text.
+    pub fn answers(&self, status: i32, text: &str) -> Result<(), String> {
+        if self.status == status && self.printed == text {
+            Ok(())
+        } else {
+            Err(format!("status {status} should come, and {text:?}"))
+        }
+    }
+}
+
+impl Program {
+    pub fn new(path: PathBuf) -> Result<Program, String> {
+        let mut program = Program {
+            path,
+            runs_generated: false,
+        };
+        let words = ["gen", "1", "1", "1", "--run"].map(str::to_string);
+        program.runs_generated = program.call(&env::temp_dir(), &words, "")?.status == 0;
+        Ok(program)
+    }
+
+    /// Calls the program in this folder.
+    pub fn call(&self, folder: &Path, words: &[String], script: &str) -> Result<Call, String> {
+        let mut child = Command::new(&self.path)
+            .args(words)
+            .current_dir(folder)
+            .stdin(Stdio::piped())
+            .stdout(Stdio::piped())
+            .stderr(Stdio::null())
+            .spawn()
+            .map_err(|error| format!("{}: {error}", self.path.display()))?;
+        if let Some(mut stdin) = child.stdin.take() {
+            // a call that reads no script may have ended
+            match stdin.write_all(script.as_bytes()) {
+                Err(error) if error.kind() != ErrorKind::BrokenPipe => {
+                    return Err(error.to_string());
+                }
+                _ => {}
+            }
+        }
+        let output = child
+            .wait_with_output()
+            .map_err(|error| error.to_string())?;
+        Ok(Call {
+            words: words.to_vec(),
+            script: script.to_string(),
+            status: output.status.code().unwrap_or(-1),
+            printed: String::from_utf8_lossy(&output.stdout).into_owned(),
+        })
+    }
+}
