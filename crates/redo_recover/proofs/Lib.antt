@@ -10,3 +10,5 @@ mod Parsing
 mod Scanning
 mod Setting
 mod Making
+mod Once
+mod OneRound

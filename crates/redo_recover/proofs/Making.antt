@@ -1,30 +1,19 @@
 -- The reads of recovery, one behind the other.
-use Rattle.std.proofs.Common.{◌≡◌, ◌≤◌, ◌++◌, ℕ, List, [], ◌∷◌, length, Option, Some, None, Err, refl, sym, ap, subst, arith}
+use Rattle.std.proofs.Common.{◌≡◌, ◌≤◌, ◌+◌, ◌*◌, ◌++◌, ℕ, List, [], ◌∷◌, length, Option, Some, None, Err, refl, sym, ap, subst, arith}
 use Rattle.std.specs.Prelude.{IsErrOf}
-use Rattle.std.specs.List.{AllByRecursion}
 use Rattle.model_base.specs.declared.shape.Shape.{Shape}
 use Rattle.model_log.specs.declared.layout.TheConstants.{HEADER_BYTES}
 use Rattle.redo_disk.specs.{Answer, Call, error_of, MakesCall, MakesCalls, Reads, Syncs, Writes}
 use Rattle.redo_disk.specs.declared.error.DevError.{DevError}
 use Rattle.redo_disk.specs.declared.error.DevError.TheVariants as device
-use Rattle.redo_disk.proofs.Calls.{MayEndWith-append, MayEndWith-ends, MayEndWith-no_memory}
-use Rattle.redo_disk.proofs.Made.{EndWith-one, joined_calls, no_calls, one_call, weaker_calls}
-use Rattle.redo_recover.specs.Calls.{IsPieceRead, ReadsPieces, BeginWithHeader, ReadsLog, log_error, data_error}
-use Rattle.redo_recover.specs.Devices.{log_fault_of}
+use Rattle.redo_disk.proofs.Made.{joined_calls, no_calls, one_call, weaker_calls}
+use Rattle.redo_recover.specs.Calls.{BeginWithHeader, IsBehindHeader, IsBehindSlots, IsInStretch, IsOfHeader, IsOfPlace, ReadsHeader, ReadsLog, ReadsPieces, ReadsWhere, log_error, data_error}
+use Rattle.redo_recover.specs.Devices.{data_fault_of, log_fault_of}
+use Rattle.redo_recover.proofs.Once.{pieces-no_memory, pieces-none, where-append, where-no_memory, where-one, where-weaker}
 use Rattle.redo_recover.specs.Start.{IsHeadFault, IsLengthFault}
 use Rattle.redo_recover.specs.declared.fault.RecFault.{RecFault}
 use Rattle.redo_recover.specs.declared.fault.RecFault.TheVariants.{SmallLog, NotFormatted, BadFormat, SmallData, NoCheckpoint, BadRecord, PageLost, PageAhead, LogDev, DataDev, NoMemory}
 use Rattle.redo_recover.specs.declared.piece.TheConstants.{PIECE}
-
-pieces-append : (xs ys : List Call) → AllByRecursion IsPieceRead xs → AllByRecursion IsPieceRead ys → AllByRecursion IsPieceRead (xs ++ ys)
-pieces-append [] ys front back = back
-pieces-append (call ∷ xs) ys front back = (front.0, pieces-append xs ys front.1 back)
-
-ReadsPieces-append : (error : Option DevError) (xs ys : List Call) → ReadsPieces None xs → ReadsPieces error ys → ReadsPieces error (xs ++ ys)
-ReadsPieces-append error xs ys front back = record {
-  pieces = pieces-append xs ys front.pieces back.pieces;
-  ends = MayEndWith-append error xs ys front.ends back.ends;
-}
 
 header-append : (xs ys : List Call) → BeginWithHeader xs → BeginWithHeader (xs ++ ys)
 header-append [] ys begins = absurd begins
@@ -32,49 +21,110 @@ header-append (Reads at before answer after ∷ xs) ys begins = begins
 header-append (Writes write answer ∷ xs) ys begins = absurd begins
 header-append (Syncs answer ∷ xs) ys begins = absurd begins
 
-pub pieces_then : {D : Type 0} {gives : D → Call → D → Type 0} {old middle new : D} {error : Option DevError}
-    → MakesCalls gives old middle (ReadsPieces None) → MakesCalls gives middle new (ReadsPieces error) → MakesCalls gives old new (ReadsPieces error)
-pieces_then {error = error} = joined_calls (ReadsPieces-append error)
+-- the same calls, of which less is told
+pub pieces_made : {D : Type 0} {gives : D → Call → D → Type 0} {old new : D} {IsSuch : ℕ → Type 0} {error : Option DevError}
+    → MakesCalls gives old new (ReadsWhere IsSuch error) → MakesCalls gives old new (ReadsPieces error)
+pieces_made = weaker_calls (λ calls is. is.reads)
+
+pub log_made : {D : Type 0} {gives : D → Call → D → Type 0} {old new : D} {size : ℕ} {error : Option DevError}
+    → MakesCalls gives old new (ReadsHeader size error) → MakesCalls gives old new (ReadsLog size error)
+log_made = weaker_calls (λ calls is. record { reads = is.reads.reads; header = is.header })
+
+pub where_weaker : {D : Type 0} {gives : D → Call → D → Type 0} {old new : D} {One : ℕ → Type 0} {error : Option DevError} (Both : ℕ → Type 0)
+    → MakesCalls gives old new (ReadsWhere One error) → ((at : ℕ) → One at → Both at) → MakesCalls gives old new (ReadsWhere Both error)
+where_weaker {One = One} {error = error} Both made weaker = weaker_calls (where-weaker One Both error weaker) made
+
+-- calls, and others that read none of their bytes
+pub where_then : {D : Type 0} {gives : D → Call → D → Type 0} {old middle new : D} {One Other : ℕ → Type 0} {error : Option DevError} (Both : ℕ → Type 0)
+    → MakesCalls gives old middle (ReadsWhere One None) → MakesCalls gives middle new (ReadsWhere Other error) → ((at : ℕ) → One at → Other at → ⊥)
+    → ((at : ℕ) → One at → Both at) → ((at : ℕ) → Other at → Both at) → MakesCalls gives old new (ReadsWhere Both error)
+where_then {One = One} {Other = Other} {error = error} Both front back apart first second =
+    joined_calls (where-append One Other Both error apart first second) front back
 
 pub log_then : {D : Type 0} {gives : D → Call → D → Type 0} {old middle new : D} {size : ℕ} {error : Option DevError}
-    → MakesCalls gives old middle (ReadsLog size None) → MakesCalls gives middle new (ReadsPieces error) → MakesCalls gives old new (ReadsLog size error)
+    → MakesCalls gives old middle (ReadsHeader size None) → MakesCalls gives middle new (ReadsWhere IsBehindHeader error) → MakesCalls gives old new (ReadsLog size error)
 log_then {size = size} {error = error} = joined_calls (λ xs ys front back. record {
-  reads = ReadsPieces-append error xs ys front.reads back;
+  reads = (where-append IsOfHeader IsBehindHeader (λ at. Unit {0}) error (λ at one other. omega (arith, one, other)) (λ at one. tt) (λ at other. tt) xs ys front.reads back).reads;
   header = λ long. header-append xs ys (front.header long);
 })
 
-pub no_pieces : {D : Type 0} (gives : D → Call → D → Type 0) (device : D) → MakesCalls gives device device (ReadsPieces None)
-no_pieces gives device = no_calls gives device (ReadsPieces None) (record { pieces = tt; ends = MayEndWith-ends None [] (record { stop = tt; first = refl }) })
+-- THE DATA DEVICE: the slots, and then each place.
 
-pub piece_read : {D : Type 0} {gives : D → Call → D → Type 0} {old new : D} {at : ℕ} {before after : List ℕ} {answer : Answer} → length before ≤ PIECE
-    → MakesCall gives old (Reads at before answer after) new → MakesCalls gives old new (ReadsPieces (error_of answer))
-piece_read {at = at} {before = before} {after = after} {answer = answer} few given =
-    one_call {call = Reads at before answer after} (ReadsPieces (error_of answer))
-    (record { pieces = (few, tt); ends = MayEndWith-ends (error_of answer) (Reads at before answer after ∷ []) (EndWith-one (Reads at before answer after)) }) given
+-- the byte is one of the places of the first so many pages
+abbrev pub IsOfPlaces : Shape → ℕ → ℕ → Type 0
+IsOfPlaces shape count at = IsInStretch (shape.slots * shape.page_size) (count * shape.page_size) at
+
+place-start : (slots count size : ℕ) → (slots + count) * size ≡ slots * size + count * size
+place-start slots count size = grind arith
+
+place-end : (count size : ℕ) → (count + 1) * size ≡ count * size + size
+place-end count size = grind arith
+
+places-apart : (shape : Shape) (page at : ℕ) → IsOfPlaces shape page at → IsOfPlace shape page at → ⊥
+places-apart shape page at one other = omega (arith, place-start shape.slots page shape.page_size, one.1, other.0)
+
+-- one place more
+pub place_then : {D : Type 0} {gives : D → Call → D → Type 0} {old middle new : D} (shape : Shape) (page : ℕ)
+    → MakesCalls gives old middle (ReadsWhere (IsOfPlaces shape page) None) → MakesCalls gives middle new (ReadsWhere (IsOfPlace shape page) None)
+    → MakesCalls gives old new (ReadsWhere (IsOfPlaces shape (page + 1)) None)
+place_then shape page front back =
+    let start = place-start shape.slots page shape.page_size in
+    let end = place-end page shape.page_size in
+    where_then (IsOfPlaces shape (page + 1)) front back (places-apart shape page) (λ at one. (one.0, omega (arith, end, one.1)))
+    (λ at other. (omega (arith, start, other.0), omega (arith, start, end, other.1)))
+
+-- one that may be the last
+pub place_last : {D : Type 0} {gives : D → Call → D → Type 0} {old middle new : D} {error : Option DevError} (shape : Shape) (page : ℕ)
+    → MakesCalls gives old middle (ReadsWhere (IsOfPlaces shape page) None) → MakesCalls gives middle new (ReadsWhere (IsOfPlace shape page) error)
+    → MakesCalls gives old new (ReadsWhere (IsBehindSlots shape) error)
+place_last shape page front back =
+    where_then (IsBehindSlots shape) front back (places-apart shape page) (λ at one. one.0)
+    (λ at other. omega (arith, place-start shape.slots page shape.page_size, other.0))
+
+-- the slots, and what stands behind them
+pub slots_then : {D : Type 0} {gives : D → Call → D → Type 0} {old middle new : D} {error : Option DevError} (shape : Shape)
+    → MakesCalls gives old middle (ReadsWhere (IsInStretch 0 (shape.slots * shape.page_size)) None) → MakesCalls gives middle new (ReadsWhere (IsBehindSlots shape) error)
+    → MakesCalls gives old new (ReadsPieces error)
+slots_then shape front back =
+    pieces_made (where_then (λ at. Unit {0}) front back (λ at one other. omega (arith, one.1, other)) (λ at one. tt) (λ at other. tt))
+
+-- no call, and one
+pub no_pieces : {D : Type 0} (gives : D → Call → D → Type 0) (device : D) → MakesCalls gives device device (ReadsPieces None)
+no_pieces gives device = no_calls gives device (ReadsPieces None) pieces-none
+
+pub piece_read : {D : Type 0} {gives : D → Call → D → Type 0} {old new : D} {at : ℕ} {before after : List ℕ} {answer : Answer} (count : ℕ)
+    → length before ≡ count → count ≤ PIECE → MakesCall gives old (Reads at before answer after) new
+    → MakesCalls gives old new (ReadsWhere (IsInStretch at count) (error_of answer))
+piece_read {gives = gives} {old = old} {new = new} {at = at} {before = before} {after = after} {answer = answer} count long few given =
+    subst (λ (n : ℕ). MakesCalls gives old new (ReadsWhere (IsInStretch at n) (error_of answer))) long
+    (one_call {call = Reads at before answer after} (ReadsWhere (IsInStretch at (length before)) (error_of answer))
+    (where-one at before answer after (omega (arith, long, few))) given)
 
 pub header_read : {D : Type 0} {gives : D → Call → D → Type 0} {old new : D} {before after : List ℕ} {answer : Answer} (size : ℕ) → length before ≡ HEADER_BYTES
-    → MakesCall gives old (Reads 0 before answer after) new → MakesCalls gives old new (ReadsLog size (error_of answer))
+    → MakesCall gives old (Reads 0 before answer after) new → MakesCalls gives old new (ReadsHeader size (error_of answer))
 header_read {before = before} {after = after} {answer = answer} size long given =
-    one_call {call = Reads 0 before answer after} (ReadsLog size (error_of answer))
+    one_call {call = Reads 0 before answer after} (ReadsHeader size (error_of answer))
     (record {
-      reads = record {
-        pieces = (subst (λ (n : ℕ). n ≤ PIECE) (sym long) (omega arith), tt);
-        ends = MayEndWith-ends (error_of answer) (Reads 0 before answer after ∷ []) (EndWith-one (Reads 0 before answer after));
-      };
+      reads = where-weaker (IsInStretch 0 (length before)) IsOfHeader (error_of answer) (λ at is. omega (arith, is.1, long)) (Reads 0 before answer after ∷ [])
+          (where-one 0 before answer after (subst (λ (n : ℕ). n ≤ PIECE) (sym long) (omega arith)));
       header = λ room. (refl, long);
     }) given
 
-pub pieces_no_memory : {D : Type 0} {gives : D → Call → D → Type 0} {old new : D} → MakesCalls gives old new (ReadsPieces None) → MakesCalls gives old new (ReadsPieces (Some device.NoMemory))
-pieces_no_memory = weaker_calls (λ calls is. record { pieces = is.pieces; ends = MayEndWith-no_memory calls is.ends })
-
 -- WHAT A FAULT SAYS of a device's error.
 
-pub log_header : {D : Type 0} {gives : D → Call → D → Type 0} {old new : D} (size : ℕ) (error : DevError) (fault : RecFault) → fault ≡ log_fault_of error
-    → MakesCalls gives old new (ReadsLog size (Some error)) → MakesCalls gives old new (ReadsLog size (log_error fault))
-log_header {gives = gives} {old = old} {new = new} size device.Failed fault is made =
-    subst (λ (f : RecFault). MakesCalls gives old new (ReadsLog size (log_error f))) (sym is) made
-log_header {gives = gives} {old = old} {new = new} size device.NoMemory fault is made =
-    subst (λ (f : RecFault). MakesCalls gives old new (ReadsLog size (log_error f))) (sym is) made
+pub log_fault_made : {D : Type 0} {gives : D → Call → D → Type 0} {old new : D} (Are : Option DevError → List Call → Type 0) (error : DevError) (fault : RecFault)
+    → fault ≡ log_fault_of error → MakesCalls gives old new (Are (Some error)) → MakesCalls gives old new (Are (log_error fault))
+log_fault_made {gives = gives} {old = old} {new = new} Are device.Failed fault is made =
+    subst (λ (f : RecFault). MakesCalls gives old new (Are (log_error f))) (sym is) made
+log_fault_made {gives = gives} {old = old} {new = new} Are device.NoMemory fault is made =
+    subst (λ (f : RecFault). MakesCalls gives old new (Are (log_error f))) (sym is) made
+
+pub data_fault_made : {D : Type 0} {gives : D → Call → D → Type 0} {old new : D} (Are : Option DevError → List Call → Type 0) (error : DevError) (fault : RecFault)
+    → fault ≡ data_fault_of error → MakesCalls gives old new (Are (Some error)) → MakesCalls gives old new (Are (data_error fault))
+data_fault_made {gives = gives} {old = old} {new = new} Are device.Failed fault is made =
+    subst (λ (f : RecFault). MakesCalls gives old new (Are (data_error f))) (sym is) made
+data_fault_made {gives = gives} {old = old} {new = new} Are device.NoMemory fault is made =
+    subst (λ (f : RecFault). MakesCalls gives old new (Are (data_error f))) (sym is) made
 
 -- an error that code answers by itself
 abbrev pub MayBeOwn : Option DevError → Type 0
@@ -83,21 +133,28 @@ MayBeOwn (Some device.NoMemory) = Unit {0}
 MayBeOwn (Some device.Failed) = ⊥
 
 -- calls that went well, and then a fault that is no device's
+own_calls : {D : Type 0} {gives : D → Call → D → Type 0} {old new : D} (Are : Option DevError → List Call → Type 0)
+    → ((calls : List Call) → Are None calls → Are (Some device.NoMemory) calls) → (error : Option DevError) → MayBeOwn error
+    → MakesCalls gives old new (Are None) → MakesCalls gives old new (Are error)
+own_calls Are ended None own made = made
+own_calls Are ended (Some device.NoMemory) own made = weaker_calls ended made
+own_calls Are ended (Some device.Failed) own made = absurd own
+
+pub own_where : {D : Type 0} {gives : D → Call → D → Type 0} {old new : D} (IsSuch : ℕ → Type 0) (error : Option DevError) → MayBeOwn error
+    → MakesCalls gives old new (ReadsWhere IsSuch None) → MakesCalls gives old new (ReadsWhere IsSuch error)
+own_where IsSuch = own_calls (ReadsWhere IsSuch) (where-no_memory IsSuch)
+
 pub own_pieces : {D : Type 0} {gives : D → Call → D → Type 0} {old new : D} (error : Option DevError) → MayBeOwn error
     → MakesCalls gives old new (ReadsPieces None) → MakesCalls gives old new (ReadsPieces error)
-own_pieces None own made = made
-own_pieces (Some device.NoMemory) own made = pieces_no_memory made
-own_pieces (Some device.Failed) own made = absurd own
+own_pieces = own_calls ReadsPieces pieces-no_memory
 
--- the same of the log device
+pub own_header : {D : Type 0} {gives : D → Call → D → Type 0} {old new : D} (size : ℕ) (error : Option DevError) → MayBeOwn error
+    → MakesCalls gives old new (ReadsHeader size None) → MakesCalls gives old new (ReadsHeader size error)
+own_header size = own_calls (ReadsHeader size) (λ calls is. record { reads = where-no_memory IsOfHeader calls is.reads; header = is.header })
+
 pub own_log : {D : Type 0} {gives : D → Call → D → Type 0} {old new : D} (size : ℕ) (error : Option DevError) → MayBeOwn error
     → MakesCalls gives old new (ReadsLog size None) → MakesCalls gives old new (ReadsLog size error)
-own_log size None own made = made
-own_log size (Some device.NoMemory) own made = weaker_calls (λ calls is. record {
-  reads = record { pieces = is.reads.pieces; ends = MayEndWith-no_memory calls is.reads.ends };
-  header = is.header;
-}) made
-own_log size (Some device.Failed) own made = absurd own
+own_log size = own_calls (ReadsLog size) (λ calls is. record { reads = pieces-no_memory calls is.reads; header = is.header })
 
 pub log-own : (fault : RecFault) → (IsErrOf {T = Unit {0}} (Err fault) LogDev → ⊥) → MayBeOwn (log_error fault)
 log-own LogDev apart = absurd (apart refl)

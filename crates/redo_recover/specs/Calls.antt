@@ -1,6 +1,7 @@
 -- The calls that recovery makes of the devices.
-use Rattle.std.specs.Prelude.{ℕ, ◌≡◌, ◌≤◌, List, [], ◌∷◌, length, Option, Some, None, Result, Ok, Err}
+use Rattle.std.specs.Prelude.{ℕ, ◌≡◌, ◌≤◌, ◌<◌, ◌+◌, ◌*◌, List, [], ◌∷◌, length, slice_get, Option, Some, None, Result, Ok, Err}
 use Rattle.std.specs.List.{AllByRecursion}
+use Rattle.model_base.specs.declared.shape.Shape.{Shape}
 use Rattle.model_log.specs.declared.layout.TheConstants.{HEADER_BYTES}
 use Rattle.redo_disk.specs.{Call, MayEndWith, Reads, Syncs, Writes}
 use Rattle.redo_disk.specs.declared.error.DevError.{DevError}
@@ -15,11 +16,37 @@ IsPieceRead (Reads at before answer after) = length before ≤ PIECE
 IsPieceRead (Writes write answer) = ⊥
 IsPieceRead (Syncs answer) = ⊥
 
--- The calls are such reads. All but the last answered Ok, and the last one answered this error, if any did; where memory
--- ran out they may all have answered Ok.
+-- the byte at this offset is one of so many from another on
+abbrev pub IsInStretch : ℕ → ℕ → ℕ → Type 0
+IsInStretch from count at = (from ≤ at) × (at < from + count)
+
+-- the call reads the byte at this offset of the device
+abbrev pub ReadsByte : ℕ → Call → Type 0
+ReadsByte at (Reads from before answer after) = IsInStretch from (length before) at
+ReadsByte at (Writes write answer) = ⊥
+ReadsByte at (Syncs answer) = ⊥
+
+-- no byte is read by two of the calls
+abbrev pub ReadOnce : List Call → Type 0
+ReadOnce calls =
+    (at i j : ℕ) (one other : Call) → slice_get calls i ≡ Some one → slice_get calls j ≡ Some other
+    → ReadsByte at one → ReadsByte at other → i ≡ j
+
+-- The calls are reads of pieces, and read no byte twice. All but the last answered Ok, and the last one answered this
+-- error, if any did; where memory ran out they may all have answered Ok.
 pub record ReadsPieces (error : Option DevError) (calls : List Call) : Type 0 where
   pub pieces : AllByRecursion IsPieceRead calls
+  pub once : ReadOnce calls
   pub ends : MayEndWith error calls
+
+-- each byte that the calls read is such a one
+abbrev pub AreBytesRead : (ℕ → Type 0) → List Call → Type 0
+AreBytesRead IsSuch calls = (at i : ℕ) (call : Call) → slice_get calls i ≡ Some call → ReadsByte at call → IsSuch at
+
+-- the same of calls that read such bytes alone
+pub record ReadsWhere (IsSuch : ℕ → Type 0) (error : Option DevError) (calls : List Call) : Type 0 where
+  pub reads : ReadsPieces error calls
+  pub bytes : AreBytesRead IsSuch calls
 
 -- the first of the calls reads the header
 abbrev pub BeginWithHeader : List Call → Type 0
@@ -32,6 +59,26 @@ BeginWithHeader (Syncs answer ∷ calls) = ⊥
 pub record ReadsLog (size : ℕ) (error : Option DevError) (calls : List Call) : Type 0 where
   pub reads : ReadsPieces error calls
   pub header : HEADER_BYTES ≤ size → BeginWithHeader calls
+
+-- the byte is one of the header's
+abbrev pub IsOfHeader : ℕ → Type 0
+IsOfHeader at = at < HEADER_BYTES
+
+abbrev pub IsBehindHeader : ℕ → Type 0
+IsBehindHeader at = HEADER_BYTES ≤ at
+
+-- the same of calls that read the header alone
+pub record ReadsHeader (size : ℕ) (error : Option DevError) (calls : List Call) : Type 0 where
+  pub reads : ReadsWhere IsOfHeader error calls
+  pub header : HEADER_BYTES ≤ size → BeginWithHeader calls
+
+-- the byte stands behind the slots of the data device
+abbrev pub IsBehindSlots : Shape → ℕ → Type 0
+IsBehindSlots shape at = shape.slots * shape.page_size ≤ at
+
+-- the byte is one of a page's place
+abbrev pub IsOfPlace : Shape → ℕ → ℕ → Type 0
+IsOfPlace shape page at = IsInStretch ((shape.slots + page) * shape.page_size) shape.page_size at
 
 -- the error that the log device may have answered where this is the fault
 abbrev pub log_error : RecFault → Option DevError

@@ -8,7 +8,7 @@ ghost use Rattle.model_store.specs.{groups_start};
 ghost use Rattle.redo_disk.specs.{error_of, MakesCalls};
 ghost use Rattle.redo_disk.specs.declared.error.DevError.{DevError};
 ghost use Rattle.redo_recover.specs.Blocks.{AreBlocksOf, AreFew, HasFirst, HaveFirsts};
-ghost use Rattle.redo_recover.specs.Calls.{ReadsPieces};
+ghost use Rattle.redo_recover.specs.Calls.{IsBehindHeader, ReadsWhere};
 ghost use Rattle.redo_recover.specs.Devices.{IsUnchanged, OnContent};
 ghost use Rattle.redo_recover.specs.Piece.{HasSector};
 
@@ -47,6 +47,7 @@ fn readable_end(shape: &Shape, at: u64, left: u32) -> u64
     ensures sectors { result % BLOCK_SIZE ≡ 0 }
     ensures some { at < result }
     ensures within { result ≤ log_device_length shape.now }
+    ensures up_to { result ≤ at + BLOCK_SIZE * left }
 {
     let log_end = HEADER_BYTES + BLOCK_SIZE * u64::from(shape.log_blocks);
     (at + BLOCK_SIZE * u64::from(left)).min(log_end)
@@ -70,7 +71,7 @@ pub(crate) fn read_blocks<L: Sectors>(
     ensures firsts { IfOk result (λ blocks. HaveFirsts blocks.views.items) }
     ensures unchanged { IsUnchanged (L.seen log.old) (L.seen log.new) }
     ensures failed { IsErrOf result DevError.Failed → HasRisen (L.seen log.old).faults (L.seen log.new).faults }
-    ensures calls { MakesCalls L.gives log.old log.new (ReadsPieces (error_of result)) }
+    ensures calls { MakesCalls L.gives log.old log.new (ReadsWhere IsBehindHeader (error_of result)) }
 {
     let mut views = Vec::new(alloc);
     let mut joined = Vec::new(alloc);

@@ -4,7 +4,7 @@ ghost use Rattle.model_base.specs.{HasRisen, IsWithinLimits};
 ghost use Rattle.model_page.specs.{data_device_length, IsKept, IsLost, place_bytes, user_length};
 ghost use Rattle.redo_apply.specs.{ArePagesOf};
 ghost use Rattle.redo_disk.specs.{MakesCalls};
-ghost use Rattle.redo_recover.specs.Calls.{ReadsPieces, data_error_of};
+ghost use Rattle.redo_recover.specs.Calls.{IsBehindSlots, IsOfPlace, ReadsWhere, data_error_of};
 ghost use Rattle.redo_recover.specs.Devices.{IsUnchanged, OnContent};
 ghost use Rattle.redo_recover.specs.Pages.{AreKept, HoldsSlots, IsFirstLostFault, IsLostFault, PutsKept};
 
@@ -64,7 +64,7 @@ fn keep_page<D: Sectors>(
     ensures fault { IfErr result (IsLostFault shape.now page (D.seen device.old).tells) }
     ensures unchanged { IsUnchanged (D.seen device.old) (D.seen device.new) }
     ensures failed { IsErrOf result RecFault.DataDev → HasRisen (D.seen device.old).faults (D.seen device.new).faults }
-    ensures calls { MakesCalls D.gives device.old device.new (ReadsPieces (data_error_of result)) }
+    ensures calls { MakesCalls D.gives device.old device.new (ReadsWhere (IsOfPlace shape.now page) (data_error_of result)) }
 {
     let size = shape.page_size as usize;
     let at = u64::from(shape.slots + page) * u64::from(shape.page_size);
@@ -95,7 +95,7 @@ pub(crate) fn keep_pages<D: Sectors>(
     ensures fault { IfErr result (IsFirstLostFault shape.now (D.seen device.old).tells) }
     ensures unchanged { IsUnchanged (D.seen device.old) (D.seen device.new) }
     ensures failed { IsErrOf result RecFault.DataDev → HasRisen (D.seen device.old).faults (D.seen device.new).faults }
-    ensures calls { MakesCalls D.gives device.old device.new (ReadsPieces (data_error_of result)) }
+    ensures calls { MakesCalls D.gives device.old device.new (ReadsWhere (IsBehindSlots shape.now) (data_error_of result)) }
 {
     let mut pages = Pages::blank(alloc, shape)?;
     for page in 0..shape.pages {

@@ -17,7 +17,7 @@ use std::alloc::Global;
 /// Reads a store off its two devices: the file header, the newest checkpoint, the log's blocks and groups from there on,
 /// and the pages as they are kept, to which each group is applied that starts at or above a page's lsn.
 ///
-/// It writes nothing, and reads nothing twice: the log's blocks in pieces of at most 65,536 bytes, and none behind the
+/// It writes nothing, and reads no byte twice: the log's blocks in pieces of at most 65,536 bytes, and none behind the
 /// piece in which the scan ends; of the data device the slots at once, and then each place. It holds the data of the scanned
 /// blocks, and then the slots and one place beside the pages. A device's failure ends it at once.
 pub fn recover<L: Sectors, D: Sectors>(

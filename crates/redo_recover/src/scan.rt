@@ -6,7 +6,7 @@ ghost use Rattle.model_log.specs.{log_device_length};
 ghost use Rattle.model_record.specs.{GroupFits};
 ghost use Rattle.model_store.specs.{IsScan};
 ghost use Rattle.redo_disk.specs.{MakesCalls};
-ghost use Rattle.redo_recover.specs.Calls.{ReadsPieces, log_error_of};
+ghost use Rattle.redo_recover.specs.Calls.{IsBehindHeader, ReadsWhere, log_error_of};
 ghost use Rattle.redo_recover.specs.Devices.{HasLengthCause, IsUnchanged, OnContent};
 ghost use Rattle.redo_recover.specs.Groups.{IsEndOf, IsScanFault};
 
@@ -49,7 +49,7 @@ pub(crate) fn scan_log<L: Sectors>(
     ensures lengths { (log_size data_size : ℕ) → IfErr result (HasLengthCause log_size data_size) }
     ensures unchanged { IsUnchanged (L.seen log.old) (L.seen log.new) }
     ensures failed { IsErrOf result RecFault.LogDev → HasRisen (L.seen log.old).faults (L.seen log.new).faults }
-    ensures calls { MakesCalls L.gives log.old log.new (ReadsPieces (log_error_of result)) }
+    ensures calls { MakesCalls L.gives log.old log.new (ReadsWhere IsBehindHeader (log_error_of result)) }
     ensures apart { IsErrOf result RecFault.DataDev → ⊥ }
 {
     let blocks = match read_blocks(alloc, log, shape, ckpt) {

@@ -1,15 +1,39 @@
-use Rattle.std.proofs.Common.{◌≡◌, ◌≤◌, ◌+◌, ◌∙◌, ℕ, List, length, length-append, sym, ap, arith}
+use Rattle.std.proofs.Common.{◌≡◌, ◌≤◌, ◌+◌, ◌∙◌, ℕ, List, Some, None, length, length-append, sym, ap, arith}
 use Rattle.std.proofs.lemmas.List.{length_push}
 use Rattle.std.proofs.lemmas.Result.{err_from_is_err_and}
 use Rattle.model_log.specs.declared.layout.TheConstants.{BLOCK_DATA}
+use Rattle.redo_disk.specs.{MakesCalls}
+use Rattle.redo_disk.specs.declared.error.DevError.TheVariants.{NoMemory}
 use Rattle.redo_recover.specs.Blocks.{AreBlocksOf}
+use Rattle.redo_recover.specs.Calls.{IsBehindHeader, ReadsWhere}
 use Rattle.redo_recover.specs.Piece.{IsPieceOf}
 use Rattle.redo_recover.proofs.Bounds.{firsts-push}
 use Rattle.redo_recover.proofs.Contents.{content-both, content-weaker}
-use Rattle.redo_recover.proofs.Making.{pieces_then, pieces_no_memory}
+use Rattle.redo_recover.proofs.Making.{own_where}
+use Rattle.redo_recover.proofs.OneRound.{IsReadable, block_place, reads-end, reads-end_at, reads-next}
 use Rattle.redo_recover.proofs.Scanning.{AreBlocksSoFar, IsTakenAt, taken-at, so_far-next, read-stopped, read-last, read-all, length-data_of}
 use Rattle.redo_recover.proofs.Unchanged.{IsUnchanged-then, content-before, content-after}
+use Rattle.redo_recover.proofs.blocks.read_blocks.Given.{Over}
+use Rattle.redo_recover.proofs.blocks.read_blocks.Goals.{After-readable_end-end, In_ok-piece}
 use Rattle.redo_recover.proofs.blocks.read_blocks.Goals as goal
+
+readable : (g : Over) (c : After-readable_end-end g) → IsReadable c.args.shape.now c.args.ckpt c.loop-i.i c.offset_of-at.result c.readable_end-end.result
+readable g c = record {
+  start = record { aligned = c.requires.aligned; started = c.requires.started };
+  some = omega arith;
+  place = c.offset_of-at.ensures ∙ ap (block_place c.args.shape.now c.args.ckpt) c.from.ensures;
+  sectors = c.readable_end-end.ensures.sectors;
+  behind = c.readable_end-end.ensures.some;
+  up_to = omega (arith, c.readable_end-end.ensures.up_to);
+  within = c.readable_end-end.ensures.within;
+}
+
+-- what was read up to this block is read once
+read_once : (g : Over) (c : In_ok-piece g) → IsReadable c.args.shape.now c.args.ckpt c.loop-i.i c.offset_of-at.result c.readable_end-end.result
+    → MakesCalls g.L.Sectors.gives c.args.log.now c.with_sector.new.device (ReadsWhere IsBehindHeader None)
+read_once g c may =
+    reads-end_at c.args.shape.now c.args.ckpt c.loop-i.i c.offset_of-at.result c.readable_end-end.result c.loop-i.piece may c.loop-i.invariant.read
+    c.in_ok-piece.ensures.calls
 
 pub returns-in_default-clause-blocks : goal.returns-in_default-clause-blocks
 returns-in_default-clause-blocks g c =
@@ -66,7 +90,8 @@ loop-i-preserved g c =
     record {
       unchanged = IsUnchanged-then old middle (g.L.Sectors.seen c.with_sector.new.device) c.loop-i.invariant.unchanged c.with_sector.ensures.unchanged;
       piece = of;
-      calls = pieces_then c.loop-i.invariant.calls c.in_ok-piece.ensures.calls;
+      read = reads-next shape c.args.ckpt c.loop-i.i c.offset_of-at.result c.readable_end-end.result c.loop-i.piece piece
+          (readable g (goal.at.loop-i-preserved g c).After-readable_end-end) c.loop-i.invariant.read c.in_ok-piece.ensures.piece c.in_ok-piece.ensures.calls;
       many = omega (arith, views, c.loop-i.invariant.many);
       firsts = firsts-push c.loop-i.views.items c.push.new.self.items c.in-Some.view c.loop-i.invariant.firsts c.in-Some.ensures.first c.in_ok-push.ensures.items;
       short = omega (arith, bytes, room, c.loop-i.invariant.short);
@@ -97,21 +122,31 @@ returns-clause-blocks g c =
 
 pub returns-in_err-piece-clause-calls : goal.returns-in_err-piece-clause-calls
 returns-in_err-piece-clause-calls g c =
-    let made = pieces_then c.loop-i.invariant.calls c.in_err-piece.ensures.calls in
+    let made = reads-end_at c.args.shape.now c.args.ckpt c.loop-i.i c.offset_of-at.result c.readable_end-end.result c.loop-i.piece
+    (readable g (goal.at.returns-in_err-piece-clause-calls g c).After-readable_end-end) c.loop-i.invariant.read c.in_err-piece.ensures.calls in
     let p = err_from_is_err_and c.from_residual.result c.from_residual.ensures.1 in rw (p.1, p.2) made
 
 pub returns-in_default-clause-calls : goal.returns-in_default-clause-calls
-returns-in_default-clause-calls g c = pieces_then c.loop-i.invariant.calls c.in_ok-piece.ensures.calls
+returns-in_default-clause-calls g c =
+    let at = goal.at.returns-in_default-clause-calls g c in
+    read_once g at.In_ok-piece (readable g at.After-readable_end-end)
 
 pub returns-in_err-push-clause-calls : goal.returns-in_err-push-clause-calls
 returns-in_err-push-clause-calls g c =
-    let made = pieces_no_memory (pieces_then c.loop-i.invariant.calls c.in_ok-piece.ensures.calls) in
+    let at = goal.at.returns-in_err-push-clause-calls g c in
+    let made = own_where IsBehindHeader (Some NoMemory) tt (read_once g at.In_ok-piece (readable g at.After-readable_end-end)) in
     let p = err_from_is_err_and c.from_residual-in_err-push.result c.from_residual-in_err-push.ensures.1 in rw (p.1, p.2) made
 
 pub returns-in_err-extend_from_slice-clause-calls : goal.returns-in_err-extend_from_slice-clause-calls
 returns-in_err-extend_from_slice-clause-calls g c =
-    let made = pieces_no_memory (pieces_then c.loop-i.invariant.calls c.in_ok-piece.ensures.calls) in
+    let at = goal.at.returns-in_err-extend_from_slice-clause-calls g c in
+    let made = own_where IsBehindHeader (Some NoMemory) tt (read_once g at.In_ok-piece (readable g at.After-readable_end-end)) in
     let p = err_from_is_err_and c.from_residual-in_err-extend_from_slice.result c.from_residual-in_err-extend_from_slice.ensures.1 in rw (p.1, p.2) made
 
 pub returns-then-not-is_full-clause-calls : goal.returns-then-not-is_full-clause-calls
-returns-then-not-is_full-clause-calls g c = pieces_then c.loop-i.invariant.calls c.in_ok-piece.ensures.calls
+returns-then-not-is_full-clause-calls g c =
+    let at = goal.at.returns-then-not-is_full-clause-calls g c in
+    read_once g at.In_ok-piece (readable g at.After-readable_end-end)
+
+pub returns-clause-calls : goal.returns-clause-calls
+returns-clause-calls g c = reads-end c.args.shape.now c.args.ckpt c.loop-i.i c.loop-i.piece c.loop-i.invariant.read

@@ -5,17 +5,20 @@ use Rattle.model_store.specs.{AreReadPages}
 use Rattle.redo_recover.proofs.Bounds.{replayed-not_ahead}
 use Rattle.redo_recover.proofs.Contents.{content-weaker}
 use Rattle.redo_recover.proofs.Fronts.{ahead-cause, ahead-own}
-use Rattle.redo_recover.proofs.Making.{own_pieces, pieces_then}
+use Rattle.redo_recover.proofs.Making.{data_fault_made, own_pieces, pieces_made, slots_then}
 use Rattle.redo_recover.proofs.Paging.{pages-read}
 use Rattle.redo_recover.proofs.Unchanged.{content-before}
-use Rattle.redo_recover.specs.Calls.{data_error}
+use Rattle.redo_recover.specs.Calls.{ReadsPieces, data_error}
 use Rattle.redo_recover.specs.Devices.{OnContent}
 use Rattle.redo_recover.specs.Pages.{AreKept, HasPageCause}
 use Rattle.redo_recover.proofs.pages.read_pages.Goals as goal
 
+pub returns-in-Err-clause-calls : goal.returns-in-Err-clause-calls
+returns-in-Err-clause-calls g c = data_fault_made ReadsPieces c.in-Err.error c.data_fault.result c.data_fault.ensures (pieces_made c.in-Err.ensures.calls)
+
 pub returns-in_err-pages-clause-calls : goal.returns-in_err-pages-clause-calls
 returns-in_err-pages-clause-calls g c =
-    let made = pieces_then c.in-Ok.ensures.calls c.in_err-pages.ensures.calls in
+    let made = slots_then c.args.shape.now c.in-Ok.ensures.calls c.in_err-pages.ensures.calls in
     let p = err_from_is_err_and c.from_residual.result c.from_residual.ensures.1 in rw (p.1, p.2) made
 
 pub returns-in_err-check_ahead-clause-cause : goal.returns-in_err-check_ahead-clause-cause
@@ -33,7 +36,8 @@ returns-in_err-check_ahead-clause-cause g c =
 pub returns-in_err-check_ahead-clause-calls : goal.returns-in_err-check_ahead-clause-calls
 returns-in_err-check_ahead-clause-calls g c =
     let fault = c.in_err-check_ahead.field-0.0 in
-    let made = own_pieces (data_error fault) (ahead-own c.in_ok-pages.pages c.args.end fault c.in_err-check_ahead.ensures.fault) (pieces_then c.in-Ok.ensures.calls c.in_ok-pages.ensures.calls) in
+    let made = own_pieces (data_error fault) (ahead-own c.in_ok-pages.pages c.args.end fault c.in_err-check_ahead.ensures.fault)
+    (slots_then c.args.shape.now c.in-Ok.ensures.calls c.in_ok-pages.ensures.calls) in
     let p = err_from_is_err_and c.from_residual-in_err-check_ahead.result c.from_residual-in_err-check_ahead.ensures.1 in rw (p.1, p.2) made
 
 pub returns-clause-pages : goal.returns-clause-pages
@@ -52,4 +56,5 @@ returns-clause-not_ahead g c =
     c.replay_pages.ensures.replayed
 
 pub returns-clause-calls : goal.returns-clause-calls
-returns-clause-calls g c = pieces_then c.in-Ok.ensures.calls c.in_ok-pages.ensures.calls
+returns-clause-calls g c =
+    slots_then c.args.shape.now c.in-Ok.ensures.calls c.in_ok-pages.ensures.calls

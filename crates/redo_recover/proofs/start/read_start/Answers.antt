@@ -5,8 +5,8 @@ use Rattle.redo_recover.specs.Devices.{HasCauseIn}
 use Rattle.redo_recover.specs.Start.{IsLengthFault}
 use Rattle.redo_recover.proofs.Starting.{header-of, sized, head-cause, length-cause, checkpoint-cause, starts}
 use Rattle.redo_recover.proofs.Unchanged.{log_fault-cause}
-use Rattle.redo_recover.specs.Calls.{log_error}
-use Rattle.redo_recover.proofs.Making.{header_read, head-own, length-own, log_header, own_log}
+use Rattle.redo_recover.specs.Calls.{ReadsHeader, log_error}
+use Rattle.redo_recover.proofs.Making.{header_read, head-own, length-own, log_fault_made, own_header}
 use Rattle.redo_recover.proofs.start.read_start.Goals as goal
 
 pub returns-in-Err-clause-cause : goal.returns-in-Err-clause-cause
@@ -81,20 +81,20 @@ returns-in-None-clause-cause g c =
 pub returns-in-Err-clause-calls : goal.returns-in-Err-clause-calls
 returns-in-Err-clause-calls g c =
     let size = (g.L.Sectors.seen c.args.log.now).size in
-    log_header size c.in-Err.error c.log_fault.result c.log_fault.ensures (header_read size refl c.in-Err.ensures.gives)
+    log_fault_made (ReadsHeader size) c.in-Err.error c.log_fault.result c.log_fault.ensures (header_read size refl c.in-Err.ensures.gives)
 
 pub returns-in_err-shape-clause-calls : goal.returns-in_err-shape-clause-calls
 returns-in_err-shape-clause-calls g c =
     let size = (g.L.Sectors.seen c.args.log.now).size in
     let fault = c.in_err-shape.field-0.0 in
-    let made = own_log size (log_error fault) (head-own c.read.new.out fault c.in_err-shape.ensures.fault) (header_read size refl c.in-Ok.ensures.gives) in
+    let made = own_header size (log_error fault) (head-own c.read.new.out fault c.in_err-shape.ensures.fault) (header_read size refl c.in-Ok.ensures.gives) in
     let p = err_from_is_err_and c.from_residual.result c.from_residual.ensures.1 in rw (p.1, p.2) made
 
 pub returns-in_err-check_lengths-clause-calls : goal.returns-in_err-check_lengths-clause-calls
 returns-in_err-check_lengths-clause-calls g c =
     let size = (g.L.Sectors.seen c.args.log.now).size in
     let fault = c.in_err-check_lengths.field-0.0 in
-    let made = own_log size (log_error fault) (length-own c.in_ok-shape.shape c.len-log_len.result c.len.result fault c.in_err-check_lengths.ensures.fault)
+    let made = own_header size (log_error fault) (length-own c.in_ok-shape.shape c.len-log_len.result c.len.result fault c.in_err-check_lengths.ensures.fault)
     (header_read size refl c.in-Ok.ensures.gives) in
     let p = err_from_is_err_and c.from_residual-in_err-check_lengths.result c.from_residual-in_err-check_lengths.ensures.1 in rw (p.1, p.2) made
 
