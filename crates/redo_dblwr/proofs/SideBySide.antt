@@ -1,9 +1,9 @@
 -- The texts of a batch as they are put side by side.
-use Rattle.std.proofs.Common.{◌≡◌, ◌≤◌, ◌<◌, ◌+◌, ◌*◌, ℕ, zero, suc, List, [], ◌∷◌, ◌++◌, length, take, drop, Some, sym, ap, ◌∙◌, length-take-le, length-take, length-drop, length-append, append_assoc, add-one, arith}
+use Rattle.std.proofs.Common.{◌≡◌, ◌≤◌, ◌<◌, ◌+◌, ◌*◌, ℕ, zero, suc, List, [], ◌∷◌, ◌++◌, length, take, drop, Some, sym, ap, ◌∙◌, length-take-le, length-take, length-drop, length-append, append_assoc, add-one, drop-drop, arith}
 use Rattle.std.specs.List.{slice_get}
 use Rattle.std.proofs.lemmas.List.{append-nil}
 use Rattle.std.proofs.lemmas.Option.{slice_get_within}
-use Rattle.std.proofs.lemmas.Slice.{take-put_mid}
+use Rattle.std.proofs.lemmas.Slice.{drop-put_mid, take-put_mid}
 use borrow.Rule.Slice.PartMut.{put_mid}
 use Rattle.model_base.specs.declared.shape.Shape.{Shape}
 use Rattle.model_page.specs.{page_text}
@@ -38,3 +38,14 @@ texts-more shape pairs users user out page i k pair at user_is page_is count wit
     ∙ ap (λ l. l ++ page) so_far ∙ ap (λ l. batch_text shape (take i (batch_of pairs users)) ++ l) text
     ∙ sym (batch_text-push shape (batch_of pairs users) i new (batch-at pairs users i pair at))
     ∙ ap (λ n. batch_text shape (take n (batch_of pairs users))) (sym (add-one i))
+
+-- what stands behind the pages so far stays
+pub behind-more : (i k : ℕ) (out old page : List ℕ) → k ≡ 4096 → length page ≡ 4096 → i * 4096 ≤ length out
+    → drop (4096 * i) out ≡ drop (4096 * i) old
+    → drop (4096 * (i + 1)) (put_mid (i * 4096) k out page) ≡ drop (4096 * (i + 1)) old
+behind-more i k out old page whole long within so_far =
+    let next : 4096 * (i + 1) ≡ 4096 * i + 4096 = omega arith in
+    drop-put_mid (i * 4096) k out page (4096 * (i + 1)) (omega arith) within (long ∙ sym whole)
+    ∙ ap (λ n. drop n out) next ∙ sym (drop-drop 4096 (4096 * i) out)
+    ∙ ap (drop 4096) so_far
+    ∙ drop-drop 4096 (4096 * i) old ∙ ap (λ n. drop n old) (sym next)

@@ -4,7 +4,7 @@ ghost use Rattle.model_base.specs.{IsWithinLimits};
 ghost use Rattle.model_datadev.specs.{place_at};
 ghost use Rattle.model_page.specs.{data_device_length, stretch_at};
 ghost use Rattle.redo_dblwr.specs.Requests.{stretch_read};
-ghost use Rattle.redo_disk.specs.{error_of, HasCause, MakesCalls, Serve};
+ghost use Rattle.redo_disk.specs.{error_of, HasCause, MakesCall, MakesCalls, Reads, Serve};
 
 use model_base::{PAGE_SIZE, Shape};
 use redo_disk::{DevError, Sectors};
@@ -34,6 +34,7 @@ pub fn read_stretch<D: Sectors>(
     ensures same { (D.seen device.new).tells ≡ (D.seen device.old).tells }
     ensures size { (D.seen device.new).size ≡ (D.seen device.old).size }
     ensures cause { HasCause (D.seen device.old).faults (D.seen device.new).faults result }
+    ensures call { MakesCall D.gives device.old (Reads (n * shape.now.page_size) out.old result out.new) device.new }
     ensures calls { MakesCalls D.gives device.old device.new (Serve (stretch_read shape.now n ∷ []) (error_of result)) }
 {
     device.read(u64::from(n) * u64::from(shape.page_size), out)

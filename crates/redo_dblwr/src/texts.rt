@@ -1,5 +1,5 @@
 // The pages of a batch, sealed side by side as they go into the slots.
-ghost use Rattle.std.specs.Prelude.{◌≡◌, ◌≤◌, ◌*◌, length, take};
+ghost use Rattle.std.specs.Prelude.{◌≡◌, ◌≤◌, ◌*◌, length, take, drop};
 ghost use Rattle.model_datadev.specs.{batch_of, batch_text};
 ghost use Rattle.model_page.specs.{page_text};
 
@@ -23,11 +23,12 @@ fn fill_page(out: &mut [u8], number: u32, space: u32, lsn: u64, user: &[u8])
     seal(out, number, space, lsn);
 }
 
-/// Puts the pages of a batch side by side, whose user bytes are joined.
+/// Puts the pages of a batch side by side, whose user bytes are joined. What stands behind them stays.
 pub fn fill_texts(out: &mut [u8], shape: &Shape, batch: &[(u32, u64)], users: &[u8])
     requires room { PAGE_SIZE * length batch.now ≤ length out.old }
     requires count { length users.now ≡ USER_BYTES * length batch.now }
-    ensures { take (PAGE_SIZE * length batch.now) out.new ≡ batch_text shape.now (batch_of batch.now users.now) }
+    ensures texts { take (PAGE_SIZE * length batch.now) out.new ≡ batch_text shape.now (batch_of batch.now users.now) }
+    ensures behind { drop (PAGE_SIZE * length batch.now) out.new ≡ drop (PAGE_SIZE * length batch.now) out.old }
 {
     for (i, (page, lsn)) in batch.iter().enumerate() {
         let at = i * PAGE;

@@ -6,7 +6,7 @@ ghost use Rattle.model_device.specs.{synced, written};
 ghost use Rattle.model_page.specs.{data_device_length, HasNoCopy, IsBestCopy, place_bytes};
 ghost use Rattle.model_page.specs.declared.content.Content.{Content};
 ghost use Rattle.redo_dblwr.specs.{slots_read, stretch_read};
-ghost use Rattle.redo_disk.specs.{error_of, MakesCalls, OnTold, put_requests, Serve};
+ghost use Rattle.redo_disk.specs.{error_of, MakesCall, MakesCalls, OnTold, put_requests, Reads, Serve};
 ghost use Rattle.redo_store.specs.Part.{PartStep, PartStores, PartKeeps};
 ghost use Rattle.redo_store.specs.Requests.{RepairCalls, batch_requests};
 
@@ -135,6 +135,8 @@ impl<D: Sectors> DataPart<D> {
         ensures stores { (top was : ℕ → Content) (batch : List Fresh)
             → PartStores D.seen top was batch self.old → PartStores D.seen top was batch self.new }
         ensures same { (D.seen self.new.dev).tells ≡ (D.seen self.old.dev).tells }
+        ensures call { MakesCall D.gives self.old.dev
+            (Reads ((self.old.shape.slots + page) * self.old.shape.page_size) out.old result out.new) self.new.dev }
         ensures calls { MakesCalls D.gives self.old.dev self.new.dev
             (Serve (stretch_read self.old.shape (self.old.shape.slots + page) ∷ []) (error_of result)) }
         ensures step { PartStep D.seen self.old result self.new }

@@ -2,7 +2,7 @@ use Rattle.std.proofs.Common.{◌≡◌, ◌≤◌, ◌+◌, ◌-◌, ◌*◌, l
 use Rattle.std.proofs.lemmas.Option.{slice_get-get_or}
 use Rattle.std.proofs.lemmas.List.{take_all}
 use Rattle.model_datadev.specs.{batch_of, batch_text}
-use Rattle.redo_dblwr.proofs.SideBySide.{texts-more, length-put}
+use Rattle.redo_dblwr.proofs.SideBySide.{behind-more, texts-more, length-put}
 use Rattle.model_datadev.proofs.Joined.{length-batch_of}
 use Rattle.model_datadev.proofs.Batches.{length-page_text}
 use Rattle.redo_dblwr.proofs.texts.fill_texts.Goals as goal
@@ -22,10 +22,16 @@ loop-i-preserved c =
       long = length-put (i * 4096) (i * 4096 + 4096 - i * 4096) c.loop-i.out c.fill_page.new.out (omega arith) (omega arith) ∙ c.loop-i.invariant.long;
       so_far = texts-more c.args.shape.now c.args.batch.now users (take (i * 4050 + 4050 - i * 4050) (drop (i * 4050) users)) c.loop-i.out c.fill_page.new.out i (i * 4096 + 4096 - i * 4096) pair
           (slice_get-get_or c.args.batch.now i (0, 0) c.loop-i-test.true) (ap (λ n. take n (drop (i * 4050) users)) user) c.fill_page.ensures c.requires.count (omega arith) c.loop-i.invariant.so_far;
+      behind = behind-more i (i * 4096 + 4096 - i * 4096) c.loop-i.out c.args.out.now c.fill_page.new.out size long (omega arith) c.loop-i.invariant.behind;
     }
 
-pub returns : goal.returns
-returns c =
+pub returns-clause-behind : goal.returns-clause-behind
+returns-clause-behind c =
+    let all : c.loop-i.i ≡ length c.args.batch.now = omega (arith, c.loop-i.auto.i-end, c.loop-i-test.false) in
+    ap (λ n. drop (4096 * n) c.loop-i.out) (sym all) ∙ c.loop-i.invariant.behind ∙ ap (λ n. drop (4096 * n) c.args.out.now) all
+
+pub returns-clause-texts : goal.returns-clause-texts
+returns-clause-texts c =
     let pairs = c.args.batch.now in
     let all : c.loop-i.i ≡ length pairs = omega (arith, c.loop-i.auto.i-end, c.loop-i-test.false) in
     ap (λ n. take (4096 * n) c.loop-i.out) (sym all) ∙ c.loop-i.invariant.so_far

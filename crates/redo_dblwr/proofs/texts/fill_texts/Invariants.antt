@@ -1,4 +1,4 @@
-use Rattle.std.proofs.Common.{◌≡◌, ◌*◌, length, take}
+use Rattle.std.proofs.Common.{◌≡◌, ◌*◌, length, take, drop}
 use Rattle.model_datadev.specs.{batch_of, batch_text}
 use Rattle.redo_dblwr.proofs.texts.fill_texts.Given as goal
 
@@ -6,4 +6,5 @@ abbrev pub invariant-loop-i : goal.invariant-loop-i
 invariant-loop-i l = record {
   long : length l.out ≡ length l.fn.out;
   so_far : take (4096 * l.i) l.out ≡ batch_text l.shape (take l.i (batch_of l.batch l.users));
+  behind : drop (4096 * l.i) l.out ≡ drop (4096 * l.i) l.fn.out;
 }
