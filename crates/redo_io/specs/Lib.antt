@@ -4,6 +4,7 @@ pub mod Plan
 pub mod Reads
 pub mod Sink
 pub mod Source
+pub mod Wrapped
 pub mod Writes
 pub use Rattle.redo_io.specs.Plan.{Planned, after_call, fails_now, next_count, next_count_if, unused}
 pub use Rattle.redo_io.specs.Sink.{SinkSeen, TakesPart, with_taken}

@@ -1,7 +1,7 @@
 // A device in a file.
 ghost use Rattle.std.specs.Prelude.{◌≡◌, length, IfSome, OnOk};
 ghost use Rattle.redo_disk.specs.{HasCause};
-ghost use Rattle.redo_memdisk.specs.File.{file_faults, file_seen, filled};
+ghost use Rattle.redo_memdisk.specs.File.{CountsFailure, FileGives, file_faults, file_seen, filled};
 
 use redo_disk::{DevError, Sectors};
 use std::fs::{OpenFile, OpenOptions};
@@ -53,7 +53,8 @@ impl<R: Files> FileDisk<R> {
         act: F,
     ) -> Result<(), DevError>
         requires { F.IsAlwaysCallable act }
-        ensures { HasCause (file_faults self.old) (file_faults self.new) result }
+        ensures counts { CountsFailure (file_faults self.old) result (file_faults self.new) }
+        ensures cause { HasCause (file_faults self.old) (file_faults self.new) result }
     {
         if self.try_with_file(act).is_ok() {
             return Ok(());
@@ -110,6 +111,8 @@ fn write_at<F: Write + Seek>(file: &mut F, at: u64, bytes: &[u8]) -> io::Result<
 
 impl<R: Files> Sectors for FileDisk<R> {
     ghost seen = { file_seen };
+
+    ghost gives = { FileGives };
 
     fn len(&self) -> u64 {
         FILE_DISK_LEN
