@@ -1,13 +1,18 @@
 -- The calls of the data part, as they end.
-use Rattle.std.proofs.Common.{◌≡◌, ◌++◌, ℕ, List, [], ◌∷◌, Option, Some, None, Ok, Err, sym, ap, subst}
+use Rattle.std.proofs.Common.{◌≡◌, ◌-◌, ◌++◌, ◌∙◌, ℕ, List, [], ◌∷◌, Option, Some, None, Ok, Err, refl, sym, ap, subst}
+use Rattle.std.proofs.lemmas.List.{append_assoc}
+use Rattle.std.specs.Prelude.{IfOk}
 use Rattle.model_base.specs.declared.shape.Shape.{Shape}
-use Rattle.redo_disk.specs.{Call, EndWith, MakesCalls, MayEndWith, Reads, Syncs, Writes}
+use Rattle.model_logdev.specs.{next_number}
+use Rattle.redo_disk.specs.{Call, EndWith, MakesCalls, MayEndWith, put_requests, Reads, Serve, Syncs, Writes}
 use Rattle.redo_disk.specs.declared.error.DevError.{DevError}
 use Rattle.redo_disk.specs.declared.error.DevError.TheVariants as device
 use Rattle.redo_disk.proofs.Calls.{MayEndWith-append, MayEndWith-no_memory}
 use Rattle.redo_disk.proofs.Made.{joined_calls, weaker_calls, out_of_memory}
+use Rattle.redo_logdev.specs.Calls.{checkpoint_write}
 use Rattle.redo_logdev.specs.Part.{Part as Log}
-use Rattle.redo_open.specs.Opening.{Answer, IsStarted, OpensLog, log_left, data_left, log_error_in, data_error_in}
+use Rattle.redo_open.specs.Mark.{EndWithMark}
+use Rattle.redo_open.specs.Opening.{Answer, IsStarted, MarksStart, OpensLog, log_left, data_left, log_error_in, data_error_in}
 use Rattle.redo_recover.specs.{BeginWithHeader, data_error, data_fault_of, log_error, log_fault_of, ReadsLog, ReadsPieces}
 use Rattle.redo_recover.specs.declared.fault.RecFault.{RecFault}
 use Rattle.redo_recover.specs.declared.fault.RecFault.TheVariants.{SmallLog, NotFormatted, BadFormat, SmallData, NoCheckpoint, BadRecord, PageLost, PageAhead, LogDev, DataDev, NoMemory}
@@ -106,3 +111,37 @@ started_data {gives = gives} {old = old} log store recovered start (Ok run) is m
 started_data {gives = gives} {old = old} log store recovered start (Err error) (none, log_is, data_is) made =
     subst (λ (f : RecFault). MakesCalls gives old error.2 (MayEndWith (data_error f))) (sym none)
     (subst (λ dev. MakesCalls gives old dev (MayEndWith (Some device.NoMemory))) (sym data_is) (out_of_memory made))
+
+-- THE NEXT CHECKPOINT.
+
+-- it is written behind other calls
+pub marks_behind : {L : Type 0} {gives : L → Call → L → Type 0} {old middle new : L} {Are : List Call → Type 0} {shape : Shape} {number lsn : ℕ}
+    → MakesCalls gives old middle Are → MakesCalls gives middle new (Serve (put_requests (checkpoint_write shape number lsn)) None)
+    → MakesCalls gives old new (EndWithMark shape number lsn)
+marks_behind = joined_calls (λ xs ys front back. record { before = xs; last = ys; all = refl; puts = back })
+
+marks_later : {L : Type 0} {gives : L → Call → L → Type 0} {old middle new : L} {Are : List Call → Type 0} {shape : Shape} {number lsn : ℕ}
+    → MakesCalls gives old middle Are → MakesCalls gives middle new (EndWithMark shape number lsn) → MakesCalls gives old new (EndWithMark shape number lsn)
+marks_later = joined_calls (λ xs ys front back. record {
+  before = xs ++ back.before;
+  last = back.last;
+  all = ap (λ (calls : List Call). xs ++ calls) back.all ∙ sym (append_assoc xs back.before back.last);
+  puts = back.puts;
+})
+
+-- of a store that was read before
+pub marks_read : {L D : Type 0} {gives : L → Call → L → Type 0} {old middle : L} {Are : List Call → Type 0} (result : Answer L D)
+    → MakesCalls gives old middle Are → IfOk result (MarksStart gives middle) → IfOk result (MarksStart gives old)
+marks_read (Ok store) front back = marks_later front back
+marks_read (Err error) front back = tt
+
+-- and of one whose run was started
+pub started_marks : {L D : Type 0} {gives : L → Call → L → Type 0} {old log : L} (store : Part D) (recovered : Recovered) (start : ℕ) (result : Answer L D)
+    → IsStarted log store recovered start result → MakesCalls gives old log (EndWithMark recovered.shape (next_number recovered.number) (start - 12))
+    → IfOk result (MarksStart gives old)
+started_marks {gives = gives} {old = old} {log = log} store recovered start (Ok run) is made =
+    subst (λ dev. MakesCalls gives old dev (EndWithMark run.shape run.log.marks.number (run.start - 12))) (sym (ap (λ (part : Log _). part.dev) is.log_part))
+    (subst (λ (shape : Shape). MakesCalls gives old log (EndWithMark shape run.log.marks.number (run.start - 12))) (sym is.shape)
+    (subst (λ (number : ℕ). MakesCalls gives old log (EndWithMark recovered.shape number (run.start - 12))) (sym (ap (λ (part : Log _). part.marks.number) is.log_part))
+    (subst (λ (n : ℕ). MakesCalls gives old log (EndWithMark recovered.shape (next_number recovered.number) (n - 12))) (sym is.start_is) made)))
+started_marks store recovered start (Err error) is made = tt

@@ -3,7 +3,8 @@ ghost use Rattle.std.specs.Prelude.{◌≡◌, ◌≤◌, ◌<◌, ◌^◌, OnOk
 ghost use Rattle.model_base.specs.{IsWithinLimits};
 ghost use Rattle.model_base.specs.declared.limits.TheConstants.{START_LSN};
 ghost use Rattle.model_log.specs.{log_device_length};
-ghost use Rattle.redo_disk.specs.{EndWith, error_of, HasCause, MakesCalls, OnTold};
+ghost use Rattle.redo_disk.specs.{EndWith, error_of, HasCause, MakesCalls, OnTold, put_requests, Serve};
+ghost use Rattle.redo_logdev.specs.Calls.{checkpoint_write};
 ghost use Rattle.redo_open.specs.Blank.{MayHaveHead, HasHeadNow};
 ghost use Rattle.redo_open.specs.Mark.{IsSettledLog, MarksLog, HasMarked};
 
@@ -29,7 +30,7 @@ pub(crate) fn mark<L: Sectors>(
     ensures unmoved { OnErr result (OnTold (L.seen log.old).tells (L.seen log.new).tells (λ old new. new.base ≡ old.base)) }
     ensures size { (L.seen log.new).size ≡ (L.seen log.old).size }
     ensures cause { HasCause (L.seen log.old).faults (L.seen log.new).faults result }
-    ensures calls { MakesCalls L.gives log.old log.new (EndWith (error_of result)) }
+    ensures calls { MakesCalls L.gives log.old log.new (Serve (put_requests (checkpoint_write shape.now number lsn)) (error_of result)) }
 {
     let mut block = [0; 512];
     fill_ckpt(&mut block, number, lsn, shape);

@@ -7,7 +7,7 @@ ghost use Rattle.model_store.specs.Reading.{Reading};
 ghost use Rattle.redo_disk.specs.{MakesCalls, MayEndWith};
 ghost use Rattle.redo_open.specs.Devices.{HasSameCheckpoint, IsSameDevice, WhereBothTell};
 ghost use Rattle.redo_open.specs.Mend.{IsSettledData};
-ghost use Rattle.redo_open.specs.Opening.{log_left, data_left, log_error_in, data_error_in, HasFaultCause, IsOpeningOf, IsOpenedReady, IsStarted, OpensLog, OpensRecovered};
+ghost use Rattle.redo_open.specs.Opening.{log_left, data_left, log_error_in, data_error_in, HasFaultCause, IsOpeningOf, IsOpenedReady, IsStarted, MarksStart, OpensLog, OpensRecovered};
 ghost use Rattle.redo_pageactors.specs.{IsRunnable};
 ghost use Rattle.redo_recover.specs.{IsOfDevices, OnContents, reading_of};
 
@@ -66,6 +66,7 @@ fn open_recovered<L: Sectors, D: Sectors>(
     ensures step { OpensRecovered L.seen D.seen (reading_of recovered) (L.seen log) (D.seen data_device) result }
     ensures log_calls { MakesCalls L.gives log (log_left result) (MayEndWith (log_error_in result)) }
     ensures data_calls { MakesCalls D.gives data_device (data_left result) (MayEndWith (data_error_in result)) }
+    ensures marks { IfOk result (MarksStart L.gives log) }
 {
     let mut store = match DataPart::new(alloc, data_device, &recovered.shape) {
         Ok(store) => store,
@@ -106,6 +107,7 @@ pub fn open_store<L: Sectors, D: Sectors>(
     ensures data_device { IsSameDevice (D.seen data_device) (D.seen (data_left result)) }
     ensures log_calls { MakesCalls L.gives log (log_left result) (OpensLog (L.seen log).size (log_error_in result)) }
     ensures data_calls { MakesCalls D.gives data_device (data_left result) (MayEndWith (data_error_in result)) }
+    ensures marks { IfOk result (MarksStart L.gives log) }
 {
     let recovered = match recover(alloc, &mut log, &mut data_device) {
         Ok(recovered) => recovered,

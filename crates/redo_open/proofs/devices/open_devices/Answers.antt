@@ -4,8 +4,8 @@ use Rattle.model_opening.specs.{start_block}
 use Rattle.model_store.specs.{IsOrderly}
 use Rattle.model_store.specs.Reading.{Reading}
 use Rattle.redo_open.specs.Places.{IsReadAs}
-use Rattle.redo_disk.proofs.Made.{ends_then, may_end, none_may_end}
-use Rattle.redo_open.proofs.Asked.{log_ends, beside_log, beside_pages}
+use Rattle.redo_disk.proofs.Made.{ends_then, may_end, none_may_end, serves_end}
+use Rattle.redo_open.proofs.Asked.{log_ends, beside_log, beside_pages, marks_behind}
 use Rattle.redo_open.proofs.Both.{log-clears, log-cleared, cleared-known, rewriting-both, marking-both, ready-both, unmoved-clears, unmoved-marks}
 use Rattle.redo_open.proofs.Causes.{log-cause, places-cause, log-risen, log-not_data, places-not_log}
 use Rattle.redo_open.proofs.Opens.{unchanged-keeps}
@@ -108,14 +108,17 @@ pub returns-in-Err-open_places-clause-data_calls : goal.returns-in-Err-open_plac
 returns-in-Err-open_places-clause-data_calls g c = c.in-Err-open_places.ensures.calls
 
 pub returns-in-Ok-mark-clause-log_calls : goal.returns-in-Ok-mark-clause-log_calls
-returns-in-Ok-mark-clause-log_calls g c = may_end (ends_then c.in-Ok.ensures.calls c.in-Ok-mark.ensures.calls)
+returns-in-Ok-mark-clause-log_calls g c = may_end (ends_then c.in-Ok.ensures.calls (serves_end c.in-Ok-mark.ensures.calls))
 
 pub returns-in-Ok-mark-clause-data_calls : goal.returns-in-Ok-mark-clause-data_calls
 returns-in-Ok-mark-clause-data_calls g c = c.in-Ok-open_places.ensures.calls
 
 pub returns-in-Err-mark-clause-log_calls : goal.returns-in-Err-mark-clause-log_calls
 returns-in-Err-mark-clause-log_calls g c =
-    may_end (log_ends c.in-Err-mark.error c.log_fault-in-Err-mark.result c.log_fault-in-Err-mark.ensures (ends_then c.in-Ok.ensures.calls c.in-Err-mark.ensures.calls))
+    may_end (log_ends c.in-Err-mark.error c.log_fault-in-Err-mark.result c.log_fault-in-Err-mark.ensures (ends_then c.in-Ok.ensures.calls (serves_end c.in-Err-mark.ensures.calls)))
 
 pub returns-in-Err-mark-clause-data_calls : goal.returns-in-Err-mark-clause-data_calls
 returns-in-Err-mark-clause-data_calls g c = beside_log c.in-Err-mark.error c.log_fault-in-Err-mark.result c.log_fault-in-Err-mark.ensures c.in-Ok-open_places.ensures.calls
+
+pub returns-in-Ok-mark-clause-marks : goal.returns-in-Ok-mark-clause-marks
+returns-in-Ok-mark-clause-marks g c = marks_behind c.in-Ok.ensures.calls c.in-Ok-mark.ensures.calls

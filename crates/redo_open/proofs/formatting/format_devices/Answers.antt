@@ -2,7 +2,7 @@
 use Rattle.std.proofs.Common.{Err, refl, arith}
 use Rattle.std.specs.Prelude.{IfSome}
 use Rattle.redo_disk.specs.{HasSize}
-use Rattle.redo_disk.proofs.Made.{ends_then, none_ends}
+use Rattle.redo_disk.proofs.Made.{ends_then, none_ends, serves_end}
 use Rattle.redo_open.specs.Blank.{HasNoHead, HasNoBlocks, HasFirstCheckpoint, HasBlankPages}
 use Rattle.redo_open.specs.Mark.{IsSettledLog}
 use Rattle.redo_open.proofs.Causes.{calls-log, calls-data, format-log, format-data}
@@ -123,13 +123,13 @@ returns-in-Err-clear_pages-clause-calls g c =
 pub returns-in-Err-mark-clause-calls : goal.returns-in-Err-mark-clause-calls
 returns-in-Err-mark-clause-calls g c =
     calls-log g.L.Sectors.gives g.D.Sectors.gives c.args.log.now _ c.args.data_device.now _ c.in-Err-mark.error c.log_fault-in-Err-mark.result c.log_fault-in-Err-mark.ensures
-    (record { log = ends_then c.in-Ok.ensures.calls (ends_then c.in-Ok-clear_blocks.ensures.calls c.in-Err-mark.ensures.calls); data_device = c.in-Ok-clear_pages.ensures.calls })
+    (record { log = ends_then c.in-Ok.ensures.calls (ends_then c.in-Ok-clear_blocks.ensures.calls (serves_end c.in-Err-mark.ensures.calls)); data_device = c.in-Ok-clear_pages.ensures.calls })
 
 pub returns-in-Err-put_head-clause-calls : goal.returns-in-Err-put_head-clause-calls
 returns-in-Err-put_head-clause-calls g c =
     calls-log g.L.Sectors.gives g.D.Sectors.gives c.args.log.now _ c.args.data_device.now _ c.in-Err-put_head.error c.log_fault-in-Err-put_head.result c.log_fault-in-Err-put_head.ensures
-    (record { log = ends_then c.in-Ok.ensures.calls (ends_then c.in-Ok-clear_blocks.ensures.calls (ends_then c.in-Ok-mark.ensures.calls c.in-Err-put_head.ensures.calls)); data_device = c.in-Ok-clear_pages.ensures.calls })
+    (record { log = ends_then c.in-Ok.ensures.calls (ends_then c.in-Ok-clear_blocks.ensures.calls (ends_then (serves_end c.in-Ok-mark.ensures.calls) c.in-Err-put_head.ensures.calls)); data_device = c.in-Ok-clear_pages.ensures.calls })
 
 pub returns-in-Ok-put_head-clause-calls : goal.returns-in-Ok-put_head-clause-calls
 returns-in-Ok-put_head-clause-calls g c =
-    record { log = ends_then c.in-Ok.ensures.calls (ends_then c.in-Ok-clear_blocks.ensures.calls (ends_then c.in-Ok-mark.ensures.calls c.in-Ok-put_head.ensures.calls)); data_device = c.in-Ok-clear_pages.ensures.calls }
+    record { log = ends_then c.in-Ok.ensures.calls (ends_then c.in-Ok-clear_blocks.ensures.calls (ends_then (serves_end c.in-Ok-mark.ensures.calls) c.in-Ok-put_head.ensures.calls)); data_device = c.in-Ok-clear_pages.ensures.calls }

@@ -6,7 +6,6 @@ use Rattle.model_device.specs.Disk.{Disk}
 use Rattle.model_device.specs.declared.write.Write.{Write}
 use Rattle.model_log.specs.{checkpoint_text, place_of}
 use Rattle.model_logdev.proofs.Places.{HasBlocks}
-use Rattle.redo_disk.proofs.Made.{serves_end}
 use Rattle.redo_disk.specs.{IsPutOrNot, write_at}
 use Rattle.redo_open.specs.Mark.{IsSettledLog, MarksLog, HasMarked}
 use Rattle.redo_open.proofs.Marks.{header-place, IsOneSector, failed-marks, written-marks, synced-marked, marked-marks}
@@ -62,6 +61,3 @@ returns-clause-unmoved g c =
     (told-as _ _ (IsPutOrNot (write_at (512 * c.from.result) c.fill_ckpt.new.out)) (λ (old new : Disk). new.base ≡ old.base)
     (λ a b put. ⊎_elim (λ fails. fails.base) (λ pending. ap (λ (disk : Disk). disk.base) pending) put))
     c.write_and_sync.ensures.err
-
-pub returns-clause-calls : goal.returns-clause-calls
-returns-clause-calls g c = serves_end c.write_and_sync.ensures.calls

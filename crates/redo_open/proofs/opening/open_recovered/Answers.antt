@@ -5,7 +5,7 @@ use Rattle.redo_disk.specs.{MakesCalls, MayEndWith}
 use Rattle.redo_disk.specs.Seen.{Seen}
 use Rattle.redo_disk.specs.declared.error.DevError.TheVariants as device
 use Rattle.redo_disk.proofs.Made.{none_may_end, out_of_memory}
-use Rattle.redo_open.proofs.Asked.{started_log, started_data}
+use Rattle.redo_open.proofs.Asked.{started_log, started_data, started_marks}
 use Rattle.redo_recover.specs.{AreNotAhead, data_error, reading_of}
 use Rattle.redo_open.specs.Clear.{MayStart}
 use Rattle.redo_open.specs.Devices.{DevicesStep}
@@ -80,3 +80,6 @@ returns-clause-data_calls g c =
     let before = ap (λ (part : Part _). part.dev) c.in-Ok.ensures.part in
     started_data c.open_devices.new.log c.open_devices.new.part c.args.recovered c.start_after-start.result c.start_run.result c.start_run.ensures
     (subst (λ dev. MakesCalls g.D.Sectors.gives dev c.open_devices.new.part.dev (MayEndWith None)) before c.in-Ok-open_devices.ensures.data_calls)
+
+pub returns-clause-marks : goal.returns-clause-marks
+returns-clause-marks g c = started_marks c.open_devices.new.part c.args.recovered c.start_after-start.result c.start_run.result c.start_run.ensures c.in-Ok-open_devices.ensures.marks

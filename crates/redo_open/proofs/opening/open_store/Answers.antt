@@ -6,7 +6,7 @@ use Rattle.model_store.specs.Reading.{Reading}
 use Rattle.redo_open.specs.Devices.{HasSameCheckpoint, WhereBothTell}
 use Rattle.redo_open.specs.Opening.{log_left, data_left, IsOpenedReady}
 use Rattle.redo_disk.proofs.Made.{call_ends, may_end, may_end_then}
-use Rattle.redo_open.proofs.Asked.{data_ends, opens_beside, opens_reads, opens_then, reads_ends}
+use Rattle.redo_open.proofs.Asked.{data_ends, marks_read, opens_beside, opens_reads, opens_then, reads_ends}
 use Rattle.redo_open.proofs.Stores.{openable-same, opened-read, opening-cause, both-err, kept-same, sync-cause, where-refused}
 use Rattle.redo_open.proofs.Told.{cause-since}
 use Rattle.redo_recover.specs.{reading_of, refusal_of}
@@ -90,3 +90,6 @@ returns-clause-log_calls g c = opens_then (opens_reads c.in-Ok.ensures.log_calls
 pub returns-clause-data_calls : goal.returns-clause-data_calls
 returns-clause-data_calls g c =
     may_end_then (may_end_then (reads_ends c.in-Ok.ensures.data_calls) (may_end (call_ends c.in-Ok-sync.ensures.gives))) c.open_recovered.ensures.data_calls
+
+pub returns-clause-marks : goal.returns-clause-marks
+returns-clause-marks g c = marks_read c.open_recovered.result c.in-Ok.ensures.log_calls c.open_recovered.ensures.marks
