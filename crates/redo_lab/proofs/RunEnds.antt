@@ -107,6 +107,8 @@ misfit-cause call command drive stops script misfit asked is_script ended = reco
   opens = ended.opens;
   limits = ended.limits;
   unfailed = unfailed-way call stops ended.way;
+  log_uncrashed = ended.way.log_device.pick;
+  data_uncrashed = ended.way.data_device.pick;
   first = ended.first;
 }
 

@@ -5,7 +5,6 @@ use Rattle.model_command.specs.declared.asked.Command.TheVariants.{Format, Run, 
 use Rattle.model_command.specs.declared.asked.Drive.{Drive}
 use Rattle.model_report.specs.declared.fault.Fault.{Fault}
 use Rattle.model_report.specs.declared.fault.Fault.TheVariants as fault
-use Rattle.model_script.specs.{generated_lines}
 use Rattle.model_script.specs.declared.script.ScriptLine.{ScriptLine}
 use Rattle.redo_disk.specs.{Call}
 use Rattle.redo_disk.specs.Seen.{Seen}
@@ -25,21 +24,22 @@ use Rattle.redo_recover.specs.declared.fault.RecFault.TheVariants.{SmallLog, Not
 use Rattle.redo_recover.specs.declared.fault.RecFault.TheVariants as rec
 use Rattle.redo_script.specs.declared.unfit.Unfit.{Unfit}
 use Rattle.redo_script.specs.declared.unfit.Unfit.TheVariants as unfit
-use Rattle.redo_lab.specs.Asked.{command_of, drive_of_seed, turns_of}
+use Rattle.redo_lab.specs.Asked.{command_of, drive_of_seed}
 use Rattle.redo_lab.specs.Behind.{ReadsBehind}
 use Rattle.redo_lab.specs.Call as lab
-use Rattle.redo_lab.specs.Call.{Guarded, guarded}
-use Rattle.redo_lab.specs.Course.{IsStoppedBy, ran_of}
+use Rattle.redo_lab.specs.Call.{guarded}
+use Rattle.redo_lab.specs.Course.{ran_of}
 use Rattle.redo_lab.specs.Crashed.{ReadsBack}
 use Rattle.redo_lab.specs.Faults.{fault_of}
 use Rattle.redo_lab.specs.Playing.{course_done, course_of, ended_by, fault_of_unfit, played_of, unopened}
 use Rattle.redo_lab.specs.Outcome.{EndsCommand, IsOutcome, IsOutcomePrinted, IsUnasked, call_of}
 use Rattle.redo_lab.specs.Reported.{IsReportOf, IsRunPrinted, report_outcome}
-use Rattle.redo_lab.specs.Script.{IsScriptFault, IsScriptRead}
-use Rattle.redo_lab.specs.Turned.{ComesByTurnsTo, IsByTurns, IsDriven, IsDrivenTo, MakePartCalls, TellsByTurns, no_stops}
+use Rattle.redo_lab.specs.Script.{IsScriptFault}
+use Rattle.redo_lab.specs.Turned.{ComesAsHanded, ComesByTurnsTo, EndsThere, FailsSince, Handed, IsByTurns, IsDriven, IsDrivenTo, MakePartCalls, RunsAsHanded, TellsByTurns, TellsFault, handed_as, no_stops}
 use Rattle.redo_lab.specs.declared.outcome.Done.{Done}
 use Rattle.redo_lab.specs.declared.outcome.Outcome.{Outcome}
 use Rattle.redo_lab.specs.declared.outcome.Outcome.TheVariants as outcome
+use Rattle.redo_lab.specs.declared.playing.Course.{Course}
 use Rattle.redo_lab.specs.declared.playing.Course.TheVariants as course
 use Rattle.redo_lab.specs.declared.playing.Played.{Played}
 use Rattle.redo_lab.specs.declared.playing.Stops.{Stops}
@@ -103,16 +103,6 @@ pub unfit-undriven : {L D : Type 0} (log_seen : L → Seen) (log_gives : L → C
 unfit-undriven log_seen log_gives data_seen data_gives opened turns script (unfit.Misfit misfit) log_now data_now = tt
 unfit-undriven log_seen log_gives data_seen data_gives opened turns script unfit.NoMemory log_now data_now = tt
 
--- spent turns are no fault of a part
-not-spent : (log_error data_error : Option DevError) (count user : ℕ) → Some (fault.Turns count user) ≡ ended_by log_error data_error → ⊥
-not-spent None None count user is = cc
-not-spent (Some Failed) data_error count user is = cc
-not-spent None (Some Failed) count user is = cc
-not-spent (Some NoMemory) (Some Failed) count user is = cc
-not-spent (Some NoMemory) None count user is = cc
-not-spent (Some NoMemory) (Some NoMemory) count user is = cc
-not-spent None (Some NoMemory) count user is = cc
-
 -- ON THE TWO DEVICES: none was begun on a store that wasn't opened, or whose devices weren't prepared
 module _ {L D : Type 0} (log_seen : L → Seen) (data_seen : D → Seen) (log_entry data_entry : Seen) (stops : Stops) (turns : Turns) (script : List ScriptLine) (log_now : Fused L) (data_now : Fused D) where
   pub unopened-comes-not : (f : RecFault) → ComesByTurnsTo log_seen data_seen log_entry data_entry stops turns script (unopened f) log_now data_now
@@ -142,115 +132,172 @@ module _ {L D : Type 0} (log_seen : L → Seen) (data_seen : D → Seen) (log_en
   unprepared-comes-not rec.NoMemory = tt
 
 -- WHAT IS TOLD
+-- nothing was done since
+there : {L D : Type 0} (f : Fault) (log_now : Fused L) (data_now : Fused D) → EndsThere log_now log_now data_now data_now f f
+there f log_now data_now = record { fault_is = refl; log_device = refl; data_device = refl }
+
+-- of a fault that isn't that of spent turns
+abbrev is-unspent : Fault → Type 0
+is-unspent (fault.Turns count user) = ⊥
+is-unspent f = Unit {0}
+
+module _ {L D : Type 0} (log_seen : L → Seen) (data_seen : D → Seen) (handed : Handed) where
+  abbrev runs-handed : (played : Played) (f : Option Fault) (log_then : Fused L) (data_then : Fused D) → ComesAsHanded log_seen data_seen handed (course.Played played f) log_then data_then
+      → RunsAsHanded log_seen data_seen handed f log_then data_then
+  runs-handed played f log_then data_then comes = record { script = comes.script; is_script = comes.is_script; played = played; comes = comes.by_turns }
+
+  -- a run that came so far
+  told-met : (so_far : Course) (f : Fault) (log_then log_now : Fused L) (data_then data_now : Fused D) → is-unspent f → ComesAsHanded log_seen data_seen handed so_far log_then data_then
+      → FailsSince log_seen data_seen log_then log_now data_then data_now handed.command so_far f → TellsFault log_seen data_seen handed f log_now data_now
+  told-met so_far (fault.Turns count user) log_then log_now data_then data_now unspent comes fails = absurd unspent
+  told-met so_far fault.LogDevice log_then log_now data_then data_now unspent comes fails =
+      record { so_far = so_far; log_then = log_then; data_then = data_then; comes = comes; fails = fails }
+  told-met so_far fault.DataDevice log_then log_now data_then data_now unspent comes fails =
+      record { so_far = so_far; log_then = log_then; data_then = data_then; comes = comes; fails = fails }
+  told-met so_far (fault.Store refusal) log_then log_now data_then data_now unspent comes fails =
+      record { so_far = so_far; log_then = log_then; data_then = data_then; comes = comes; fails = fails }
+  told-met so_far f log_then log_now data_then data_now unspent comes fails = tt
+
+  -- one that ended before its first line, or whose turns were spent
+  ended-told : (f : Fault) (log_now : Fused L) (data_now : Fused D) → ComesAsHanded log_seen data_seen handed (course.Ended f) log_now data_now
+      → TellsFault log_seen data_seen handed f log_now data_now
+  ended-told (fault.Turns count user) log_now data_now comes = record { script = comes.script; is_script = comes.is_script; comes = comes.by_turns }
+  ended-told f log_now data_now comes = told-met (course.Ended f) f log_now log_now data_now data_now tt comes (there f log_now data_now)
+
+  -- no script was read for it
+  unscripted-told : (f : Fault) (log_now : Fused L) (data_now : Fused D) → IsScriptFault handed.source handed.source_now f → TellsFault log_seen data_seen handed f log_now data_now
+  unscripted-told fault.Memory log_now data_now cause = tt
+  unscripted-told fault.Source log_now data_now cause = tt
+  unscripted-told (fault.Script n) log_now data_now cause = tt
+  unscripted-told (fault.Fit misfit) log_now data_now cause = tt
+  unscripted-told f log_now data_now cause = absurd cause
+
 module _ {L D : Type 0} (log_seen : L → Seen) (data_seen : D → Seen) (source source_now : SourceSeen) (log_entry data_entry : Seen) where
+  abbrev handed : Command → Stops → Drive → Handed
+  handed = handed_as log_seen data_seen source source_now log_entry data_entry
+
+  abbrev Tells : Command → Outcome → Fused L → Fused D → Type 0
+  Tells = TellsByTurns log_seen data_seen source source_now log_entry data_entry
+
+  abbrev Comes : Handed → Course → Fused L → Fused D → Type 0
+  Comes = ComesAsHanded log_seen data_seen
+
   -- of `run`
-  pub run-ended-told : (drive : Drive) (script : List ScriptLine) (f : Fault) (log_now : Fused L) (data_now : Fused D) → IsScriptRead source source_now script
-      → ComesByTurnsTo log_seen data_seen log_entry data_entry no_stops (turns_of drive) script (course.Ended f) log_now data_now
-      → TellsByTurns log_seen data_seen source source_now log_entry data_entry (Run drive) (outcome.Fault f) log_now data_now
-  run-ended-told drive script (fault.Turns count user) log_now data_now read comes = record { script = script; is_script = read; comes = comes }
-  run-ended-told drive script f log_now data_now read comes = tt
+  abbrev run : Drive → Handed
+  run drive = handed (Run drive) no_stops drive
 
-  pub run-stopped-told : (drive : Drive) (f : Fault) (log_guarded data_guarded : Guarded) (log_now : Fused L) (data_now : Fused D)
-      → IsStoppedBy log_entry data_entry no_stops f log_guarded data_guarded
-      → TellsByTurns log_seen data_seen source source_now log_entry data_entry (Run drive) (outcome.Fault f) log_now data_now
-  run-stopped-told drive (fault.Turns count user) log_guarded data_guarded log_now data_now stopped = absurd stopped
-  run-stopped-told drive f log_guarded data_guarded log_now data_now stopped = tt
+  pub run-ended-told : (drive : Drive) (f : Fault) (log_now : Fused L) (data_now : Fused D) → Comes (run drive) (course.Ended f) log_now data_now
+      → Tells (Run drive) (outcome.Fault f) log_now data_now
+  run-ended-told drive f log_now data_now comes = ended-told log_seen data_seen (run drive) f log_now data_now comes
 
-  run-text-told : (drive : Drive) (script : List ScriptLine) (played : Played) (f : Option Fault) (text : List ℕ) (log_now : Fused L) (data_now : Fused D) → IsScriptRead source source_now script
-      → ComesByTurnsTo log_seen data_seen log_entry data_entry no_stops (turns_of drive) script (course.Played played f) log_now data_now
-      → IsReportOf script (Some (ran_of played)) None text
-      → TellsByTurns log_seen data_seen source source_now log_entry data_entry (Run drive) (report_outcome text f) log_now data_now
-  run-text-told drive script played None text log_now data_now read comes report = record { runs = record { script = script; is_script = read; played = played; comes = comes }; report = report }
-  run-text-told drive script played (Some (fault.Turns count user)) text log_now data_now read comes report = absurd (not-spent _ _ count user comes.done.fault_is)
-  run-text-told drive script played (Some f) text log_now data_now read comes report = record { runs = record { script = script; is_script = read; played = played; comes = comes }; report = report }
+  pub run-stopped-told : (drive : Drive) (f : Fault) (log_now : Fused L) (data_now : Fused D) → Comes (run drive) (course.Stopped f) log_now data_now
+      → Tells (Run drive) (outcome.Fault f) log_now data_now
+  run-stopped-told drive (fault.Turns count user) log_now data_now comes = absurd comes.comes_to
+  run-stopped-told drive f log_now data_now comes = told-met log_seen data_seen (run drive) (course.Stopped f) f log_now log_now data_now data_now tt comes (there f log_now data_now)
 
-  pub run-played-told : (drive : Drive) (script : List ScriptLine) (played : Played) (f : Option Fault) (o : Outcome) (log_now : Fused L) (data_now : Fused D) → IsScriptRead source source_now script
-      → ComesByTurnsTo log_seen data_seen log_entry data_entry no_stops (turns_of drive) script (course.Played played f) log_now data_now
-      → IsRunPrinted script (ran_of played) f o → TellsByTurns log_seen data_seen source source_now log_entry data_entry (Run drive) o log_now data_now
-  run-played-told drive script played f o log_now data_now read comes printed =
-      let Tells : Outcome → Type 0 = λ o. TellsByTurns log_seen data_seen source source_now log_entry data_entry (Run drive) o log_now data_now in ⊎_elim
-      (λ memory. subst Tells (sym memory) tt)
-      (λ told. subst Tells (sym told.2) (run-text-told drive script played f told.0 log_now data_now read comes told.1))
+  run-text-told : (drive : Drive) (played : Played) (f : Option Fault) (text : List ℕ) (log_now : Fused L) (data_now : Fused D)
+      → (comes : Comes (run drive) (course.Played played f) log_now data_now) → IsReportOf comes.script (Some (ran_of played)) None text
+      → Tells (Run drive) (report_outcome text f) log_now data_now
+  run-text-told drive played None text log_now data_now comes report = record { runs = runs-handed log_seen data_seen (run drive) played None log_now data_now comes; report = report }
+  run-text-told drive played (Some (fault.Turns count user)) text log_now data_now comes report = absurd comes.comes_to
+  run-text-told drive played (Some f) text log_now data_now comes report = record { runs = runs-handed log_seen data_seen (run drive) played (Some f) log_now data_now comes; report = report }
+
+  pub run-played-told : (drive : Drive) (played : Played) (f : Option Fault) (o : Outcome) (log_now : Fused L) (data_now : Fused D)
+      → (comes : Comes (run drive) (course.Played played f) log_now data_now) → IsRunPrinted comes.script (ran_of played) f o → Tells (Run drive) o log_now data_now
+  run-played-told drive played f o log_now data_now comes printed = ⊎_elim
+      (λ memory. subst (λ (o : Outcome). Tells (Run drive) o log_now data_now) (sym memory) tt)
+      (λ told. subst (λ (o : Outcome). Tells (Run drive) o log_now data_now) (sym told.2) (run-text-told drive played f told.0 log_now data_now comes told.1))
       printed
 
+  pub run-unscripted-told : (drive : Drive) (f : Fault) (log_now : Fused L) (data_now : Fused D) → IsScriptFault source source_now f → Tells (Run drive) (outcome.Fault f) log_now data_now
+  run-unscripted-told drive f log_now data_now cause = unscripted-told log_seen data_seen (run drive) f log_now data_now cause
+
   -- of `crash`
-  pub crash-ended-told : (drive : Drive) (stops : Stops) (pick : ℕ) (script : List ScriptLine) (f : Fault) (log_now : Fused L) (data_now : Fused D) → IsScriptRead source source_now script
-      → ComesByTurnsTo log_seen data_seen log_entry data_entry stops (turns_of drive) script (course.Ended f) log_now data_now
-      → TellsByTurns log_seen data_seen source source_now log_entry data_entry (Crash drive stops.log stops.store pick) (outcome.Fault f) log_now data_now
-  crash-ended-told drive stops pick script (fault.Turns count user) log_now data_now read comes = record { script = script; is_script = read; comes = comes }
-  crash-ended-told drive stops pick script f log_now data_now read comes = tt
+  abbrev crash : Drive → Stops → ℕ → Command
+  crash drive stops pick = Crash drive stops.log stops.store pick
 
-  pub crash-stopped-told : (drive : Drive) (stops : Stops) (pick : ℕ) (script : List ScriptLine) (o : Outcome) (log_old data_old log_guarded data_guarded : Guarded) (log_now : Fused L) (data_now : Fused D)
-      → IsScriptRead source source_now script → ReadsBack pick script None o log_old data_old log_guarded data_guarded
-      → TellsByTurns log_seen data_seen source source_now log_entry data_entry (Crash drive stops.log stops.store pick) o log_now data_now
-  crash-stopped-told drive stops pick script (outcome.Text text) log_old data_old log_guarded data_guarded log_now data_now read back =
-      inl (record { script = script; is_script = read; read = (back.reading.end, back.reading.pages); report = back.report })
-  crash-stopped-told drive stops pick script (outcome.Report text f) log_old data_old log_guarded data_guarded log_now data_now read back = absurd back
-  crash-stopped-told drive stops pick script (outcome.Fault (fault.Turns count user)) log_old data_old log_guarded data_guarded log_now data_now read back = absurd back
-  crash-stopped-told drive stops pick script (outcome.Fault f) log_old data_old log_guarded data_guarded log_now data_now read back = tt
+  abbrev crashing : Drive → Stops → ℕ → Handed
+  crashing drive stops pick = handed (crash drive stops pick) stops drive
 
-  pub crash-played-told : (drive : Drive) (stops : Stops) (pick : ℕ) (script : List ScriptLine) (played : Played) (f : Option Fault) (o : Outcome) (log_then log_now : Fused L) (data_then data_now : Fused D)
-      → IsScriptRead source source_now script
-      → ComesByTurnsTo log_seen data_seen log_entry data_entry stops (turns_of drive) script (course.Played played f) log_then data_then
-      → ReadsBack pick script (Some (ran_of played)) o (guarded log_seen log_then) (guarded data_seen data_then) (guarded log_seen log_now) (guarded data_seen data_now)
-      → TellsByTurns log_seen data_seen source source_now log_entry data_entry (Crash drive stops.log stops.store pick) o log_now data_now
-  crash-played-told drive stops pick script played f (outcome.Text text) log_then log_now data_then data_now read comes back = inr (record {
+  pub crash-ended-told : (drive : Drive) (stops : Stops) (pick : ℕ) (f : Fault) (log_now : Fused L) (data_now : Fused D)
+      → Comes (crashing drive stops pick) (course.Ended f) log_now data_now → Tells (crash drive stops pick) (outcome.Fault f) log_now data_now
+  crash-ended-told drive stops pick f log_now data_now comes = ended-told log_seen data_seen (crashing drive stops pick) f log_now data_now comes
+
+  pub crash-stopped-told : (drive : Drive) (stops : Stops) (pick : ℕ) (met : Fault) (o : Outcome) (log_then log_now : Fused L) (data_then data_now : Fused D)
+      → (comes : Comes (crashing drive stops pick) (course.Stopped met) log_then data_then)
+      → ReadsBack pick comes.script None o (guarded log_seen log_then) (guarded data_seen data_then) (guarded log_seen log_now) (guarded data_seen data_now)
+      → Tells (crash drive stops pick) o log_now data_now
+  crash-stopped-told drive stops pick met (outcome.Text text) log_then log_now data_then data_now comes back = inl (record {
+    met = met;
+    log_then = log_then;
+    data_then = data_then;
+    stopped = comes;
+    crashed = back.crashed;
+    read = (back.reading.end, back.reading.pages);
+    report = back.report;
+  })
+  crash-stopped-told drive stops pick met (outcome.Report text f) log_then log_now data_then data_now comes back = absurd back
+  crash-stopped-told drive stops pick met (outcome.Fault (fault.Turns count user)) log_then log_now data_then data_now comes back = absurd back
+  crash-stopped-told drive stops pick met (outcome.Fault f) log_then log_now data_then data_now comes back =
+      told-met log_seen data_seen (crashing drive stops pick) (course.Stopped met) f log_then log_now data_then data_now tt comes back
+
+  pub crash-played-told : (drive : Drive) (stops : Stops) (pick : ℕ) (played : Played) (met : Option Fault) (o : Outcome) (log_then log_now : Fused L) (data_then data_now : Fused D)
+      → (comes : Comes (crashing drive stops pick) (course.Played played met) log_then data_then)
+      → ReadsBack pick comes.script (Some (ran_of played)) o (guarded log_seen log_then) (guarded data_seen data_then) (guarded log_seen log_now) (guarded data_seen data_now)
+      → Tells (crash drive stops pick) o log_now data_now
+  crash-played-told drive stops pick played met (outcome.Text text) log_then log_now data_then data_now comes back = inr (record {
     log_then = log_then;
     data_then = data_then;
     crashed = back.crashed;
     read = (back.reading.end, back.reading.pages);
-    fault = f;
-    run = record { runs = record { script = script; is_script = read; played = played; comes = comes }; report = back.report };
+    fault = met;
+    run = record { runs = runs-handed log_seen data_seen (crashing drive stops pick) played met log_then data_then comes; report = back.report };
   })
-  crash-played-told drive stops pick script played f (outcome.Report text g) log_then log_now data_then data_now read comes back = absurd back
-  crash-played-told drive stops pick script played f (outcome.Fault (fault.Turns count user)) log_then log_now data_then data_now read comes back = absurd back
-  crash-played-told drive stops pick script played f (outcome.Fault g) log_then log_now data_then data_now read comes back = tt
-
-  -- of `gen`
-  pub gen-ended-told : (seed users groups max : ℕ) (script : List ScriptLine) (f : Fault) (log_now : Fused L) (data_now : Fused D) → script ≡ generated_lines seed users groups
-      → ComesByTurnsTo log_seen data_seen log_entry data_entry no_stops (turns_of (drive_of_seed seed max)) script (course.Ended f) log_now data_now
-      → TellsByTurns log_seen data_seen source source_now log_entry data_entry (Gen seed users groups true max) (outcome.Fault f) log_now data_now
-  gen-ended-told seed users groups max script (fault.Turns count user) log_now data_now is comes = record { script = script; is_script = is; comes = comes }
-  gen-ended-told seed users groups max script f log_now data_now is comes = tt
-
-  pub gen-stopped-told : (seed users groups max : ℕ) (f : Fault) (log_guarded data_guarded : Guarded) (log_now : Fused L) (data_now : Fused D)
-      → IsStoppedBy log_entry data_entry no_stops f log_guarded data_guarded
-      → TellsByTurns log_seen data_seen source source_now log_entry data_entry (Gen seed users groups true max) (outcome.Fault f) log_now data_now
-  gen-stopped-told seed users groups max (fault.Turns count user) log_guarded data_guarded log_now data_now stopped = absurd stopped
-  gen-stopped-told seed users groups max f log_guarded data_guarded log_now data_now stopped = tt
-
-  pub gen-cut-told : (seed users groups max : ℕ) (script : List ScriptLine) (played : Played) (f : Fault) (log_now : Fused L) (data_now : Fused D)
-      → ComesByTurnsTo log_seen data_seen log_entry data_entry no_stops (turns_of (drive_of_seed seed max)) script (course.Played played (Some f)) log_now data_now
-      → TellsByTurns log_seen data_seen source source_now log_entry data_entry (Gen seed users groups true max) (outcome.Fault f) log_now data_now
-  gen-cut-told seed users groups max script played (fault.Turns count user) log_now data_now comes = absurd (not-spent _ _ count user comes.done.fault_is)
-  gen-cut-told seed users groups max script played f log_now data_now comes = tt
-
-  pub gen-played-told : (seed users groups max : ℕ) (script : List ScriptLine) (played : Played) (o : Outcome) (log_then log_now : Fused L) (data_then data_now : Fused D) → script ≡ generated_lines seed users groups
-      → ComesByTurnsTo log_seen data_seen log_entry data_entry no_stops (turns_of (drive_of_seed seed max)) script (course.Played played None) log_then data_then
-      → ReadsBehind (ran_of played) o (guarded log_seen log_then) (guarded data_seen data_then) (guarded log_seen log_now) (guarded data_seen data_now)
-      → TellsByTurns log_seen data_seen source source_now log_entry data_entry (Gen seed users groups true max) o log_now data_now
-  gen-played-told seed users groups max script played (outcome.Text text) log_then log_now data_then data_now is comes behind = record {
-    log_then = log_then;
-    data_then = data_then;
-    read_since = behind.read_since;
-    runs = record { script = script; is_script = is; played = played; comes = comes };
-    reading = behind.reading;
-    text_is = behind.text_is;
-  }
-  gen-played-told seed users groups max script played (outcome.Report text f) log_then log_now data_then data_now is comes behind = absurd behind
-  gen-played-told seed users groups max script played (outcome.Fault (fault.Turns count user)) log_then log_now data_then data_now is comes behind = absurd behind
-  gen-played-told seed users groups max script played (outcome.Fault f) log_then log_now data_then data_now is comes behind = tt
-
-  -- a command whose script wasn't read tells of no run
-  pub run-unscripted-told : (drive : Drive) (f : Fault) (log_now : Fused L) (data_now : Fused D) → IsScriptFault source source_now f
-      → TellsByTurns log_seen data_seen source source_now log_entry data_entry (Run drive) (outcome.Fault f) log_now data_now
-  run-unscripted-told drive (fault.Turns count user) log_now data_now cause = absurd cause
-  run-unscripted-told drive f log_now data_now cause = tt
+  crash-played-told drive stops pick played met (outcome.Report text f) log_then log_now data_then data_now comes back = absurd back
+  crash-played-told drive stops pick played met (outcome.Fault (fault.Turns count user)) log_then log_now data_then data_now comes back = absurd back
+  crash-played-told drive stops pick played met (outcome.Fault f) log_then log_now data_then data_now comes back =
+      told-met log_seen data_seen (crashing drive stops pick) (course.Played played met) f log_then log_now data_then data_now tt comes back
 
   pub crash-unscripted-told : (drive : Drive) (stops : Stops) (pick : ℕ) (f : Fault) (log_now : Fused L) (data_now : Fused D) → IsScriptFault source source_now f
-      → TellsByTurns log_seen data_seen source source_now log_entry data_entry (Crash drive stops.log stops.store pick) (outcome.Fault f) log_now data_now
-  crash-unscripted-told drive stops pick (fault.Turns count user) log_now data_now cause = absurd cause
-  crash-unscripted-told drive stops pick f log_now data_now cause = tt
+      → Tells (crash drive stops pick) (outcome.Fault f) log_now data_now
+  crash-unscripted-told drive stops pick f log_now data_now cause = unscripted-told log_seen data_seen (crashing drive stops pick) f log_now data_now cause
+
+  -- of `gen`
+  module _ (seed users groups max : ℕ) where
+    abbrev gen : Command
+    gen = Gen seed users groups true max
+
+    abbrev seeded : Handed
+    seeded = handed gen no_stops (drive_of_seed seed max)
+
+    pub gen-ended-told : (f : Fault) (log_now : Fused L) (data_now : Fused D) → Comes seeded (course.Ended f) log_now data_now → Tells gen (outcome.Fault f) log_now data_now
+    gen-ended-told f log_now data_now comes = ended-told log_seen data_seen seeded f log_now data_now comes
+
+    pub gen-stopped-told : (f : Fault) (log_now : Fused L) (data_now : Fused D) → Comes seeded (course.Stopped f) log_now data_now → Tells gen (outcome.Fault f) log_now data_now
+    gen-stopped-told (fault.Turns count user) log_now data_now comes = absurd comes.comes_to
+    gen-stopped-told f log_now data_now comes = told-met log_seen data_seen seeded (course.Stopped f) f log_now log_now data_now data_now tt comes (there f log_now data_now)
+
+    pub gen-cut-told : (played : Played) (f : Fault) (log_now : Fused L) (data_now : Fused D) → Comes seeded (course.Played played (Some f)) log_now data_now
+        → Tells gen (outcome.Fault f) log_now data_now
+    gen-cut-told played (fault.Turns count user) log_now data_now comes = absurd comes.comes_to
+    gen-cut-told played f log_now data_now comes =
+        told-met log_seen data_seen seeded (course.Played played (Some f)) f log_now log_now data_now data_now tt comes (there f log_now data_now)
+
+    pub gen-played-told : (played : Played) (o : Outcome) (log_then log_now : Fused L) (data_then data_now : Fused D) → Comes seeded (course.Played played None) log_then data_then
+        → ReadsBehind (ran_of played) o (guarded log_seen log_then) (guarded data_seen data_then) (guarded log_seen log_now) (guarded data_seen data_now)
+        → Tells gen o log_now data_now
+    gen-played-told played (outcome.Text text) log_then log_now data_then data_now comes behind = record {
+      log_then = log_then;
+      data_then = data_then;
+      read_since = behind.read_since;
+      runs = runs-handed log_seen data_seen seeded played None log_then data_then comes;
+      reading = behind.reading;
+      text_is = behind.text_is;
+    }
+    gen-played-told played (outcome.Report text f) log_then log_now data_then data_now comes behind = absurd behind
+    gen-played-told played (outcome.Fault (fault.Turns count user)) log_then log_now data_then data_now comes behind = absurd behind
+    gen-played-told played (outcome.Fault f) log_then log_now data_then data_now comes behind =
+        told-met log_seen data_seen seeded (course.Played played None) f log_then log_now data_then data_now tt comes behind
 
 -- A WHOLE CALL
 -- a command that memory ran out for tells of no run

@@ -126,8 +126,8 @@ IsRefused call (Gen seed users groups true max) refusal =
     IsOpeningRefused call refusal ⊎ IsRunRefused call (Gen seed users groups true max) refusal
 IsRefused call (Gen seed users groups false max) refusal = ⊥
 
--- A quantity of the script is the first that doesn't fit the store that was opened, without a failure of a device. Where the
--- log runs alone it has room for one round from the opened checkpoint on.
+-- A quantity of the script is the first that doesn't fit the store that was opened, without a failure of a device, and nothing
+-- was crashed. Where the log runs alone it has room for one round from the opened checkpoint on.
 pub record IsScriptMisfit (call : Call) (command : Command) (misfit : Misfit) : Type 0 where
   pub drive : Drive
   pub asked : drive_of command ≡ Some drive
@@ -137,6 +137,8 @@ pub record IsScriptMisfit (call : Call) (command : Command) (misfit : Misfit) : 
   pub opens : WhereToldAtEntry call (IsOpenedAs opened)
   pub limits : IsWithinLimits opened.shape
   pub unfailed : AreUnfailed call
+  pub log_uncrashed : call.log_device_now.fuse.pick ≡ None
+  pub data_uncrashed : call.data_device_now.fuse.pick ≡ None
   pub first : first_misfit opened.shape (start_after opened.end) (room_of drive.log_only opened) script ≡ Some misfit
 
 -- a quantity doesn't fit

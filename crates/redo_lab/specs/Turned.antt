@@ -8,7 +8,7 @@ use Rattle.model_log.specs.{start_after}
 use Rattle.model_opening.specs.{IsOpenable}
 use Rattle.model_page.specs.declared.content.Content.{Content}
 use Rattle.model_report.specs.declared.fault.Fault.{Fault}
-use Rattle.model_report.specs.declared.fault.Fault.TheVariants.{Turns}
+use Rattle.model_report.specs.declared.fault.Fault.TheVariants.{LogDevice, DataDevice, Store, Turns}
 use Rattle.model_script.specs.declared.script.ScriptLine.{ScriptLine}
 use Rattle.model_store.specs.Reading.{Reading}
 use Rattle.model_theorem.specs.Values as values
@@ -26,13 +26,14 @@ use Rattle.redo_open.specs.{IsOpenedReady, WhereBothTell}
 use Rattle.redo_pageactors.specs.declared.opened.Opened.{Opened}
 use Rattle.redo_lab.specs.Asked.{command_of, drive_of_seed, turns_of}
 use Rattle.redo_lab.specs.Behind.{AreReadSince}
-use Rattle.redo_lab.specs.Call.{LabCall, guarded}
-use Rattle.redo_lab.specs.Course.{AreUnderWay, ran_of}
+use Rattle.redo_lab.specs.Call.{Guarded, LabCall, guarded}
+use Rattle.redo_lab.specs.Course.{AreUnderWay, ComesTo, ran_of}
 use Rattle.redo_lab.specs.Crashed.{AreCrashedSince}
 use Rattle.redo_lab.specs.Outcome.{IsOutcome, IsOutcomePrinted}
 use Rattle.redo_lab.specs.Playing.{MakeCalls, ended_by, played_of}
 use Rattle.redo_lab.specs.Prepared.{WhereTold}
 use Rattle.redo_lab.specs.Reported.{IsReportOf}
+use Rattle.redo_lab.specs.Reread.{FailsReading}
 use Rattle.redo_lab.specs.Script.{IsScriptFor}
 use Rattle.redo_lab.specs.Store.{IsOpenedAs}
 use Rattle.redo_lab.specs.Summary.{summary_of}
@@ -164,6 +165,16 @@ pub record RunsAsHanded {L D : Type 0} (log_seen : L → Seen) (data_seen : D �
   pub comes : ComesToEnd log_seen data_seen handed.log_entry handed.data_entry handed.stops handed.turns script
       played fault log_then data_then
 
+-- A run by turns of that script came so far, if it was begun, and then the devices were these.
+pub record ComesAsHanded {L D : Type 0} (log_seen : L → Seen) (data_seen : D → Seen) (handed : Handed) (so_far : Course)
+    (log_then : Fused L) (data_then : Fused D) : Type 0 where
+  pub script : List ScriptLine
+  pub is_script : IsScriptFor handed.command handed.source handed.source_now script
+  pub comes_to : ComesTo handed.log_entry handed.data_entry handed.stops handed.turns script so_far
+      (guarded log_seen log_then) (guarded data_seen data_then)
+  pub by_turns : ComesByTurnsTo log_seen data_seen handed.log_entry handed.data_entry handed.stops handed.turns script
+      so_far log_then data_then
+
 -- The text is the report of such a run; behind a crash it has what was read.
 pub record TellsRun {L D : Type 0} (log_seen : L → Seen) (data_seen : D → Seen) (handed : Handed)
     (read : Option (ℕ × List Content)) (fault : Option Fault) (text : List ℕ) (log_then : Fused L) (data_then : Fused D) : Type 0 where
@@ -192,12 +203,17 @@ pub record TellsSummary {L D : Type 0} (log_seen : L → Seen) (data_seen : D �
   pub reading : Reading
   pub text_is : text ≡ summary_of (ran_of runs.played) reading
 
--- the text tells that there was no run
-pub record TellsNone (handed : Handed) (text : List ℕ) : Type 0 where
-  pub script : List ScriptLine
-  pub is_script : IsScriptFor handed.command handed.source handed.source_now script
+-- The text of `crash` tells that there was no run: a device stopped opening, and then both were crashed and read.
+pub record TellsNone {L D : Type 0} (log_seen : L → Seen) (data_seen : D → Seen)
+    (handed : Handed) (pick : ℕ) (text : List ℕ) (log_now : Fused L) (data_now : Fused D) : Type 0 where
+  pub met : Fault
+  pub log_then : Fused L
+  pub data_then : Fused D
+  pub stopped : ComesAsHanded log_seen data_seen handed (course.Stopped met) log_then data_then
+  pub crashed : AreCrashedSince pick 0 0 (guarded log_seen log_then) (guarded data_seen data_then)
+      (guarded log_seen log_now) (guarded data_seen data_now)
   pub read : ℕ × List Content
-  pub report : IsReportOf script None (Some read) text
+  pub report : IsReportOf stopped.script None (Some read) text
 
 -- the turns of a run were spent, so many, and this is the least user that hasn't ended
 pub record TellsSpent {L D : Type 0} (log_seen : L → Seen) (data_seen : D → Seen)
@@ -206,6 +222,49 @@ pub record TellsSpent {L D : Type 0} (log_seen : L → Seen) (data_seen : D → 
   pub is_script : IsScriptFor handed.command handed.source handed.source_now script
   pub comes : ComesToSpent log_seen data_seen handed.log_entry handed.data_entry handed.stops handed.turns script
       count user log_now data_now
+
+-- the run met this fault, and nothing was done since
+pub record EndsThere {L D : Type 0} (log_then log_now : Fused L) (data_then data_now : Fused D) (met fault : Fault) : Type 0 where
+  pub fault_is : fault ≡ met
+  pub log_device : log_now ≡ log_then
+  pub data_device : data_now ≡ data_then
+
+module _ {L D : Type 0} (log_seen : L → Seen) (data_seen : D → Seen) (log_then log_now : Fused L) (data_then data_now : Fused D) where
+  -- this is so of both devices since, by how many calls of each failed, and reading them came to this fault
+  abbrev pub FailsReadSince : (ℕ → ℕ → (log_old data_old log_new data_new : Guarded) → Type 0) → Fault → Type 0
+  FailsReadSince Since fault = FailsReading
+      (λ log_failed data_failed. Since log_failed data_failed
+      (guarded log_seen log_then) (guarded data_seen data_then) (guarded log_seen log_now) (guarded data_seen data_now))
+      fault (guarded log_seen log_now) (guarded data_seen data_now)
+
+  -- What a run that came so far led to, by command: once opening was begun, `crash` crashes the devices and reads them; `gen`
+  -- reads them behind a run that no fault ended; and of `run` there is a report, once opening came to its end.
+  abbrev pub FailsSince : Command → Course → Fault → Type 0
+  FailsSince command (course.Ended met) fault = EndsThere log_then log_now data_then data_now met fault
+  FailsSince (Crash drive stop_log stop_data pick) so_far fault = FailsReadSince (AreCrashedSince pick) fault
+  FailsSince command (course.Stopped met) fault = EndsThere log_then log_now data_then data_now met fault
+  FailsSince (Gen seed users groups run max) (course.Played played (Some met)) fault = EndsThere log_then log_now data_then data_now met fault
+  FailsSince (Gen seed users groups run max) (course.Played played None) fault = FailsReadSince AreReadSince fault
+  FailsSince command so_far fault = ⊥
+
+-- This fault ended such a run, or what the command does behind it.
+pub record FailsAsHanded {L D : Type 0} (log_seen : L → Seen) (data_seen : D → Seen) (handed : Handed) (fault : Fault)
+    (log_now : Fused L) (data_now : Fused D) : Type 0 where
+  pub so_far : Course
+  pub log_then : Fused L
+  pub data_then : Fused D
+  pub comes : ComesAsHanded log_seen data_seen handed so_far log_then data_then
+  pub fails : FailsSince log_seen data_seen log_then log_now data_then data_now handed.command so_far fault
+
+-- What a fault's line alone tells of a run: where the turns were spent, or the devices decided. Memory may run out anywhere, and
+-- any other fault comes of the script.
+abbrev pub TellsFault : {L D : Type 0} → (L → Seen) → (D → Seen) → Handed → Fault → Fused L → Fused D → Type 0
+TellsFault log_seen data_seen handed (Turns count user) log_now data_now = TellsSpent log_seen data_seen handed count user log_now data_now
+TellsFault log_seen data_seen handed LogDevice log_now data_now = FailsAsHanded log_seen data_seen handed LogDevice log_now data_now
+TellsFault log_seen data_seen handed DataDevice log_now data_now = FailsAsHanded log_seen data_seen handed DataDevice log_now data_now
+TellsFault log_seen data_seen handed (Store refusal) log_now data_now =
+    FailsAsHanded log_seen data_seen handed (Store refusal) log_now data_now
+TellsFault log_seen data_seen handed fault log_now data_now = Unit {0}
 
 -- the devices of a command that isn't `crash` aren't stopped
 abbrev pub no_stops : Stops
@@ -233,19 +292,19 @@ module _ {L D : Type 0} (log_seen : L → Seen) (data_seen : D → Seen)
   TellsByTurns (Run drive) (outcome.Report text (Turns count user)) log_now data_now = ⊥
   TellsByTurns (Run drive) (outcome.Report text fault) log_now data_now =
       TellsRun log_seen data_seen (handed_as (Run drive) no_stops drive) None (Some fault) text log_now data_now
-  TellsByTurns (Run drive) (outcome.Fault (Turns count user)) log_now data_now =
-      TellsSpent log_seen data_seen (handed_as (Run drive) no_stops drive) count user log_now data_now
+  TellsByTurns (Run drive) (outcome.Fault fault) log_now data_now =
+      TellsFault log_seen data_seen (handed_as (Run drive) no_stops drive) fault log_now data_now
   TellsByTurns (Crash drive stop_log stop_data pick) (outcome.Text text) log_now data_now =
-      TellsNone (handed_as (Crash drive stop_log stop_data pick) (record { log = stop_log; store = stop_data }) drive) text
+      TellsNone log_seen data_seen (handed_as (Crash drive stop_log stop_data pick) (record { log = stop_log; store = stop_data }) drive) pick text log_now data_now
       ⊎ TellsCrash log_seen data_seen (handed_as (Crash drive stop_log stop_data pick) (record { log = stop_log; store = stop_data }) drive) pick text log_now data_now
   TellsByTurns (Crash drive stop_log stop_data pick) (outcome.Report text fault) log_now data_now = ⊥
-  TellsByTurns (Crash drive stop_log stop_data pick) (outcome.Fault (Turns count user)) log_now data_now =
-      TellsSpent log_seen data_seen (handed_as (Crash drive stop_log stop_data pick) (record { log = stop_log; store = stop_data }) drive) count user log_now data_now
+  TellsByTurns (Crash drive stop_log stop_data pick) (outcome.Fault fault) log_now data_now =
+      TellsFault log_seen data_seen (handed_as (Crash drive stop_log stop_data pick) (record { log = stop_log; store = stop_data }) drive) fault log_now data_now
   TellsByTurns (Gen seed users groups true max) (outcome.Text text) log_now data_now =
       TellsSummary log_seen data_seen (handed_as (Gen seed users groups true max) no_stops (drive_of_seed seed max)) text log_now data_now
   TellsByTurns (Gen seed users groups true max) (outcome.Report text fault) log_now data_now = ⊥
-  TellsByTurns (Gen seed users groups true max) (outcome.Fault (Turns count user)) log_now data_now =
-      TellsSpent log_seen data_seen (handed_as (Gen seed users groups true max) no_stops (drive_of_seed seed max)) count user log_now data_now
+  TellsByTurns (Gen seed users groups true max) (outcome.Fault fault) log_now data_now =
+      TellsFault log_seen data_seen (handed_as (Gen seed users groups true max) no_stops (drive_of_seed seed max)) fault log_now data_now
   TellsByTurns command outcome log_now data_now = Unit {0}
 
 -- What the words' command came to was printed; it means what it says of the call, and a run that it tells of is one by its

@@ -55,25 +55,17 @@ fn crash_and_read<L: Sectors, D: Sectors>(
     script: &Script,
     pick: u64,
     played: Option<&Played>,
-    mut log: Fused<L>,
-    mut store: Fused<D>,
-) -> Done<L, D>
-    ensures { ReadsBack pick script.now (run_of played.entry) result.outcome
-        (guarded L.seen log) (guarded D.seen store) (guarded L.seen result.log) (guarded D.seen result.store) }
+    log: &mut Fused<L>,
+    store: &mut Fused<D>,
+) -> Outcome
+    ensures { ReadsBack pick script.now (run_of played.entry) result
+        (guarded L.seen log.old) (guarded D.seen store.old) (guarded L.seen log.new) (guarded D.seen store.new) }
 {
     log.crash(pick);
     store.crash(pick);
-    match recover(alloc, &mut log, &mut store) {
-        Ok(recovered) => Done {
-            outcome: Outcome::of_text(report_crash(alloc, script, played, &recovered)),
-            log,
-            store,
-        },
-        Err(fault) => Done {
-            outcome: Outcome::Fault(fault_of(fault)),
-            log,
-            store,
-        },
+    match recover(alloc, log, store) {
+        Ok(recovered) => Outcome::of_text(report_crash(alloc, script, played, &recovered)),
+        Err(fault) => Outcome::Fault(fault_of(fault)),
     }
 }
 
@@ -101,16 +93,21 @@ pub(crate) fn crash_command<L: Sectors, D: Sectors>(
     closed_run_is_safe();
     crash_of_safe_run();
     unfit_is_misfit();
-    let Ran { course, log, store } = run_lines(alloc, script, &turns_of(drive), stops, log, store);
-    match course {
-        Course::Ended(fault) => Done {
-            outcome: Outcome::Fault(fault),
-            log,
-            store,
-        },
-        Course::Stopped(_) => crash_and_read(alloc, script, pick, None, log, store),
+    let Ran {
+        course,
+        mut log,
+        mut store,
+    } = run_lines(alloc, script, &turns_of(drive), stops, log, store);
+    let outcome = match course {
+        Course::Ended(fault) => Outcome::Fault(fault),
+        Course::Stopped(_) => crash_and_read(alloc, script, pick, None, &mut log, &mut store),
         Course::Played(played, _) => {
-            crash_and_read(alloc, script, pick, Some(&played), log, store)
+            crash_and_read(alloc, script, pick, Some(&played), &mut log, &mut store)
         }
+    };
+    Done {
+        outcome,
+        log,
+        store,
     }
 }

@@ -49,12 +49,10 @@ fn print_script<L: Sectors, D: Sectors>(
     ensures { (words : List (List ℕ)) (source : SourceSeen)
         → EndsCommand (call_of L.seen D.seen words source source log store result) (Gen seed users groups false max) result.outcome }
 {
-    let log = Fused::plain(log);
-    let store = Fused::plain(store);
     Done {
         outcome: Outcome::of_text(generate(alloc, seed, users, groups)),
-        log,
-        store,
+        log: Fused::plain(log),
+        store: Fused::plain(store),
     }
 }
 
@@ -77,23 +75,15 @@ fn summarize(alloc: Global, played: &Played, recovered: &Recovered) -> Result<Te
 fn read_behind<L: Sectors, D: Sectors>(
     alloc: Global,
     played: &Played,
-    mut log: Fused<L>,
-    mut store: Fused<D>,
-) -> Done<L, D>
-    ensures { ReadsBehind (ran_of played.now) result.outcome (guarded L.seen log) (guarded D.seen store)
-        (guarded L.seen result.log) (guarded D.seen result.store) }
+    log: &mut Fused<L>,
+    store: &mut Fused<D>,
+) -> Outcome
+    ensures { ReadsBehind (ran_of played.now) result (guarded L.seen log.old) (guarded D.seen store.old)
+        (guarded L.seen log.new) (guarded D.seen store.new) }
 {
-    match recover(alloc, &mut log, &mut store) {
-        Ok(recovered) => Done {
-            outcome: Outcome::of_text(summarize(alloc, played, &recovered)),
-            log,
-            store,
-        },
-        Err(fault) => Done {
-            outcome: Outcome::Fault(fault_of(fault)),
-            log,
-            store,
-        },
+    match recover(alloc, log, store) {
+        Ok(recovered) => Outcome::of_text(summarize(alloc, played, &recovered)),
+        Err(fault) => Outcome::Fault(fault_of(fault)),
     }
 }
 
@@ -134,31 +124,22 @@ fn run_script<L: Sectors, D: Sectors>(
         log: None,
         store: None,
     };
-    let Ran { course, log, store } = run_lines(
-        alloc,
-        script,
-        &turns_of_seed(seed, max),
-        stops,
+    let Ran {
+        course,
+        mut log,
+        mut store,
+    } = run_lines(alloc, script, &turns_of_seed(seed, max), stops, log, store);
+    let outcome = match course {
+        Course::Ended(fault) | Course::Stopped(fault) => Outcome::Fault(fault),
+        Course::Played(played, ended) => match ended {
+            Some(fault) => Outcome::Fault(fault),
+            None => read_behind(alloc, &played, &mut log, &mut store),
+        },
+    };
+    Done {
+        outcome,
         log,
         store,
-    );
-    match course {
-        Course::Ended(fault) => Done {
-            outcome: Outcome::Fault(fault),
-            log,
-            store,
-        },
-        Course::Stopped(fault) => Done {
-            outcome: Outcome::Fault(fault),
-            log,
-            store,
-        },
-        Course::Played(_, Some(fault)) => Done {
-            outcome: Outcome::Fault(fault),
-            log,
-            store,
-        },
-        Course::Played(played, None) => read_behind(alloc, &played, log, store),
     }
 }
 

@@ -60,21 +60,13 @@ pub(crate) fn run_command<L: Sectors, D: Sectors>(
         store: None,
     };
     let Ran { course, log, store } = run_lines(alloc, script, &turns_of(drive), stops, log, store);
-    match course {
-        Course::Ended(fault) => Done {
-            outcome: Outcome::Fault(fault),
-            log,
-            store,
-        },
-        Course::Stopped(fault) => Done {
-            outcome: Outcome::Fault(fault),
-            log,
-            store,
-        },
-        Course::Played(played, fault) => Done {
-            outcome: print_run(alloc, script, &played, fault),
-            log,
-            store,
-        },
+    let outcome = match course {
+        Course::Ended(fault) | Course::Stopped(fault) => Outcome::Fault(fault),
+        Course::Played(played, fault) => print_run(alloc, script, &played, fault),
+    };
+    Done {
+        outcome,
+        log,
+        store,
     }
 }

@@ -35,17 +35,14 @@ pub(crate) fn format_devices<L: Sectors, D: Sectors>(
     formatted_is_openable();
     let mut log = Fused::plain(log);
     let mut store = Fused::plain(store);
-    match format(&mut log, &mut store, &shape_of(pages, space, log_blocks)) {
-        Ok(()) => Done {
-            outcome: Outcome::of_text(formatted(alloc)),
-            log,
-            store,
-        },
-        Err(fault) => Done {
-            outcome: Outcome::Fault(fault_of(fault)),
-            log,
-            store,
-        },
+    let outcome = match format(&mut log, &mut store, &shape_of(pages, space, log_blocks)) {
+        Ok(()) => Outcome::of_text(formatted(alloc)),
+        Err(fault) => Outcome::Fault(fault_of(fault)),
+    };
+    Done {
+        outcome,
+        log,
+        store,
     }
 }
 
@@ -57,17 +54,14 @@ pub(crate) fn print_pages<L: Sectors, D: Sectors>(alloc: Global, log: L, store: 
     one_answer();
     let mut log = Fused::plain(log);
     let mut store = Fused::plain(store);
-    match recover(alloc, &mut log, &mut store) {
-        Ok(recovered) => Done {
-            outcome: Outcome::of_text(reading_text(alloc, &recovered)),
-            log,
-            store,
-        },
-        Err(fault) => Done {
-            outcome: Outcome::Fault(fault_of(fault)),
-            log,
-            store,
-        },
+    let outcome = match recover(alloc, &mut log, &mut store) {
+        Ok(recovered) => Outcome::of_text(reading_text(alloc, &recovered)),
+        Err(fault) => Outcome::Fault(fault_of(fault)),
+    };
+    Done {
+        outcome,
+        log,
+        store,
     }
 }
 
@@ -79,16 +73,13 @@ pub(crate) fn print_store<L: Sectors, D: Sectors>(alloc: Global, log: L, store: 
     one_answer();
     let mut log = Fused::plain(log);
     let mut store = Fused::plain(store);
-    match recover(alloc, &mut log, &mut store) {
-        Ok(recovered) => Done {
-            outcome: Outcome::of_text(listing_of(alloc, &recovered)),
-            log,
-            store,
-        },
-        Err(fault) => Done {
-            outcome: Outcome::Fault(fault_of(fault)),
-            log,
-            store,
-        },
+    let outcome = match recover(alloc, &mut log, &mut store) {
+        Ok(recovered) => Outcome::of_text(listing_of(alloc, &recovered)),
+        Err(fault) => Outcome::Fault(fault_of(fault)),
+    };
+    Done {
+        outcome,
+        log,
+        store,
     }
 }

@@ -5,6 +5,7 @@ mod failures;
 mod logs;
 mod premises;
 mod rounds;
+mod silent_disk;
 mod stops;
 mod stores;
 mod summaries;

@@ -8,7 +8,7 @@ use redo_header::fill_ckpt;
 use std::test::Fail;
 
 /// Where the block at lsn 8192 stands.
-const FIRST_BLOCK: u64 = 2048;
+pub(super) const FIRST_BLOCK: u64 = 2048;
 
 /// The 512 bytes at this offset of a device that is so long.
 fn sector<D: Sectors>(device: &mut D, at: u64) -> Result<[u8; 512], DevError> {

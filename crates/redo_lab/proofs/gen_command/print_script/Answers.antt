@@ -6,7 +6,7 @@ use Rattle.redo_lab.proofs.gen_command.print_script.Goals as goal
 pub returns : goal.returns
 returns g c = λ words source. rw c.of_text.ensures (gen-ends _ c.args.seed c.args.users c.args.groups c.args.max _
     (record {
-      log_device = alone-behind g.L.Sectors.seen c.args.log c.plain-log.result c.plain-log.result c.plain-log.ensures.inner c.plain-log.ensures.fuse refl;
-      data_device = alone-behind g.D.Sectors.seen c.args.store c.plain-store.result c.plain-store.result c.plain-store.ensures.inner c.plain-store.ensures.fuse refl;
+      log_device = alone-behind g.L.Sectors.seen c.args.log c.plain.result c.plain.result c.plain.ensures.inner c.plain.ensures.fuse refl;
+      data_device = alone-behind g.D.Sectors.seen c.args.store c.plain-2.result c.plain-2.result c.plain-2.ensures.inner c.plain-2.ensures.fuse refl;
     })
     refl c.generate.ensures)

@@ -7,7 +7,7 @@ pub returns-in-Ok : goal.returns-in-Ok
 returns-in-Ok g c =
     let now = c.in-Ok.ensures in
     rw c.of_text.ensures (behind-read (ran_of c.args.played.now) (reading_of c.in-Ok.recovered) _ _ _ _
-    (g.L.Sectors.seen c.args.log.inner) (g.D.Sectors.seen c.args.store.inner) _
+    (g.L.Sectors.seen c.args.log.now.inner) (g.D.Sectors.seen c.args.store.now.inner) _
     (record { log_device = log-read now.log_calls; data_device = data-read now.data_calls })
     (record { tells = now.log.tells; size = now.log.size }) (record { tells = now.data_device.tells; size = now.data_device.size })
     now.read c.summarize.ensures)
@@ -16,7 +16,7 @@ pub returns-in-Err : goal.returns-in-Err
 returns-in-Err g c =
     let now = c.in-Err.ensures in
     rw c.fault_of.ensures (behind-fails (ran_of c.args.played.now) _ _ _ _
-    (g.L.Sectors.seen c.args.log.inner) (g.D.Sectors.seen c.args.store.inner) c.in-Err.fault
+    (g.L.Sectors.seen c.args.log.now.inner) (g.D.Sectors.seen c.args.store.now.inner) c.in-Err.fault
     (record { log_device = log-read now.log_calls; data_device = data-read now.data_calls })
     (record { tells = now.log.tells; size = now.log.size }) (record { tells = now.data_device.tells; size = now.data_device.size })
     now.cause now.lengths)
