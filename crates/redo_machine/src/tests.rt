@@ -1,4 +1,5 @@
 // Runs on devices in memory, worked out by hand to the turn.
+mod candidate;
 mod log;
 mod pages;
 mod ring;
