@@ -1,12 +1,11 @@
 -- Words, one on.
-use Rattle.std.proofs.Common.{ℕ, ◌≡◌, ◌+◌, ◌<◌, ◌≤◌, Bool, true, false, List, [], ◌∷◌, ◌++◌, Option, Some, None, String, Global, string_bytes, map, drop, length, get_or, option_map, option_and_then, refl, ap, sym, ◌∙◌, append_assoc, append-nil}
+use Rattle.std.proofs.Common.{ℕ, ◌≡◌, ◌+◌, ◌<◌, ◌≤◌, List, [], ◌∷◌, ◌++◌, Option, Some, None, String, Global, string_bytes, map, drop, length, get_or, option_map, option_and_then, refl, ap, sym, ◌∙◌, append_assoc, append-nil}
 use Rattle.std.proofs.lemmas.List.{at_drop_more, at_drop_all}
 use Rattle.model_command.specs.{nothing_said, Said, said_from, said_with, with_option, with_value, word_number, word_of}
 use Rattle.model_command.specs.declared.words.Expected.{Expected}
 use Rattle.model_command.specs.declared.words.Expected.TheVariants.{Any, Number, Numbers}
 use Rattle.model_command.specs.declared.words.Given.{Given}
 use Rattle.model_command.specs.declared.words.Name.{Name}
-use Rattle.model_command.specs.declared.words.Word.{Word}
 use Rattle.model_command.specs.declared.words.Word.TheVariants.{Flag, Open, Joined, Value, End}
 use Rattle.redo_command.specs.Progress.{IsRefused, IsTaken, Read, nothing_read, said_after, said_before, expecting, with_read_option, with_read_value}
 

@@ -3,7 +3,7 @@ use Rattle.std.proofs.Common.{◌≡◌, ◌+◌, ◌⊎◌, List, [], ◌∷◌
 use Rattle.std.proofs.lemmas.List.{append-nil, map-append}
 use Rattle.redo_disk.specs.declared.error.DevError.{DevError}
 use Rattle.redo_disk.specs.declared.error.DevError.TheVariants.{NoMemory}
-use Rattle.redo_disk.specs.Calls.{Answer, Call, Reads, Writes, Syncs, answer_of, error_of, Request, request_of, AreReads, failures, failed_calls, changing_calls, StopAtError, first_of, first_error, EndWith, MayEndWith, ReadsEndWith, ReadsMayEndWith, Serve}
+use Rattle.redo_disk.specs.Calls.{Answer, Call, Reads, Writes, Syncs, answer_of, error_of, Request, request_of, AreReads, failures, failed_calls, changing_calls, StopAtError, first_of, first_error, EndWith, MayEndWith, Serve}
 
 pub failed_calls-append : (xs ys : List Call) → failed_calls (xs ++ ys) ≡ failed_calls xs + failed_calls ys
 failed_calls-append [] ys = omega arith
@@ -68,18 +68,6 @@ MayEndWith-ends error calls ends = record { stop = ends.stop; first = inl ends.f
 pub MayEndWith-no_memory : (calls : List Call) → MayEndWith None calls → MayEndWith (Some NoMemory) calls
 MayEndWith-no_memory calls ends = record { stop = ends.stop; first = inr ((MayEndWith-good calls ends).first, refl) }
 
-pub ReadsEndWith-append : (error : Option DevError) (xs ys : List Call) → ReadsEndWith None xs → ReadsEndWith error ys → ReadsEndWith error (xs ++ ys)
-ReadsEndWith-append error xs ys front back = record {
-  reads = AreReads-append xs ys front.reads back.reads;
-  ends = EndWith-append error xs ys front.ends back.ends;
-}
-
-pub ReadsMayEndWith-append : (error : Option DevError) (xs ys : List Call) → ReadsMayEndWith None xs → ReadsMayEndWith error ys → ReadsMayEndWith error (xs ++ ys)
-ReadsMayEndWith-append error xs ys front back = record {
-  reads = AreReads-append xs ys front.reads back.reads;
-  ends = MayEndWith-append error xs ys front.ends back.ends;
-}
-
 -- one that answered an error is the last
 failed_calls-last : (answer : Answer) (calls : List Call) → OnErr answer (calls ≡ [])
     → failures (error_of answer) + failed_calls calls ≡ failures (first_of (error_of answer) (first_error calls))
@@ -92,9 +80,6 @@ pub failed_calls-stopped : (calls : List Call) → StopAtError calls → failed_
 failed_calls-stopped [] stop = refl
 failed_calls-stopped (call ∷ calls) stop =
     ⊎_elim (λ same. same) (λ good. rw good (omega (arith, failed_calls-stopped calls stop.1))) (failed_calls-last (answer_of call) calls stop.0)
-
-pub failed_calls-ends : (error : Option DevError) (calls : List Call) → EndWith error calls → failed_calls calls ≡ failures error
-failed_calls-ends error calls ends = failed_calls-stopped calls ends.stop ∙ ap failures ends.first
 
 pub failed_calls-may_end : (error : Option DevError) (calls : List Call) → MayEndWith error calls → failed_calls calls ≡ failures error
 failed_calls-may_end error calls ends =

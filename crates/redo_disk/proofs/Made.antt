@@ -1,12 +1,11 @@
 -- What calls were made of a device by code that makes some, and then others.
-use Rattle.std.proofs.Common.{ℕ, List, [], ◌∷◌, ◌++◌, Option, Some, None, Ok, Err, take, drop, refl, subst}
-use Rattle.std.proofs.lemmas.List.{take-append-drop}
+use Rattle.std.proofs.Common.{List, [], ◌∷◌, ◌++◌, Option, Some, None, Ok, Err, refl, subst}
 use Rattle.model_device.specs.declared.write.Write.{Write}
 use Rattle.redo_disk.specs.declared.error.DevError.{DevError}
 use Rattle.redo_disk.specs.declared.error.DevError.TheVariants.{NoMemory}
-use Rattle.redo_disk.specs.Calls.{Answer, Call, Reads, Writes, Syncs, answer_of, error_of, Request, ToSync, request_of, put_requests, EndWith, MayEndWith, ReadsEndWith, ReadsMayEndWith, Serve}
+use Rattle.redo_disk.specs.Calls.{Answer, Call, Reads, Writes, Syncs, answer_of, error_of, Request, ToSync, request_of, put_requests, EndWith, MayEndWith, Serve}
 use Rattle.redo_disk.specs.Made.{Makes, MakesCall, MakesCalls}
-use Rattle.redo_disk.proofs.Calls.{EndWith-append, MayEndWith-append, MayEndWith-ends, MayEndWith-no_memory, ReadsEndWith-append, ReadsMayEndWith-append, Serve-append, Serve-cut}
+use Rattle.redo_disk.proofs.Calls.{EndWith-append, MayEndWith-append, MayEndWith-ends, MayEndWith-no_memory, Serve-append, Serve-cut}
 
 pub Makes-append : {D : Type 0} (gives : D → Call → D → Type 0) (old middle new : D) (xs ys : List Call) → Makes gives old xs middle → Makes gives middle ys new → Makes gives old (xs ++ ys) new
 Makes-append gives old middle new [] ys front back = subst (λ d. Makes gives d ys new) front back
@@ -34,14 +33,6 @@ pub may_end_then : {D : Type 0} {gives : D → Call → D → Type 0} {old middl
     → MakesCalls gives old middle (MayEndWith None) → MakesCalls gives middle new (MayEndWith error) → MakesCalls gives old new (MayEndWith error)
 may_end_then {error = error} = joined_calls (MayEndWith-append error)
 
-pub reads_then : {D : Type 0} {gives : D → Call → D → Type 0} {old middle new : D} {error : Option DevError}
-    → MakesCalls gives old middle (ReadsEndWith None) → MakesCalls gives middle new (ReadsEndWith error) → MakesCalls gives old new (ReadsEndWith error)
-reads_then {error = error} = joined_calls (ReadsEndWith-append error)
-
-pub reads_may_then : {D : Type 0} {gives : D → Call → D → Type 0} {old middle new : D} {error : Option DevError}
-    → MakesCalls gives old middle (ReadsMayEndWith None) → MakesCalls gives middle new (ReadsMayEndWith error) → MakesCalls gives old new (ReadsMayEndWith error)
-reads_may_then {error = error} = joined_calls (ReadsMayEndWith-append error)
-
 pub serves_then : {D : Type 0} {gives : D → Call → D → Type 0} {old middle new : D} {first then : List Request} {error : Option DevError}
     → MakesCalls gives old middle (Serve first None) → MakesCalls gives middle new (Serve then error) → MakesCalls gives old new (Serve (first ++ then) error)
 serves_then {first = first} {then = then} {error = error} = joined_calls (Serve-append first then error)
@@ -55,18 +46,6 @@ pub may_end : {D : Type 0} {gives : D → Call → D → Type 0} {old new : D} {
     → MakesCalls gives old new (EndWith error) → MakesCalls gives old new (MayEndWith error)
 may_end {error = error} = weaker_calls (MayEndWith-ends error)
 
-pub reads_may : {D : Type 0} {gives : D → Call → D → Type 0} {old new : D} {error : Option DevError}
-    → MakesCalls gives old new (ReadsEndWith error) → MakesCalls gives old new (ReadsMayEndWith error)
-reads_may {error = error} = weaker_calls (λ calls ends. record { reads = ends.reads; ends = MayEndWith-ends error calls ends.ends })
-
-pub reads_end : {D : Type 0} {gives : D → Call → D → Type 0} {old new : D} {error : Option DevError}
-    → MakesCalls gives old new (ReadsEndWith error) → MakesCalls gives old new (EndWith error)
-reads_end = weaker_calls (λ calls ends. ends.ends)
-
-pub reads_may_end : {D : Type 0} {gives : D → Call → D → Type 0} {old new : D} {error : Option DevError}
-    → MakesCalls gives old new (ReadsMayEndWith error) → MakesCalls gives old new (MayEndWith error)
-reads_may_end = weaker_calls (λ calls ends. ends.ends)
-
 pub serves_end : {D : Type 0} {gives : D → Call → D → Type 0} {old new : D} {requests : List Request} {error : Option DevError}
     → MakesCalls gives old new (Serve requests error) → MakesCalls gives old new (EndWith error)
 serves_end = weaker_calls (λ calls serve. serve.ends)
@@ -74,16 +53,6 @@ serves_end = weaker_calls (λ calls serve. serve.ends)
 -- memory ran out behind the calls
 pub out_of_memory : {D : Type 0} {gives : D → Call → D → Type 0} {old new : D} → MakesCalls gives old new (MayEndWith None) → MakesCalls gives old new (MayEndWith (Some NoMemory))
 out_of_memory = weaker_calls MayEndWith-no_memory
-
-pub reads_out_of_memory : {D : Type 0} {gives : D → Call → D → Type 0} {old new : D}
-    → MakesCalls gives old new (ReadsMayEndWith None) → MakesCalls gives old new (ReadsMayEndWith (Some NoMemory))
-reads_out_of_memory = weaker_calls (λ calls ends. record { reads = ends.reads; ends = MayEndWith-no_memory calls ends.ends })
-
--- those of the requests up to one that answered an error
-pub serves_front : {D : Type 0} {gives : D → Call → D → Type 0} {old new : D} {error : DevError} (count : ℕ) (requests : List Request)
-    → MakesCalls gives old new (Serve (take count requests) (Some error)) → MakesCalls gives old new (Serve requests (Some error))
-serves_front {gives = gives} {old = old} {new = new} {error = error} count requests made =
-    subst (λ (all : List Request). MakesCalls gives old new (Serve all (Some error))) (take-append-drop count requests) (serves_cut (drop count requests) made)
 
 -- no call
 pub no_calls : {D : Type 0} (gives : D → Call → D → Type 0) (device : D) (Are : List Call → Type 0) → Are [] → MakesCalls gives device device Are
@@ -110,30 +79,12 @@ call_ends {call = call} given = one_call {call = call} (EndWith (error_of (answe
 pub call_serves : {D : Type 0} {gives : D → Call → D → Type 0} {old new : D} {call : Call} → MakesCall gives old call new → MakesCalls gives old new (Serve (request_of call ∷ []) (error_of (answer_of call)))
 call_serves {call = call} given = one_call {call = call} (Serve (request_of call ∷ []) (error_of (answer_of call))) (Serve-one call) given
 
-pub read_ends : {D : Type 0} {gives : D → Call → D → Type 0} {old new : D} {at : ℕ} {before after : List ℕ} {answer : Answer}
-    → MakesCall gives old (Reads at before answer after) new → MakesCalls gives old new (ReadsEndWith (error_of answer))
-read_ends {at = at} {before = before} {after = after} {answer = answer} given =
-    one_call {call = Reads at before answer after} (ReadsEndWith (error_of answer)) (record { reads = (tt, tt); ends = EndWith-one (Reads at before answer after) }) given
-
-pub read_may_end : {D : Type 0} {gives : D → Call → D → Type 0} {old new : D} {at : ℕ} {before after : List ℕ} {answer : Answer}
-    → MakesCall gives old (Reads at before answer after) new → MakesCalls gives old new (ReadsMayEndWith (error_of answer))
-read_may_end given = reads_may (read_ends given)
-
 -- no call, and no error
 pub none_ends : {D : Type 0} (gives : D → Call → D → Type 0) (device : D) → MakesCalls gives device device (EndWith None)
 none_ends gives device = no_calls gives device (EndWith None) (record { stop = tt; first = refl })
 
 pub none_may_end : {D : Type 0} (gives : D → Call → D → Type 0) (device : D) → MakesCalls gives device device (MayEndWith None)
 none_may_end gives device = may_end (none_ends gives device)
-
-pub none_reads : {D : Type 0} (gives : D → Call → D → Type 0) (device : D) → MakesCalls gives device device (ReadsEndWith None)
-none_reads gives device = no_calls gives device (ReadsEndWith None) (record { reads = tt; ends = record { stop = tt; first = refl } })
-
-pub none_reads_may : {D : Type 0} (gives : D → Call → D → Type 0) (device : D) → MakesCalls gives device device (ReadsMayEndWith None)
-none_reads_may gives device = reads_may (none_reads gives device)
-
-pub none_serves : {D : Type 0} (gives : D → Call → D → Type 0) (device : D) → MakesCalls gives device device (Serve [] None)
-none_serves gives device = no_calls gives device (Serve [] None) (record { ends = record { stop = tt; first = refl }; rest = []; asked = refl; all = λ none. refl })
 
 -- a write that failed, behind which there is no sync
 pub put_cut : {D : Type 0} {gives : D → Call → D → Type 0} {old new : D} {write : Write} {error : DevError}

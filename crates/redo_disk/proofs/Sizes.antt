@@ -1,7 +1,7 @@
 -- Calls keep the length of what a device means.
-use Rattle.std.proofs.Common.{ℕ, List, length, sym, ap, subst, ◌∙◌, arith, ⊎_elim}
+use Rattle.std.proofs.Common.{ℕ, List, length, ap, ◌∙◌, arith, ⊎_elim}
 use Rattle.model_device.specs.Disk.{Disk}
-use Rattle.model_device.specs.{Crashes, FailsWrite, synced, written}
+use Rattle.model_device.specs.{FailsWrite, written}
 use Rattle.model_device.proofs.Overwritten.{length-overwritten}
 use Rattle.redo_disk.specs.Seen.{HasSize, IsRange, write_at}
 
@@ -16,11 +16,3 @@ HasSize-FailsWrite size at bytes old new fails sized = record {
   base = ap length fails.base ∙ sized.base;
   reads = ⊎_elim (λ same. ap length same.1 ∙ sized.reads) (λ pending. pending.1.same_length ∙ sized.reads) fails.pending;
 }
-
-pub HasSize-synced : (size : ℕ) (disk : Disk) → HasSize size disk → HasSize size (synced disk)
-HasSize-synced size disk sized = record { base = sized.reads; reads = sized.reads }
-
-pub HasSize-Crashes : (size : ℕ) (old new : Disk) → Crashes old new → HasSize size old → HasSize size new
-HasSize-Crashes size old new crashes sized =
-    let same = crashes.possible.same_length ∙ sized.base in
-    subst (λ (disk : Disk). HasSize size disk) (sym crashes.left) (record { base = same; reads = same })

@@ -1,5 +1,4 @@
-//! The texts of groups, written with one allocation of their length and read in one pass; how long a text is, and
-//! which groups have one and fit a store.
+//! The texts of groups, written and read; how long a text is, and which groups have one and fit a store.
 #![tactic(auto)]
 
 mod bodies;
