@@ -8,6 +8,3 @@ mod record;
 pub use model_page::Content;
 pub use pages::Pages;
 pub use record::{page_of, put_record};
-
-#[cfg(test)]
-mod tests;

@@ -5,8 +5,6 @@
 mod block;
 mod filling;
 mod framing;
-#[cfg(test)]
-mod tests;
 
 pub use block::{block_data, fill, is_first, length_of, read};
 pub use filling::frame_into;

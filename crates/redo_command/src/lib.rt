@@ -11,6 +11,3 @@ mod word;
 pub use commands::read_words;
 pub use fault::WordsFault;
 pub use model_command::{Asked, Command, Drive};
-
-#[cfg(test)]
-mod tests;

@@ -4,8 +4,6 @@
 
 mod calls;
 mod laws;
-#[cfg(test)]
-mod tests;
 
 pub use calls::write_batch;
 pub use laws::{data_part_meets_laws, data_part_tells, held_pages_are_stored};

@@ -9,6 +9,3 @@ mod list;
 
 pub use dirty::{Dirty, FLUSH_ORDER_LAG};
 pub use list::FlushList;
-
-#[cfg(test)]
-mod tests;

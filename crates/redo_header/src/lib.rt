@@ -4,8 +4,6 @@
 
 mod checkpoint;
 mod head;
-#[cfg(test)]
-mod tests;
 
 pub use checkpoint::{fill_ckpt, newer, place_of, read_ckpt};
 pub use head::{fill_head, read_head};

@@ -13,8 +13,6 @@ mod read;
 mod reader_source;
 mod sink;
 mod source;
-#[cfg(test)]
-mod tests;
 mod writer_sink;
 
 pub use fault::{IoFault, ReadFault};

@@ -18,8 +18,6 @@ mod run_command;
 mod script;
 mod shapes;
 mod simple;
-#[cfg(test)]
-mod tests;
 
 pub use ended::Ended;
 pub use lab_call::lab;

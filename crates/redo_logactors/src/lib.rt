@@ -8,8 +8,6 @@ mod flusher;
 mod flushing;
 mod making;
 mod taking;
-#[cfg(test)]
-mod tests;
 mod writer;
 mod writing;
 

@@ -6,8 +6,6 @@
 mod blocks;
 mod calls;
 mod part;
-#[cfg(test)]
-mod tests;
 
 pub use model_logdev::LogMarks;
 pub use part::LogPart;

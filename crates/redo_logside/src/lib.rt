@@ -4,8 +4,6 @@
 
 mod calls;
 mod laws;
-#[cfg(test)]
-mod tests;
 
 pub use calls::{checkpoint, sync, write_to};
 pub use laws::{

@@ -5,8 +5,6 @@
 mod limits;
 mod lsn;
 mod memory;
-#[cfg(test)]
-mod tests;
 
 pub use limits::Limits;
 pub use lsn::{block_of, is_data_lsn, lsn_of, number_of, offset_of, sn_of, start_after};

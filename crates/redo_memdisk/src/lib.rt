@@ -23,6 +23,3 @@ pub use memory::MemDisk;
 
 /// Bytes of a sector.
 const SECTOR: usize = model_base::BLOCK_SIZE as usize;
-
-#[cfg(test)]
-mod tests;

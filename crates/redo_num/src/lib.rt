@@ -4,8 +4,6 @@
 mod get;
 mod put;
 mod table;
-#[cfg(test)]
-mod tests;
 
 pub use get::{get32, get64};
 pub use model_number::{Got, one_spelling};

@@ -13,8 +13,6 @@ mod mend;
 mod opening;
 mod places;
 mod rewrite;
-#[cfg(test)]
-mod tests;
 mod zeros;
 
 pub use formatting::format;

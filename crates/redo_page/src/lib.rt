@@ -11,6 +11,3 @@ pub use kept::{best_copy, kept_page};
 pub use model_page::{Content, PageState};
 pub use state::{check, copy_lsn, place_lsn};
 pub use text::{seal, user_part};
-
-#[cfg(test)]
-mod tests;

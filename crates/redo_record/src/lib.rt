@@ -9,8 +9,6 @@ mod fitting;
 mod measuring;
 mod spelled;
 mod stop;
-#[cfg(test)]
-mod tests;
 mod types;
 
 pub use decoding::decode;

@@ -13,8 +13,6 @@ mod recovered;
 mod recovery;
 mod scan;
 mod start;
-#[cfg(test)]
-mod tests;
 
 pub use errors::{data_fault, log_fault};
 pub use fault::RecFault;

@@ -19,6 +19,3 @@ pub use left::left_of;
 pub use model_report::Fault;
 pub use pages::pages_text;
 pub use run::report;
-
-#[cfg(test)]
-mod tests;

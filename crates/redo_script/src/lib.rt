@@ -30,6 +30,3 @@ pub use number::number_up_to;
 pub use parsing::parse;
 pub use printing::{push_init, push_number, push_string};
 pub use unfit::Unfit;
-
-#[cfg(test)]
-mod tests;

@@ -10,6 +10,3 @@ mod part;
 mod places;
 
 pub use part::DataPart;
-
-#[cfg(test)]
-mod tests;

@@ -1,4 +1,0 @@
-use Rattle.redo_apply.proofs.tests.apply_fitting.Goals as goal
-
-pub returns-then-fits : goal.returns-then-fits
-returns-then-fits c = c.apply.ensures.its_pages c.args.shape.now c.requires

@@ -1,0 +1,23 @@
+//! Tests of the devices, of the two parts over them, and of the actors of the log.
+#![tactic(auto)]
+
+#[cfg(test)]
+mod actors;
+#[cfg(test)]
+mod calls;
+#[cfg(test)]
+mod counted_files;
+#[cfg(test)]
+mod data;
+#[cfg(test)]
+mod files;
+#[cfg(test)]
+mod images;
+#[cfg(test)]
+mod log;
+#[cfg(test)]
+mod log_reader;
+#[cfg(test)]
+mod memdisk;
+#[cfg(test)]
+mod parts;

@@ -1,0 +1,81 @@
+// Devices in memory, and parts on them.
+ghost use Rattle.std.specs.Prelude.{◌≡◌, ◌≤◌, ◌+◌, ◌%◌, IfOk, None};
+ghost use Rattle.model_base.specs.{default_shape};
+
+use model_base::{PAGE_SIZE, Shape, USER_BYTES};
+use redo_disk::Sectors;
+use redo_logdev::LogPart;
+use redo_memdisk::MemDisk;
+use redo_store::DataPart;
+use std::alloc::{AllocError, Global};
+use std::process::Abort;
+
+/// The smallest log, and eight pages.
+pub const SHAPE: Shape = Shape {
+    page_size: 4096,
+    pages: 8,
+    space: 1,
+    log_blocks: 1024,
+    slots: 8,
+};
+
+/// Bytes of the log device.
+pub const LOG: u64 = 526_336;
+
+/// Bytes of the data device: eight slots and eight places.
+pub const DATA: u64 = 65_536;
+
+/// Bytes of a page.
+pub const PAGE: usize = PAGE_SIZE as usize;
+
+/// User bytes of a page.
+pub const USER: usize = USER_BYTES as usize;
+
+/// Where a run starts, so that the log wraps behind its second block.
+pub const BEFORE_THE_WRAP: u64 = 531_468;
+
+/// A device in memory that is so long.
+pub fn blank(alloc: Global, len: u64) -> Result<MemDisk, AllocError>
+    requires { len % 512 ≡ 0 }
+    ensures { IfOk result (λ memory. (⟦<MemDisk as Sectors>⟧.seen memory).size ≡ len) }
+{
+    MemDisk::new(alloc, len)
+}
+
+/// A log part on a device on which a run starts there.
+pub fn log_part_on<L: Sectors + Drop>(
+    rt: &impl Abort,
+    alloc: Global,
+    device: L,
+    start: u64,
+) -> LogPart<L>
+    requires size { LOG ≤ (L.seen device).size }
+    requires first { 8204 ≤ start }
+    requires small { start ≤ BEFORE_THE_WRAP }
+    requires place { start % 512 ≡ 12 }
+    ensures dev { result.dev ≡ device }
+    ensures live { result.failed ≡ None }
+    ensures blocks { result.shape.log_blocks ≡ 1024 }
+    ensures written { result.marks.written ≡ start }
+    ensures stable { result.marks.stable ≡ start }
+    ensures ckpt { result.marks.ckpt + 12 ≡ start }
+    ensures asked { result.marks.asked + 12 ≡ start }
+{
+    let Ok(part) = LogPart::new(alloc, device, &SHAPE, start, 1) else {
+        panic!(rt; "no memory");
+    };
+    part
+}
+
+/// A part of a default store on a device.
+pub fn data_part_on<D: Sectors + Drop>(rt: &impl Abort, alloc: Global, device: D) -> DataPart<D>
+    requires { DATA ≤ (D.seen device).size }
+    ensures live { result.failed ≡ None }
+    ensures shape { result.shape ≡ default_shape }
+    ensures dev { result.dev ≡ device }
+{
+    let Ok(part) = DataPart::new(alloc, device, &Shape::default_shape()) else {
+        panic!(rt; "no memory");
+    };
+    part
+}

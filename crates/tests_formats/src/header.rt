@@ -1,0 +1,190 @@
+// Header blocks worked out by hand, and their fields damaged one by one.
+use crate::table::{bytes, number, number32, optional, shape};
+use redo_crc::sector::{put, seal};
+use redo_header::{Head, fill_ckpt, fill_head, newer, place_of, read_ckpt, read_head};
+use redo_lsn::Shape;
+use std::alloc::Global;
+use std::str::SplitWhitespace;
+
+const SHAPE: Shape = Shape {
+    page_size: 4096,
+    pages: 8,
+    space: 1,
+    log_blocks: 2048,
+    slots: 8,
+};
+
+#[test]
+fn filled_head(rt: HostRuntime) {
+    let mut block = [0xFF; 512];
+    fill_head(&mut block, &SHAPE);
+    let front = b"\0\0\0\x01\0\0\0\0\0\0\0\0\0\0\x20\0redolab 1\0\0\0";
+    assert!(rt; block.starts_with(front));
+    let sizes = b"\0\0\x10\0\0\0\0\x08\0\0\0\x01\0\0\x08\0\0\0\0\x08\0";
+    assert!(rt; block[48..].starts_with(sizes));
+}
+
+#[test]
+fn filled_checkpoints(rt: HostRuntime) {
+    let mut block = [0xFF; 512];
+    for (number, lsn) in [
+        (0, 8192),
+        (4, 8704),
+        (3, 1_056_768),
+        (u64::MAX, (1 << 60) - 512),
+    ] {
+        fill_ckpt(&mut block, number, lsn, &SHAPE);
+        assert!(rt; read_ckpt(&block, place_of(number), &SHAPE) == Some((number, lsn)));
+    }
+    fill_ckpt(&mut block, 4, 8704, &SHAPE);
+    let numbers = b"\0\0\0\0\0\0\0\x04\0\0\0\0\0\0\x22\0\0\0\0\0\0\0\x0A\0\0\0\0\0\0\x01\0\0\0";
+    assert!(rt; block.starts_with(numbers));
+}
+
+// The header of a store: the offset at which other bytes are written, those, what is then read, and what they are.
+const DAMAGED_HEADS: &str = "\
+0    00000000            format 0                       format 0
+0    00000002            format 2                       format 2
+0    FFFFFFFF            format 4294967295              format 2^32 - 1
+0    000000020000000001  format 2                       format 2 and no start
+7    01                  good 4096 8 1 2048 8           the zeros behind the format
+15   01                  unformatted                    start 8193
+8    01                  unformatted                    start 2^56 + 8192
+16   52                  good 4096 8 1 2048 8           another creator
+47   01                  good 4096 8 1 2048 8           the creator's last byte
+50   20                  unformatted                    page size 8192
+51   01                  unformatted                    page size 4097
+55   00                  unformatted                    no page
+55   01                  good 4096 1 1 2048 8           one page
+55   40                  good 4096 64 1 2048 8          64 pages
+55   41                  unformatted                    65 pages
+56   FFFFFFFF            good 4096 8 4294967295 2048 8  space 2^32 - 1
+62   03FF                unformatted                    1,023 log blocks
+62   0400                good 4096 8 1 1024 8           1,024 log blocks
+60   00100000            good 4096 8 1 1048576 8        1,048,576 log blocks
+60   00100001            unformatted                    1,048,577 log blocks
+67   07                  unformatted                    7 slots
+67   09                  unformatted                    9 slots
+68   01                  good 4096 8 1 2048 8           the first zero
+507  01                  good 4096 8 1 2048 8           the last zero
+";
+
+// The block with the bytes of the next two words written in it.
+fn damaged(alloc: Global, block: &[u8; 512], words: &mut SplitWhitespace<'_>) -> Option<[u8; 512]> {
+    let at = number(words)? as usize;
+    let bytes = bytes(alloc, words)?;
+    if at > 508 || bytes.len() > 508 - at {
+        return None;
+    }
+    let mut damaged = *block;
+    put(&mut damaged, at, &bytes);
+    Some(damaged)
+}
+
+// What the next words say of a header.
+fn head(words: &mut SplitWhitespace<'_>) -> Option<Head> {
+    match words.next()? {
+        "format" => Some(Head::OtherFormat(number32(words)?)),
+        "good" => Some(Head::Good(shape(words)?)),
+        "unformatted" => Some(Head::Unformatted),
+        _ => None,
+    }
+}
+
+// With the old checksum the header is unformatted; with one that fits it is what is said.
+fn is_damaged_head(alloc: Global, block: &[u8; 512], row: &str) -> Option<bool> {
+    let mut words = row.split_whitespace();
+    let mut damaged = damaged(alloc, block, &mut words)?;
+    let was_read = read_head(&damaged);
+    seal(&mut damaged, 508);
+    Some(was_read == Head::Unformatted && read_head(&damaged) == head(&mut words)?)
+}
+
+#[test]
+fn damaged_heads(rt: HostRuntime) {
+    let mut block = [0; 512];
+    fill_head(&mut block, &SHAPE);
+    for row in DAMAGED_HEADS.lines() {
+        assert!(rt;
+            is_damaged_head(rt.alloc(), &block, row) == Some(true),
+            "{row}"
+        );
+    }
+    assert!(rt; read_head(&block) == Head::Good(SHAPE));
+    // A wrong checksum, and zeros.
+    block[511] ^= 1;
+    assert!(rt; read_head(&block) == Head::Unformatted);
+    assert!(rt; read_head(&[0; 512]) == Head::Unformatted);
+}
+
+// Checkpoint 4 at lsn 8704, read in one of the two blocks: the offset at which other bytes are written, those, the
+// block, what is then read (number and lsn, or nothing), and what they are.
+const DAMAGED_CHECKPOINTS: &str = "\
+7    02                                1  2 8704                  an even number in block 1
+7    05                                1  -                       an odd number in block 1
+7    02                                3  -                       an even number in block 3
+7    05                                3  5 8704                  an odd number in block 3
+7    02                                2  -                       an even number in block 2
+7    00                                1  0 8704                  number 0
+0    01                                1  0x100000000000004 8704  number 2^56 + 4
+15   01                                1  -                       lsn 8705
+15   0C                                1  -                       lsn 8716
+14   200000000000000008                1  4 8192                  lsn 8192
+14   20                                1  -                       lsn 8192 at another offset
+14   1E0000000000000006                1  -                       lsn 7680
+14   1E0000000000000008                1  -                       lsn 7680 at the first offset
+14   000000000000000008                1  -                       lsn 0 at the first offset
+13   10                                1  4 1057280               lsn 8704 a round later
+8    0FFFFFFFFFFFFE0000000000000FE600  1  4 0x0FFFFFFFFFFFFE00    lsn 2^60 - 512
+8    100000000000000000000000000FE800  1  -                       lsn 2^60
+22   0C                                1  -                       the next block's offset
+23   01                                1  -                       the offset of the byte behind
+24   01                                1  4 8704                  another buffer size
+507  01                                1  4 8704                  the last zero
+";
+
+// What the next words say of a checkpoint.
+fn checkpoint(words: &mut SplitWhitespace<'_>) -> Option<Option<(u64, u64)>> {
+    match optional(words)? {
+        Some(ckpt) => Some(Some((ckpt, number(words)?))),
+        None => Some(None),
+    }
+}
+
+// With the old checksum there is no checkpoint; with one that fits it is what is said.
+fn is_damaged_checkpoint(alloc: Global, block: &[u8; 512], row: &str) -> Option<bool> {
+    let mut words = row.split_whitespace();
+    let mut damaged = damaged(alloc, block, &mut words)?;
+    let which = number32(&mut words)?;
+    let was_read = read_ckpt(&damaged, which, &SHAPE);
+    seal(&mut damaged, 508);
+    Some(was_read.is_none() && read_ckpt(&damaged, which, &SHAPE) == checkpoint(&mut words)?)
+}
+
+#[test]
+fn damaged_checkpoints(rt: HostRuntime) {
+    let mut block = [0; 512];
+    fill_ckpt(&mut block, 4, 8704, &SHAPE);
+    for row in DAMAGED_CHECKPOINTS.lines() {
+        assert!(rt;
+            is_damaged_checkpoint(rt.alloc(), &block, row) == Some(true),
+            "{row}"
+        );
+    }
+    assert!(rt; read_ckpt(&block, 1, &SHAPE) == Some((4, 8704)));
+    // A wrong checksum.
+    block[511] ^= 1;
+    assert!(rt; read_ckpt(&block, 1, &SHAPE).is_none());
+}
+
+#[test]
+fn newer_of_two(rt: HostRuntime) {
+    let old = Some((3, 8192));
+    let new = Some((4, 8704));
+    assert!(rt; newer(None, None).is_none());
+    assert!(rt; newer(None, old) == old);
+    assert!(rt; newer(new, None) == new);
+    assert!(rt; newer(new, old) == new);
+    assert!(rt; newer(old, new) == new);
+    assert!(rt; place_of(0) == 1 && place_of(4) == 1 && place_of(3) == 3);
+}

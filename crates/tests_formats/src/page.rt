@@ -1,0 +1,166 @@
+// Pages and images of the data device made by hand. A stretch of page size is named by `blank`, which is nothing, by
+// `page` with a number and an lsn, which is a page of space 1, or by `torn` with the same, which is the first half of
+// one.
+use crate::table::{number, number32, optional};
+use model_base::Shape;
+use redo_page::{PageState, best_copy, check, copy_lsn, kept_page, place_lsn, seal};
+use std::alloc::Global;
+use std::str::SplitWhitespace;
+
+/// The user bytes of the pages here.
+fn user_byte(lsn: u64) -> u8 {
+    (lsn % 251) as u8
+}
+
+fn page_bytes(number: u32, lsn: u64) -> [u8; 4096] {
+    let mut page = [user_byte(lsn); 4096];
+    seal(&mut page, number, 1, lsn);
+    page
+}
+
+/// The stretch that the next words name.
+fn stretch(words: &mut SplitWhitespace<'_>) -> Option<[u8; 4096]> {
+    let kind = words.next()?;
+    if kind == "blank" {
+        return Some([0; 4096]);
+    }
+    let mut page = page_bytes(number32(words)?, number(words)?);
+    if kind == "torn" {
+        page[2048..].fill(0);
+    }
+    Some(page)
+}
+
+/// A data device of 8 slots and 8 places, with nothing on it.
+const BLANK: [[u8; 4096]; 16] = [[0; 4096]; 16];
+
+/// Puts the stretch that the next words name, behind its place, on a data device.
+fn put_stretch(image: &mut [[u8; 4096]; 16], words: &mut SplitWhitespace<'_>) -> Option<()> {
+    let place = number(words)? as usize;
+    *image.get_mut(place)? = stretch(words)?;
+    Some(())
+}
+
+#[test]
+fn a_page_is_sound(rt: HostRuntime) {
+    assert!(rt; check(&[0; 4096]) == PageState::Blank);
+    let page = page_bytes(5, 0x1_0000_2710);
+    assert!(rt; check(&page) == PageState::Sound(5, 1, 0x1_0000_2710));
+    // The neighbours, the type and the flush lsn are 0 whatever stood there; the user bytes stay.
+    assert!(rt; page[8..16].iter().all(|byte| *byte == 0));
+    assert!(rt; page[24..34].iter().all(|byte| *byte == 0));
+    assert!(rt; page[38] == user_byte(0x1_0000_2710) && page[4087] == user_byte(0x1_0000_2710));
+}
+
+#[test]
+fn a_damaged_page_is_broken(rt: HostRuntime) {
+    let page = page_bytes(5, 0x1_0000_2710);
+    // The first checksum, the number, a user byte, the second checksum, the low half of the lsn.
+    for at in [0, 7, 100, 4088, 4095] {
+        let mut damaged = page;
+        damaged[at] ^= 1;
+        assert!(rt; check(&damaged) == PageState::Broken, "at {at}");
+    }
+}
+
+// What stands there, and the lsn that it counts for as the place of page 5 and as a copy of it.
+const SOUND: &str = "\
+blank        0     -
+page 5 8300  8300  8300
+page 6 9600  -     -
+torn 5 9600  -     -
+";
+
+fn counts(row: &str) -> Option<bool> {
+    let shape = Shape::default_shape();
+    let mut words = row.split_whitespace();
+    let bytes = stretch(&mut words)?;
+    Some(
+        place_lsn(&bytes, &shape, 5) == optional(&mut words)?
+            && copy_lsn(&bytes, &shape, 5) == optional(&mut words)?,
+    )
+}
+
+#[test]
+fn a_copy_is_sound(rt: HostRuntime) {
+    for row in SOUND.lines() {
+        assert!(rt; counts(row) == Some(true), "{row}");
+    }
+}
+
+// What two slots hold, beside a torn page 5 in its place, and the copy of page 5 that counts: its slot and its lsn.
+const COPIES: &str = "\
+1 page 5 9000  6 page 5 8500  1 9000
+2 page 5 8500  6 page 5 9000  6 9000
+2 page 5 9000  6 page 5 9000  2 9000
+0 page 4 9900  6 page 5 8500  6 8500
+0 page 4 9900  7 torn 5 9700  -
+";
+
+// The copy that the next words name.
+fn copy(words: &mut SplitWhitespace<'_>) -> Option<Option<(u32, u64)>> {
+    match optional(words)? {
+        Some(slot) => Some(Some((u32::try_from(slot).ok()?, number(words)?))),
+        None => Some(None),
+    }
+}
+
+fn copy_counts(alloc: Global, row: &str) -> Option<bool> {
+    let shape = Shape::default_shape();
+    let mut image = BLANK;
+    put_stretch(&mut image, &mut "13 torn 5 9500".split_whitespace())?;
+    let mut words = row.split_whitespace();
+    put_stretch(&mut image, &mut words)?;
+    put_stretch(&mut image, &mut words)?;
+    let want = copy(&mut words)?;
+    let image = image.as_flattened();
+    let best = best_copy(image, &shape, 5);
+    match (kept_page(alloc, image, &shape, 5).ok()?, want) {
+        (Some(kept), Some((_, lsn))) => Some(best == want && kept.lsn == lsn),
+        (None, None) => Some(best.is_none()),
+        _ => Some(false),
+    }
+}
+
+#[test]
+fn the_best_copy_counts(rt: HostRuntime) {
+    for row in COPIES.lines() {
+        assert!(rt; copy_counts(rt.alloc(), row) == Some(true), "{row}");
+    }
+}
+
+// What the place of page 5 holds, beside a copy in slot 1, and the lsn that is kept.
+const PLACES: &str = "\
+13 blank        0
+13 page 5 8300  8300
+13 page 6 9600  9000
+13 torn 5 9600  9000
+";
+
+fn is_kept(alloc: Global, row: &str) -> Option<bool> {
+    let mut image = BLANK;
+    put_stretch(&mut image, &mut "1 page 5 9000".split_whitespace())?;
+    let mut words = row.split_whitespace();
+    put_stretch(&mut image, &mut words)?;
+    let want = number(&mut words)?;
+    let kept = kept_page(alloc, image.as_flattened(), &Shape::default_shape(), 5).ok()??;
+    let user = kept.user.as_slice();
+    Some(kept.lsn == want && user.len() == 4050 && user.iter().all(|byte| *byte == user_byte(want)))
+}
+
+#[test]
+fn a_place_that_passes_is_kept(rt: HostRuntime) {
+    for row in PLACES.lines() {
+        assert!(rt; is_kept(rt.alloc(), row) == Some(true), "{row}");
+    }
+}
+
+// Fields of 0 and no user byte set: the checksum of 4,084 zero bytes isn't 0.
+#[test]
+fn a_sealed_page_is_not_blank(rt: HostRuntime) {
+    let mut page = [0; 4096];
+    assert!(rt; check(&page) == PageState::Blank);
+    seal(&mut page, 0, 0, 0);
+    assert!(rt; check(&page) == PageState::Sound(0, 0, 0));
+    assert!(rt; page.starts_with(b"\xD2\x43\xA2\x6F"));
+}

@@ -1,0 +1,192 @@
+// The texts of groups worked out by hand, and which groups have one and fit a store.
+use crate::groups::group;
+use crate::table::{joined, yes};
+use model_base::MAX_GROUP;
+use model_record::Group;
+use redo_lsn::Shape;
+use redo_num::Got;
+use redo_record::{Fits, Length, decode, encode, has_text};
+use std::alloc::Global;
+
+// A group, and its text.
+const TEXTS: &str = "\
+num 1 1 3 100 7                     =  810103006407
+num 1 1 3 100 7 + num 1 1 4 100 8   =  010103006407 010104006408 1F
+num 8 1 3 40 1                      =  8801030028 0000000001
+init 1 3                            =  BB0103
+text 1 3 38 07*489                  =  9E0103002601E9 07*489
+text 1 3 38 07*8185                 =  9E010300261FF9 07*8185
+text 1 3 38 07*8181 + init 1 3      =  1E010300261FF5 07*8181 3B0103 1F
+";
+
+// The group has a text, which is this one.
+fn is_written(alloc: Global, group: &Group, text: &[u8]) -> Option<bool> {
+    let length = group.checked_length()?;
+    if !has_text(group) || length > MAX_GROUP {
+        return None;
+    }
+    let written = encode(alloc, group).ok()?;
+    Some(group.length() == length && text.len() as u64 == length && written.as_slice() == text)
+}
+
+// A group is read off the front of the bytes, which has this text.
+fn is_read(alloc: Global, bytes: &[u8], text: &[u8]) -> Option<bool> {
+    match decode(alloc, bytes).ok()? {
+        Got::Value(group, length) => {
+            Some(length == text.len() && is_written(alloc, &group, text)?)
+        }
+        Got::Short | Got::Bad => None,
+    }
+}
+
+// What reading gives, without the group.
+fn taken(alloc: Global, bytes: &[u8]) -> Option<Got<()>> {
+    match decode(alloc, bytes).ok()? {
+        Got::Value(_, length) => Some(Got::Value((), length)),
+        Got::Short => Some(Got::Short),
+        Got::Bad => Some(Got::Bad),
+    }
+}
+
+fn front(bytes: &[u8], count: usize) -> &[u8] {
+    &bytes[..count.min(bytes.len())]
+}
+
+// Each front of the text is less than a whole one.
+fn has_short_fronts(alloc: Global, text: &[u8]) -> Option<bool> {
+    for count in 0..text.len() {
+        if taken(alloc, front(text, count))? != Got::Short {
+            return Some(false);
+        }
+    }
+    Some(true)
+}
+
+// The group is written as the text, and read off it, also with two more bytes behind it, with which no group goes on.
+fn has_its_text(alloc: Global, row: &str) -> Option<bool> {
+    let (group_text, digits) = row.split_once("=")?;
+    let mut text = joined(alloc, digits)?;
+    let length = text.len();
+    let is_whole = is_written(alloc, &group(alloc, group_text)?, &text)?
+        && is_read(alloc, &text, &text)?
+        && has_short_fronts(alloc, &text)?;
+    text.extend_from_slice(&[31, 0]).ok()?;
+    Some(is_whole && is_read(alloc, &text, front(&text, length))?)
+}
+
+#[test]
+fn worked_texts(rt: HostRuntime) {
+    for row in TEXTS.lines() {
+        assert!(rt; has_its_text(rt.alloc(), row) == Some(true), "{row}");
+    }
+}
+
+// Bytes that are short, or bad, as a group.
+const FRONTS: &str = "\
+short  -
+short  8101030064
+short  010103006407
+short  010103006407 010104006408
+bad    010103006407 010104006408 20
+bad    010103006407 1F
+bad    1F
+bad    9F
+bad    090103006407
+bad    890103006407
+bad    81F00000000103006407
+bad    81807F03006407
+bad    81F1
+short  8180
+short  9E0103002600
+bad    9E010300260000
+";
+
+fn is_short_or_bad(alloc: Global, row: &str) -> Option<bool> {
+    let (want, digits) = row.split_once(" ")?;
+    let text = joined(alloc, digits)?;
+    Some(taken(alloc, &text)? == if want == "bad" { Got::Bad } else { Got::Short })
+}
+
+#[test]
+fn short_and_bad_bytes(rt: HostRuntime) {
+    for row in FRONTS.lines() {
+        assert!(rt; is_short_or_bad(rt.alloc(), row) == Some(true), "{row}");
+    }
+}
+
+// One byte more than a group may have: a string of 8,186 bytes alone, and one of 8,182 with an `Init` and the end mark.
+const LONG: &str = "\
+9E010300261FFA 07*8186
+1E010300261FF6 07*8182 3B0103 1F
+";
+
+// 8,193 bytes that are bad, as 8,192 of them are; 8,191 are short.
+fn is_one_too_long(alloc: Global, row: &str) -> Option<bool> {
+    let text = joined(alloc, row)?;
+    Some(
+        text.len() == 8193
+            && taken(alloc, &text)? == Got::Bad
+            && taken(alloc, front(&text, 8192))? == Got::Bad
+            && taken(alloc, front(&text, 8191))? == Got::Short,
+    )
+}
+
+#[test]
+fn texts_of_8193_bytes(rt: HostRuntime) {
+    for row in LONG.lines() {
+        assert!(rt; is_one_too_long(rt.alloc(), row) == Some(true), "{row}");
+    }
+}
+
+// A group, and whether it fits a store of the default shape.
+const FITTING: &str = "\
+num 1 1 3 4087 255                 =  yes
+num 1 1 3 4087 256                 =  no
+num 1 1 3 4088 7                   =  no
+num 1 1 3 37 7                     =  no
+num 1 1 8 100 7                    =  no
+num 3 1 7 4085 0xFFFFFF            =  yes
+num 3 1 7 4085 0x1000000           =  no
+num 0 1 0 38 0                     =  yes
+num 0 1 0 38 1                     =  no
+num 9 1 0 4079 0xFFFFFFFFFFFFFFFF  =  yes
+num 0xFFFFFFFF 1 0 0xFFFFFFFF 0    =  no
+text 1 3 38 07*4050                =  yes
+text 1 3 38 07*4051                =  no
+init 1 7                           =  yes
+init 2 7                           =  no
+";
+
+fn fits_or_not(alloc: Global, row: &str) -> Option<bool> {
+    let (text, want) = row.split_once("=")?;
+    let fits = group(alloc, text)?.fits(&Shape::default_shape());
+    Some(fits == yes(&mut want.split_whitespace())?)
+}
+
+#[test]
+fn what_fits(rt: HostRuntime) {
+    for row in FITTING.lines() {
+        assert!(rt; fits_or_not(rt.alloc(), row) == Some(true), "{row}");
+    }
+}
+
+// Groups that have no text.
+const WITHOUT: &str = "\
+num 3 1 3 100 7
+num 1 1 3 65536 7
+num 4 1 3 100 0x100000000
+text 1 3 38 -
+text 1 3 38 07*65536
+";
+
+fn has_no_text(alloc: Global, row: &str) -> Option<bool> {
+    Some(!has_text(&group(alloc, row)?))
+}
+
+#[test]
+fn groups_without_text(rt: HostRuntime) {
+    assert!(rt; !has_text(&Group(Vec::new(rt.alloc()))));
+    for row in WITHOUT.lines() {
+        assert!(rt; has_no_text(rt.alloc(), row) == Some(true), "{row}");
+    }
+}

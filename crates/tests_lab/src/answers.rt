@@ -1,0 +1,126 @@
+// Calls on devices that hold zeros.
+use crate::calls::has_lines;
+use crate::tables::{play, spelled};
+use std::test::Fail;
+
+#[test]
+fn answers_calls(rt: HostRuntime) -> Result<(), Fail> {
+    play(
+        &rt,
+        "
+new | crash              |                | 0 | open 8204 / marks 8204 8204 8204 8192 / recovered 0 8204
+new | crash --max 0      |                | 0 | open 8204 / marks 8204 8204 8204 8192 / recovered 0 8204
+new | crash --stop-log 0 | 1 f b1 3 100 7 | 0 | open none / left 1 1 / recovered 0 8204
+new | run                | 1 f b1 3 100 7 | 0 | open 8204 / g 8204 8210 1 0 flushed / marks 8210 8210 8210 8192
+new | run --log-only     | 1 f b1 3 100 7 | 0 | open 8204 / g 8204 8210 1 0 flushed / marks 8210 8210 8210 8192
+new | crash              | 1 f i 3        | 0 | open 8204 / g 8204 8207 1 0 flushed / marks 8207 8207 8207 8192 / recovered 1 8207 / p 3 8207 -
+new | format             | 1 f b1 3 100 7 | 0 | formatted 8192
+new | gen 1 1 1          | 1 f b1 3 100 7 | 0 | 1 n b8 3 3089 5627;b1 3 250 246
+",
+    )
+}
+
+#[test]
+fn refuses_calls(rt: HostRuntime) -> Result<(), Fail> {
+    play(
+        &rt,
+        "
+new | crash                    | 1 x b1 3 100 7  |  3 | fault script line 1
+new | crash                    | 1 f b1 9 100 7  | 10 | fault fit page 9
+new | run                      | 1 f b2 3 4087 7 | 10 | fault fit offset 4087
+new | run                      | 17 f i 3        | 10 | fault fit user 17
+new | recover                  | 1 f b1 3 100 7  |  8 | fault store unformatted
+new | dump                     | 1 f b1 3 100 7  |  8 | fault store unformatted
+new |                          | 1 f b1 3 100 7  |  2 | fault words
+new | crash --threads          | 1 f b1 3 100 7  |  2 | fault words
+new | format --pages 9         | 1 f b1 3 100 7  | 10 | fault fit store 69632
+new | format --pages 64        | 1 f b1 3 100 7  | 10 | fault fit store 294912
+new | format --log-blocks 2049 | 1 f b1 3 100 7  | 10 | fault fit log 1051136
+",
+    )
+}
+
+#[test]
+fn reads_what_was_kept(rt: HostRuntime) -> Result<(), Fail> {
+    play(
+        &rt,
+        "
+new | crash                                 | 1 f b1 3 100 7 | 0 | open 8204 / g 8204 8210 1 0 flushed / marks 8210 8210 8210 8192 / recovered 1 8210 / p 3 8210 (00*62)07
+new | crash --log-only                      | 1 f b1 3 100 7 | 0 | open 8204 / g 8204 8210 1 0 flushed / marks 8210 8210 8210 8192 / recovered 1 8210 / p 3 8210 (00*62)07
+new | crash --turns 5 --max 1000000         | 1 f b1 3 100 7 | 0 | open 8204 / g 8204 8210 1 0 flushed / marks 8210 8210 8210 8192 / recovered 1 8210 / p 3 8210 (00*62)07
+new | crash --stop-log 18446744073709551615 | 1 f b1 3 100 7 | 0 | open 8204 / g 8204 8210 1 0 flushed / marks 8210 8210 8210 8192 / recovered 1 8210 / p 3 8210 (00*62)07
+",
+    )
+}
+
+#[test]
+fn reads_two_pages_of_one_line(rt: HostRuntime) -> Result<(), Fail> {
+    play(
+        &rt,
+        "
+new | crash | 1 f b1 3 100 7;b1 4 100 8 | 0 | open 8204 / g 8204 8217 1 0 flushed / marks 8217 8217 8217 8192 / recovered 1 8217 / p 3 8217 (00*62)07 / p 4 8217 (00*62)08
+",
+    )
+}
+
+/// The lines have three strings: 8,122 bytes of text and those of the last string, 71 and then 70.
+#[test]
+fn refuses_a_group_that_is_too_long(rt: HostRuntime) -> Result<(), Fail> {
+    play(
+        &rt,
+        "
+new  | run     | 1 f s 3 38 (07*4050);s 3 38 (07*4050);s 3 38 (07*71) / | 10 | fault fit group 8193
+same | recover |                                                         |  0 | read 0 8204
+new  | crash   | 1 f s 3 38 (07*4050);s 3 38 (07*4050);s 3 38 (07*71) / | 10 | fault fit group 8193
+same | recover |                                                         |  0 | read 0 8204
+new  | run     | 1 f s 3 38 (07*4050);s 3 38 (07*4050);s 3 38 (07*70) / |  0 | open 8204 / g 8204 16652 1 0 flushed / marks 16652 16652 16652 8192
+",
+    )
+}
+
+/// So many lines of 8,192 bytes are more than one round of the log.
+const MANY_LINES: &str = "[1 f s 3 38 (07*4050);s 3 38 (07*4050);s 3 38 (07*70) / *130]";
+
+#[test]
+fn refuses_a_script_for_which_the_log_alone_has_no_room(rt: HostRuntime) -> Result<(), Fail> {
+    for command in ["run", "crash"] {
+        let row = format!(in rt.alloc();
+            "new | {command} --log-only | {MANY_LINES} | 10 | fault fit total 1107516"
+        )?;
+        play(&rt, &row)?;
+    }
+    Ok(())
+}
+
+/// The first group starts at sn 7936, and the last behind 129 of 8192 bytes.
+#[test]
+fn frees_the_log_by_checkpoints(rt: HostRuntime) -> Result<(), Fail> {
+    let script = spelled(rt.alloc(), MANY_LINES)?;
+    let lines = ["g 1099052 1107516 1 129 flushed", "recovered 130 1107516"];
+    assert!(rt; has_lines(rt.alloc(), "crash", &script, lines)?);
+    Ok(())
+}
+
+#[test]
+fn spends_its_turns(rt: HostRuntime) -> Result<(), Fail> {
+    play(
+        &rt,
+        "
+new | run --turns 1 --max 6   | 1 f b1 3 100 7 | 9 | fault turns 6 user 1
+new | crash --turns 1 --max 6 | 1 f b1 3 100 7 | 9 | fault turns 6 user 1
+new | run --turns 7 --max 3   | 1 f b1 3 100 7 | 9 | fault turns 3 user 1
+new | crash --turns 7 --max 3 | 1 f b1 3 100 7 | 9 | fault turns 3 user 1
+new | run --max 0             | 1 f b1 3 100 7 | 9 | fault turns 0 user 1
+new | crash --max 0           | 1 f b1 3 100 7 | 9 | fault turns 0 user 1
+",
+    )
+}
+
+/// Of two users the least that hasn't ended is named.
+#[test]
+fn names_the_least_user_that_has_not_ended(rt: HostRuntime) -> Result<(), Fail> {
+    play(
+        &rt,
+        "new | run --max 0 | 5 n i 3 / 2 n i 3 / | 9 | fault turns 0 user 2",
+    )
+}

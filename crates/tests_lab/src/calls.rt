@@ -1,0 +1,89 @@
+// Calls on devices in memory.
+use crate::devices::{Devices, blank};
+use redo_io::{MemSink, MemSource};
+use redo_lab::lab;
+use redo_memdisk::Fuse;
+use std::alloc::{AllocError, Global};
+use std::test::Fail;
+
+/// The script of most calls.
+pub(crate) const LINE: &str = "1 f b1 3 100 7";
+
+/// What a call came to: its status, what was printed, what the log device's fuse counted, and the devices.
+#[derive(Drop)]
+pub(crate) struct Called {
+    pub(crate) status: u8,
+    pub(crate) sink: MemSink,
+    pub(crate) log_fuse: Fuse,
+    pub(crate) devices: Devices,
+}
+
+/// The words of a text.
+pub(crate) fn words_of(alloc: Global, text: &str) -> Result<Vec<String>, AllocError> {
+    let mut words = Vec::new(alloc);
+    for word in text.split_whitespace() {
+        words.push(word.to_string(alloc)?)?;
+    }
+    Ok(words)
+}
+
+/// A source that gives this text.
+pub(crate) fn source_of(alloc: Global, text: &str) -> Result<MemSource, AllocError> {
+    Ok(MemSource::new(text.as_bytes().to_vec(alloc)?))
+}
+
+/// A call with this source and this sink on these devices.
+pub(crate) fn call_with(
+    alloc: Global,
+    words: &[String],
+    mut source: MemSource,
+    mut sink: MemSink,
+    devices: Devices,
+) -> Called {
+    let Devices { log, store } = devices;
+    let ended = lab(alloc, words, &mut source, &mut sink, log, store);
+    Called {
+        status: ended.status,
+        sink,
+        log_fuse: ended.log.fuse(),
+        devices: Devices {
+            log: ended.log.into_inner(),
+            store: ended.store.into_inner(),
+        },
+    }
+}
+
+/// A call on these devices, with this script on its source.
+pub(crate) fn call_on(
+    alloc: Global,
+    text: &str,
+    script: &str,
+    devices: Devices,
+) -> Result<Called, AllocError> {
+    let words = words_of(alloc, text)?;
+    let source = source_of(alloc, script)?;
+    Ok(call_with(alloc, &words, source, MemSink::new(alloc), devices))
+}
+
+/// A call on devices that hold zeros.
+pub(crate) fn call(alloc: Global, text: &str, script: &str) -> Result<Called, AllocError> {
+    call_on(alloc, text, script, blank(alloc)?)
+}
+
+/// Whether a text has this line.
+fn has_line(text: &str, wanted: &str) -> bool {
+    text.lines().any(|line| line == wanted)
+}
+
+/// Whether a call on devices that hold zeros ends with status 0 and prints these two lines, among others.
+pub(crate) fn has_lines(
+    alloc: Global,
+    words: &str,
+    script: &str,
+    lines: [&str; 2],
+) -> Result<bool, Fail> {
+    let called = call(alloc, words, script)?;
+    let text = str::from_utf8(called.sink.bytes())?;
+    let [first, second] = lines;
+    Ok(called.status == 0 && has_line(text, first) && has_line(text, second))
+}

@@ -1,0 +1,27 @@
+//! The tests of `lab`: what a call prints, and its status. The texts themselves stand here; clauses name them by definitions alone.
+#![tactic(auto)]
+
+#[cfg(test)]
+mod answers;
+#[cfg(test)]
+mod calls;
+#[cfg(test)]
+mod devices;
+#[cfg(test)]
+mod failures;
+#[cfg(test)]
+mod logs;
+#[cfg(test)]
+mod premises;
+#[cfg(test)]
+mod rounds;
+#[cfg(test)]
+mod silent_disk;
+#[cfg(test)]
+mod stops;
+#[cfg(test)]
+mod stores;
+#[cfg(test)]
+mod summaries;
+#[cfg(test)]
+mod tables;

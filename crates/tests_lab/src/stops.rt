@@ -1,0 +1,206 @@
+// Crashes of a script of three lines under every stop, against what the groups that are kept make of the pages.
+use crate::calls::{Called, call_on};
+use crate::devices::Devices;
+use redo_memdisk::MemDisk;
+use std::alloc::{AllocError, Global};
+use std::process::Abort;
+use std::test::Fail;
+
+/// Three lines of two users. Each group is 6 bytes long, and the first starts at 8204.
+const SCRIPT: &str = "1 f b1 3 40 7\n2 f b1 4 39 8\n1 f b1 3 42 9\n";
+
+/// A line of the script.
+#[derive(Clone, Copy)]
+enum Line {
+    /// The first of user 1.
+    First,
+    /// The one of user 2.
+    Other,
+    /// The second of user 1, on the page of its first.
+    Second,
+}
+
+/// A group that a report tells of: its line, where it ends, and whether it is flushed.
+#[derive(Clone, Copy)]
+struct Group {
+    line: Line,
+    end: u64,
+    is_flushed: bool,
+}
+
+/// The picks that keep no write, every other write, and all of them.
+const PICKS: [u64; 3] = [0, 6_148_914_691_236_517_205, 18_446_744_073_709_551_615];
+
+/// More calls than the opening and three lines make of a device.
+const MANY_CALLS: u64 = 200;
+
+/// The words that make a small store, and how long its devices are.
+const FORMAT: &str = "format --pages 5 --log-blocks 1024";
+
+const SMALL_LOG: u64 = 526_336;
+
+const SMALL_STORE: u64 = 53_248;
+
+/// What is read where these groups are kept, which were applied in their order. A page's user bytes begin at offset 38.
+fn reading_of(alloc: Global, kept: &[Group]) -> Result<String, AllocError> {
+    let mut end = 8204;
+    let mut third = String::new(alloc);
+    let mut fourth = String::new(alloc);
+    for group in kept {
+        end = group.end;
+        match group.line {
+            Line::First => third = format!(in alloc; "p 3 {end} 000007\n")?,
+            Line::Other => fourth = format!(in alloc; "p 4 {end} 0008\n")?,
+            Line::Second => third = format!(in alloc; "p 3 {end} 0000070009\n")?,
+        }
+    }
+    format!(in alloc; "recovered {} {end}\n{third}{fourth}", kept.len())
+}
+
+/// The line of this user that is the k-th of its own.
+fn line_of(user: &str, k: &str) -> Option<Line> {
+    match (user, k) {
+        ("1", "0") => Some(Line::First),
+        ("2", "0") => Some(Line::Other),
+        ("1", "1") => Some(Line::Second),
+        _ => None,
+    }
+}
+
+/// The group of a line of a report, if it tells of one: `g START END USER K STATE`.
+fn group_of(line: &str) -> Option<Group> {
+    let mut words = line.split_whitespace();
+    if words.next()? != "g" {
+        return None;
+    }
+    let _start = words.next()?;
+    let end = words.next()?.parse::<u64>().ok()?;
+    let line = line_of(words.next()?, words.next()?)?;
+    let is_flushed = words.next()? == "flushed";
+    Some(Group {
+        line,
+        end,
+        is_flushed,
+    })
+}
+
+/// The groups that a report tells of.
+fn groups_of(alloc: Global, report: &str) -> Result<Vec<Group>, AllocError> {
+    let mut groups = Vec::new(alloc);
+    for line in report.lines() {
+        if let Some(group) = group_of(line) {
+            groups.push(group)?;
+        }
+    }
+    Ok(groups)
+}
+
+/// How many lines a report says are left.
+fn left_lines(report: &str) -> usize {
+    let mut count = 0usize;
+    for line in report.lines() {
+        if line.starts_with("left ") {
+            count = count.saturating_add(if line.ends_with(" 2") { 2 } else { 1 });
+        }
+    }
+    count
+}
+
+/// How many of the first groups the report says are kept, where the rest of it is what they make of the pages.
+fn kept_groups(alloc: Global, groups: &[Group], report: &str) -> Result<Option<usize>, AllocError> {
+    for count in 0..4usize {
+        let (kept, _) = groups.split_at(count.min(groups.len()));
+        if report.ends_with(reading_of(alloc, kept)?.as_str()) {
+            return Ok(Some(kept.len()));
+        }
+    }
+    Ok(None)
+}
+
+/// How many of these groups are flushed.
+fn flushed(groups: &[Group]) -> usize {
+    groups.iter().filter(|group| group.is_flushed).count()
+}
+
+/// How many groups a report of the three lines says are flushed, if it is in order: what is read is what the first groups make of
+/// the pages, no group behind those is flushed, and of each line it is told whether it is a group or left.
+fn flushed_by(alloc: Global, report: &str) -> Result<Option<usize>, AllocError> {
+    let groups = groups_of(alloc, report)?;
+    let Some(kept) = kept_groups(alloc, &groups, report)? else {
+        return Ok(None);
+    };
+    let (first, behind) = groups.split_at(kept.min(groups.len()));
+    let told = groups.len().saturating_add(left_lines(report));
+    if flushed(behind) == 0 && told == 3 {
+        Ok(Some(flushed(first)))
+    } else {
+        Ok(None)
+    }
+}
+
+/// A crash of the three lines on a small store that was just formatted.
+fn crash(alloc: Global, words: &str) -> Result<Called, AllocError> {
+    let devices = Devices {
+        log: MemDisk::new(alloc, SMALL_LOG)?,
+        store: MemDisk::new(alloc, SMALL_STORE)?,
+    };
+    let made = call_on(alloc, FORMAT, "", devices)?;
+    call_on(alloc, words, SCRIPT, made.devices)
+}
+
+/// Crashes under these options with each pick: whether all lines are flushed each time. Of each crash, groups that are printed
+/// as flushed are kept, and what is read is what the kept groups make of the pages.
+fn crash_with_each_pick(rt: &(impl Abort + AllocGlobal), options: &str) -> Result<bool, Fail> {
+    let alloc = rt.alloc();
+    let mut all_flushed = true;
+    for pick in PICKS {
+        let words = format!(in alloc; "crash {options} --pick {pick}")?;
+        let called = crash(alloc, &words)?;
+        let report = str::from_utf8(called.sink.bytes())?;
+        let found = flushed_by(alloc, report)?;
+        assert!(rt;
+            called.status == 0 && found.is_some(),
+            "at {words}: {report}"
+        );
+        all_flushed = all_flushed && found == Some(3);
+    }
+    Ok(all_flushed)
+}
+
+#[test]
+fn keeps_flushed_lines_under_each_schedule(rt: HostRuntime) -> Result<(), Fail> {
+    for seed in 0..8u64 {
+        let options = format!(in rt.alloc(); "--turns {seed}")?;
+        assert!(rt; crash_with_each_pick(&rt, &options)?, "at {options}");
+    }
+    assert!(rt; crash_with_each_pick(&rt, "--log-only")?);
+    Ok(())
+}
+
+/// Crashes with these stops, where `@` is the number of calls before them: from 0 on, up to where no stop comes before a call.
+fn stop_at_each_call(rt: &(impl Abort + AllocGlobal), stops: &str) -> Result<(), Fail> {
+    for calls in 0..MANY_CALLS {
+        let calls = format!(in rt.alloc(); "{calls}")?;
+        let options = stops.replace(rt.alloc(), "@", &calls)?;
+        if crash_with_each_pick(rt, &options)? {
+            return Ok(());
+        }
+    }
+    assert!(rt; false, "no stop comes behind all calls");
+    Ok(())
+}
+
+#[test]
+fn keeps_flushed_lines_where_the_log_device_stops(rt: HostRuntime) -> Result<(), Fail> {
+    stop_at_each_call(&rt, "--stop-log @")
+}
+
+#[test]
+fn keeps_flushed_lines_where_the_data_device_stops(rt: HostRuntime) -> Result<(), Fail> {
+    stop_at_each_call(&rt, "--stop-data @")
+}
+
+#[test]
+fn keeps_flushed_lines_where_both_devices_stop(rt: HostRuntime) -> Result<(), Fail> {
+    stop_at_each_call(&rt, "--stop-log @ --stop-data @")
+}

@@ -1,0 +1,104 @@
+// Small stores: one that was just formatted, and one that its last run left in the middle; and how they are read and opened.
+use crate::store::Store;
+use model_base::Shape;
+use redo_disk::Sectors;
+use redo_memdisk::MemDisk;
+use redo_open::{format, open_store};
+use redo_pageactors::Opened;
+use redo_recover::{RecFault, Recovered, recover};
+use std::alloc::Global;
+use std::test::Fail;
+
+/// The smallest log, and three pages.
+pub const SHAPE: Shape = Shape {
+    page_size: 4096,
+    pages: 3,
+    space: 1,
+    log_blocks: 1024,
+    slots: 8,
+};
+/// Bytes of the log device.
+pub const LOG: usize = 526_336;
+/// Bytes of the data device.
+pub const DATA: usize = 4096 * 11;
+/// The lsn of the last block of the log device's first round.
+pub const LAST_BLOCK: u64 = 531_968;
+/// How a group begins that puts 489 bytes at offset 38 of page 1; it has 496 bytes.
+const WHOLE: [u8; 7] = [0x9E, 1, 1, 0, 38, 1, 0xE9];
+/// A group of 6 bytes: the byte 7 goes to offset 100 of page 0.
+const ONE_BYTE: [u8; 6] = [0x81, 1, 0, 0, 100, 7];
+/// How a group begins that puts 2,000 bytes at offset 38 of page 1.
+const LONG: [u8; 7] = [0x9E, 1, 1, 0, 38, 7, 0xD0];
+
+/// What is read off two devices.
+pub fn read(alloc: Global, log: &mut MemDisk, data: &mut MemDisk) -> Result<Recovered, RecFault> {
+    recover(alloc, log, data)
+}
+
+/// What is read of a store.
+pub fn read_back(alloc: Global, store: &Store) -> Result<Recovered, Fail> {
+    let (mut log, mut data) = store.devices(alloc)?;
+    Ok(read(alloc, &mut log, &mut data)?)
+}
+
+/// What opening leaves: both devices, and the fault that it ended with.
+pub fn open_to_end<L: Sectors + Drop, D: Sectors + Drop>(
+    alloc: Global,
+    log: L,
+    data: D,
+) -> (L, D, Option<RecFault>) {
+    match open_store(alloc, log, data) {
+        Ok(opened) => {
+            let Opened { log, store, .. } = opened;
+            (log.into_dev(), store.into_dev(), None)
+        }
+        Err((fault, log, data)) => (log, data, Some(fault)),
+    }
+}
+
+/// A store that was just formatted, over devices on which other bytes stood.
+pub fn formatted(alloc: Global) -> Result<Store, Fail> {
+    let (mut log, mut data) = Store::filled(alloc, 0xA5, LOG, DATA)?.devices(alloc)?;
+    format(&mut log, &mut data, &SHAPE)?;
+    log.crash(0);
+    data.crash(0);
+    Ok(Store::of(alloc, &mut log, &mut data)?)
+}
+
+/// The data of a full block that begins like this.
+fn full(front: &[u8], rest: u8) -> [u8; 496] {
+    let mut bytes = [rest; 496];
+    let count = front.len().min(496);
+    bytes[..count].copy_from_slice(&front[..count]);
+    bytes
+}
+
+/// A log that goes round behind its checkpoint: a group in the checkpoint's block; one of 6 bytes in the next, and behind
+/// it the front of a long one, which goes on over two more blocks and isn't whole; and an old block behind those.
+fn put_log(store: &mut Store) {
+    store.put_head(&SHAPE);
+    store.put_ckpt(&SHAPE, 0, 8192);
+    store.put_ckpt(&SHAPE, 1, LAST_BLOCK);
+    store.put_block(&SHAPE, 1, LAST_BLOCK, &full(&WHOLE, 5), true);
+    let mut second = full(&ONE_BYTE, 6);
+    second[6..13].copy_from_slice(&LONG);
+    store.put_block(&SHAPE, 1, LAST_BLOCK + 512, &second, true);
+    store.put_block(&SHAPE, 1, LAST_BLOCK + 1024, &[6; 496], false);
+    store.put_block(&SHAPE, 1, LAST_BLOCK + 1536, &[6; 100], false);
+    store.put_block(&SHAPE, 1, LAST_BLOCK + 2048, &full(&WHOLE, 9), true);
+}
+
+/// A store that its last run left in the middle. The place of page 0 is torn, and two copies of it stand in slots; the
+/// place of page 1 has none of the log's groups; page 2 is in its place.
+pub fn torn_store(alloc: Global) -> Result<Store, Fail> {
+    let mut store = Store::filled(alloc, 0, LOG, DATA)?;
+    put_log(&mut store);
+    store.put_page(3, 0, LAST_BLOCK + 524, 3);
+    store.put_page(5, 0, LAST_BLOCK + 12, 2);
+    store.put_page(0, 1, 8600, 4);
+    store.put_page(8, 0, LAST_BLOCK + 524, 3);
+    store.put_page_byte(8, 2048, 1);
+    store.put_page(9, 1, 9000, 4);
+    store.put_page(10, 2, 9000, 8);
+    Ok(store)
+}

@@ -1,0 +1,15 @@
+//! Tests of recovery, and of formatting and opening, on stores that are built byte by byte.
+#![tactic(auto)]
+
+#[cfg(test)]
+mod batches;
+#[cfg(test)]
+mod fixtures;
+#[cfg(test)]
+mod opening;
+#[cfg(test)]
+mod recovery;
+#[cfg(test)]
+mod stops;
+#[cfg(test)]
+mod store;

@@ -1,0 +1,160 @@
+// Stores on devices in memory, built block by block and page by page.
+ghost use Rattle.std.specs.Prelude.{◌≡◌, ◌≤◌, ◌<◌, vec_len};
+ghost use Rattle.model_base.specs.declared.limits.TheConstants.{MAX_LOG_BLOCKS, MIN_LOG_BLOCKS};
+
+use model_base::Shape;
+use redo_block::fill;
+use redo_crc::crc32c;
+use redo_disk::{DevError, Sectors};
+use redo_header::{fill_ckpt, fill_head};
+use redo_lsn::offset_of;
+use redo_memdisk::MemDisk;
+use redo_page::seal;
+use std::alloc::{AllocError, Global};
+
+/// The number of no call of a device.
+pub const NEVER: u64 = u64::MAX;
+
+/// What stands at the front of the two devices of a store, behind which are zeros, and how long they are.
+#[derive(Drop)]
+pub struct Store {
+    pub log: Vec<u8>,
+    pub log_length: u64,
+    pub data: Vec<u8>,
+    pub data_length: u64,
+}
+
+/// Puts the bytes there, if there is room.
+fn put(device: &mut Vec<u8>, at: usize, bytes: &[u8])
+    ensures { vec_len device.new ≡ vec_len device.old }
+{
+    if bytes.len() <= device.len() && at <= device.len() - bytes.len() {
+        device[at..at + bytes.len()].copy_from_slice(bytes);
+    }
+}
+
+/// A device of this length that begins with these bytes, as far as there is room. It fails the call of this number; the first
+/// two are the ones that fill it.
+fn device_of(alloc: Global, bytes: &[u8], length: u64, fails: u64) -> Result<MemDisk, DevError> {
+    let mut calls = Vec::new(alloc);
+    calls.push(fails)?;
+    let mut device = MemDisk::failing(alloc, length / 512 * 512, calls)?;
+    let count = (bytes.len() as u64).min(device.len()) / 512 * 512;
+    device.write(0, &bytes[..count as usize])?;
+    device.sync()?;
+    Ok(device)
+}
+
+/// The bytes that stand on a device.
+fn bytes_of(alloc: Global, device: &mut MemDisk) -> Result<Vec<u8>, DevError> {
+    let length = device.len() / 512 * 512;
+    let mut bytes = vec![in alloc; 0u8; length as usize]?;
+    device.read(0, bytes.as_mut_slice())?;
+    Ok(bytes)
+}
+
+impl Store {
+    /// Two devices of so many bytes, of which each is this one.
+    pub fn filled(alloc: Global, byte: u8, log: usize, data: usize) -> Result<Store, AllocError> {
+        Ok(Store {
+            log: vec![in alloc; byte; log]?,
+            log_length: log as u64,
+            data: vec![in alloc; byte; data]?,
+            data_length: data as u64,
+        })
+    }
+
+    /// What stands on these devices.
+    pub fn of(alloc: Global, log: &mut MemDisk, data: &mut MemDisk) -> Result<Store, DevError> {
+        Ok(Store {
+            log: bytes_of(alloc, log)?,
+            log_length: log.len(),
+            data: bytes_of(alloc, data)?,
+            data_length: data.len(),
+        })
+    }
+
+    /// Two devices on which this stands.
+    pub fn devices(&self, alloc: Global) -> Result<(MemDisk, MemDisk), DevError> {
+        self.failing(alloc, NEVER, NEVER)
+    }
+
+    /// The same, which fail the calls of these numbers.
+    pub fn failing(
+        &self,
+        alloc: Global,
+        log_fails: u64,
+        data_fails: u64,
+    ) -> Result<(MemDisk, MemDisk), DevError> {
+        let log = device_of(alloc, &self.log, self.log_length, log_fails)?;
+        let data = device_of(alloc, &self.data, self.data_length, data_fails)?;
+        Ok((log, data))
+    }
+
+    /// Writes the header of a store of these sizes.
+    pub fn put_head(&mut self, shape: &Shape) {
+        let mut sector = [0; 512];
+        fill_head(&mut sector, shape);
+        put(&mut self.log, 0, &sector);
+    }
+
+    /// Writes the checkpoint of this number, 0 or 1.
+    pub fn put_ckpt(&mut self, shape: &Shape, number: u64, lsn: u64)
+        requires many_blocks { MIN_LOG_BLOCKS ≤ shape.now.log_blocks }
+        requires few_blocks { shape.now.log_blocks ≤ MAX_LOG_BLOCKS }
+        requires few { number < 2 }
+        requires started { 8192 ≤ lsn }
+        requires small { lsn ≤ 1048576 }
+    {
+        let mut sector = [0; 512];
+        fill_ckpt(&mut sector, number, lsn, shape);
+        put(&mut self.log, 512 + 1024 * number as usize, &sector);
+    }
+
+    /// Writes the block at this lsn under the checkpoint of this number, with a group that begins there or none.
+    pub fn put_block(&mut self, shape: &Shape, number: u32, lsn: u64, bytes: &[u8], has_group: bool)
+        requires many_blocks { MIN_LOG_BLOCKS ≤ shape.now.log_blocks }
+        requires few_blocks { shape.now.log_blocks ≤ MAX_LOG_BLOCKS }
+        requires started { 8192 ≤ lsn }
+        requires small { lsn ≤ 1048576 }
+    {
+        let mut sector = [0; 512];
+        let count = bytes.len().min(496);
+        let first = if has_group { 12 } else { 0 };
+        fill(&mut sector, lsn, &bytes[..count], first, number);
+        let at = offset_of(lsn, shape.log_blocks);
+        put(&mut self.log, at as usize, &sector);
+    }
+
+    /// Writes a byte of the log device.
+    pub fn put_log_byte(&mut self, at: u16, byte: u8) {
+        put(&mut self.log, usize::from(at), &[byte]);
+    }
+
+    /// Writes bytes of a sector of the log device, and the sector's checksum.
+    pub fn put_sealed(&mut self, at: u16, bytes: &[u8]) {
+        let at = usize::from(at);
+        put(&mut self.log, at, bytes);
+        let from = at / 512 * 512;
+        if from + 512 <= self.log.len() {
+            let checksum = crc32c(&self.log[from..from + 508]);
+            put(&mut self.log, from + 508, &checksum.to_be_bytes());
+        }
+    }
+
+    /// Writes a page of this number, whose user bytes are all the same, into a slot, or behind the slots into a place.
+    pub fn put_page(&mut self, slot: u16, number: u32, lsn: u64, user: u8) {
+        let mut page = [user; 4096];
+        seal(&mut page, number, 1, lsn);
+        put(&mut self.data, 4096 * usize::from(slot), &page);
+    }
+
+    /// Writes a byte of a slot or place.
+    pub fn put_page_byte(&mut self, slot: u16, at: u16, byte: u8) {
+        put(
+            &mut self.data,
+            4096 * usize::from(slot) + usize::from(at),
+            &[byte],
+        );
+    }
+}

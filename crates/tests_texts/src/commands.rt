@@ -1,0 +1,160 @@
+// Words that are a command, and what they ask for.
+use crate::rows::{asked_of, columns};
+use std::alloc::{AllocError, Global};
+use std::process::Abort;
+use std::test::Fail;
+
+// Each text is that of what some words ask for, with a star for each value. A row of the table below it has the words,
+// and the values in the order of the stars.
+const RUN: &str =
+    "Ok(Asked { command: Run { drive: Drive { seed: *, max: *, threads: *, log_only: * } }, files: * })";
+
+const RUNS: &str = "\
+run                              | 0                    100000000           false false false
+run --files                      | 0                    100000000           false false true
+run --turns 7                    | 7                    100000000           false false false
+run --turns 18446744073709551615 | 18446744073709551615 100000000           false false false
+run --turns 007                  | 7                    100000000           false false false
+run --turns=7                    | 7                    100000000           false false false
+run --max 0                      | 0                    0                   false false false
+run --max 1000000000000000000    | 0                    1000000000000000000 false false false
+run --threads                    | 0                    100000000           true  false false
+run --log-only                   | 0                    100000000           false true  false
+run --threads --log-only         | 0                    100000000           true  true  false
+run --max 6 --turns 1            | 1                    6                   false false false
+run --turns 1 --max=6 --files    | 1                    6                   false false true
+run --                           | 0                    100000000           false false false
+run --turns 1 --                 | 1                    100000000           false false false
+";
+
+const CRASH: &str =
+    "Ok(Asked { command: Crash { drive: Drive { seed: *, max: *, threads: *, log_only: * }, stop_log: *, stop_data: *, pick: * }, files: * })";
+
+const CRASHES: &str = "\
+crash                                                                                    | 0 100000000 false false None                       None    0                    false
+crash --stop-log 0                                                                       | 0 100000000 false false Some(0)                    None    0                    false
+crash --stop-data 3                                                                      | 0 100000000 false false None                       Some(3) 0                    false
+crash --pick 18446744073709551615                                                        | 0 100000000 false false None                       None    18446744073709551615 false
+crash --stop-log 18446744073709551615                                                    | 0 100000000 false false Some(18446744073709551615) None    0                    false
+crash --pick=5 --stop-log=1 --stop-data=2 --turns=3 --max=4 --threads --log-only --files | 3 4         true  true  Some(1)                    Some(2) 5                    true
+";
+
+const PLAIN: &str = "Ok(Asked { command: *, files: * })";
+
+const PLAIN_ONES: &str = "\
+recover         | Recover false
+recover --files | Recover true
+recover --      | Recover false
+dump            | Dump    false
+dump --files -- | Dump    true
+";
+
+const FORMAT: &str =
+    "Ok(Asked { command: Format { pages: *, space: *, log_blocks: * }, files: * })";
+
+const FORMATS: &str = "\
+format                                               | 8  1          2048    false
+format --pages 1                                     | 1  1          2048    false
+format --pages 64                                    | 64 1          2048    false
+format --space 0                                     | 8  0          2048    false
+format --space 4294967295                            | 8  4294967295 2048    false
+format --log-blocks 1024                             | 8  1          1024    false
+format --log-blocks 1048576                          | 8  1          1048576 false
+format --space=2 --pages=3 --files --log-blocks=4096 | 3  2          4096    true
+";
+
+const GEN: &str =
+    "Ok(Asked { command: Gen { seed: *, users: *, groups: *, run: *, max: * }, files: * })";
+
+const GENS: &str = "\
+gen 1 1 1                            | 1                    1  1       false 100000000  false
+gen 1 16 1000000                     | 1                    16 1000000 false 100000000  false
+gen 18446744073709551615 1 0         | 18446744073709551615 1  0       false 100000000  false
+gen 1 1 0 --run                      | 1                    1  0       true  100000000  false
+gen --run 1 1 0                      | 1                    1  0       true  100000000  false
+gen 7 16 1000 --run --max 1000000000 | 7                    16 1000    true  1000000000 false
+gen 7 --max 5 16 --run 1000          | 7                    16 1000    true  5          false
+gen 1 1 1 --max 5                    | 1                    1  1       false 5          false
+gen 1 1 1 --files                    | 1                    1  1       false 100000000  true
+gen -- 1 2 3                         | 1                    2  3       false 100000000  false
+gen 1 -- 2 3                         | 1                    2  3       false 100000000  false
+gen --run -- 1 2 3                   | 1                    2  3       true  100000000  false
+gen 1 2 3 --                         | 1                    2  3       false 100000000  false
+gen 01 002 0003                      | 1                    2  3       false 100000000  false
+";
+
+// The text with a value in place of each star. What is too much of the values stands at its end.
+fn filled(alloc: Global, text: &str, values: &str) -> Result<String, AllocError> {
+    let mut filled = String::new(alloc);
+    let mut values = values.split_whitespace();
+    for part in text.split('*') {
+        filled.push_str(part)?;
+        filled.push_str(values.next().unwrap_or(""))?;
+    }
+    for value in values {
+        filled.push_str(value)?;
+    }
+    Ok(filled)
+}
+
+fn expect_asked(rt: &(impl Abort + AllocGlobal), text: &str, table: &str) -> Result<(), Fail> {
+    let alloc = rt.alloc();
+    for row in table.lines() {
+        let (line, values) = columns(row);
+        let asked = asked_of(alloc, line)?;
+        let shown = format!(in alloc; "{asked:?}")?;
+        let want = filled(alloc, text, values)?;
+        assert_eq!(rt; shown.as_str(), want.as_str(), "of {line:?}");
+    }
+    Ok(())
+}
+
+#[test]
+fn words_that_are_a_command(rt: HostRuntime) -> Result<(), Fail> {
+    expect_asked(&rt, RUN, RUNS)?;
+    expect_asked(&rt, CRASH, CRASHES)?;
+    expect_asked(&rt, PLAIN, PLAIN_ONES)?;
+    expect_asked(&rt, FORMAT, FORMATS)?;
+    expect_asked(&rt, GEN, GENS)
+}
+
+// Each line beside the plain spelling of the same command. These are lines that `clap` takes where it is given the same
+// six commands, each option once at most, the three numbers of `gen` as required arguments, and no help and no version.
+const SPELLINGS: &str = "\
+run --turns=7                             | run --turns 7
+run --turns=007 --max=0                   | run --max 0 --turns 7
+run --log-only --threads                  | run --threads --log-only
+run --                                    | run
+run --max 5 --                            | run --max 5
+run --threads --files --                  | run --files --threads
+recover --                                | recover
+recover --files --                        | recover --files
+dump --                                   | dump
+crash --                                  | crash
+crash --pick=1 --stop-log=2 --stop-data=3 | crash --stop-log 2 --stop-data 3 --pick 1
+crash --log-only --pick=1 --turns 2       | crash --turns 2 --pick 1 --log-only
+crash --stop-data=0 --files --stop-log 0  | crash --stop-log 0 --stop-data 0 --files
+format --log-blocks=1024 --pages=64       | format --pages 64 --log-blocks 1024
+format --files --space=0 --               | format --space 0 --files
+gen -- 1 2 3                              | gen 1 2 3
+gen 1 -- 2 3                              | gen 1 2 3
+gen 1 2 -- 3                              | gen 1 2 3
+gen 1 2 3 --                              | gen 1 2 3
+gen --max=5 -- 1 2 3                      | gen 1 2 3 --max 5
+gen --run --files 1 -- 2 3                | gen 1 2 3 --run --files
+gen 1 --run 2 --max 5 3 --files           | gen 1 2 3 --max 5 --run --files
+gen --max 1 2 3 4                         | gen 2 3 4 --max 1
+";
+
+#[test]
+fn spellings_that_clap_takes(rt: HostRuntime) -> Result<(), Fail> {
+    let alloc = rt.alloc();
+    for row in SPELLINGS.lines() {
+        let (line, plain) = columns(row);
+        let asked = asked_of(alloc, line)?;
+        let want = asked_of(alloc, plain)?;
+        assert!(rt; want.is_ok(), "of {plain:?}");
+        assert_eq!(rt; asked, want, "of {line:?}");
+    }
+    Ok(())
+}

@@ -1,0 +1,77 @@
+// What of a script doesn't fit a store.
+use crate::rows::{columns, text_of};
+use model_base::{DEFAULT_LOG_BLOCKS, DEFAULT_PAGES, DEFAULT_SPACE, PAGE_SIZE, SLOTS, Shape};
+use redo_script::{judge, parse};
+use std::alloc::{AllocError, Global};
+use std::process::Abort;
+use std::test::Fail;
+
+const DEFAULT: Shape = Shape {
+    page_size: PAGE_SIZE,
+    pages: DEFAULT_PAGES,
+    space: DEFAULT_SPACE,
+    log_blocks: DEFAULT_LOG_BLOCKS,
+    slots: SLOTS,
+};
+// Where a log that no checkpoint frees has one round of room.
+const ROOM_END: Option<u64> = Some(1_056_768);
+
+// Judges a script for a store of the default sizes whose run starts behind its first block header.
+fn expect_judged(
+    rt: &(impl Abort + AllocGlobal),
+    text: &str,
+    room_end: Option<u64>,
+    want: &str,
+) -> Result<(), Fail> {
+    let alloc = rt.alloc();
+    let script = parse(alloc, text.as_bytes()).ok().expect(rt, text);
+    let judged = judge(alloc, &DEFAULT, 8_204, room_end, &script);
+    let shown = format!(in alloc; "{judged:?}")?;
+    assert_eq!(rt; shown.as_str(), want, "of {text:?}");
+    Ok(())
+}
+
+// Below the first line: a script, and what is judged of it.
+const SCRIPTS: &str = r#"
+""                           | Ok(())
+"1 f b1 3 100 7"             | Ok(())
+"16 f b8 7 4080 7"           | Ok(())
+"17 f i 3"                   | Err(Misfit(Misfit { quantity: User, number: 17 }))
+"0 f i 9"                    | Err(Misfit(Misfit { quantity: User, number: 0 }))
+"1 f b1 9 100 7"             | Err(Misfit(Misfit { quantity: Page, number: 9 }))
+"1 f i 3;b1 3 37 7"          | Err(Misfit(Misfit { quantity: Offset, number: 37 }))
+"1 f b2 3 4087 7"            | Err(Misfit(Misfit { quantity: Offset, number: 4087 }))
+"1 f b1 8 37 7"              | Err(Misfit(Misfit { quantity: Page, number: 8 }))
+"1 f i 3\n2 f i 8\n17 f i 3" | Err(Misfit(Misfit { quantity: Page, number: 8 }))
+"#;
+
+#[test]
+fn scripts_that_dont_fit(rt: HostRuntime) -> Result<(), Fail> {
+    for row in SCRIPTS.lines().skip(1) {
+        let (text, want) = columns(row);
+        let text = text_of(rt.alloc(), text)?;
+        expect_judged(&rt, text.as_str(), ROOM_END, want)?;
+    }
+    Ok(())
+}
+
+// A line that writes three strings to three pages, the last of this length and the others of 4,050 bytes.
+fn three_strings(alloc: Global, last: usize) -> Result<String, AllocError> {
+    let digits = "ab".repeat(alloc, 4_050)?;
+    let last = "ab".repeat(alloc, last)?;
+    format!(in alloc; "1 f s 0 38 {digits};s 1 38 {digits};s 2 38 {last}\n")
+}
+
+#[test]
+fn long_scripts(rt: HostRuntime) -> Result<(), Fail> {
+    let alloc = rt.alloc();
+    let long = three_strings(alloc, 71)?;
+    let group = "Err(Misfit(Misfit { quantity: Group, number: 8193 }))";
+    expect_judged(&rt, long.as_str(), None, group)?;
+    let line = three_strings(alloc, 70)?;
+    expect_judged(&rt, line.as_str(), ROOM_END, "Ok(())")?;
+    let many = line.as_str().repeat(alloc, 130)?;
+    let total = "Err(Misfit(Misfit { quantity: Total, number: 1107516 }))";
+    expect_judged(&rt, many.as_str(), ROOM_END, total)?;
+    expect_judged(&rt, many.as_str(), None, "Ok(())")
+}

@@ -1,0 +1,242 @@
+// Words that are no command.
+use crate::rows::asked_of;
+use redo_command::WordsFault;
+use std::process::Abort;
+use std::test::Fail;
+
+const NO_COMMANDS: &str = "\
+-
+--
+help
+--help
+-h
+--version
+-V
+--files
+--files run
+-- run
+Run
+RUN
+runs
+ru
+redolab run
+run run
+run 1
+run --turns
+run --turns x
+run --turns -1
+run --turns +1
+run --turns 1 --turns 1
+run --turns 1 --turns=1
+run --turns 18446744073709551616
+run --turns 000000000000000000001
+run --turns=
+run --turns= 1
+run --turns =1
+run -turns 1
+run --turn 1
+run --Turns 1
+run --turns 1 2
+run --max
+run --max 1000000000000000001
+run --max 1 --max 1
+run --max=1=2
+run --max 0x1
+run --max 1.0
+run --max 1e3
+run --max --
+run --max -- 1
+run --threads --threads
+run --threads=1
+run --threads=
+run --threads 1
+run --log-only --log-only
+run --files --files
+run --files=1
+run --log_only
+run --stop-log 1
+run --pick 1
+run --pages 1
+run --run
+run -- --threads
+run -- 1
+run --help
+run -h
+run help
+run --version
+crash --pick
+crash --pick 1 --pick 1
+crash --pick 1 --pick=2
+crash --pick 18446744073709551616
+crash --stop-log
+crash --stop-log x
+crash --stop-log 1 --stop-log 2
+crash --stop-data
+crash --stop-data 1 --stop-data 1
+crash --stop 1
+crash 1
+crash --run
+recover 1
+recover --threads
+recover --turns 1
+recover --files --files
+recover -- 1
+dump 1
+dump --run
+dump --pages 8
+dump dump
+format 1
+format --pages 0
+format --pages 65
+format --pages
+format --pages 1 --pages 1
+format --space 4294967296
+format --space -1
+format --log-blocks 1023
+format --log-blocks 1048577
+format --log-blocks
+format --log_blocks 2048
+format --turns 1
+format --max 1
+gen
+gen 1
+gen 1 1
+gen 1 1 1 1
+gen 1 0 1
+gen 1 17 1
+gen 1 1 1000001
+gen 18446744073709551616 1 1
+gen x 1 1
+gen 1 x 1
+gen 1 1 x
+gen -1 1 1
+gen 1 1 1 --run --run
+gen 1 1 1 --run 1
+gen 1 1 1 --max
+gen 1 1 1 --max 1 --max 1
+gen 1 1 1 --turns 1
+gen -- --run 1 1 1
+gen -- 1 1 1 --run
+gen 1 1 1 --threads
+gen 1 1 1 -- --
+gen 000000000000000000001 1 1
+gen 1 1 1 --log-only
+";
+
+// What `clap` refuses where it is given the same six commands, each option once at most, the three numbers of `gen` as
+// required arguments, and no help and no version.
+const REFUSED: &str = "\
+run --max=5=6
+run --max==5
+run --max=
+run --max= 5
+run --max =5
+run --=
+run --=5
+run =5
+run =
+run -
+run ---
+run ---max 5
+run -max 5
+run -max=5
+run -m 5
+run --ma 5
+run --maximum 5
+run --MAX 5
+run --max5
+run --max:5
+run --max -- 5
+run --max -
+run --max=-5
+run --max -5
+run --turns --max 5
+run --turns --files
+run --turns=x
+run --files=true
+run --files true
+run --no-files
+run --threads=true
+run --threads=0
+run --log-onl
+run --log only
+run -- --files
+run --files -- --files
+run -- --
+run -- 5
+run --threads -- --threads
+run --max 5 --max=5
+run --max=5 --max=6
+run --files --threads --files
+crash --pick 1 --turns 2 --pick=1
+crash --stop-log --stop-data 1
+crash --stop-log= --stop-data=1
+crash --stop=1
+crash --stop-log=1 --stop-log 1
+crash run
+help run
+-h run
+--help run
+--version run
+run -V
+version
+gen -h
+gen help
+gen 1 2 3 -h
+gen 1 2 3 help
+gen 1 2
+gen 1 2 3 4
+gen 1 2 3 -- 4
+gen -- 1 2 -- 3
+gen -- -1 2 3
+gen -1 2 3
+gen - 2 3
+gen +1 2 3
+gen 1,2,3
+gen --run=1 1 2 3
+gen 1 2 3 --max
+gen -- 1 2 3 --run
+--max 5 run
+--files -- run
+recover recover
+dump --max=5
+";
+
+fn expect_none(rt: &(impl Abort + AllocGlobal), line: &str) -> Result<(), Fail> {
+    let fault = asked_of(rt.alloc(), line)?.err();
+    assert_eq!(rt; fault, Some(WordsFault::NotCommand), "of {line:?}");
+    Ok(())
+}
+
+#[test]
+fn words_that_are_none(rt: HostRuntime) -> Result<(), Fail> {
+    expect_none(&rt, "")?;
+    for line in NO_COMMANDS.lines() {
+        expect_none(&rt, line)?;
+    }
+    for line in REFUSED.lines() {
+        expect_none(&rt, line)?;
+    }
+    Ok(())
+}
+
+// Lines with an empty word, between bars.
+const EMPTY_WORDS: &str = "\
+| |
+|run |
+|run  --threads|
+|gen 1 1 |
+|gen  1 2 3|
+|gen 1 2 3 |
+|run  --max 5|
+| run|
+";
+
+#[test]
+fn empty_words(rt: HostRuntime) -> Result<(), Fail> {
+    for row in EMPTY_WORDS.lines() {
+        let asked = asked_of(rt.alloc(), row.trim_matches('|'))?;
+        assert!(rt; asked.is_err(), "of {row}");
+    }
+    Ok(())
+}
