@@ -5,11 +5,11 @@ use Rattle.std.specs.List.{slice_get}
 use Rattle.model_base.specs.declared.shape.Shape.{Shape}
 use Rattle.model_page.specs.{copy_lsn, data_device_length, slot_bytes, user_part}
 use Rattle.model_page.specs.declared.content.Content.{Content}
-use Rattle.model_device.specs.{after_write, after_writes, settled, synced, written}
+use Rattle.model_device.specs.{after_write, after_writes, IsPutOrNot, settled, synced, written}
 use Rattle.model_device.specs.Disk.{Disk}
 use Rattle.model_device.specs.declared.write.Write.{Write}
 use Rattle.model_datadev.specs.Batch.{Fresh, IsNew, IsBatch, slots_write, place_writes, after_batch}
-use Rattle.model_datadev.specs.Steps.{IsPutOrNot, written_all, ArePutOrNot, after_both, FailsBoth}
+use Rattle.model_datadev.specs.Steps.{written_all, ArePutOrNot, after_both, FailsBoth}
 use Rattle.model_datadev.specs.Stored.{IsKnown, copied, KeepsPage, ImageHolds, IsSteady, Keeps, Stored, AreNotNewer, IsUpTo, IsLater, IsOpened, IsBefore, KeepsPages}
 use Rattle.model_datadev.proofs.Writes.{HasSizes, sizes-from, in-or, after-none, after-some}
 use Rattle.model_datadev.proofs.Images.{IsReady, ready-from, IsSlotsOrNot, keeps-slots, stored-from, IsCopied, copied-from, AreOnPlaces, places-on, take-on, places-pending, placed-from, new-at}

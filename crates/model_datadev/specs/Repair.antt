@@ -3,11 +3,10 @@ use Rattle.std.specs.Prelude.{ℕ, ◌≡◌, ◌≢◌, ◌<◌, ◌⊎◌, ◌
 use Rattle.model_base.specs.declared.shape.Shape.{Shape}
 use Rattle.model_page.specs.{copy_lsn, HasNoCopy, IsBestCopy, IsKept, place_bytes, place_lsn, slot_bytes}
 use Rattle.model_page.specs.declared.content.Content.{Content}
-use Rattle.model_device.specs.{settled, synced, written}
+use Rattle.model_device.specs.{IsPutOrNot, settled, synced, written}
 use Rattle.model_device.specs.Disk.{Disk}
 use Rattle.model_device.specs.declared.write.Write.{Write}
 use Rattle.model_datadev.specs.Batch.{place_at}
-use Rattle.model_datadev.specs.Steps.{IsPutOrNot}
 use Rattle.model_store.specs.{IsFair}
 
 -- the kept pages of the two images are the same

@@ -1,6 +1,6 @@
 -- What a reader of a device sees of it, and what each call does to that. A device that tells what it means goes on
 -- telling; one that doesn't never does.
-use Rattle.std.specs.Prelude.{ℕ, ◌≡◌, ◌≤◌, ◌+◌, ◌%◌, ◌⊎◌, List, length, take, drop, Option, Some, None, Result, IsErrOf, IfSome, OnOk, OnErr}
+use Rattle.std.specs.Prelude.{ℕ, ◌≡◌, ◌≤◌, ◌+◌, ◌%◌, List, length, take, drop, Option, Some, None, Result, IsErrOf, IfSome, OnOk, OnErr}
 use Rattle.model_base.specs.declared.limits.TheConstants.{BLOCK_SIZE}
 use Rattle.model_base.specs.{HasRisen}
 use Rattle.model_device.specs.{Crashes, FailsWrite, synced, written}
@@ -63,10 +63,6 @@ pub record WriteStep (write : Write) (old : Seen) (result : Result (Unit {0}) De
   pub err : OnErr result (OnTold old.tells new.tells (FailsWrite write))
   pub size : new.size ≡ old.size
   pub cause : HasCause old.faults new.faults result
-
--- a write with a sync behind it, one of which failed: the write did, or it is pending
-abbrev pub IsPutOrNot : Write → Disk → Disk → Type 0
-IsPutOrNot write old new = FailsWrite write old new ⊎ (new ≡ written old write)
 
 -- A sync. Where it fails it changes nothing.
 pub record SyncStep (old : Seen) (result : Result (Unit {0}) DevError) (new : Seen) : Type 0 where

@@ -1,10 +1,10 @@
 // A write that survives any crash.
 ghost use Rattle.std.specs.Prelude.{◌≡◌, length, OnOk, OnErr};
 ghost use Rattle.model_base.specs.{overwritten};
-ghost use Rattle.model_device.specs.{HasOneImage, synced, written};
+ghost use Rattle.model_device.specs.{HasOneImage, IsPutOrNot, synced, written};
 ghost use Rattle.redo_disk.specs.Calls.{Serve, error_of, put_requests};
 ghost use Rattle.redo_disk.specs.Made.{MakesCalls};
-ghost use Rattle.redo_disk.specs.Seen.{IsPutOrNot, IsRange, HasCause, OnTold, write_at};
+ghost use Rattle.redo_disk.specs.Seen.{IsRange, HasCause, OnTold, write_at};
 
 use crate::{DevError, Sectors};
 

@@ -112,20 +112,6 @@ impl<L: Sectors> LogPart<L> {
         self.failed
     }
 
-    #[cfg(test)]
-    pub(crate) fn marks(&self) -> LogMarks
-        ensures { result ≡ self.now.marks }
-    {
-        self.marks
-    }
-
-    #[cfg(test)]
-    pub(crate) fn shape(&self) -> Shape
-        ensures { result ≡ self.now.shape }
-    {
-        self.shape
-    }
-
     /// The device.
     pub fn into_dev(self) -> L
         ensures { result ≡ self.dev }

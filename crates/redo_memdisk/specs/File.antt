@@ -26,6 +26,10 @@ CountsFailure old (Err NoMemory) new = ⊥
 abbrev pub FileGives : {R F D : Type 0} → FileDisk R F D → Call → FileDisk R F D → Type 0
 FileGives old call new = CountsFailure old.faults (answer_of call) new.faults
 
+-- a crash: the device is as it was
+abbrev pub FileCrash : {R F D : Type 0} → FileDisk R F D → ℕ → FileDisk R F D → Type 0
+FileCrash old pick new = new ≡ old
+
 -- the first bytes of these, so many, and zeros where there are fewer
 abbrev pub filled : ℕ → List ℕ → List ℕ
 filled count left = take count left ++ replicate (count - length left) 0

@@ -1,7 +1,7 @@
 // A device in a file.
 ghost use Rattle.std.specs.Prelude.{◌≡◌, length, IfSome, OnOk};
 ghost use Rattle.redo_disk.specs.{HasCause};
-ghost use Rattle.redo_memdisk.specs.File.{CountsFailure, FileGives, file_faults, file_seen, filled};
+ghost use Rattle.redo_memdisk.specs.File.{CountsFailure, FileCrash, FileGives, file_faults, file_seen, filled};
 
 use redo_disk::{DevError, Sectors};
 use std::fs::{OpenFile, OpenOptions};
@@ -113,6 +113,8 @@ impl<R: Files> Sectors for FileDisk<R> {
     ghost seen = { file_seen };
 
     ghost gives = { FileGives };
+
+    ghost crash_gives = { FileCrash };
 
     fn len(&self) -> u64 {
         FILE_DISK_LEN

@@ -5,6 +5,7 @@ use Rattle.std.specs.Prelude.{IfOk}
 use Rattle.model_base.specs.declared.shape.Shape.{Shape}
 use Rattle.model_logdev.specs.{next_number}
 use Rattle.redo_disk.specs.{Call, EndWith, MakesCalls, MayEndWith, put_requests, Reads, Serve, Syncs, Writes}
+use Rattle.redo_disk.specs.Seen.{Seen}
 use Rattle.redo_disk.specs.declared.error.DevError.{DevError}
 use Rattle.redo_disk.specs.declared.error.DevError.TheVariants as device
 use Rattle.redo_disk.proofs.Calls.{MayEndWith-append, MayEndWith-no_memory}
@@ -71,8 +72,8 @@ header-append (Reads at before answer after ∷ xs) ys begins = begins
 header-append (Writes write answer ∷ xs) ys begins = absurd begins
 header-append (Syncs answer ∷ xs) ys begins = absurd begins
 
-pub opens_reads : {D : Type 0} {gives : D → Call → D → Type 0} {old new : D} {size : ℕ} {error : Option DevError}
-    → MakesCalls gives old new (ReadsLog size error) → MakesCalls gives old new (OpensLog size error)
+pub opens_reads : {D : Type 0} {gives : D → Call → D → Type 0} {old new : D} {log : Seen} {error : Option DevError}
+    → MakesCalls gives old new (ReadsLog log error) → MakesCalls gives old new (OpensLog log.size error)
 opens_reads = weaker_calls (λ calls is. record { ends = is.reads.ends; header = is.header })
 
 pub opens_then : {D : Type 0} {gives : D → Call → D → Type 0} {old middle new : D} {size : ℕ} {error : Option DevError}

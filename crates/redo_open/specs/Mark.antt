@@ -22,7 +22,7 @@ pub record HasMarked (shape : Shape) (number lsn : ℕ) (content : List ℕ) (di
   pub nothing_pending : disk ≡ settled disk.base
   pub marked : IsMarked shape number lsn content disk.base
 
--- the last of the calls write this checkpoint and sync behind it, and all of them answered Ok
+-- the last two of the calls write this checkpoint and sync behind it, and those two answered Ok
 pub record EndWithMark (shape : Shape) (number lsn : ℕ) (calls : List Call) : Type 0 where
   pub before : List Call
   pub last : List Call

@@ -26,3 +26,18 @@ pub contents-from : (log data_told : Option Disk) (P Q : List ℕ → Type 0) (R
 contents-from None data_told P Q R joins first second = tt
 contents-from (Some log) data_told P Q R joins first second =
     content-weaker data_told Q (R log.reads) (λ data_bytes known. joins log.reads data_bytes first known) second
+
+-- what follows from what is known of both, and of one of them
+pub contents-more : (log data_told : Option Disk) (P : List ℕ → List ℕ → Type 0) (Q : List ℕ → Type 0) (R : List ℕ → List ℕ → Type 0)
+    → ((log_bytes data_bytes : List ℕ) → P log_bytes data_bytes → Q log_bytes → R log_bytes data_bytes)
+    → OnContents log data_told P → OnContent log Q → OnContents log data_told R
+contents-more None data_told P Q R joins both first = tt
+contents-more (Some log) None P Q R joins both first = tt
+contents-more (Some log) (Some disk) P Q R joins both first = joins log.reads disk.reads both first
+
+pub contents-other : (log data_told : Option Disk) (P : List ℕ → List ℕ → Type 0) (Q : List ℕ → Type 0) (R : List ℕ → List ℕ → Type 0)
+    → ((log_bytes data_bytes : List ℕ) → P log_bytes data_bytes → Q data_bytes → R log_bytes data_bytes)
+    → OnContents log data_told P → OnContent data_told Q → OnContents log data_told R
+contents-other None data_told P Q R joins both second = tt
+contents-other (Some log) None P Q R joins both second = tt
+contents-other (Some log) (Some disk) P Q R joins both second = joins log.reads disk.reads both second

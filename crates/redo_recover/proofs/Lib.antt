@@ -1,4 +1,5 @@
 mod Bounds
+mod Causing
 mod Contents
 mod Starting
 mod Unchanged
@@ -12,3 +13,4 @@ mod Setting
 mod Making
 mod Once
 mod OneRound
+mod Ordering

@@ -1,19 +1,25 @@
 -- The reads of recovery, one behind the other.
-use Rattle.std.proofs.Common.{◌≡◌, ◌≤◌, ◌+◌, ◌*◌, ◌++◌, ℕ, List, [], ◌∷◌, length, Option, Some, None, Err, refl, sym, ap, subst, arith}
+use Rattle.std.proofs.Common.{◌≡◌, ◌≤◌, ◌+◌, ◌*◌, ◌++◌, ◌⊎◌, ℕ, List, [], ◌∷◌, length, Option, Some, None, Err, inl, inr, refl, sym, ap, subst, arith}
 use Rattle.std.specs.Prelude.{IsErrOf}
 use Rattle.model_base.specs.declared.shape.Shape.{Shape}
+use Rattle.model_device.specs.Disk.{Disk}
 use Rattle.model_log.specs.declared.layout.TheConstants.{HEADER_BYTES}
 use Rattle.redo_disk.specs.{Answer, Call, error_of, MakesCall, MakesCalls, Reads, Syncs, Writes}
+use Rattle.redo_disk.specs.Seen.{Seen}
 use Rattle.redo_disk.specs.declared.error.DevError.{DevError}
 use Rattle.redo_disk.specs.declared.error.DevError.TheVariants as device
 use Rattle.redo_disk.proofs.Made.{joined_calls, no_calls, one_call, weaker_calls}
-use Rattle.redo_recover.specs.Calls.{BeginWithHeader, IsBehindHeader, IsBehindSlots, IsInStretch, IsOfHeader, IsOfPlace, ReadsHeader, ReadsLog, ReadsPieces, ReadsWhere, log_error, data_error}
-use Rattle.redo_recover.specs.Devices.{data_fault_of, log_fault_of}
-use Rattle.redo_recover.proofs.Once.{pieces-no_memory, pieces-none, where-append, where-no_memory, where-one, where-weaker}
+use Rattle.redo_recover.specs.Calls.{AreBytesRead, BeginWithHeader, IsBehindSlots, IsInStretch, IsOfHeader, IsOfPlace, ReadsHeader, ReadsPieces, ReadsWhere, log_error, data_error}
+use Rattle.redo_recover.specs.Devices.{IsUnchanged, OnContent, data_fault_of, log_fault_of}
+use Rattle.redo_recover.specs.Order.{IsLogStart}
+use Rattle.redo_recover.specs.Reach.{IsNearScan, IsOfScan, ReadsLog}
+use Rattle.redo_recover.proofs.Contents.{content-any}
+use Rattle.redo_recover.proofs.Once.{bytes-append, pieces-no_memory, pieces-none, where-append, where-no_memory, where-one, where-weaker}
 use Rattle.redo_recover.specs.Start.{IsHeadFault, IsLengthFault}
 use Rattle.redo_recover.specs.declared.fault.RecFault.{RecFault}
 use Rattle.redo_recover.specs.declared.fault.RecFault.TheVariants.{SmallLog, NotFormatted, BadFormat, SmallData, NoCheckpoint, BadRecord, PageLost, PageAhead, LogDev, DataDev, NoMemory}
 use Rattle.redo_recover.specs.declared.piece.TheConstants.{PIECE}
+use Rattle.redo_recover.specs.declared.start.Start.{Start}
 
 header-append : (xs ys : List Call) → BeginWithHeader xs → BeginWithHeader (xs ++ ys)
 header-append [] ys begins = absurd begins
@@ -21,14 +27,23 @@ header-append (Reads at before answer after ∷ xs) ys begins = begins
 header-append (Writes write answer ∷ xs) ys begins = absurd begins
 header-append (Syncs answer ∷ xs) ys begins = absurd begins
 
+-- the bytes of the log that are read, where the device tells
+abbrev IsReadOf : List ℕ → ℕ → Type 0
+IsReadOf content at = IsOfHeader at ⊎ IsNearScan content at
+
 -- the same calls, of which less is told
 pub pieces_made : {D : Type 0} {gives : D → Call → D → Type 0} {old new : D} {IsSuch : ℕ → Type 0} {error : Option DevError}
     → MakesCalls gives old new (ReadsWhere IsSuch error) → MakesCalls gives old new (ReadsPieces error)
 pieces_made = weaker_calls (λ calls is. is.reads)
 
-pub log_made : {D : Type 0} {gives : D → Call → D → Type 0} {old new : D} {size : ℕ} {error : Option DevError}
-    → MakesCalls gives old new (ReadsHeader size error) → MakesCalls gives old new (ReadsLog size error)
-log_made = weaker_calls (λ calls is. record { reads = is.reads.reads; header = is.header })
+-- the header alone
+pub log_made : {D : Type 0} {gives : D → Call → D → Type 0} {old new : D} {error : Option DevError} (log : Seen)
+    → MakesCalls gives old new (ReadsHeader log.size error) → MakesCalls gives old new (ReadsLog log error)
+log_made log = weaker_calls (λ calls is. record {
+  reads = is.reads.reads;
+  header = is.header;
+  bytes = content-any log.tells (λ content. AreBytesRead (IsReadOf content) calls) (λ content at i call there reads. inl (is.reads.bytes at i call there reads));
+})
 
 pub where_weaker : {D : Type 0} {gives : D → Call → D → Type 0} {old new : D} {One : ℕ → Type 0} {error : Option DevError} (Both : ℕ → Type 0)
     → MakesCalls gives old new (ReadsWhere One error) → ((at : ℕ) → One at → Both at) → MakesCalls gives old new (ReadsWhere Both error)
@@ -41,12 +56,24 @@ pub where_then : {D : Type 0} {gives : D → Call → D → Type 0} {old middle 
 where_then {One = One} {Other = Other} {error = error} Both front back apart first second =
     joined_calls (where-append One Other Both error apart first second) front back
 
-pub log_then : {D : Type 0} {gives : D → Call → D → Type 0} {old middle new : D} {size : ℕ} {error : Option DevError}
-    → MakesCalls gives old middle (ReadsHeader size None) → MakesCalls gives middle new (ReadsWhere IsBehindHeader error) → MakesCalls gives old new (ReadsLog size error)
-log_then {size = size} {error = error} = joined_calls (λ xs ys front back. record {
-  reads = (where-append IsOfHeader IsBehindHeader (λ at. Unit {0}) error (λ at one other. omega (arith, one, other)) (λ at one. tt) (λ at other. tt) xs ys front.reads back).reads;
-  header = λ long. header-append xs ys (front.header long);
-})
+-- the header, and then blocks near the scan
+log-bytes : (told : Option Disk) (start : Start) (xs ys : List Call) → OnContent told (λ content. IsLogStart content start) → AreBytesRead IsOfHeader xs
+    → AreBytesRead (IsOfScan start.shape start.ckpt told) ys → OnContent told (λ content. AreBytesRead (IsReadOf content) (xs ++ ys))
+log-bytes None start xs ys starts front back = tt
+log-bytes (Some disk) start xs ys starts front back =
+    bytes-append IsOfHeader (IsOfScan start.shape start.ckpt (Some disk)) (IsReadOf disk.reads) xs ys (λ at one. inl one)
+    (λ at other. inr (record { start = start; starts = starts; near = other.near })) front back
+
+pub log_then : {D : Type 0} {gives : D → Call → D → Type 0} {old middle new : D} {error : Option DevError} (log read : Seen) (start : Start)
+    → IsUnchanged log read → OnContent log.tells (λ content. IsLogStart content start) → MakesCalls gives old middle (ReadsHeader log.size None)
+    → MakesCalls gives middle new (ReadsWhere (IsOfScan start.shape start.ckpt read.tells) error) → MakesCalls gives old new (ReadsLog log error)
+log_then {gives = gives} {middle = middle} {new = new} {error = error} log read start same starts front back =
+    joined_calls (λ xs ys first then. record {
+      reads = (where-append IsOfHeader (IsOfScan start.shape start.ckpt log.tells) (λ at. Unit {0}) error (λ at one other. omega (arith, one, other.behind))
+          (λ at one. tt) (λ at other. tt) xs ys first.reads then).reads;
+      header = λ long. header-append xs ys (first.header long);
+      bytes = log-bytes log.tells start xs ys starts first.reads.bytes then.bytes;
+    }) front (subst (λ (told : Option Disk). MakesCalls gives middle new (ReadsWhere (IsOfScan start.shape start.ckpt told) error)) same.tells back)
 
 -- THE DATA DEVICE: the slots, and then each place.
 
@@ -152,9 +179,9 @@ pub own_header : {D : Type 0} {gives : D → Call → D → Type 0} {old new : D
     → MakesCalls gives old new (ReadsHeader size None) → MakesCalls gives old new (ReadsHeader size error)
 own_header size = own_calls (ReadsHeader size) (λ calls is. record { reads = where-no_memory IsOfHeader calls is.reads; header = is.header })
 
-pub own_log : {D : Type 0} {gives : D → Call → D → Type 0} {old new : D} (size : ℕ) (error : Option DevError) → MayBeOwn error
-    → MakesCalls gives old new (ReadsLog size None) → MakesCalls gives old new (ReadsLog size error)
-own_log size = own_calls (ReadsLog size) (λ calls is. record { reads = pieces-no_memory calls is.reads; header = is.header })
+pub own_log : {D : Type 0} {gives : D → Call → D → Type 0} {old new : D} (log : Seen) (error : Option DevError) → MayBeOwn error
+    → MakesCalls gives old new (ReadsLog log None) → MakesCalls gives old new (ReadsLog log error)
+own_log log = own_calls (ReadsLog log) (λ calls is. record { reads = pieces-no_memory calls is.reads; header = is.header; bytes = is.bytes })
 
 pub log-own : (fault : RecFault) → (IsErrOf {T = Unit {0}} (Err fault) LogDev → ⊥) → MayBeOwn (log_error fault)
 log-own LogDev apart = absurd (apart refl)

@@ -37,7 +37,7 @@ pieces-append : (xs ys : List Call) → AllByRecursion IsPieceRead xs → AllByR
 pieces-append [] ys front back = back
 pieces-append (call ∷ xs) ys front back = (front.0, pieces-append xs ys front.1 back)
 
-bytes-append : (One Other Both : ℕ → Type 0) (xs ys : List Call) → ((at : ℕ) → One at → Both at) → ((at : ℕ) → Other at → Both at)
+pub bytes-append : (One Other Both : ℕ → Type 0) (xs ys : List Call) → ((at : ℕ) → One at → Both at) → ((at : ℕ) → Other at → Both at)
     → AreBytesRead One xs → AreBytesRead Other ys → AreBytesRead Both (xs ++ ys)
 bytes-append One Other Both xs ys first second front back at i call there reads =
     elim (joined_place xs ys i call there) [

@@ -3,6 +3,7 @@ use Rattle.std.proofs.Common.{◌≡◌, ◌≤◌, ◌<◌, ◌+◌, ◌-◌, �
 use Rattle.std.proofs.lemmas.Bool.{cases_lt}
 use Rattle.model_base.specs.declared.limits.TheConstants.{BLOCK_SIZE, START_LSN}
 use Rattle.model_base.specs.declared.shape.Shape.{Shape}
+use Rattle.model_device.specs.Disk.{Disk}
 use Rattle.model_log.specs.{log_device_length, offset_of}
 use Rattle.model_logdev.specs.Held.{IsInRound, sector_of}
 use Rattle.model_logdev.proofs.Places.{one-place_each, place-from, place-on, sector-place}
@@ -10,13 +11,13 @@ use Rattle.model_store.specs.{lsn_at}
 use Rattle.redo_disk.specs.{Call, MakesCalls}
 use Rattle.redo_disk.specs.declared.error.DevError.{DevError}
 use Rattle.redo_recover.specs.Calls.{IsBehindHeader, IsInStretch, ReadsWhere}
+use Rattle.redo_recover.specs.Devices.{OnContent}
 use Rattle.redo_recover.specs.Piece.{HasSector, IsPieceFor, IsReadFor, IsReadPiece, piece_length}
+use Rattle.redo_recover.specs.Reach.{IsNear, IsOfScan, IsReached, block_place}
 use Rattle.redo_recover.specs.declared.piece.Piece.{Piece}
+use Rattle.redo_recover.specs.declared.piece.TheConstants.{PIECE}
+use Rattle.redo_recover.proofs.Contents.{content-weaker}
 use Rattle.redo_recover.proofs.Making.{where_then, where_weaker}
-
--- where the block of this number stands, counted from the checkpoint on
-abbrev pub block_place : Shape → ℕ → ℕ → ℕ
-block_place shape ckpt i = offset_of (lsn_at ckpt i) shape.log_blocks
 
 -- the checkpoint stands at the lsn of a block
 pub record IsAtBlock (ckpt : ℕ) : Type 0 where
@@ -119,12 +120,13 @@ pub record HasBlocksUpTo (shape : Shape) (ckpt i count : ℕ) (piece : Piece) : 
   pub to : piece.from + length piece.bytes.items ≡ block_place shape ckpt i + BLOCK_SIZE * (count - i)
   pub within : block_place shape ckpt i + BLOCK_SIZE * (count - i) ≤ log_device_length shape
 
--- What was read while the blocks below this number were taken: bytes of the first so many blocks, and what of those
--- isn't taken the piece has.
+-- What was read while the blocks below this number were taken: bytes of the first so many blocks, at most a piece more
+-- than are taken, and what of those isn't taken the piece has.
 pub record HasReadBlocks {D : Type 0} (gives : D → Call → D → Type 0) (old new : D) (shape : Shape) (ckpt i : ℕ) (piece : Piece) : Type 0 where
   pub count : ℕ
   pub some : i ≤ count
   pub few : count ≤ shape.log_blocks
+  pub near : BLOCK_SIZE * count ≤ BLOCK_SIZE * i + PIECE
   pub calls : MakesCalls gives old new (ReadsWhere (IsOfBlocks shape ckpt 0 count) None)
   pub ahead : i < count → HasBlocksUpTo shape ckpt i count piece
 
@@ -155,6 +157,10 @@ readable-whole shape ckpt i at end may =
 
 readable-few : (l i at end k : ℕ) → i < l → 512 * k ≡ min (end - at) 65536 → at < end → end ≤ at + 512 * (l - i) → i + k ≤ l
 readable-few l i at end k some whole behind up_to = omega arith
+
+-- one read takes a piece at the most
+one-piece : (i at end : ℕ) → 512 * blocks_read at end ≡ piece_length at end → 512 * (i + blocks_read at end) ≤ 512 * i + 65536
+one-piece i at end whole = omega (arith, whole)
 
 -- what is read for a sector is of the blocks from there on
 for-blocks : (shape : Shape) (ckpt i at end byte : ℕ) (piece : Piece) → IsReadable shape ckpt i at end → IsReadFor piece at end byte
@@ -187,12 +193,14 @@ reads-kept {gives = gives} {old = old} {new = new} shape ckpt i at end piece may
       count = read.count;
       some = omega (arith, less);
       few = read.few;
+      near = omega (arith, read.near);
       calls = calls read.count (omega arith);
       ahead = λ more. has-next shape ckpt i read.count piece may.start more (read.ahead less);
     }) (λ not_less. record {
       count = i + 1;
       some = omega arith;
       few = omega (arith, may.some);
+      near = omega arith;
       calls = calls (i + 1) (omega (arith, not_less));
       ahead = λ more. absurd (omega (arith, more));
     }) (cases_lt i read.count)
@@ -210,6 +218,7 @@ reads-piece shape ckpt i at end piece next may read fresh made =
       count = i + blocks_read at end;
       some = omega (arith, whole.1);
       few = few;
+      near = omega (arith, one-piece i at end whole.0);
       calls = where_then (IsOfBlocks shape ckpt 0 (i + blocks_read at end)) read.calls made
           (λ byte one for. for-apart shape ckpt i read.count at end byte piece may read.ahead one for)
           (λ byte one. blocks-wider shape ckpt 0 read.count 0 (i + blocks_read at end) byte (omega arith) (omega (arith, none_ahead)) one)
@@ -232,14 +241,32 @@ reads-next {gives = gives} {old = old} {new = new} shape ckpt i at end piece nex
 
 -- WHERE READING ENDS.
 
-pub reads-end : {D : Type 0} {gives : D → Call → D → Type 0} {old new : D} (shape : Shape) (ckpt i : ℕ) (piece : Piece) → HasReadBlocks gives old new shape ckpt i piece
-    → MakesCalls gives old new (ReadsWhere IsBehindHeader None)
-reads-end shape ckpt i piece read = where_weaker IsBehindHeader read.calls (λ byte one. blocks-behind shape ckpt 0 read.count byte one)
+-- blocks up to less than a piece behind one to which the scan comes
+of-scan : (told : Option Disk) (shape : Shape) (ckpt i low high at : ℕ) → OnContent told (IsReached shape ckpt i) → BLOCK_SIZE * high ≤ BLOCK_SIZE * i + PIECE
+    → IsOfBlocks shape ckpt low high at → IsOfScan shape ckpt told at
+of-scan told shape ckpt i low high at reached near is = record {
+  behind = blocks-behind shape ckpt low high at is;
+  near = content-weaker told (IsReached shape ckpt i) (IsNear shape ckpt at) (λ content known. record {
+    number = is.number;
+    inside = is.inside;
+    reached = i;
+    is_reached = known;
+    near = omega (arith, near, is.below);
+  }) reached;
+}
 
-pub reads-end_at : {D : Type 0} {gives : D → Call → D → Type 0} {old middle new : D} {error : Option DevError} (shape : Shape) (ckpt i at end : ℕ) (piece : Piece)
-    → IsReadable shape ckpt i at end → HasReadBlocks gives old middle shape ckpt i piece → MakesCalls gives middle new (ReadsWhere (IsReadFor piece at end) error)
-    → MakesCalls gives old new (ReadsWhere IsBehindHeader error)
-reads-end_at shape ckpt i at end piece may read made =
-    where_then IsBehindHeader read.calls made (λ byte one for. for-apart shape ckpt i read.count at end byte piece may read.ahead one for)
-    (λ byte one. blocks-behind shape ckpt 0 read.count byte one)
-    (λ byte for. blocks-behind shape ckpt i (i + blocks_read at end) byte (for-blocks shape ckpt i at end byte piece may for))
+pub reads-end : {D : Type 0} {gives : D → Call → D → Type 0} {old new : D} (told : Option Disk) (shape : Shape) (ckpt i : ℕ) (piece : Piece)
+    → OnContent told (IsReached shape ckpt i) → HasReadBlocks gives old new shape ckpt i piece
+    → MakesCalls gives old new (ReadsWhere (IsOfScan shape ckpt told) None)
+reads-end told shape ckpt i piece reached read =
+    where_weaker (IsOfScan shape ckpt told) read.calls (λ byte one. of-scan told shape ckpt i 0 read.count byte reached read.near one)
+
+pub reads-end_at : {D : Type 0} {gives : D → Call → D → Type 0} {old middle new : D} {error : Option DevError} (told : Option Disk) (shape : Shape)
+    (ckpt i at end : ℕ) (piece : Piece) → OnContent told (IsReached shape ckpt i) → IsReadable shape ckpt i at end → HasReadBlocks gives old middle shape ckpt i piece
+    → MakesCalls gives middle new (ReadsWhere (IsReadFor piece at end) error) → MakesCalls gives old new (ReadsWhere (IsOfScan shape ckpt told) error)
+reads-end_at told shape ckpt i at end piece reached may read made =
+    let near : BLOCK_SIZE * (i + blocks_read at end) ≤ BLOCK_SIZE * i + PIECE =
+    omega (arith, one-piece i at end (readable-whole shape ckpt i at end may).0) in
+    where_then (IsOfScan shape ckpt told) read.calls made (λ byte one for. for-apart shape ckpt i read.count at end byte piece may read.ahead one for)
+    (λ byte one. of-scan told shape ckpt i 0 read.count byte reached read.near one)
+    (λ byte for. of-scan told shape ckpt i i (i + blocks_read at end) byte reached near (for-blocks shape ckpt i at end byte piece may for))

@@ -13,11 +13,12 @@ use Rattle.model_store.specs.{HasDevices, HasHead, Refuses}
 use Rattle.model_store.specs.declared.refusal.Refusal.TheVariants as refusal
 use Rattle.redo_disk.specs.{HasSize, part}
 use Rattle.redo_recover.specs.Devices.{OnContent, OnContents, HasCauseIn}
+use Rattle.redo_recover.specs.Order.{IsLogStart}
 use Rattle.redo_recover.specs.Start.{IsHeadFault, IsLengthFault, IsStart}
 use Rattle.redo_recover.specs.declared.fault.RecFault.{RecFault}
 use Rattle.redo_recover.specs.declared.fault.RecFault.TheVariants.{SmallLog, NotFormatted, BadFormat, SmallData, NoCheckpoint, BadRecord, PageLost, PageAhead, LogDev, DataDev, NoMemory}
 use Rattle.redo_recover.specs.declared.start.Start.{Start}
-use Rattle.redo_recover.proofs.Contents.{content-any, content-both, contents-from}
+use Rattle.redo_recover.proofs.Contents.{content-any, content-both, content-weaker, contents-from}
 
 -- a sector of a stretch is one of the device
 pub sector-part : (content : List ℕ) (at count k : ℕ) → k + BLOCK_SIZE ≤ count → sector_at k (part content at count) ≡ sector_at (at + k) content
@@ -151,3 +152,14 @@ starts log data_told log_size data_size header start known other sound newest =
       newest = sym (newest-front start.shape header log_bytes of.front) ∙ newest;
     })
     known other
+
+pub log-starts : (log : Option Disk) (log_size data_size : ℕ) (header : List ℕ) (start : Start) → OnContent log (IsHeaderOf log_size header)
+    → IsSound log_size data_size header start.shape → newest_checkpoint start.shape header ≡ Some (start.number, start.ckpt)
+    → OnContent log (λ log_bytes. IsLogStart log_bytes start)
+log-starts log log_size data_size header start known sound newest =
+    content-weaker log (IsHeaderOf log_size header) (λ log_bytes. IsLogStart log_bytes start)
+    (λ log_bytes of. record {
+      head = has_head log_size header log_bytes start.shape sound.long of sound.head;
+      log_long = omega (arith, of.sized, sound.log_long);
+      newest = sym (newest-front start.shape header log_bytes of.front) ∙ newest;
+    }) known

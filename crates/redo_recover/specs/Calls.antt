@@ -55,11 +55,6 @@ BeginWithHeader (Reads at before answer after ∷ calls) = (at ≡ 0) × (length
 BeginWithHeader (Writes write answer ∷ calls) = ⊥
 BeginWithHeader (Syncs answer ∷ calls) = ⊥
 
--- The same of the calls of a log device of this size. Where it has room for a header, the first of them reads that.
-pub record ReadsLog (size : ℕ) (error : Option DevError) (calls : List Call) : Type 0 where
-  pub reads : ReadsPieces error calls
-  pub header : HEADER_BYTES ≤ size → BeginWithHeader calls
-
 -- the byte is one of the header's
 abbrev pub IsOfHeader : ℕ → Type 0
 IsOfHeader at = at < HEADER_BYTES
@@ -67,7 +62,8 @@ IsOfHeader at = at < HEADER_BYTES
 abbrev pub IsBehindHeader : ℕ → Type 0
 IsBehindHeader at = HEADER_BYTES ≤ at
 
--- the same of calls that read the header alone
+-- The same of the calls of a log device of this size that read the header alone. Where it has room for a header, the first
+-- of them reads that.
 pub record ReadsHeader (size : ℕ) (error : Option DevError) (calls : List Call) : Type 0 where
   pub reads : ReadsWhere IsOfHeader error calls
   pub header : HEADER_BYTES ≤ size → BeginWithHeader calls

@@ -10,6 +10,7 @@ ghost use Rattle.redo_apply.specs.{ArePagesOf, HaveLsns};
 ghost use Rattle.redo_disk.specs.{MakesCalls};
 ghost use Rattle.redo_recover.specs.Calls.{ReadsPieces, data_error_of};
 ghost use Rattle.redo_recover.specs.Devices.{HasLengthCause, IsUnchanged, OnContent};
+ghost use Rattle.redo_recover.specs.Order.{IsOfPages};
 ghost use Rattle.redo_recover.specs.Pages.{AreNotAhead, IsAheadFault, AreReplayed, HasPageCause};
 
 use crate::RecFault;
@@ -88,6 +89,7 @@ pub(crate) fn read_pages<D: Sectors>(
     ensures failed { IsErrOf result RecFault.DataDev → HasRisen (D.seen device.old).faults (D.seen device.new).faults }
     ensures calls { MakesCalls D.gives device.old device.new (ReadsPieces (data_error_of result)) }
     ensures apart { IsErrOf result RecFault.LogDev → ⊥ }
+    ensures of_pages { IfErr result IsOfPages }
 {
     let slots_length = shape.slots as usize * shape.page_size as usize;
     let slots = match read_part(alloc, device, 0, slots_length) {

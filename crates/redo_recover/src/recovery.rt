@@ -3,8 +3,10 @@ ghost use Rattle.std.specs.Prelude.{◌≡◌, IfOk, IfErr, IfSome, IsErrOf};
 ghost use Rattle.model_base.specs.{HasRisen};
 ghost use Rattle.model_store.specs.{IsReading};
 ghost use Rattle.redo_disk.specs.{HasSize, MakesCalls};
-ghost use Rattle.redo_recover.specs.Calls.{ReadsLog, ReadsPieces, data_error_of, log_error_of};
+ghost use Rattle.redo_recover.specs.Calls.{ReadsPieces, data_error_of, log_error_of};
 ghost use Rattle.redo_recover.specs.Devices.{HasCauseIn, HasLengthCause, IsUnchanged, OnContents};
+ghost use Rattle.redo_recover.specs.Order.{ReadsBehindLog};
+ghost use Rattle.redo_recover.specs.Reach.{ReadsLog};
 ghost use Rattle.redo_recover.specs.Reading.{IsOfDevices, reading_of};
 
 use crate::pages::read_pages;
@@ -17,9 +19,9 @@ use std::alloc::Global;
 /// Reads a store off its two devices: the file header, the newest checkpoint, the log's blocks and groups from there on,
 /// and the pages as they are kept, to which each group is applied that starts at or above a page's lsn.
 ///
-/// It writes nothing, and reads no byte twice: the log's blocks in pieces of at most 65,536 bytes, and none behind the
-/// piece in which the scan ends; of the data device the slots at once, and then each place. It holds the data of the scanned
-/// blocks, and then the slots and one place beside the pages. A device's failure ends it at once.
+/// It writes nothing, and reads no byte twice: of the log the header, and then blocks in pieces of at most 65,536 bytes, none
+/// of them so far behind the block at which the scan ends; and then the data device, in pieces of that size too. A device's
+/// failure ends it at once.
 pub fn recover<L: Sectors, D: Sectors>(
     alloc: Global,
     log: &mut L,
@@ -33,8 +35,9 @@ pub fn recover<L: Sectors, D: Sectors>(
     ensures cause { IfErr result (HasCauseIn (L.seen log.old).tells (D.seen data_device.old).tells) }
     ensures log { IsUnchanged (L.seen log.old) (L.seen log.new) }
     ensures data_device { IsUnchanged (D.seen data_device.old) (D.seen data_device.new) }
-    ensures log_calls { MakesCalls L.gives log.old log.new (ReadsLog (L.seen log.old).size (log_error_of result)) }
+    ensures log_calls { MakesCalls L.gives log.old log.new (ReadsLog (L.seen log.old) (log_error_of result)) }
     ensures data_calls { MakesCalls D.gives data_device.old data_device.new (ReadsPieces (data_error_of result)) }
+    ensures order { ReadsBehindLog (L.seen log.old).tells (D.seen data_device.old).size data_device.old data_device.new result }
     ensures log_failed { IsErrOf result RecFault.LogDev → HasRisen (L.seen log.old).faults (L.seen log.new).faults }
     ensures data_failed { IsErrOf result RecFault.DataDev
         → HasRisen (D.seen data_device.old).faults (D.seen data_device.new).faults }

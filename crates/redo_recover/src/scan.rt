@@ -6,9 +6,11 @@ ghost use Rattle.model_log.specs.{log_device_length};
 ghost use Rattle.model_record.specs.{GroupFits};
 ghost use Rattle.model_store.specs.{IsScan};
 ghost use Rattle.redo_disk.specs.{MakesCalls};
-ghost use Rattle.redo_recover.specs.Calls.{IsBehindHeader, ReadsWhere, log_error_of};
+ghost use Rattle.redo_recover.specs.Calls.{ReadsWhere, log_error_of};
 ghost use Rattle.redo_recover.specs.Devices.{HasLengthCause, IsUnchanged, OnContent};
 ghost use Rattle.redo_recover.specs.Groups.{IsEndOf, IsScanFault};
+ghost use Rattle.redo_recover.specs.Order.{IsOfLog};
+ghost use Rattle.redo_recover.specs.Reach.{IsOfScan};
 
 use crate::RecFault;
 use crate::blocks::{Blocks, read_blocks};
@@ -49,8 +51,9 @@ pub(crate) fn scan_log<L: Sectors>(
     ensures lengths { (log_size data_size : ℕ) → IfErr result (HasLengthCause log_size data_size) }
     ensures unchanged { IsUnchanged (L.seen log.old) (L.seen log.new) }
     ensures failed { IsErrOf result RecFault.LogDev → HasRisen (L.seen log.old).faults (L.seen log.new).faults }
-    ensures calls { MakesCalls L.gives log.old log.new (ReadsWhere IsBehindHeader (log_error_of result)) }
+    ensures calls { MakesCalls L.gives log.old log.new (ReadsWhere (IsOfScan shape.now ckpt (L.seen log.old).tells) (log_error_of result)) }
     ensures apart { IsErrOf result RecFault.DataDev → ⊥ }
+    ensures of_log { IfErr result IsOfLog }
 {
     let blocks = match read_blocks(alloc, log, shape, ckpt) {
         Ok(blocks) => blocks,

@@ -3,8 +3,8 @@ use Rattle.std.proofs.Common.{◌≡◌, ◌≤◌, IfSome, ◌+◌, ◌-◌, �
 use Rattle.model_base.specs.declared.shape.Shape.{Shape}
 use Rattle.model_datadev.proofs.Repairs.{same-best}
 use Rattle.model_datadev.proofs.Stretches.{stretch-piece}
-use Rattle.model_datadev.specs.{FailsPutBack, HasNothingPending, IsPutBack, IsPutOrNot, IsRepairable, place_at, repair_write, SameSlots}
-use Rattle.model_device.specs.{synced, written}
+use Rattle.model_datadev.specs.{FailsPutBack, HasNothingPending, IsPutBack, IsRepairable, place_at, repair_write, SameSlots}
+use Rattle.model_device.specs.{IsPutOrNot, synced, written}
 use Rattle.model_device.specs.Disk.{Disk}
 use Rattle.model_device.specs.declared.write.Write.{Write}
 use Rattle.model_page.specs.{data_device_length, HasNoCopy, IsBestCopy, slot_bytes}

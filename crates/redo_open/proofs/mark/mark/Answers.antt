@@ -1,12 +1,12 @@
 -- One sector is written, and made to stay.
 use Rattle.std.proofs.Common.{◌≡◌, ◌*◌, ℕ, List, length, sym, ap, subst, ◌∙◌, ⊎_elim, arith}
 use Rattle.std.proofs.lemmas.Result.{on_ok_weaker, on_err_weaker}
-use Rattle.model_device.specs.{synced, written}
+use Rattle.model_device.specs.{IsPutOrNot, synced, written}
 use Rattle.model_device.specs.Disk.{Disk}
 use Rattle.model_device.specs.declared.write.Write.{Write}
 use Rattle.model_log.specs.{checkpoint_text, place_of}
 use Rattle.model_logdev.proofs.Places.{HasBlocks}
-use Rattle.redo_disk.specs.{IsPutOrNot, write_at}
+use Rattle.redo_disk.specs.{write_at}
 use Rattle.redo_open.specs.Mark.{IsSettledLog, MarksLog, HasMarked}
 use Rattle.redo_open.proofs.Marks.{header-place, IsOneSector, failed-marks, written-marks, synced-marked, marked-marks}
 use Rattle.redo_disk.proofs.Told.{told-as}

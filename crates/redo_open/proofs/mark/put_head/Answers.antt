@@ -1,12 +1,12 @@
 -- The first sector is written, and made to stay.
 use Rattle.std.proofs.Common.{◌≡◌, length, sym, ap, subst, ◌∙◌, ⊎_elim, arith}
 use Rattle.std.proofs.lemmas.Result.{on_ok_weaker}
-use Rattle.model_device.specs.{synced, written}
+use Rattle.model_device.specs.{IsPutOrNot, synced, written}
 use Rattle.model_device.specs.Disk.{Disk}
 use Rattle.model_device.specs.declared.write.Write.{Write}
 use Rattle.model_log.specs.{head_text}
 use Rattle.redo_disk.proofs.Made.{serves_end}
-use Rattle.redo_disk.specs.{IsPutOrNot, write_at}
+use Rattle.redo_disk.specs.{write_at}
 use Rattle.redo_open.specs.Blank.{MayHaveHead, HasHeadNow}
 use Rattle.redo_open.specs.Mark.{IsSettledLog}
 use Rattle.redo_open.proofs.Blanks.{failed-head, written-head, synced-head, head-kept}

@@ -5,13 +5,15 @@ use Rattle.model_log.specs.declared.layout.TheConstants.{BLOCK_DATA}
 use Rattle.redo_disk.specs.{MakesCalls}
 use Rattle.redo_disk.specs.declared.error.DevError.TheVariants.{NoMemory}
 use Rattle.redo_recover.specs.Blocks.{AreBlocksOf}
-use Rattle.redo_recover.specs.Calls.{IsBehindHeader, ReadsWhere}
+use Rattle.redo_recover.specs.Calls.{ReadsWhere}
+use Rattle.redo_recover.specs.Devices.{OnContent}
 use Rattle.redo_recover.specs.Piece.{IsPieceOf}
+use Rattle.redo_recover.specs.Reach.{IsOfScan, IsReached, block_place}
 use Rattle.redo_recover.proofs.Bounds.{firsts-push}
 use Rattle.redo_recover.proofs.Contents.{content-both, content-weaker}
 use Rattle.redo_recover.proofs.Making.{own_where}
-use Rattle.redo_recover.proofs.OneRound.{IsReadable, block_place, reads-end, reads-end_at, reads-next}
-use Rattle.redo_recover.proofs.Scanning.{AreBlocksSoFar, IsTakenAt, taken-at, so_far-next, read-stopped, read-last, read-all, length-data_of}
+use Rattle.redo_recover.proofs.OneRound.{IsReadable, reads-end, reads-end_at, reads-next}
+use Rattle.redo_recover.proofs.Scanning.{AreBlocksSoFar, IsTakenAt, taken-at, so_far-next, read-stopped, read-last, read-all, length-data_of, so_far-reached}
 use Rattle.redo_recover.proofs.Unchanged.{IsUnchanged-then, content-before, content-after}
 use Rattle.redo_recover.proofs.blocks.read_blocks.Given.{Over}
 use Rattle.redo_recover.proofs.blocks.read_blocks.Goals.{After-readable_end-end, In_ok-piece}
@@ -28,12 +30,21 @@ readable g c = record {
   within = c.readable_end-end.ensures.within;
 }
 
+-- the scan comes to the block
+reached : (g : Over) (c : After-readable_end-end g) → OnContent (g.L.Sectors.seen c.args.log.now).tells (IsReached c.args.shape.now c.args.ckpt c.loop-i.i)
+reached g c =
+    content-weaker (g.L.Sectors.seen c.args.log.now).tells (AreBlocksSoFar c.args.shape.now c.args.ckpt c.loop-i.views.items c.loop-i.joined.items c.loop-i.i)
+    (IsReached c.args.shape.now c.args.ckpt c.loop-i.i)
+    (λ image a. so_far-reached c.args.shape.now c.args.ckpt c.loop-i.views.items c.loop-i.joined.items c.loop-i.i image a) c.loop-i.invariant.so_far
+
 -- what was read up to this block is read once
-read_once : (g : Over) (c : In_ok-piece g) → IsReadable c.args.shape.now c.args.ckpt c.loop-i.i c.offset_of-at.result c.readable_end-end.result
-    → MakesCalls g.L.Sectors.gives c.args.log.now c.with_sector.new.device (ReadsWhere IsBehindHeader None)
-read_once g c may =
-    reads-end_at c.args.shape.now c.args.ckpt c.loop-i.i c.offset_of-at.result c.readable_end-end.result c.loop-i.piece may c.loop-i.invariant.read
-    c.in_ok-piece.ensures.calls
+read_once : (g : Over) (c : In_ok-piece g)
+    → IsReadable c.args.shape.now c.args.ckpt c.loop-i.i c.offset_of-at.result c.readable_end-end.result
+    → OnContent (g.L.Sectors.seen c.args.log.now).tells (IsReached c.args.shape.now c.args.ckpt c.loop-i.i)
+    → MakesCalls g.L.Sectors.gives c.args.log.now c.with_sector.new.device (ReadsWhere (IsOfScan c.args.shape.now c.args.ckpt (g.L.Sectors.seen c.args.log.now).tells) None)
+read_once g c may here =
+    reads-end_at (g.L.Sectors.seen c.args.log.now).tells c.args.shape.now c.args.ckpt c.loop-i.i c.offset_of-at.result c.readable_end-end.result c.loop-i.piece
+    here may c.loop-i.invariant.read c.in_ok-piece.ensures.calls
 
 pub returns-in_default-clause-blocks : goal.returns-in_default-clause-blocks
 returns-in_default-clause-blocks g c =
@@ -122,31 +133,38 @@ returns-clause-blocks g c =
 
 pub returns-in_err-piece-clause-calls : goal.returns-in_err-piece-clause-calls
 returns-in_err-piece-clause-calls g c =
-    let made = reads-end_at c.args.shape.now c.args.ckpt c.loop-i.i c.offset_of-at.result c.readable_end-end.result c.loop-i.piece
-    (readable g (goal.at.returns-in_err-piece-clause-calls g c).After-readable_end-end) c.loop-i.invariant.read c.in_err-piece.ensures.calls in
+    let at = goal.at.returns-in_err-piece-clause-calls g c in
+    let made = reads-end_at (g.L.Sectors.seen c.args.log.now).tells c.args.shape.now c.args.ckpt c.loop-i.i c.offset_of-at.result c.readable_end-end.result
+    c.loop-i.piece (reached g at.After-readable_end-end) (readable g at.After-readable_end-end) c.loop-i.invariant.read c.in_err-piece.ensures.calls in
     let p = err_from_is_err_and c.from_residual.result c.from_residual.ensures.1 in rw (p.1, p.2) made
 
 pub returns-in_default-clause-calls : goal.returns-in_default-clause-calls
 returns-in_default-clause-calls g c =
     let at = goal.at.returns-in_default-clause-calls g c in
-    read_once g at.In_ok-piece (readable g at.After-readable_end-end)
+    read_once g at.In_ok-piece (readable g at.After-readable_end-end) (reached g at.After-readable_end-end)
 
 pub returns-in_err-push-clause-calls : goal.returns-in_err-push-clause-calls
 returns-in_err-push-clause-calls g c =
     let at = goal.at.returns-in_err-push-clause-calls g c in
-    let made = own_where IsBehindHeader (Some NoMemory) tt (read_once g at.In_ok-piece (readable g at.After-readable_end-end)) in
+    let made = own_where (IsOfScan c.args.shape.now c.args.ckpt (g.L.Sectors.seen c.args.log.now).tells) (Some NoMemory) tt (read_once g at.In_ok-piece (readable g at.After-readable_end-end) (reached g at.After-readable_end-end)) in
     let p = err_from_is_err_and c.from_residual-in_err-push.result c.from_residual-in_err-push.ensures.1 in rw (p.1, p.2) made
 
 pub returns-in_err-extend_from_slice-clause-calls : goal.returns-in_err-extend_from_slice-clause-calls
 returns-in_err-extend_from_slice-clause-calls g c =
     let at = goal.at.returns-in_err-extend_from_slice-clause-calls g c in
-    let made = own_where IsBehindHeader (Some NoMemory) tt (read_once g at.In_ok-piece (readable g at.After-readable_end-end)) in
+    let made = own_where (IsOfScan c.args.shape.now c.args.ckpt (g.L.Sectors.seen c.args.log.now).tells) (Some NoMemory) tt (read_once g at.In_ok-piece (readable g at.After-readable_end-end) (reached g at.After-readable_end-end)) in
     let p = err_from_is_err_and c.from_residual-in_err-extend_from_slice.result c.from_residual-in_err-extend_from_slice.ensures.1 in rw (p.1, p.2) made
 
 pub returns-then-not-is_full-clause-calls : goal.returns-then-not-is_full-clause-calls
 returns-then-not-is_full-clause-calls g c =
     let at = goal.at.returns-then-not-is_full-clause-calls g c in
-    read_once g at.In_ok-piece (readable g at.After-readable_end-end)
+    read_once g at.In_ok-piece (readable g at.After-readable_end-end) (reached g at.After-readable_end-end)
 
 pub returns-clause-calls : goal.returns-clause-calls
-returns-clause-calls g c = reads-end c.args.shape.now c.args.ckpt c.loop-i.i c.loop-i.piece c.loop-i.invariant.read
+returns-clause-calls g c =
+    let told = (g.L.Sectors.seen c.args.log.now).tells in
+    reads-end told c.args.shape.now c.args.ckpt c.loop-i.i c.loop-i.piece
+    (content-weaker told (AreBlocksSoFar c.args.shape.now c.args.ckpt c.loop-i.views.items c.loop-i.joined.items c.loop-i.i)
+    (IsReached c.args.shape.now c.args.ckpt c.loop-i.i)
+    (λ image a. so_far-reached c.args.shape.now c.args.ckpt c.loop-i.views.items c.loop-i.joined.items c.loop-i.i image a) c.loop-i.invariant.so_far)
+    c.loop-i.invariant.read

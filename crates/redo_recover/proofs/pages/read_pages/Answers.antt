@@ -1,15 +1,17 @@
 -- The slots are read and then each place, and the kept pages are judged and replayed.
-use Rattle.std.proofs.Common.{rules}
+use Rattle.std.proofs.Common.{rules, subst, sym}
 use Rattle.std.proofs.lemmas.Result.{err_from_is_err_and}
 use Rattle.model_store.specs.{AreReadPages}
 use Rattle.redo_recover.proofs.Bounds.{replayed-not_ahead}
 use Rattle.redo_recover.proofs.Contents.{content-weaker}
 use Rattle.redo_recover.proofs.Fronts.{ahead-cause, ahead-own}
 use Rattle.redo_recover.proofs.Making.{data_fault_made, own_pieces, pieces_made, slots_then}
+use Rattle.redo_recover.proofs.Ordering.{ahead-of_pages, data_fault-of_pages, lost-of_pages}
 use Rattle.redo_recover.proofs.Paging.{pages-read}
 use Rattle.redo_recover.proofs.Unchanged.{content-before}
 use Rattle.redo_recover.specs.Calls.{ReadsPieces, data_error}
 use Rattle.redo_recover.specs.Devices.{OnContent}
+use Rattle.redo_recover.specs.Order.{IsOfPages}
 use Rattle.redo_recover.specs.Pages.{AreKept, HasPageCause}
 use Rattle.redo_recover.proofs.pages.read_pages.Goals as goal
 
@@ -58,3 +60,16 @@ returns-clause-not_ahead g c =
 pub returns-clause-calls : goal.returns-clause-calls
 returns-clause-calls g c =
     slots_then c.args.shape.now c.in-Ok.ensures.calls c.in_ok-pages.ensures.calls
+
+pub returns-in-Err-clause-of_pages : goal.returns-in-Err-clause-of_pages
+returns-in-Err-clause-of_pages g c = subst IsOfPages (sym c.data_fault.ensures) (data_fault-of_pages c.in-Err.error)
+
+pub returns-in_err-pages-clause-of_pages : goal.returns-in_err-pages-clause-of_pages
+returns-in_err-pages-clause-of_pages g c =
+    let fault = c.in_err-pages.field-0.0 in
+    let own : IsOfPages fault = lost-of_pages c.args.shape.now (g.D.Sectors.seen c.read_part.new.device).tells fault c.in_err-pages.ensures.fault in search rules
+
+pub returns-in_err-check_ahead-clause-of_pages : goal.returns-in_err-check_ahead-clause-of_pages
+returns-in_err-check_ahead-clause-of_pages g c =
+    let fault = c.in_err-check_ahead.field-0.0 in
+    let own : IsOfPages fault = ahead-of_pages c.in_ok-pages.pages c.args.end fault c.in_err-check_ahead.ensures.fault in search rules

@@ -2,9 +2,15 @@ use Rattle.std.proofs.Common.{◌≤◌, List, rules, subst, sym}
 use Rattle.std.proofs.lemmas.Result.{err_from_is_err_and}
 use Rattle.std.specs.List.{AllByRecursion}
 use Rattle.model_record.specs.declared.group.Whole.{Whole}
-use Rattle.redo_recover.specs.Devices.{HasLengthCause}
 use Rattle.redo_recover.specs.Calls.{data_error, log_error}
+use Rattle.redo_recover.specs.Devices.{HasLengthCause, OnContent}
+use Rattle.redo_recover.specs.Order.{IsLogRead}
+use Rattle.redo_recover.specs.declared.recovered.Recovered.{Recovered}
+use Rattle.redo_recover.proofs.Causing.{page-cause, scan-cause}
+use Rattle.redo_recover.proofs.Ordering.{before-pages, behind-log, log-read}
 use Rattle.redo_recover.proofs.Making.{log_made, log_then, no_pieces, own_log, own_pieces, log-own, data-own, err-of}
+use Rattle.redo_recover.proofs.recovery.recover.Goals.{In_ok-views}
+use Rattle.redo_recover.proofs.recovery.recover.Given.{Over}
 use Rattle.redo_recover.proofs.recovery.recover.Goals as goal
 
 pub returns-in_err-views-clause-lengths : goal.returns-in_err-views-clause-lengths
@@ -26,7 +32,7 @@ returns-in_err-pages-clause-lengths g c =
 
 pub returns-in_err-shape-clause-log_calls : goal.returns-in_err-shape-clause-log_calls
 returns-in_err-shape-clause-log_calls g c =
-    let made = log_made c.in_err-shape.ensures.calls in
+    let made = log_made (g.L.Sectors.seen c.args.log.now) c.in_err-shape.ensures.calls in
     let p = err_from_is_err_and c.from_residual.result c.from_residual.ensures.1 in rw (p.1, p.2) made
 
 pub returns-in_err-shape-clause-data_calls : goal.returns-in_err-shape-clause-data_calls
@@ -37,7 +43,8 @@ returns-in_err-shape-clause-data_calls g c =
 
 pub returns-in_err-views-clause-log_calls : goal.returns-in_err-views-clause-log_calls
 returns-in_err-views-clause-log_calls g c =
-    let made = log_then c.in_ok-shape.ensures.calls c.in_err-views.ensures.calls in
+    let made = log_then (g.L.Sectors.seen c.args.log.now) (g.L.Sectors.seen c.read_start.new.log) c.in_ok-shape.field-0 c.read_start.ensures.unchanged
+    c.in_ok-shape.ensures.log_start c.in_ok-shape.ensures.calls c.in_err-views.ensures.calls in
     let p = err_from_is_err_and c.from_residual-in_err-views.result c.from_residual-in_err-views.ensures.1 in rw (p.1, p.2) made
 
 pub returns-in_err-views-clause-data_calls : goal.returns-in_err-views-clause-data_calls
@@ -49,9 +56,52 @@ returns-in_err-views-clause-data_calls g c =
 pub returns-in_err-pages-clause-log_calls : goal.returns-in_err-pages-clause-log_calls
 returns-in_err-pages-clause-log_calls g c =
     let fault = c.in_err-pages.field-0.0 in
-    let made = own_log (g.L.Sectors.seen c.args.log.now).size (log_error fault) (log-own fault (λ is. c.in_err-pages.ensures.apart (err-of is)))
-    (log_then c.in_ok-shape.ensures.calls c.in_ok-views.ensures.calls) in
+    let made = own_log (g.L.Sectors.seen c.args.log.now) (log_error fault) (log-own fault (λ is. c.in_err-pages.ensures.apart (err-of is)))
+    (log_then (g.L.Sectors.seen c.args.log.now) (g.L.Sectors.seen c.read_start.new.log) c.in_ok-shape.field-0 c.read_start.ensures.unchanged
+    c.in_ok-shape.ensures.log_start c.in_ok-shape.ensures.calls c.in_ok-views.ensures.calls) in
     let p = err_from_is_err_and c.from_residual-in_err-pages.result c.from_residual-in_err-pages.ensures.1 in rw (p.1, p.2) made
 
 pub returns-clause-log_calls : goal.returns-clause-log_calls
-returns-clause-log_calls g c = log_then c.in_ok-shape.ensures.calls c.in_ok-views.ensures.calls
+returns-clause-log_calls g c = log_then (g.L.Sectors.seen c.args.log.now) (g.L.Sectors.seen c.read_start.new.log) c.in_ok-shape.field-0 c.read_start.ensures.unchanged
+    c.in_ok-shape.ensures.log_start c.in_ok-shape.ensures.calls c.in_ok-views.ensures.calls
+
+pub returns-in_err-shape-clause-order : goal.returns-in_err-shape-clause-order
+returns-in_err-shape-clause-order g c =
+    let p = err_from_is_err_and c.from_residual.result c.from_residual.ensures.1 in
+    rw (p.1, p.2) (before-pages Recovered (g.L.Sectors.seen c.args.log.now).tells (g.D.Sectors.seen c.args.data_device.now).size c.args.data_device.now
+    c.in_err-shape.field-0.0 c.in_err-shape.ensures.of_log)
+
+pub returns-in_err-views-clause-order : goal.returns-in_err-views-clause-order
+returns-in_err-views-clause-order g c =
+    let p = err_from_is_err_and c.from_residual-in_err-views.result c.from_residual-in_err-views.ensures.1 in
+    rw (p.1, p.2) (before-pages Recovered (g.L.Sectors.seen c.args.log.now).tells (g.D.Sectors.seen c.args.data_device.now).size c.args.data_device.now
+    c.in_err-views.field-0.0 c.in_err-views.ensures.of_log)
+
+-- the log was read up to its end
+read_log : (g : Over) (c : In_ok-views g) → OnContent (g.L.Sectors.seen c.args.log.now).tells (IsLogRead (g.D.Sectors.seen c.args.data_device.now).size)
+read_log g c =
+    log-read (g.L.Sectors.seen c.args.log.now) (g.L.Sectors.seen c.read_start.new.log) (g.D.Sectors.seen c.args.data_device.now).size
+    c.in_ok-shape.field-0 c.in_ok-views.field-0.views.items c.in_ok-views.field-0.groups.items c.in_ok-views.field-0.end
+    c.read_start.ensures.unchanged c.in_ok-shape.ensures.log_start c.in_ok-shape.ensures.usable.data_long c.in_ok-views.ensures.scan
+
+pub returns-in_err-pages-clause-order : goal.returns-in_err-pages-clause-order
+returns-in_err-pages-clause-order g c =
+    let p = err_from_is_err_and c.from_residual-in_err-pages.result c.from_residual-in_err-pages.ensures.1 in
+    rw (p.1, p.2) (behind-log Recovered (g.L.Sectors.seen c.args.log.now).tells (g.D.Sectors.seen c.args.data_device.now).size c.args.data_device.now c.read_pages.new.device
+    c.in_err-pages.field-0.0 c.in_err-pages.ensures.of_pages (read_log g (goal.at.returns-in_err-pages-clause-order g c).In_ok-views))
+
+pub returns-clause-order : goal.returns-clause-order
+returns-clause-order g c = read_log g (goal.at.returns-clause-order g c).In_ok-views
+
+pub returns-in_err-views-clause-cause : goal.returns-in_err-views-clause-cause
+returns-in_err-views-clause-cause g c =
+    let p = err_from_is_err_and c.from_residual-in_err-views.result c.from_residual-in_err-views.ensures.1 in
+    rw (p.1, p.2) (scan-cause (g.L.Sectors.seen c.args.log.now) (g.L.Sectors.seen c.read_start.new.log) (g.D.Sectors.seen c.args.data_device.now).tells
+    c.in_ok-shape.field-0 c.in_err-views.field-0.0 c.read_start.ensures.unchanged c.in_ok-shape.ensures.start c.in_err-views.ensures.fault)
+
+pub returns-in_err-pages-clause-cause : goal.returns-in_err-pages-clause-cause
+returns-in_err-pages-clause-cause g c =
+    let p = err_from_is_err_and c.from_residual-in_err-pages.result c.from_residual-in_err-pages.ensures.1 in
+    rw (p.1, p.2) (page-cause (g.L.Sectors.seen c.args.log.now) (g.L.Sectors.seen c.read_start.new.log) (g.D.Sectors.seen c.args.data_device.now).tells
+    c.in_ok-shape.field-0 c.in_ok-views.field-0.views.items c.in_ok-views.field-0.groups.items c.in_ok-views.field-0.end c.in_err-pages.field-0.0
+    c.read_start.ensures.unchanged c.in_ok-shape.ensures.start c.in_ok-views.ensures.scan c.in_err-pages.ensures.cause)

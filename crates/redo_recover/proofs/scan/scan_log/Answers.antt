@@ -1,5 +1,7 @@
-use Rattle.std.proofs.Common.{length}
+use Rattle.std.proofs.Common.{length, rules, subst, sym}
 use Rattle.model_store.specs.{groups_start}
+use Rattle.redo_recover.specs.Order.{IsOfLog}
+use Rattle.redo_recover.proofs.Ordering.{log_fault-of_log, parse-of_log}
 use Rattle.redo_recover.proofs.Parsing.{parsed-fit}
 use Rattle.redo_recover.proofs.scan.scan_log.Goals as goal
 
@@ -7,3 +9,13 @@ pub returns-clause-fit : goal.returns-clause-fit
 returns-clause-fit g c =
     parsed-fit c.args.ckpt (length c.in-Ok.blocks.views.items) c.args.shape.now c.in-Ok.blocks.joined.items (groups_start c.args.ckpt c.in-Ok.blocks.views.items)
     c.in_ok-groups.groups.items c.in_ok-groups.end c.in_ok-groups.ensures.parsed
+
+pub returns-in-Err-clause-of_log : goal.returns-in-Err-clause-of_log
+returns-in-Err-clause-of_log g c = subst IsOfLog (sym c.log_fault.ensures) (log_fault-of_log c.in-Err.error)
+
+pub returns-in_err-groups-clause-of_log : goal.returns-in_err-groups-clause-of_log
+returns-in_err-groups-clause-of_log g c =
+    let fault = c.in_err-groups.field-0.0 in
+    let own : IsOfLog fault =
+    parse-of_log c.args.ckpt c.args.shape.now c.in-Ok.blocks.joined.items (groups_start c.args.ckpt c.in-Ok.blocks.views.items) fault c.in_err-groups.ensures.fault in
+    search rules

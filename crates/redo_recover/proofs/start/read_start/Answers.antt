@@ -2,8 +2,10 @@ use Rattle.std.proofs.Common.{◌∙◌, refl, sym, subst, arith, rules}
 use Rattle.std.proofs.lemmas.Result.{err_from_is_err_and}
 use Rattle.model_store.proofs.Heads.{checkpoint-bounds}
 use Rattle.redo_recover.specs.Devices.{HasCauseIn}
+use Rattle.redo_recover.specs.Order.{IsOfLog}
 use Rattle.redo_recover.specs.Start.{IsLengthFault}
-use Rattle.redo_recover.proofs.Starting.{header-of, sized, head-cause, length-cause, checkpoint-cause, starts}
+use Rattle.redo_recover.proofs.Starting.{header-of, sized, head-cause, length-cause, checkpoint-cause, log-starts, starts}
+use Rattle.redo_recover.proofs.Ordering.{head-of_log, length-of_log, log_fault-of_log}
 use Rattle.redo_recover.proofs.Unchanged.{log_fault-cause}
 use Rattle.redo_recover.specs.Calls.{ReadsHeader, log_error}
 use Rattle.redo_recover.proofs.Making.{header_read, head-own, length-own, log_fault_made, own_header}
@@ -103,3 +105,32 @@ returns-in-Some-clause-calls g c = header_read (g.L.Sectors.seen c.args.log.now)
 
 pub returns-in-None-clause-calls : goal.returns-in-None-clause-calls
 returns-in-None-clause-calls g c = header_read (g.L.Sectors.seen c.args.log.now).size refl c.in-Ok.ensures.gives
+
+pub returns-in-Some-clause-log_start : goal.returns-in-Some-clause-log_start
+returns-in-Some-clause-log_start g c =
+    let log = g.L.Sectors.seen c.args.log.now in
+    let device = g.D.Sectors.seen c.args.device.now in
+    let header = c.read.new.out in
+    let shape = c.in_ok-shape.shape in
+    let of = header-of log.tells log.size header c.len-log_len.ensures.told c.in-Ok.ensures.step.bytes in
+    let newest = sym c.newest_in.ensures ∙ c.in-Some.is in
+    log-starts log.tells log.size device.size header (record { shape = shape; number = c.in-Some.number; ckpt = c.in-Some.ckpt }) of
+    (record {
+      long = omega arith;
+      head = c.in_ok-shape.ensures.head;
+      log_long = omega (arith, c.in_ok-check_lengths.ensures.fit.0);
+      data_long = omega (arith, c.in_ok-check_lengths.ensures.fit.1);
+    }) newest
+
+pub returns-in-Err-clause-of_log : goal.returns-in-Err-clause-of_log
+returns-in-Err-clause-of_log g c = subst IsOfLog (sym c.log_fault.ensures) (log_fault-of_log c.in-Err.error)
+
+pub returns-in_err-shape-clause-of_log : goal.returns-in_err-shape-clause-of_log
+returns-in_err-shape-clause-of_log g c =
+    let fault = c.in_err-shape.field-0.0 in
+    let own : IsOfLog fault = head-of_log c.read.new.out fault c.in_err-shape.ensures.fault in search rules
+
+pub returns-in_err-check_lengths-clause-of_log : goal.returns-in_err-check_lengths-clause-of_log
+returns-in_err-check_lengths-clause-of_log g c =
+    let fault = c.in_err-check_lengths.field-0.0 in
+    let own : IsOfLog fault = length-of_log c.in_ok-shape.shape c.len-log_len.result c.len.result fault c.in_err-check_lengths.ensures.fault in search rules

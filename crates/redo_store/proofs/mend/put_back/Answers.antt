@@ -1,7 +1,7 @@
 use Rattle.std.proofs.Common.{◌≡◌, ◌+◌, ◌-◌, ◌*◌, ℕ, List, take, drop, Option, subst}
 use Rattle.std.proofs.lemmas.Result.{err_from_is_err_and, on_ok_weaker, on_err_weaker}
-use Rattle.model_datadev.specs.{FailsPutBack, IsPutBack, IsPutOrNot, SameSlots}
-use Rattle.model_device.specs.{synced, written}
+use Rattle.model_datadev.specs.{FailsPutBack, IsPutBack, SameSlots}
+use Rattle.model_device.specs.{IsPutOrNot, synced, written}
 use Rattle.model_device.specs.Disk.{Disk}
 use Rattle.redo_disk.proofs.Told.{OnTold-weaker}
 use Rattle.redo_disk.specs.{error_of, OnTold, write_at}

@@ -1,7 +1,7 @@
 use Rattle.std.proofs.Common.{◌≡◌, List, [], None, true, is_some, sym, subst, arith}
 use Rattle.model_device.specs.Disk.{Disk}
-use Rattle.model_device.specs.{synced, written}
-use Rattle.model_datadev.specs.{batch_of, Fresh, IsBatch, IsPutOrNot, IsUpTo, IsWritable, slots_write}
+use Rattle.model_device.specs.{IsPutOrNot, synced, written}
+use Rattle.model_datadev.specs.{batch_of, Fresh, IsBatch, IsUpTo, IsWritable, slots_write}
 use Rattle.model_datadev.specs.Stored.{Stored}
 use Rattle.redo_disk.proofs.Told.{told-step}
 use Rattle.model_datadev.proofs.Parts.{tied-put, tied-put_failed}

@@ -1,0 +1,54 @@
+-- How recovery reads the log: which bytes of it.
+use Rattle.std.specs.Prelude.{ℕ, ◌≡◌, ◌≤◌, ◌<◌, ◌+◌, ◌*◌, ◌⊎◌, true, List, Option, Some}
+use Rattle.model_base.specs.declared.limits.TheConstants.{BLOCK_SIZE}
+use Rattle.model_base.specs.declared.shape.Shape.{Shape}
+use Rattle.model_device.specs.Disk.{Disk}
+use Rattle.model_log.specs.{is_full, offset_of}
+use Rattle.model_log.specs.declared.block.BlockView.{BlockView}
+use Rattle.model_log.specs.declared.layout.TheConstants.{HEADER_BYTES}
+use Rattle.model_store.specs.{lsn_at, view_at}
+use Rattle.redo_disk.specs.{Call}
+use Rattle.redo_disk.specs.Seen.{Seen}
+use Rattle.redo_disk.specs.declared.error.DevError.{DevError}
+use Rattle.redo_recover.specs.Calls.{AreBytesRead, BeginWithHeader, IsBehindHeader, IsInStretch, IsOfHeader, ReadsPieces}
+use Rattle.redo_recover.specs.Devices.{OnContent}
+use Rattle.redo_recover.specs.Order.{IsLogStart}
+use Rattle.redo_recover.specs.declared.piece.TheConstants.{PIECE}
+use Rattle.redo_recover.specs.declared.start.Start.{Start}
+
+-- where the block of this number stands, counted from the checkpoint on
+abbrev pub block_place : Shape → ℕ → ℕ → ℕ
+block_place shape ckpt i = offset_of (lsn_at ckpt i) shape.log_blocks
+
+-- the scan comes to the block of this number: each one before it is taken, and is full
+abbrev pub IsReached : Shape → ℕ → ℕ → List ℕ → Type 0
+IsReached shape ckpt count content =
+    (i : ℕ) → i < count → (view : BlockView) × (view_at shape content (lsn_at ckpt i) ≡ Some view) × (is_full view ≡ true)
+
+-- the byte is one of a block that stands less than a piece behind one to which the scan comes
+pub record IsNear (shape : Shape) (ckpt at : ℕ) (content : List ℕ) : Type 0 where
+  pub number : ℕ
+  pub inside : IsInStretch (block_place shape ckpt number) BLOCK_SIZE at
+  pub reached : ℕ
+  pub is_reached : IsReached shape ckpt reached content
+  pub near : BLOCK_SIZE * number < BLOCK_SIZE * reached + PIECE
+
+-- the byte stands behind the header, and is such a one where the device tells
+pub record IsOfScan (shape : Shape) (ckpt : ℕ) (told : Option Disk) (at : ℕ) : Type 0 where
+  pub behind : IsBehindHeader at
+  pub near : OnContent told (IsNear shape ckpt at)
+
+-- it is such a one for the shape of the header and the newest checkpoint
+pub record IsNearScan (content : List ℕ) (at : ℕ) : Type 0 where
+  pub start : Start
+  pub starts : IsLogStart content start
+  pub near : IsNear start.shape start.ckpt at content
+
+-- The calls of a log device are reads of pieces, and read no byte twice. All but the last answered Ok, and the last one
+-- answered this error, if any did; where memory ran out they may all have answered Ok. Where the device has room for a
+-- header, the first of them reads that; and where it tells, no byte behind the header is read but of blocks that stand
+-- less than a piece behind one to which the scan comes.
+pub record ReadsLog (log : Seen) (error : Option DevError) (calls : List Call) : Type 0 where
+  pub reads : ReadsPieces error calls
+  pub header : HEADER_BYTES ≤ log.size → BeginWithHeader calls
+  pub bytes : OnContent log.tells (λ content. AreBytesRead (λ at. IsOfHeader at ⊎ IsNearScan content at) calls)
