@@ -14,7 +14,7 @@ use Rattle.redo_lab.specs.Outcome.{EndsCommand}
 use Rattle.redo_lab.specs.Script.{IsScriptRead}
 use Rattle.redo_lab.specs.declared.outcome.Outcome.TheVariants as outcome
 use Rattle.redo_lab.specs.declared.playing.Stops.{Stops}
-use Rattle.redo_lab.proofs.Found.{begun-or-kept, leaves-unstarted}
+use Rattle.redo_lab.proofs.Found.{begun-or-untouched, leaves-unstarted}
 use Rattle.redo_lab.proofs.RunEnds.{misfit-cause, spent-cause, steady-ended, store-cause}
 use Rattle.redo_lab.proofs.RunPlayed.{FormattedLaw}
 use Rattle.redo_lab.proofs.RunPossible.{OneReading, UnfitLaw, can-play, ended-kept}
@@ -33,7 +33,7 @@ crash-ended call stops drive pick script fault.LogDevice read one formatted ende
   (
     refl,
     past-crash call script drive stops.log stops.store pick read,
-    (ended.log_device.risen (omega arith), inl (omega (arith, ended.log_device.early), ended.log_device.stage, begun-or-kept call 1 0 ended)),
+    (ended.log_device.risen (omega arith), inl (omega (arith, ended.log_device.early), ended.log_device.stage, begun-or-untouched call 1 0 ended)),
   ),
   tt,
 )
@@ -42,7 +42,7 @@ crash-ended call stops drive pick script fault.DataDevice read one formatted end
     refl,
     past-crash call script drive stops.log stops.store pick read,
     (ended.log_device.early, ended.log_device.late),
-    (ended.data_device.risen (omega arith), inl (omega (arith, ended.data_device.early), ended.data_device.stage, begun-or-kept call 0 1 ended)),
+    (ended.data_device.risen (omega arith), inl (omega (arith, ended.data_device.early), ended.data_device.stage, begun-or-untouched call 0 1 ended)),
   ),
   tt,
 )

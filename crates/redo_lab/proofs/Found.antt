@@ -1,5 +1,5 @@
 -- The store that was found when both fuses were armed, and what is left of it where a run ended before its first line.
-use Rattle.std.proofs.Common.{ℕ, None, sym, subst, ap, ◌∙◌, inl, inr, ⊎_elim}
+use Rattle.std.proofs.Common.{ℕ, None, sym, subst, ap, ◌∙◌, inl, inr, ⊎_elim, arith}
 use Rattle.model_base.specs.{default_shape}
 use Rattle.model_device.specs.Disk.{Disk}
 use Rattle.model_opening.specs.{IsOpenable, KeepsNoStore, KeepsOpened}
@@ -8,7 +8,7 @@ use Rattle.model_store.specs.declared.refusal.Refusal.{Refusal}
 use Rattle.redo_memdisk.specs.declared.fuse.Fuse.{Fuse}
 use Rattle.redo_open.specs.{WhereBothTell}
 use Rattle.redo_lab.specs.Call.{AreLeftAlone, Call}
-use Rattle.redo_lab.specs.Cause.{IsBegunOrKept, IsFoundKept, KeepsStore, LeavesStopped, LeavesStore}
+use Rattle.redo_lab.specs.Cause.{AreUntouched, IsBegunOrUntouched, IsFoundKept, KeepsStore, LeavesStopped, LeavesStore}
 use Rattle.redo_lab.specs.Course.{AreRefusedOpened, AreStopped, AreUnderWay, KeepsFound}
 use Rattle.redo_lab.specs.Devices.{IsOpenedFirst}
 use Rattle.redo_lab.specs.Prepared.{AreTooShort, EndUnprepared}
@@ -34,17 +34,30 @@ found-kept call stops log_failed data_failed law way keeps = record {
 }
 
 -- NO STORE WAS OPENED
-pub begun-or-kept : (call : Call) (log_failed data_failed : ℕ)
-    → EndUnprepared call.log_device call.data_device log_failed data_failed call.log_device_now call.data_device_now → IsBegunOrKept call
-begun-or-kept call log_failed data_failed ends = ⊎_elim
+pub begun-or-untouched : (call : Call) (log_failed data_failed : ℕ)
+    → EndUnprepared call.log_device call.data_device log_failed data_failed call.log_device_now call.data_device_now → IsBegunOrUntouched call
+begun-or-untouched call log_failed data_failed ends = ⊎_elim
     (λ begun. inl (record {
       unused = begun.unused;
       no_store = λ log data_disk log_is data_is.
           both-told call.log_device_now.seen.tells call.data_device_now.seen.tells (KeepsNoStore default_shape log data_disk)
           (begun.no_store log data_disk log_is data_is);
     }))
-    (λ kept. inr (kept-both call kept))
-    ends.begun_or_kept
+    (λ untouched. inr (record {
+      kept = kept-both call untouched.kept;
+      log_calls = untouched.log_calls;
+      data_calls = untouched.data_calls;
+      data_unfailed = untouched.data_unfailed;
+    }))
+    ends.begun_or_untouched
+
+untouched-alone : (call : Call) → AreLeftAlone call → AreUntouched call
+untouched-alone call alone = record {
+  kept = kept-alone call alone;
+  log_calls = omega (arith, ap (λ (fuse : Fuse). fuse.early_calls) alone.log_device.fuse);
+  data_calls = ap (λ (fuse : Fuse). fuse.early_calls) alone.data_device.fuse;
+  data_unfailed = ap (λ (fuse : Fuse). fuse.early) alone.data_device.fuse;
+}
 
 -- WHAT IS LEFT, of devices that weren't called, of devices that weren't prepared, and of a store that wasn't opened
 pub leaves-alone : (call : Call) → OpenableLaw → AreLeftAlone call → LeavesStore call
@@ -53,7 +66,7 @@ leaves-alone call law alone = (
   inl (record {
     log_device = ap (λ (fuse : Fuse). fuse.stage) alone.log_device.fuse;
     data_device = ap (λ (fuse : Fuse). fuse.stage) alone.data_device.fuse;
-    left = inr (kept-alone call alone);
+    left = inr (untouched-alone call alone);
   }),
 )
 
@@ -61,14 +74,14 @@ pub leaves-unprepared : (call : Call) (log_failed data_failed : ℕ) → OneAnsw
     → EndUnprepared call.log_device call.data_device log_failed data_failed call.log_device_now call.data_device_now → LeavesStopped call
 leaves-unprepared call log_failed data_failed one law ends = (
   keeps-unprepared call log_failed data_failed one law ends,
-  inl (record { log_device = ends.log_device.stage; data_device = ends.data_device.stage; left = begun-or-kept call log_failed data_failed ends }),
+  inl (record { log_device = ends.log_device.stage; data_device = ends.data_device.stage; left = begun-or-untouched call log_failed data_failed ends }),
 )
 
 pub leaves-short : (call : Call) (cause : Refusal) → OpenableLaw
     → AreTooShort call.log_device call.data_device cause call.log_device_now call.data_device_now → LeavesStore call
 leaves-short call cause law short = (
   keeps-store call law (kept-both call short.kept),
-  inl (record { log_device = short.ends.log_device.stage; data_device = short.ends.data_device.stage; left = inr (kept-both call short.kept) }),
+  inl (record { log_device = short.ends.log_device.stage; data_device = short.ends.data_device.stage; left = begun-or-untouched call 0 0 short.ends }),
 )
 
 pub leaves-unstarted : (call : Call) (stops : Stops) (log_failed data_failed : ℕ) → OneAnswer → FormattedLaw

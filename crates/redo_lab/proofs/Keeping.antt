@@ -67,8 +67,8 @@ pub keeps-unprepared : (call : Call) (log_failed data_failed : ℕ) → OneAnswe
     → EndUnprepared call.log_device call.data_device log_failed data_failed call.log_device_now call.data_device_now → KeepsStore call
 keeps-unprepared call log_failed data_failed one law ends = ⊎_elim
     (λ begun. keeps-unused call one begun.unused)
-    (λ kept. keeps-store call law (kept-both call kept))
-    ends.begun_or_kept
+    (λ untouched. keeps-store call law (kept-both call untouched.kept))
+    ends.begun_or_untouched
 
 -- what was found in use when the fuses were armed is what was handed in
 found-told : (found : Guarded) (entry : Seen) (disk : Disk) → found.seen.tells ≡ entry.tells → entry.tells ≡ Some disk → found.seen.tells ≡ Some disk

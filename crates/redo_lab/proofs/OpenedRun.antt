@@ -26,6 +26,7 @@ use Rattle.redo_disk.specs.declared.error.DevError.TheVariants as device
 use Rattle.redo_memdisk.specs.{CallsThrough, seen_through}
 use Rattle.redo_memdisk.specs.declared.fused.Fused.{Fused}
 use Rattle.redo_open.specs.{IsOpenedReady, IsOpeningOf, OpensLog, WhereBothTell}
+use Rattle.redo_open.specs.Opening.{MarksStart}
 use Rattle.redo_pageactors.specs.{IsRunnable}
 use Rattle.redo_pageactors.specs.declared.opened.Opened.{Opened}
 use Rattle.redo_recover.specs.{OnContents}
@@ -129,6 +130,7 @@ pub record IsOpened {L D : Type 0} (log_seen : L → Seen) (log_gives : L → Ca
   pub runnable : IsRunnable store
   pub log_calls : MakesCalls (CallsThrough log_seen log_gives) log store.log.dev (OpensLog (log_seen log.inner).size None)
   pub data_calls : MakesCalls (CallsThrough data_seen data_gives) data_device store.store.dev (MayEndWith None)
+  pub marks : MarksStart (CallsThrough log_seen log_gives) log store
 
 -- one failure at the most is counted
 pub one-failure : (error : Option DevError) → failures error ≤ 1
@@ -332,11 +334,14 @@ opened-comes turns script (course.Played played (Some (fault.Turns count user)))
 opened-on : {L D : Type 0} {log_seen : L → Seen} {log_gives : L → Call → L → Type 0} {data_seen : D → Seen} {data_gives : D → Call → D → Type 0}
     {log_entry data_entry : Seen} {stops : Stops} {log_found data_found : Guarded} {log : Fused L} {data_device : Fused D} {store : Opened (Fused L) (Fused D)}
     → IsOpenedUnderWay log_seen log_gives data_seen data_gives log_entry data_entry stops log_found data_found log data_device store
-    → IsOpenedOn log_seen data_seen log_entry data_entry stops store
+    → IsOpenedOn log_seen log_gives data_seen log_entry data_entry stops store
 opened-on {log_seen = log_seen} {data_seen = data_seen} {log_entry = log_entry} {data_entry = data_entry} {log_found = log_found} {data_found = data_found} {log = log} {data_device = data_device} {store = store} is =
     let ends : HasEnd log_found.seen.tells data_found.seen.tells store = end-found is in
     record {
       way = way-of log_found data_found is.armed.prepared (counted-opened is);
+      log_armed = log;
+      armed = is.armed.log_device;
+      marks = is.opened.marks;
       end = ends.end;
       start = ends.start;
       opens = opens-as is.laws log_entry data_entry log_found data_found store ends.end is.armed.prepared ends.read;
@@ -361,7 +366,7 @@ pub driven-comes : {L D : Type 0} {log_seen : L → Seen} {log_gives : L → Cal
     (turns : Turns) (script : List ScriptLine) (c : Course) (log_now : Fused L) (data_now : Fused D)
     → IsOpenedUnderWay log_seen log_gives data_seen data_gives log_entry data_entry stops log_found data_found log data_device store
     → IsDrivenTo (seen_through log_seen) (CallsThrough log_seen log_gives) (seen_through data_seen) (CallsThrough data_seen data_gives) store turns script c log_now data_now
-    → ComesByTurnsTo log_seen data_seen log_entry data_entry stops turns script c log_now data_now
+    → ComesByTurnsTo log_seen log_gives data_seen log_entry data_entry stops turns script c log_now data_now
 driven-comes {store = store} turns script (course.Played played f) log_now data_now is driven = record {
   opened = store;
   is_opened = opened-on is;
@@ -373,6 +378,11 @@ driven-comes {store = store} turns script (course.Ended (fault.Turns count user)
   is_opened = opened-on is;
   spent = driven.0;
   counted = counted-failures driven.0.is_driven.driven log_now data_now is driven.1;
+}
+driven-comes {store = store} turns script (course.Ended (fault.Fit misfit)) log_now data_now is driven = record {
+  opened = store;
+  is_opened = opened-on is;
+  unfit = driven;
 }
 driven-comes turns script (course.Ended f) log_now data_now is driven = tt
 driven-comes turns script (course.Stopped f) log_now data_now is driven = tt

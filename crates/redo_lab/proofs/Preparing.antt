@@ -26,7 +26,7 @@ use Rattle.redo_recover.specs.declared.fault.RecFault.{RecFault}
 use Rattle.redo_recover.specs.declared.fault.RecFault.TheVariants.{SmallLog, NotFormatted, BadFormat, SmallData, NoCheckpoint, BadRecord, PageLost, PageAhead, LogDev, DataDev, NoMemory}
 use Rattle.redo_lab.specs.Call.{guarded}
 use Rattle.redo_lab.specs.Complete.{AreLongEnough}
-use Rattle.redo_lab.specs.Prepared.{ArePrepared, AreTooShort, BothBegun, BothKept, IsUnpreparedBy, ReadsOnce, WasUnused}
+use Rattle.redo_lab.specs.Prepared.{ArePrepared, AreTooShort, BothBegun, BothKept, BothUntouched, IsUnpreparedBy, ReadsOnce, WasUnused}
 use Rattle.redo_lab.specs.Stages.{IsUnarmed}
 use Rattle.redo_lab.specs.Store.{IsTooShort}
 use Rattle.redo_lab.proofs.Behind.{kept-behind, unarmed-behind}
@@ -83,14 +83,24 @@ prepared-in-use log_seen data_seen log_entry data_entry log store header first u
   });
 }
 
+-- nothing was called but that read
+read-untouched : {L D : Type 0} {log_seen : L → Seen} {data_seen : D → Seen} {log_entry data_entry : Seen} {failed : ℕ} {log : Fused L} {store : Fused D}
+    → IsReadFirst log_seen data_seen log_entry data_entry failed log store → BothUntouched log_entry data_entry (guarded log_seen log) (guarded data_seen store)
+read-untouched first = record {
+  kept = first.kept;
+  log_calls = omega (arith, first.log_calls);
+  data_calls = first.data_calls;
+  data_unfailed = first.data_device.early;
+}
+
 -- THE FIRST READ FAILED.
 pub unprepared-read : {L D : Type 0} (log_seen : L → Seen) (data_seen : D → Seen) (log_entry data_entry : Seen) (log : Fused L) (store : Fused D) (error : DevError)
     → IsReadFirst log_seen data_seen log_entry data_entry (failures (Some error)) log store
     → IsUnpreparedBy log_entry data_entry (log_fault_of error) (guarded log_seen log) (guarded data_seen store)
 unprepared-read log_seen data_seen log_entry data_entry log store device.Failed first =
-    record { log_device = first.log_device; data_device = first.data_device; begun_or_kept = inr first.kept }
+    record { log_device = first.log_device; data_device = first.data_device; begun_or_untouched = inr (read-untouched first) }
 unprepared-read log_seen data_seen log_entry data_entry log store device.NoMemory first =
-    record { log_device = first.log_device; data_device = first.data_device; begun_or_kept = inr first.kept }
+    record { log_device = first.log_device; data_device = first.data_device; begun_or_untouched = inr (read-untouched first) }
 
 -- THE LOG DEVICE HAS NO ROOM FOR A HEADER.
 pub unprepared-short : {L D : Type 0} (log_seen : L → Seen) (data_seen : D → Seen) (log : Fused L) (store : Fused D) → fuse_of log ≡ fresh → fuse_of store ≡ fresh
@@ -105,7 +115,12 @@ unprepared-short log_seen data_seen log store log_fresh data_fresh short sized =
       ends = record {
         log_device = unarmed-fresh log_seen (inner_of log) log refl log_fresh;
         data_device = unarmed-fresh data_seen (inner_of store) store refl data_fresh;
-        begun_or_kept = inr kept;
+        begun_or_untouched = inr (record {
+          kept = kept;
+          log_calls = omega (arith, ap (λ (fuse : Fuse). fuse.early_calls) log_fresh);
+          data_calls = ap (λ (fuse : Fuse). fuse.early_calls) data_fresh;
+          data_unfailed = ap (λ (fuse : Fuse). fuse.early) data_fresh;
+        });
       };
       kept = kept;
       sized = sized;
@@ -166,7 +181,7 @@ unformatted-short : {L D : Type 0} (log_seen : L → Seen) (data_seen : D → Se
 unformatted-short {L = L} {D = D} log_seen data_seen log_entry data_entry log log_new store data_new cause header first unused sized same short =
     let Short : Fused L → Fused D → Type 0 = λ log store. AreTooShort log_entry data_entry cause (guarded log_seen log) (guarded data_seen store) in
     subst (λ (one : Fused D). Short log_new one) (sym same.1) (subst (λ (one : Fused L). Short one store) (sym same.0) (record {
-      ends = record { log_device = first.log_device; data_device = first.data_device; begun_or_kept = inr first.kept };
+      ends = record { log_device = first.log_device; data_device = first.data_device; begun_or_untouched = inr (read-untouched first) };
       kept = first.kept;
       sized = sized;
       short = inr (header, same-short cause _ _ _ _ first.log_device.same.size first.data_device.same.size short, was-unused log_entry data_entry unused);
@@ -204,23 +219,23 @@ unprepared-formatted {log_seen = log_seen} {data_seen = data_seen} log_gives dat
 unprepared-formatted {log_entry = log_entry} {data_entry = data_entry} log_gives data_gives log_new data_new LogDev header first unused sized calls short keeps = record {
   log_device = unarmed-calls first.log_device (weaker_calls (MayEndWith-ends (Some device.Failed)) calls.log);
   data_device = unarmed-calls first.data_device (weaker_calls (MayEndWith-ends None) calls.data_device);
-  begun_or_kept = inl (both-begun log_new data_new first unused keeps);
+  begun_or_untouched = inl (both-begun log_new data_new first unused keeps);
 }
 unprepared-formatted {log_entry = log_entry} {data_entry = data_entry} log_gives data_gives log_new data_new DataDev header first unused sized calls short keeps = record {
   log_device = unarmed-calls first.log_device (weaker_calls (MayEndWith-ends None) calls.log);
   data_device = unarmed-calls first.data_device (weaker_calls (MayEndWith-ends (Some device.Failed)) calls.data_device);
-  begun_or_kept = inl (both-begun log_new data_new first unused keeps);
+  begun_or_untouched = inl (both-begun log_new data_new first unused keeps);
 }
 unprepared-formatted {log_entry = log_entry} {data_entry = data_entry} log_gives data_gives log_new data_new NoMemory header first unused sized calls short keeps = ⊎_elim
     (λ both. record {
       log_device = unarmed-calls first.log_device (weaker_calls (MayEndWith-ends (Some device.NoMemory)) both.log);
       data_device = unarmed-calls first.data_device (weaker_calls (MayEndWith-ends None) both.data_device);
-      begun_or_kept = inl (both-begun log_new data_new first unused keeps);
+      begun_or_untouched = inl (both-begun log_new data_new first unused keeps);
     })
     (λ both. record {
       log_device = unarmed-calls first.log_device (weaker_calls (MayEndWith-ends None) both.log);
       data_device = unarmed-calls first.data_device (weaker_calls (MayEndWith-ends (Some device.NoMemory)) both.data_device);
-      begun_or_kept = inl (both-begun log_new data_new first unused keeps);
+      begun_or_untouched = inl (both-begun log_new data_new first unused keeps);
     })
     calls
 unprepared-formatted log_gives data_gives log_new data_new NotFormatted header first unused sized calls short keeps = absurd short

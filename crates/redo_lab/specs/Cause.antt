@@ -45,15 +45,23 @@ pub record IsFormattingBegun (call : Call) : Type 0 where
   pub unused : WhereToldAtEntry call (λ log data_disk. IsUnused log.reads)
   pub no_store : WhereToldAtEntry call (λ log data_disk. WhereToldNow call (KeepsNoStore default_shape log data_disk))
 
--- no store was opened: formatting both devices was begun, or they are as they were
-abbrev pub IsBegunOrKept : Call → Type 0
-IsBegunOrKept call = IsFormattingBegun call ⊎ AreKept call
+-- Both devices are as they were, and no call was made but one at the most, of the log device: the read of its first block.
+pub record AreUntouched (call : Call) : Type 0 where
+  pub kept : AreKept call
+  pub log_calls : call.log_device_now.fuse.early_calls ≤ 1
+  pub data_calls : call.data_device_now.fuse.early_calls ≡ 0
+  pub data_unfailed : call.data_device_now.fuse.early ≡ 0
+
+-- no store was opened: formatting both devices was begun, or they were left as they were
+abbrev pub IsBegunOrUntouched : Call → Type 0
+IsBegunOrUntouched call = IsFormattingBegun call ⊎ AreUntouched call
 
 -- A call of this device failed that ends a crash with its fault: one before the fuse was armed, while the devices were
--- formatted, or one behind the crash, while they were read. A failure between ends the run and not the call.
+-- formatted, or the first read of the log device was to say whether they have to be; or one behind the crash, while they were
+-- read. A failure between ends the run and not the call.
 abbrev pub FailsAside : Call → (limit : Option ℕ) → (pick : ℕ) → Fuse → Type 0
 FailsAside call limit pick fuse =
-    ((0 < fuse.early) × (fuse.stage ≡ Before) × IsBegunOrKept call)
+    ((0 < fuse.early) × (fuse.stage ≡ Before) × IsBegunOrUntouched call)
     ⊎ ((0 < fuse.late) × IsCrashedAs limit pick fuse)
 
 -- A call of the device failed, and so its count rose. The fuse failed none by itself but where the words ask for a stop.
@@ -204,7 +212,7 @@ pub record IsFoundKept (call : Call) : Type 0 where
 pub record AreNotArmed (call : Call) : Type 0 where
   pub log_device : call.log_device_now.fuse.stage ≡ Before
   pub data_device : call.data_device_now.fuse.stage ≡ Before
-  pub left : IsBegunOrKept call
+  pub left : IsBegunOrUntouched call
 
 -- what is left where a run ended before its first line
 abbrev pub LeavesStore : Call → Type 0

@@ -9,6 +9,7 @@ pub mod Crashed
 pub mod Devices
 pub mod Ending
 pub mod Faults
+pub mod Led
 pub mod Outcome
 pub mod Playing
 pub mod Prepared

@@ -11,7 +11,7 @@ use Rattle.model_theorem.specs.Premises.{Premises}
 use Rattle.model_theorem.specs.Values as values
 use Rattle.redo_disk.specs.Seen.{Seen}
 use Rattle.redo_io.specs.{SinkSeen, SourceSeen}
-use Rattle.redo_memdisk.specs.{fresh, fuse_of, inner_of}
+use Rattle.redo_memdisk.specs.{armed_at, fresh, fuse_of, inner_of}
 use Rattle.redo_lab.specs.Answer.{AreUnfailedAside, IsAnswer, IsRunText}
 use Rattle.redo_lab.specs.Asked.{leaves_devices, reads_script}
 use Rattle.redo_lab.specs.Call.{AreKept, Call, IsUnread, guarded}
@@ -118,3 +118,5 @@ pub record IsUnasked {L D : Type 0} (fault : Fault) (log : L) (store : D) (done 
   pub log_fuse : fuse_of done.log ≡ fresh
   pub data_inner : inner_of done.store ≡ store
   pub data_fuse : fuse_of done.store ≡ fresh
+  pub log_armed : armed_at done.log ≡ None
+  pub data_armed : armed_at done.store ≡ None

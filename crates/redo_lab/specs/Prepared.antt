@@ -63,11 +63,18 @@ pub record BothBegun (log_entry data_entry : Seen) (log_now data_now : Guarded) 
   pub no_store : WhereTold log_entry data_entry
       (λ log data_disk. WhereBothTell log_now.seen.tells data_now.seen.tells (KeepsNoStore default_shape log data_disk))
 
--- THEY AREN'T: so many calls failed, and formatting was begun or both are as they were.
+-- Both are as they were, and before that came at most one call, of the log device: the read of its first block.
+pub record BothUntouched (log_entry data_entry : Seen) (log_now data_now : Guarded) : Type 0 where
+  pub kept : BothKept log_entry data_entry log_now data_now
+  pub log_calls : log_now.fuse.early_calls ≤ 1
+  pub data_calls : data_now.fuse.early_calls ≡ 0
+  pub data_unfailed : data_now.fuse.early ≡ 0
+
+-- THEY AREN'T: so many calls failed, and formatting was begun, or nothing was but to read whether the log device is unused.
 pub record EndUnprepared (log_entry data_entry : Seen) (log_failed data_failed : ℕ) (log_now data_now : Guarded) : Type 0 where
   pub log_device : IsUnarmed log_entry log_failed log_now
   pub data_device : IsUnarmed data_entry data_failed data_now
-  pub begun_or_kept : BothBegun log_entry data_entry log_now data_now ⊎ BothKept log_entry data_entry log_now data_now
+  pub begun_or_untouched : BothBegun log_entry data_entry log_now data_now ⊎ BothUntouched log_entry data_entry log_now data_now
 
 -- nothing was written, since a device is too short for a header, or for a new store, where the log device was unused
 pub record AreTooShort (log_entry data_entry : Seen) (cause : Refusal) (log_now data_now : Guarded) : Type 0 where

@@ -8,7 +8,8 @@ use Rattle.model_log.specs.{start_after}
 use Rattle.model_opening.specs.{IsOpenable}
 use Rattle.model_page.specs.declared.content.Content.{Content}
 use Rattle.model_report.specs.declared.fault.Fault.{Fault}
-use Rattle.model_report.specs.declared.fault.Fault.TheVariants.{LogDevice, DataDevice, Store, Turns}
+use Rattle.model_report.specs.declared.fault.Fault.TheVariants.{LogDevice, DataDevice, Store, Turns, Fit}
+use Rattle.model_script.specs.declared.misfit.Misfit.{Misfit}
 use Rattle.model_script.specs.declared.script.ScriptLine.{ScriptLine}
 use Rattle.model_store.specs.Reading.{Reading}
 use Rattle.model_theorem.specs.Values as values
@@ -20,21 +21,23 @@ use Rattle.redo_machine.specs.declared.drive.Driven.{Driven}
 use Rattle.redo_machine.specs.declared.drive.Turns as drive
 use Rattle.redo_machine.specs.declared.running.Ran as running
 use Rattle.redo_machine.specs.declared.running.Ran.TheVariants as ended
-use Rattle.redo_memdisk.specs.{fuse_of, seen_through}
+use Rattle.redo_memdisk.specs.{CallsThrough, fuse_of, seen_through}
 use Rattle.redo_memdisk.specs.declared.fused.Fused.{Fused}
 use Rattle.redo_open.specs.{IsOpenedReady, WhereBothTell}
+use Rattle.redo_open.specs.Opening.{MarksStart}
 use Rattle.redo_pageactors.specs.declared.opened.Opened.{Opened}
-use Rattle.redo_lab.specs.Asked.{command_of, drive_of_seed, turns_of}
+use Rattle.redo_lab.specs.Asked.{command_of, drive_of_seed, reads_script, turns_of}
 use Rattle.redo_lab.specs.Behind.{AreReadSince}
-use Rattle.redo_lab.specs.Call.{Guarded, LabCall, guarded}
+use Rattle.redo_lab.specs.Call.{Guarded, IsLeftAlone, LabCall, guarded}
 use Rattle.redo_lab.specs.Course.{AreUnderWay, ComesTo, ran_of}
 use Rattle.redo_lab.specs.Crashed.{AreCrashedSince}
 use Rattle.redo_lab.specs.Outcome.{IsOutcome, IsOutcomePrinted}
-use Rattle.redo_lab.specs.Playing.{MakeCalls, ended_by, played_of}
+use Rattle.redo_lab.specs.Playing.{IsUnfit, MakeCalls, ended_by, played_of}
 use Rattle.redo_lab.specs.Prepared.{WhereTold}
 use Rattle.redo_lab.specs.Reported.{IsReportOf}
 use Rattle.redo_lab.specs.Reread.{FailsReading}
-use Rattle.redo_lab.specs.Script.{IsScriptFor}
+use Rattle.redo_lab.specs.Script.{IsLongScript, IsScriptFor}
+use Rattle.redo_lab.specs.Stages.{IsArmed}
 use Rattle.redo_lab.specs.Store.{IsOpenedAs}
 use Rattle.redo_lab.specs.Summary.{summary_of}
 use Rattle.redo_lab.specs.declared.outcome.Outcome.{Outcome}
@@ -80,7 +83,8 @@ abbrev pub MakePartCalls : {L D : Type 0} → (L → Call → L → Type 0) → 
 MakePartCalls log_gives data_gives opened driven log_now data_now =
     MakeCalls log_gives data_gives opened driven.closed.log.failed driven.closed.store.failed log_now data_now
 
--- how far a run came that the turns of the drive led, if any was begun, and the calls that it made
+-- how far a run came that the turns of the drive led, if any was begun, and the calls that it made; none is begun of a script that
+-- doesn't fit the opened store
 abbrev pub IsDrivenTo : {L D : Type 0} → (L → Seen) → (L → Call → L → Type 0) → (D → Seen) → (D → Call → D → Type 0)
     → Opened L D → drive.Turns → List ScriptLine → Course → L → D → Type 0
 IsDrivenTo log_seen log_gives data_seen data_gives opened turns script (course.Played played fault) log_now data_now =
@@ -89,6 +93,8 @@ IsDrivenTo log_seen log_gives data_seen data_gives opened turns script (course.P
 IsDrivenTo log_seen log_gives data_seen data_gives opened turns script (course.Ended (Turns count user)) log_now data_now =
     (spent : IsDrivenOut log_seen data_seen opened turns script count user log_now data_now)
     × MakePartCalls log_gives data_gives opened spent.is_driven.driven log_now data_now
+IsDrivenTo log_seen log_gives data_seen data_gives opened turns script (course.Ended (Fit misfit)) log_now data_now =
+    IsUnfit opened turns script misfit log_now data_now
 IsDrivenTo log_seen log_gives data_seen data_gives opened turns script (course.Ended _) log_now data_now = Unit {0}
 IsDrivenTo log_seen log_gives data_seen data_gives opened turns script (course.Stopped _) log_now data_now = Unit {0}
 
@@ -99,9 +105,13 @@ abbrev pub opened_at : {L D : Type 0} → Opened L D → ℕ → values.Opened
 opened_at opened end = record { shape = opened.shape; pages = opened.pages; end = end }
 
 -- The store was opened on the two devices, behind their fuses, which stop them so.
-pub record IsOpenedOn {L D : Type 0} (log_seen : L → Seen) (data_seen : D → Seen)
+pub record IsOpenedOn {L D : Type 0} (log_seen : L → Seen) (log_gives : L → Call → L → Type 0) (data_seen : D → Seen)
     (log_entry data_entry : Seen) (stops : Stops) (opened : Opened (Fused L) (Fused D)) : Type 0 where
   pub way : AreUnderWay log_entry data_entry stops 0 0 (guarded log_seen opened.log.dev) (guarded data_seen opened.store.dev)
+  -- since its fuse was armed, the last calls of the log device wrote the checkpoint of the next number and made it stay
+  pub log_armed : Fused L
+  pub armed : IsArmed stops.log log_entry way.log_found 0 (guarded log_seen log_armed)
+  pub marks : MarksStart (CallsThrough log_seen log_gives) log_armed opened
   pub end : ℕ
   pub start : opened.start ≡ start_after end
   pub opens : WhereTold log_entry data_entry (IsOpenedAs (opened_at opened end))
@@ -116,31 +126,40 @@ pub record AreCountedFailures {L D : Type 0} (driven : Driven (Fused L) (Fused D
   pub data_device : (fuse_of data_now).mid ≡ failures driven.closed.store.failed
 
 -- A store was opened on them, and the turns of the drive led from it to where all users had ended.
-pub record ComesToEnd {L D : Type 0} (log_seen : L → Seen) (data_seen : D → Seen) (log_entry data_entry : Seen) (stops : Stops)
+pub record ComesToEnd {L D : Type 0} (log_seen : L → Seen) (log_gives : L → Call → L → Type 0) (data_seen : D → Seen) (log_entry data_entry : Seen) (stops : Stops)
     (turns : drive.Turns) (script : List ScriptLine) (played : Played) (fault : Option Fault)
     (log_now : Fused L) (data_now : Fused D) : Type 0 where
   pub opened : Opened (Fused L) (Fused D)
-  pub is_opened : IsOpenedOn log_seen data_seen log_entry data_entry stops opened
+  pub is_opened : IsOpenedOn log_seen log_gives data_seen log_entry data_entry stops opened
   pub done : IsDrivenDone (seen_through log_seen) (seen_through data_seen) opened turns script played fault log_now data_now
   pub counted : AreCountedFailures done.is_driven.driven log_now data_now
 
 -- A store was opened on them, and the turns of the drive were spent on it.
-pub record ComesToSpent {L D : Type 0} (log_seen : L → Seen) (data_seen : D → Seen) (log_entry data_entry : Seen) (stops : Stops)
+pub record ComesToSpent {L D : Type 0} (log_seen : L → Seen) (log_gives : L → Call → L → Type 0) (data_seen : D → Seen) (log_entry data_entry : Seen) (stops : Stops)
     (turns : drive.Turns) (script : List ScriptLine) (count user : ℕ) (log_now : Fused L) (data_now : Fused D) : Type 0 where
   pub opened : Opened (Fused L) (Fused D)
-  pub is_opened : IsOpenedOn log_seen data_seen log_entry data_entry stops opened
+  pub is_opened : IsOpenedOn log_seen log_gives data_seen log_entry data_entry stops opened
   pub spent : IsDrivenOut (seen_through log_seen) (seen_through data_seen) opened turns script count user log_now data_now
   pub counted : AreCountedFailures spent.is_driven.driven log_now data_now
 
--- a store was opened on them, and a run came so far on it that the turns of the drive led
-abbrev pub ComesByTurnsTo : {L D : Type 0} → (L → Seen) → (D → Seen)
+-- A store was opened on them, and the script doesn't fit that: no call was made since.
+pub record ComesToMisfit {L D : Type 0} (log_seen : L → Seen) (log_gives : L → Call → L → Type 0) (data_seen : D → Seen) (log_entry data_entry : Seen) (stops : Stops)
+    (turns : drive.Turns) (script : List ScriptLine) (misfit : Misfit) (log_now : Fused L) (data_now : Fused D) : Type 0 where
+  pub opened : Opened (Fused L) (Fused D)
+  pub is_opened : IsOpenedOn log_seen log_gives data_seen log_entry data_entry stops opened
+  pub unfit : IsUnfit opened turns script misfit log_now data_now
+
+-- a store was opened on them, and a run came so far on it that the turns of the drive led, or the script doesn't fit it
+abbrev pub ComesByTurnsTo : {L D : Type 0} → (L → Seen) → (L → Call → L → Type 0) → (D → Seen)
     → (log_entry data_entry : Seen) → Stops → drive.Turns → List ScriptLine → Course → Fused L → Fused D → Type 0
-ComesByTurnsTo log_seen data_seen log_entry data_entry stops turns script (course.Played played fault) log_now data_now =
-    ComesToEnd log_seen data_seen log_entry data_entry stops turns script played fault log_now data_now
-ComesByTurnsTo log_seen data_seen log_entry data_entry stops turns script (course.Ended (Turns count user)) log_now data_now =
-    ComesToSpent log_seen data_seen log_entry data_entry stops turns script count user log_now data_now
-ComesByTurnsTo log_seen data_seen log_entry data_entry stops turns script (course.Ended _) log_now data_now = Unit {0}
-ComesByTurnsTo log_seen data_seen log_entry data_entry stops turns script (course.Stopped _) log_now data_now = Unit {0}
+ComesByTurnsTo log_seen log_gives data_seen log_entry data_entry stops turns script (course.Played played fault) log_now data_now =
+    ComesToEnd log_seen log_gives data_seen log_entry data_entry stops turns script played fault log_now data_now
+ComesByTurnsTo log_seen log_gives data_seen log_entry data_entry stops turns script (course.Ended (Turns count user)) log_now data_now =
+    ComesToSpent log_seen log_gives data_seen log_entry data_entry stops turns script count user log_now data_now
+ComesByTurnsTo log_seen log_gives data_seen log_entry data_entry stops turns script (course.Ended (Fit misfit)) log_now data_now =
+    ComesToMisfit log_seen log_gives data_seen log_entry data_entry stops turns script misfit log_now data_now
+ComesByTurnsTo log_seen log_gives data_seen log_entry data_entry stops turns script (course.Ended _) log_now data_now = Unit {0}
+ComesByTurnsTo log_seen log_gives data_seen log_entry data_entry stops turns script (course.Stopped _) log_now data_now = Unit {0}
 
 -- WHAT IS TOLD OF IT.
 
@@ -157,32 +176,32 @@ pub record Handed : Type 0 where
 
 -- A run by turns took place of the script that the command runs; this fault ended it, if one did, and at its end the devices were
 -- these.
-pub record RunsAsHanded {L D : Type 0} (log_seen : L → Seen) (data_seen : D → Seen) (handed : Handed) (fault : Option Fault)
+pub record RunsAsHanded {L D : Type 0} (log_seen : L → Seen) (log_gives : L → Call → L → Type 0) (data_seen : D → Seen) (handed : Handed) (fault : Option Fault)
     (log_then : Fused L) (data_then : Fused D) : Type 0 where
   pub script : List ScriptLine
   pub is_script : IsScriptFor handed.command handed.source handed.source_now script
   pub played : Played
-  pub comes : ComesToEnd log_seen data_seen handed.log_entry handed.data_entry handed.stops handed.turns script
+  pub comes : ComesToEnd log_seen log_gives data_seen handed.log_entry handed.data_entry handed.stops handed.turns script
       played fault log_then data_then
 
 -- A run by turns of that script came so far, if it was begun, and then the devices were these.
-pub record ComesAsHanded {L D : Type 0} (log_seen : L → Seen) (data_seen : D → Seen) (handed : Handed) (so_far : Course)
+pub record ComesAsHanded {L D : Type 0} (log_seen : L → Seen) (log_gives : L → Call → L → Type 0) (data_seen : D → Seen) (handed : Handed) (so_far : Course)
     (log_then : Fused L) (data_then : Fused D) : Type 0 where
   pub script : List ScriptLine
   pub is_script : IsScriptFor handed.command handed.source handed.source_now script
   pub comes_to : ComesTo handed.log_entry handed.data_entry handed.stops handed.turns script so_far
       (guarded log_seen log_then) (guarded data_seen data_then)
-  pub by_turns : ComesByTurnsTo log_seen data_seen handed.log_entry handed.data_entry handed.stops handed.turns script
+  pub by_turns : ComesByTurnsTo log_seen log_gives data_seen handed.log_entry handed.data_entry handed.stops handed.turns script
       so_far log_then data_then
 
 -- The text is the report of such a run; behind a crash it has what was read.
-pub record TellsRun {L D : Type 0} (log_seen : L → Seen) (data_seen : D → Seen) (handed : Handed)
+pub record TellsRun {L D : Type 0} (log_seen : L → Seen) (log_gives : L → Call → L → Type 0) (data_seen : D → Seen) (handed : Handed)
     (read : Option (ℕ × List Content)) (fault : Option Fault) (text : List ℕ) (log_then : Fused L) (data_then : Fused D) : Type 0 where
-  pub runs : RunsAsHanded log_seen data_seen handed fault log_then data_then
+  pub runs : RunsAsHanded log_seen log_gives data_seen handed fault log_then data_then
   pub report : IsReportOf runs.script (Some (ran_of runs.played)) read text
 
 -- The same of a text of `crash`: the devices were crashed at the end of the run, whatever ended it, and then read.
-pub record TellsCrash {L D : Type 0} (log_seen : L → Seen) (data_seen : D → Seen)
+pub record TellsCrash {L D : Type 0} (log_seen : L → Seen) (log_gives : L → Call → L → Type 0) (data_seen : D → Seen)
     (handed : Handed) (pick : ℕ) (text : List ℕ) (log_now : Fused L) (data_now : Fused D) : Type 0 where
   pub log_then : Fused L
   pub data_then : Fused D
@@ -190,37 +209,37 @@ pub record TellsCrash {L D : Type 0} (log_seen : L → Seen) (data_seen : D → 
       (guarded log_seen log_now) (guarded data_seen data_now)
   pub read : ℕ × List Content
   pub fault : Option Fault
-  pub run : TellsRun log_seen data_seen handed (Some read) fault text log_then data_then
+  pub run : TellsRun log_seen log_gives data_seen handed (Some read) fault text log_then data_then
 
 -- The text is the summary of such a run that no fault ended, and of a reading: since the end of the run the devices mean the same.
-pub record TellsSummary {L D : Type 0} (log_seen : L → Seen) (data_seen : D → Seen)
+pub record TellsSummary {L D : Type 0} (log_seen : L → Seen) (log_gives : L → Call → L → Type 0) (data_seen : D → Seen)
     (handed : Handed) (text : List ℕ) (log_now : Fused L) (data_now : Fused D) : Type 0 where
   pub log_then : Fused L
   pub data_then : Fused D
   pub read_since : AreReadSince 0 0 (guarded log_seen log_then) (guarded data_seen data_then)
       (guarded log_seen log_now) (guarded data_seen data_now)
-  pub runs : RunsAsHanded log_seen data_seen handed None log_then data_then
+  pub runs : RunsAsHanded log_seen log_gives data_seen handed None log_then data_then
   pub reading : Reading
   pub text_is : text ≡ summary_of (ran_of runs.played) reading
 
 -- The text of `crash` tells that there was no run: a device stopped opening, and then both were crashed and read.
-pub record TellsNone {L D : Type 0} (log_seen : L → Seen) (data_seen : D → Seen)
+pub record TellsNone {L D : Type 0} (log_seen : L → Seen) (log_gives : L → Call → L → Type 0) (data_seen : D → Seen)
     (handed : Handed) (pick : ℕ) (text : List ℕ) (log_now : Fused L) (data_now : Fused D) : Type 0 where
   pub met : Fault
   pub log_then : Fused L
   pub data_then : Fused D
-  pub stopped : ComesAsHanded log_seen data_seen handed (course.Stopped met) log_then data_then
+  pub stopped : ComesAsHanded log_seen log_gives data_seen handed (course.Stopped met) log_then data_then
   pub crashed : AreCrashedSince pick 0 0 (guarded log_seen log_then) (guarded data_seen data_then)
       (guarded log_seen log_now) (guarded data_seen data_now)
   pub read : ℕ × List Content
   pub report : IsReportOf stopped.script None (Some read) text
 
 -- the turns of a run were spent, so many, and this is the least user that hasn't ended
-pub record TellsSpent {L D : Type 0} (log_seen : L → Seen) (data_seen : D → Seen)
+pub record TellsSpent {L D : Type 0} (log_seen : L → Seen) (log_gives : L → Call → L → Type 0) (data_seen : D → Seen)
     (handed : Handed) (count user : ℕ) (log_now : Fused L) (data_now : Fused D) : Type 0 where
   pub script : List ScriptLine
   pub is_script : IsScriptFor handed.command handed.source handed.source_now script
-  pub comes : ComesToSpent log_seen data_seen handed.log_entry handed.data_entry handed.stops handed.turns script
+  pub comes : ComesToSpent log_seen log_gives data_seen handed.log_entry handed.data_entry handed.stops handed.turns script
       count user log_now data_now
 
 -- the run met this fault, and nothing was done since
@@ -248,29 +267,39 @@ module _ {L D : Type 0} (log_seen : L → Seen) (data_seen : D → Seen) (log_th
   FailsSince command so_far fault = ⊥
 
 -- This fault ended such a run, or what the command does behind it.
-pub record FailsAsHanded {L D : Type 0} (log_seen : L → Seen) (data_seen : D → Seen) (handed : Handed) (fault : Fault)
+pub record FailsAsHanded {L D : Type 0} (log_seen : L → Seen) (log_gives : L → Call → L → Type 0) (data_seen : D → Seen) (handed : Handed) (fault : Fault)
     (log_now : Fused L) (data_now : Fused D) : Type 0 where
   pub so_far : Course
   pub log_then : Fused L
   pub data_then : Fused D
-  pub comes : ComesAsHanded log_seen data_seen handed so_far log_then data_then
+  pub comes : ComesAsHanded log_seen log_gives data_seen handed so_far log_then data_then
   pub fails : FailsSince log_seen data_seen log_then log_now data_then data_now handed.command so_far fault
 
--- What a fault's line alone tells of a run: where the turns were spent, or the devices decided. Memory may run out anywhere, and
--- any other fault comes of the script.
-abbrev pub TellsFault : {L D : Type 0} → (L → Seen) → (D → Seen) → Handed → Fault → Fused L → Fused D → Type 0
-TellsFault log_seen data_seen handed (Turns count user) log_now data_now = TellsSpent log_seen data_seen handed count user log_now data_now
-TellsFault log_seen data_seen handed LogDevice log_now data_now = FailsAsHanded log_seen data_seen handed LogDevice log_now data_now
-TellsFault log_seen data_seen handed DataDevice log_now data_now = FailsAsHanded log_seen data_seen handed DataDevice log_now data_now
-TellsFault log_seen data_seen handed (Store refusal) log_now data_now =
-    FailsAsHanded log_seen data_seen handed (Store refusal) log_now data_now
-TellsFault log_seen data_seen handed fault log_now data_now = Unit {0}
+-- The source had more bytes than a script may have, and no device was called.
+pub record IsTooLong {L D : Type 0} (log_seen : L → Seen) (data_seen : D → Seen) (handed : Handed) (misfit : Misfit)
+    (log_now : Fused L) (data_now : Fused D) : Type 0 where
+  pub reads : reads_script handed.command ≡ true
+  pub long : IsLongScript handed.source misfit
+  pub log_device : IsLeftAlone handed.log_entry (guarded log_seen log_now)
+  pub data_device : IsLeftAlone handed.data_entry (guarded data_seen data_now)
+
+-- What a fault's line alone tells of a run: where the turns were spent, the devices decided, or the script doesn't fit the store
+-- that was opened. Memory may run out anywhere, and any other fault comes of reading the script.
+abbrev pub TellsFault : {L D : Type 0} → (L → Seen) → (L → Call → L → Type 0) → (D → Seen) → Handed → Fault → Fused L → Fused D → Type 0
+TellsFault log_seen log_gives data_seen handed (Turns count user) log_now data_now = TellsSpent log_seen log_gives data_seen handed count user log_now data_now
+TellsFault log_seen log_gives data_seen handed LogDevice log_now data_now = FailsAsHanded log_seen log_gives data_seen handed LogDevice log_now data_now
+TellsFault log_seen log_gives data_seen handed DataDevice log_now data_now = FailsAsHanded log_seen log_gives data_seen handed DataDevice log_now data_now
+TellsFault log_seen log_gives data_seen handed (Store refusal) log_now data_now =
+    FailsAsHanded log_seen log_gives data_seen handed (Store refusal) log_now data_now
+TellsFault log_seen log_gives data_seen handed (Fit misfit) log_now data_now =
+    IsTooLong log_seen data_seen handed misfit log_now data_now ⊎ FailsAsHanded log_seen log_gives data_seen handed (Fit misfit) log_now data_now
+TellsFault log_seen log_gives data_seen handed fault log_now data_now = Unit {0}
 
 -- the devices of a command that isn't `crash` aren't stopped
 abbrev pub no_stops : Stops
 no_stops = record { log = None; store = None }
 
-module _ {L D : Type 0} (log_seen : L → Seen) (data_seen : D → Seen)
+module _ {L D : Type 0} (log_seen : L → Seen) (log_gives : L → Call → L → Type 0) (data_seen : D → Seen)
     (source source_now : SourceSeen) (log_entry data_entry : Seen) where
   -- the call of a command that runs a script so
   abbrev pub handed_as : Command → Stops → Drive → Handed
@@ -288,30 +317,30 @@ module _ {L D : Type 0} (log_seen : L → Seen) (data_seen : D → Seen)
   -- reported of a crash.
   abbrev pub TellsByTurns : Command → Outcome → Fused L → Fused D → Type 0
   TellsByTurns (Run drive) (outcome.Text text) log_now data_now =
-      TellsRun log_seen data_seen (handed_as (Run drive) no_stops drive) None None text log_now data_now
+      TellsRun log_seen log_gives data_seen (handed_as (Run drive) no_stops drive) None None text log_now data_now
   TellsByTurns (Run drive) (outcome.Report text (Turns count user)) log_now data_now = ⊥
   TellsByTurns (Run drive) (outcome.Report text fault) log_now data_now =
-      TellsRun log_seen data_seen (handed_as (Run drive) no_stops drive) None (Some fault) text log_now data_now
+      TellsRun log_seen log_gives data_seen (handed_as (Run drive) no_stops drive) None (Some fault) text log_now data_now
   TellsByTurns (Run drive) (outcome.Fault fault) log_now data_now =
-      TellsFault log_seen data_seen (handed_as (Run drive) no_stops drive) fault log_now data_now
+      TellsFault log_seen log_gives data_seen (handed_as (Run drive) no_stops drive) fault log_now data_now
   TellsByTurns (Crash drive stop_log stop_data pick) (outcome.Text text) log_now data_now =
-      TellsNone log_seen data_seen (handed_as (Crash drive stop_log stop_data pick) (record { log = stop_log; store = stop_data }) drive) pick text log_now data_now
-      ⊎ TellsCrash log_seen data_seen (handed_as (Crash drive stop_log stop_data pick) (record { log = stop_log; store = stop_data }) drive) pick text log_now data_now
+      TellsNone log_seen log_gives data_seen (handed_as (Crash drive stop_log stop_data pick) (record { log = stop_log; store = stop_data }) drive) pick text log_now data_now
+      ⊎ TellsCrash log_seen log_gives data_seen (handed_as (Crash drive stop_log stop_data pick) (record { log = stop_log; store = stop_data }) drive) pick text log_now data_now
   TellsByTurns (Crash drive stop_log stop_data pick) (outcome.Report text fault) log_now data_now = ⊥
   TellsByTurns (Crash drive stop_log stop_data pick) (outcome.Fault fault) log_now data_now =
-      TellsFault log_seen data_seen (handed_as (Crash drive stop_log stop_data pick) (record { log = stop_log; store = stop_data }) drive) fault log_now data_now
+      TellsFault log_seen log_gives data_seen (handed_as (Crash drive stop_log stop_data pick) (record { log = stop_log; store = stop_data }) drive) fault log_now data_now
   TellsByTurns (Gen seed users groups true max) (outcome.Text text) log_now data_now =
-      TellsSummary log_seen data_seen (handed_as (Gen seed users groups true max) no_stops (drive_of_seed seed max)) text log_now data_now
+      TellsSummary log_seen log_gives data_seen (handed_as (Gen seed users groups true max) no_stops (drive_of_seed seed max)) text log_now data_now
   TellsByTurns (Gen seed users groups true max) (outcome.Report text fault) log_now data_now = ⊥
   TellsByTurns (Gen seed users groups true max) (outcome.Fault fault) log_now data_now =
-      TellsFault log_seen data_seen (handed_as (Gen seed users groups true max) no_stops (drive_of_seed seed max)) fault log_now data_now
+      TellsFault log_seen log_gives data_seen (handed_as (Gen seed users groups true max) no_stops (drive_of_seed seed max)) fault log_now data_now
   TellsByTurns command outcome log_now data_now = Unit {0}
 
 -- What the words' command came to was printed; it means what it says of the call, and a run that it tells of is one by its
 -- turns.
-abbrev pub IsByTurns : {L D : Type 0} → (L → Seen) → (D → Seen) → LabCall → Fused L → Fused D → Type 0
-IsByTurns log_seen data_seen lab log_now data_now =
+abbrev pub IsByTurns : {L D : Type 0} → (L → Seen) → (L → Call → L → Type 0) → (D → Seen) → LabCall → Fused L → Fused D → Type 0
+IsByTurns log_seen log_gives data_seen lab log_now data_now =
     (command : Command) → command_of lab.call.words ≡ Some command
     → (outcome : Outcome) × IsOutcomePrinted outcome lab.status lab.sink lab.sink_now × IsOutcome lab.call command outcome
-    × TellsByTurns log_seen data_seen lab.call.source lab.call.source_now lab.call.log_device lab.call.data_device
+    × TellsByTurns log_seen log_gives data_seen lab.call.source lab.call.source_now lab.call.log_device lab.call.data_device
     command outcome log_now data_now

@@ -7,6 +7,7 @@ ghost use Rattle.model_script.specs.{IsScriptLine};
 ghost use Rattle.redo_io.specs.{SourceSeen};
 ghost use Rattle.redo_lab.specs.Call.{guarded};
 ghost use Rattle.redo_lab.specs.Crashed.{ReadsBack};
+ghost use Rattle.redo_lab.specs.Led.{IsCrashed, IsLedFrom};
 ghost use Rattle.redo_lab.specs.Outcome.{EndsCommand, call_of};
 ghost use Rattle.redo_lab.specs.Reported.{IsReportOf, run_of};
 ghost use Rattle.redo_lab.specs.Script.{IsScriptRead};
@@ -58,8 +59,10 @@ fn crash_and_read<L: Sectors, D: Sectors>(
     log: &mut Fused<L>,
     store: &mut Fused<D>,
 ) -> Outcome
-    ensures { ReadsBack pick script.now (run_of played.entry) result
+    ensures reads { ReadsBack pick script.now (run_of played.entry) result
         (guarded L.seen log.old) (guarded D.seen store.old) (guarded L.seen log.new) (guarded D.seen store.new) }
+    ensures log_crashed { IsCrashed L.seen L.gives L.crash_gives pick log.old log.new }
+    ensures data_crashed { IsCrashed D.seen D.gives D.crash_gives pick store.old store.new }
 {
     log.crash(pick);
     store.crash(pick);
@@ -84,7 +87,9 @@ pub(crate) fn crash_command<L: Sectors, D: Sectors>(
     ensures ends { (words : List (List ℕ)) (source source_now : SourceSeen) → IsScriptRead source source_now script.now
         → EndsCommand (call_of L.seen D.seen words source source_now log store result) (Crash drive.now stops.log stops.store pick) result.outcome }
     ensures turns { (source source_now : SourceSeen) → IsScriptRead source source_now script.now
-        → TellsByTurns L.seen D.seen source source_now (L.seen log) (D.seen store) (Crash drive.now stops.log stops.store pick) result.outcome result.log result.store }
+        → TellsByTurns L.seen L.gives D.seen source source_now (L.seen log) (D.seen store) (Crash drive.now stops.log stops.store pick) result.outcome result.log result.store }
+    ensures log_device { IsLedFrom L.seen L.gives L.crash_gives log result.log }
+    ensures data_device { IsLedFrom D.seen D.gives D.crash_gives store result.store }
 {
     one_answer();
     one_reading();

@@ -11,6 +11,7 @@ ghost use Rattle.redo_lab.specs.Asked.{drive_of_seed, turns_of};
 ghost use Rattle.redo_lab.specs.Behind.{ReadsBehind};
 ghost use Rattle.redo_lab.specs.Call.{guarded};
 ghost use Rattle.redo_lab.specs.Course.{ran_of};
+ghost use Rattle.redo_lab.specs.Led.{IsCalled, IsLedFrom};
 ghost use Rattle.redo_lab.specs.Outcome.{EndsCommand, call_of};
 ghost use Rattle.redo_lab.specs.Summary.{summary_of};
 ghost use Rattle.redo_lab.specs.Turned.{TellsByTurns};
@@ -46,8 +47,10 @@ fn print_script<L: Sectors, D: Sectors>(
 ) -> Done<L, D>
     requires some_users { 1 ≤ users }
     requires few_users { users ≤ MAX_USERS }
-    ensures { (words : List (List ℕ)) (source : SourceSeen)
+    ensures ends { (words : List (List ℕ)) (source : SourceSeen)
         → EndsCommand (call_of L.seen D.seen words source source log store result) (Gen seed users groups false max) result.outcome }
+    ensures log_device { IsLedFrom L.seen L.gives L.crash_gives log result.log }
+    ensures data_device { IsLedFrom D.seen D.gives D.crash_gives store result.store }
 {
     Done {
         outcome: Outcome::of_text(generate(alloc, seed, users, groups)),
@@ -78,8 +81,10 @@ fn read_behind<L: Sectors, D: Sectors>(
     log: &mut Fused<L>,
     store: &mut Fused<D>,
 ) -> Outcome
-    ensures { ReadsBehind (ran_of played.now) result (guarded L.seen log.old) (guarded D.seen store.old)
+    ensures reads { ReadsBehind (ran_of played.now) result (guarded L.seen log.old) (guarded D.seen store.old)
         (guarded L.seen log.new) (guarded D.seen store.new) }
+    ensures log_called { IsCalled L.seen L.gives log.old log.new }
+    ensures data_called { IsCalled D.seen D.gives store.old store.new }
 {
     match recover(alloc, log, store) {
         Ok(recovered) => Outcome::of_text(summarize(alloc, played, &recovered)),
@@ -111,7 +116,9 @@ fn run_script<L: Sectors, D: Sectors>(
     ensures ends { (words : List (List ℕ)) (source : SourceSeen) (users groups : ℕ) → script.now ≡ generated_lines seed users groups
         → EndsCommand (call_of L.seen D.seen words source source log store result) (Gen seed users groups true max) result.outcome }
     ensures turns { (source : SourceSeen) (users groups : ℕ) → script.now ≡ generated_lines seed users groups
-        → TellsByTurns L.seen D.seen source source (L.seen log) (D.seen store) (Gen seed users groups true max) result.outcome result.log result.store }
+        → TellsByTurns L.seen L.gives D.seen source source (L.seen log) (D.seen store) (Gen seed users groups true max) result.outcome result.log result.store }
+    ensures log_device { IsLedFrom L.seen L.gives L.crash_gives log result.log }
+    ensures data_device { IsLedFrom D.seen D.gives D.crash_gives store result.store }
 {
     one_answer();
     one_reading();
@@ -158,7 +165,9 @@ fn run_seed<L: Sectors, D: Sectors>(
     ensures ends { (words : List (List ℕ)) (source : SourceSeen)
         → EndsCommand (call_of L.seen D.seen words source source log store result) (Gen seed users groups true max) result.outcome }
     ensures turns { (source : SourceSeen)
-        → TellsByTurns L.seen D.seen source source (L.seen log) (D.seen store) (Gen seed users groups true max) result.outcome result.log result.store }
+        → TellsByTurns L.seen L.gives D.seen source source (L.seen log) (D.seen store) (Gen seed users groups true max) result.outcome result.log result.store }
+    ensures log_device { IsLedFrom L.seen L.gives L.crash_gives log result.log }
+    ensures data_device { IsLedFrom D.seen D.gives D.crash_gives store result.store }
 {
     generated_lines_are_ranged();
     match generate_lines(alloc, seed, users, groups) {
@@ -183,7 +192,9 @@ pub(crate) fn gen_command<L: Sectors, D: Sectors>(
     ensures ends { (words : List (List ℕ)) (source : SourceSeen)
         → EndsCommand (call_of L.seen D.seen words source source log store result) (Gen seed users groups run max) result.outcome }
     ensures turns { (source : SourceSeen)
-        → TellsByTurns L.seen D.seen source source (L.seen log) (D.seen store) (Gen seed users groups run max) result.outcome result.log result.store }
+        → TellsByTurns L.seen L.gives D.seen source source (L.seen log) (D.seen store) (Gen seed users groups run max) result.outcome result.log result.store }
+    ensures log_device { IsLedFrom L.seen L.gives L.crash_gives log result.log }
+    ensures data_device { IsLedFrom D.seen D.gives D.crash_gives store result.store }
 {
     if run {
         run_seed(alloc, seed, users, groups, max, log, store)

@@ -7,6 +7,7 @@ ghost use Rattle.redo_io.specs.declared.read.TheConstants.{PIECE};
 ghost use Rattle.model_command.specs.declared.asked.Command.TheVariants.{Crash, Run};
 ghost use Rattle.redo_lab.specs.Asked.{IsWithin};
 ghost use Rattle.redo_lab.specs.Call.{lab_call_of};
+ghost use Rattle.redo_lab.specs.Led.{IsLedFrom};
 ghost use Rattle.redo_lab.specs.Outcome.{EndsCommand, IsOutcomePrinted, call_of};
 ghost use Rattle.redo_lab.specs.Promised.{IsCallOf};
 ghost use Rattle.redo_lab.specs.Turned.{IsByTurns, TellsByTurns};
@@ -38,8 +39,10 @@ fn run_source<S: Source, L: Sectors, D: Sectors>(
 ) -> Done<L, D>
     ensures ends { (words : List (List ℕ))
         → EndsCommand (call_of L.seen D.seen words (S.seen src.old) (S.seen src.new) log store result) (Run drive.now) result.outcome }
-    ensures turns { TellsByTurns L.seen D.seen (S.seen src.old) (S.seen src.new) (L.seen log) (D.seen store)
+    ensures turns { TellsByTurns L.seen L.gives D.seen (S.seen src.old) (S.seen src.new) (L.seen log) (D.seen store)
         (Run drive.now) result.outcome result.log result.store }
+    ensures log_device { IsLedFrom L.seen L.gives L.crash_gives log result.log }
+    ensures data_device { IsLedFrom D.seen D.gives D.crash_gives store result.store }
     ensures taken { TakesAtMost (MAX_SCRIPT + PIECE) (S.seen src.old).left (S.seen src.new).left }
 {
     openable_reads();
@@ -63,8 +66,10 @@ fn crash_source<S: Source, L: Sectors, D: Sectors>(
     ensures ends { (words : List (List ℕ))
         → EndsCommand (call_of L.seen D.seen words (S.seen src.old) (S.seen src.new) log store result)
         (Crash drive.now stops.log stops.store pick) result.outcome }
-    ensures turns { TellsByTurns L.seen D.seen (S.seen src.old) (S.seen src.new) (L.seen log) (D.seen store)
+    ensures turns { TellsByTurns L.seen L.gives D.seen (S.seen src.old) (S.seen src.new) (L.seen log) (D.seen store)
         (Crash drive.now stops.log stops.store pick) result.outcome result.log result.store }
+    ensures log_device { IsLedFrom L.seen L.gives L.crash_gives log result.log }
+    ensures data_device { IsLedFrom D.seen D.gives D.crash_gives store result.store }
     ensures taken { TakesAtMost (MAX_SCRIPT + PIECE) (S.seen src.old).left (S.seen src.new).left }
 {
     openable_reads();
@@ -86,8 +91,10 @@ fn done<S: Source, L: Sectors, D: Sectors>(
     requires { IsWithin command }
     ensures ends { (words : List (List ℕ))
         → EndsCommand (call_of L.seen D.seen words (S.seen src.old) (S.seen src.new) log store result) command result.outcome }
-    ensures turns { TellsByTurns L.seen D.seen (S.seen src.old) (S.seen src.new) (L.seen log) (D.seen store)
+    ensures turns { TellsByTurns L.seen L.gives D.seen (S.seen src.old) (S.seen src.new) (L.seen log) (D.seen store)
         command result.outcome result.log result.store }
+    ensures log_device { IsLedFrom L.seen L.gives L.crash_gives log result.log }
+    ensures data_device { IsLedFrom D.seen D.gives D.crash_gives store result.store }
     ensures taken { TakesAtMost (MAX_SCRIPT + PIECE) (S.seen src.old).left (S.seen src.new).left }
 {
     match command {
@@ -144,9 +151,11 @@ pub fn lab<S: Source, O: Sink, L: Sectors, D: Sectors>(
 ) -> Ended<L, D>
     ensures call { IsCallOf (lab_call_of L.seen D.seen (map (λ word. string_bytes word) words.now) (S.seen src.old) (S.seen src.new)
         (O.seen out.old) (O.seen out.new) log store result) }
-    ensures turns { IsByTurns L.seen D.seen
+    ensures turns { IsByTurns L.seen L.gives D.seen
         (lab_call_of L.seen D.seen (map (λ word. string_bytes word) words.now) (S.seen src.old) (S.seen src.new)
         (O.seen out.old) (O.seen out.new) log store result) result.log result.store }
+    ensures log_device { IsLedFrom L.seen L.gives L.crash_gives log result.log }
+    ensures data_device { IsLedFrom D.seen D.gives D.crash_gives store result.store }
 {
     let Done {
         outcome,

@@ -1,10 +1,11 @@
+use Rattle.redo_lab.proofs.Led.{called-by}
 use Rattle.redo_recover.specs.{reading_of}
 use Rattle.redo_lab.specs.Reported.{run_of}
 use Rattle.redo_lab.proofs.Crashing.{back-fails, back-read, data-crashed, log-crashed}
 use Rattle.redo_lab.proofs.crash_command.crash_and_read.Goals as goal
 
-pub returns-in-Ok : goal.returns-in-Ok
-returns-in-Ok g c =
+pub returns-in-Ok-clause-reads : goal.returns-in-Ok-clause-reads
+returns-in-Ok-clause-reads g c =
     let now = c.in-Ok.ensures in
     rw c.of_text.ensures (back-read c.args.pick c.args.script.now (run_of c.args.played) (reading_of c.in-Ok.recovered) _ _ _ _
     (g.L.Sectors.seen c.crash.new.self.inner) (g.D.Sectors.seen c.crash-2.new.self.inner) _
@@ -12,11 +13,23 @@ returns-in-Ok g c =
     (record { tells = now.log.tells; size = now.log.size }) (record { tells = now.data_device.tells; size = now.data_device.size })
     now.read c.report_crash.ensures)
 
-pub returns-in-Err : goal.returns-in-Err
-returns-in-Err g c =
+pub returns-in-Err-clause-reads : goal.returns-in-Err-clause-reads
+returns-in-Err-clause-reads g c =
     let now = c.in-Err.ensures in
     rw c.fault_of.ensures (back-fails c.args.pick c.args.script.now (run_of c.args.played) _ _ _ _
     (g.L.Sectors.seen c.crash.new.self.inner) (g.D.Sectors.seen c.crash-2.new.self.inner) c.in-Err.fault
     (record { log_device = log-crashed c.crash.ensures.gives now.log_calls; data_device = data-crashed c.crash-2.ensures.gives now.data_calls })
     (record { tells = now.log.tells; size = now.log.size }) (record { tells = now.data_device.tells; size = now.data_device.size })
     now.cause now.lengths)
+
+pub returns-in-Ok-clause-log_crashed : goal.returns-in-Ok-clause-log_crashed
+returns-in-Ok-clause-log_crashed g c = record { crashed = c.crash.new.self; crashes = c.crash.ensures.gives; called = called-by c.in-Ok.ensures.log_calls }
+
+pub returns-in-Ok-clause-data_crashed : goal.returns-in-Ok-clause-data_crashed
+returns-in-Ok-clause-data_crashed g c = record { crashed = c.crash-2.new.self; crashes = c.crash-2.ensures.gives; called = called-by c.in-Ok.ensures.data_calls }
+
+pub returns-in-Err-clause-log_crashed : goal.returns-in-Err-clause-log_crashed
+returns-in-Err-clause-log_crashed g c = record { crashed = c.crash.new.self; crashes = c.crash.ensures.gives; called = called-by c.in-Err.ensures.log_calls }
+
+pub returns-in-Err-clause-data_crashed : goal.returns-in-Err-clause-data_crashed
+returns-in-Err-clause-data_crashed g c = record { crashed = c.crash-2.new.self; crashes = c.crash-2.ensures.gives; called = called-by c.in-Err.ensures.data_calls }

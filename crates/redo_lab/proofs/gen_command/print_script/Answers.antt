@@ -1,12 +1,19 @@
-use Rattle.std.proofs.Common.{refl}
+use Rattle.std.proofs.Common.{inl, refl}
 use Rattle.redo_lab.proofs.Behind.{alone-behind}
+use Rattle.redo_lab.proofs.Led.{alone-from}
 use Rattle.redo_lab.proofs.PlainEnds.{gen-ends}
 use Rattle.redo_lab.proofs.gen_command.print_script.Goals as goal
 
-pub returns : goal.returns
-returns g c = λ words source. rw c.of_text.ensures (gen-ends _ c.args.seed c.args.users c.args.groups c.args.max _
+pub returns-clause-ends : goal.returns-clause-ends
+returns-clause-ends g c = λ words source. rw c.of_text.ensures (gen-ends _ c.args.seed c.args.users c.args.groups c.args.max _
     (record {
       log_device = alone-behind g.L.Sectors.seen c.args.log c.plain.result c.plain.result c.plain.ensures.inner c.plain.ensures.fuse refl;
       data_device = alone-behind g.D.Sectors.seen c.args.store c.plain-2.result c.plain-2.result c.plain-2.ensures.inner c.plain-2.ensures.fuse refl;
     })
     refl c.generate.ensures)
+
+pub returns-clause-log_device : goal.returns-clause-log_device
+returns-clause-log_device g c = inl (alone-from g.L.Sectors.seen g.L.Sectors.gives c.args.log c.plain.result c.plain.ensures.inner c.plain.ensures.fuse c.plain.ensures.armed)
+
+pub returns-clause-data_device : goal.returns-clause-data_device
+returns-clause-data_device g c = inl (alone-from g.D.Sectors.seen g.D.Sectors.gives c.args.store c.plain-2.result c.plain-2.ensures.inner c.plain-2.ensures.fuse c.plain-2.ensures.armed)

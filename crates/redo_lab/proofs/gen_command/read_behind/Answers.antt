@@ -1,10 +1,11 @@
+use Rattle.redo_lab.proofs.Led.{called-by}
 use Rattle.redo_recover.specs.{reading_of}
 use Rattle.redo_lab.specs.Course.{ran_of}
 use Rattle.redo_lab.proofs.ReadBehind.{behind-fails, behind-read, data-read, log-read}
 use Rattle.redo_lab.proofs.gen_command.read_behind.Goals as goal
 
-pub returns-in-Ok : goal.returns-in-Ok
-returns-in-Ok g c =
+pub returns-in-Ok-clause-reads : goal.returns-in-Ok-clause-reads
+returns-in-Ok-clause-reads g c =
     let now = c.in-Ok.ensures in
     rw c.of_text.ensures (behind-read (ran_of c.args.played.now) (reading_of c.in-Ok.recovered) _ _ _ _
     (g.L.Sectors.seen c.args.log.now.inner) (g.D.Sectors.seen c.args.store.now.inner) _
@@ -12,11 +13,23 @@ returns-in-Ok g c =
     (record { tells = now.log.tells; size = now.log.size }) (record { tells = now.data_device.tells; size = now.data_device.size })
     now.read c.summarize.ensures)
 
-pub returns-in-Err : goal.returns-in-Err
-returns-in-Err g c =
+pub returns-in-Err-clause-reads : goal.returns-in-Err-clause-reads
+returns-in-Err-clause-reads g c =
     let now = c.in-Err.ensures in
     rw c.fault_of.ensures (behind-fails (ran_of c.args.played.now) _ _ _ _
     (g.L.Sectors.seen c.args.log.now.inner) (g.D.Sectors.seen c.args.store.now.inner) c.in-Err.fault
     (record { log_device = log-read now.log_calls; data_device = data-read now.data_calls })
     (record { tells = now.log.tells; size = now.log.size }) (record { tells = now.data_device.tells; size = now.data_device.size })
     now.cause now.lengths)
+
+pub returns-in-Ok-clause-log_called : goal.returns-in-Ok-clause-log_called
+returns-in-Ok-clause-log_called g c = called-by c.in-Ok.ensures.log_calls
+
+pub returns-in-Ok-clause-data_called : goal.returns-in-Ok-clause-data_called
+returns-in-Ok-clause-data_called g c = called-by c.in-Ok.ensures.data_calls
+
+pub returns-in-Err-clause-log_called : goal.returns-in-Err-clause-log_called
+returns-in-Err-clause-log_called g c = called-by c.in-Err.ensures.log_calls
+
+pub returns-in-Err-clause-data_called : goal.returns-in-Err-clause-data_called
+returns-in-Err-clause-data_called g c = called-by c.in-Err.ensures.data_calls

@@ -1,4 +1,5 @@
-use Rattle.std.proofs.Common.{ap, refl}
+use Rattle.std.proofs.Common.{inl, ap, refl}
+use Rattle.redo_lab.proofs.Led.{alone-from}
 use Rattle.redo_lab.proofs.PlainEnds.{gen-unscripted}
 use Rattle.redo_lab.proofs.gen_command.run_seed.Goals as goal
 
@@ -24,3 +25,15 @@ returns-in-Err-clause-ends g c = λ words source.
 
 pub returns-in-Err-clause-turns : goal.returns-in-Err-clause-turns
 returns-in-Err-clause-turns g c = λ source. rw c.unasked.ensures.outcome_is tt
+
+pub returns-in-Ok-clause-log_device : goal.returns-in-Ok-clause-log_device
+returns-in-Ok-clause-log_device g c = c.run_script.ensures.log_device
+
+pub returns-in-Err-clause-log_device : goal.returns-in-Err-clause-log_device
+returns-in-Err-clause-log_device g c = inl (alone-from g.L.Sectors.seen g.L.Sectors.gives c.args.log _ c.unasked.ensures.log_inner c.unasked.ensures.log_fuse c.unasked.ensures.log_armed)
+
+pub returns-in-Ok-clause-data_device : goal.returns-in-Ok-clause-data_device
+returns-in-Ok-clause-data_device g c = c.run_script.ensures.data_device
+
+pub returns-in-Err-clause-data_device : goal.returns-in-Err-clause-data_device
+returns-in-Err-clause-data_device g c = inl (alone-from g.D.Sectors.seen g.D.Sectors.gives c.args.store _ c.unasked.ensures.data_inner c.unasked.ensures.data_fuse c.unasked.ensures.data_armed)

@@ -1,6 +1,7 @@
-use Rattle.std.proofs.Common.{ap}
+use Rattle.std.proofs.Common.{inl, ap}
 use Rattle.redo_lab.proofs.AskedLimits.{command-of-within}
 use Rattle.redo_lab.proofs.Called.{Printed, command-called, nothing-called}
+use Rattle.redo_lab.proofs.Led.{alone-from}
 use Rattle.redo_lab.proofs.Turned.{command-by-turns, nothing-by-turns}
 use Rattle.redo_lab.proofs.lab_call.lab.Goals as goal
 use Rattle.redo_lab.proofs.lab_call.lab.Goals.{in-Ok, in-Err}
@@ -32,10 +33,24 @@ returns-clause-turns g c =
       status = c.print_outcome-status.result;
     } in
     elim c.match-read_command.branch [
-      | in-Ok w ↦ command-by-turns g.L.Sectors.seen g.D.Sectors.seen _ (g.S.Source.seen c.args.src.now) (g.S.Source.seen w.done.new.src)
+      | in-Ok w ↦ command-by-turns g.L.Sectors.seen g.L.Sectors.gives g.D.Sectors.seen _ (g.S.Source.seen c.args.src.now) (g.S.Source.seen w.done.new.src)
           (g.S.Source.seen c.match-read_command.src) c.args.log c.args.store w.done.result c.match-read_command.outcome printed w.in-Ok.command
           (ap g.S.Source.seen w.src-is) w.outcome-is w.in-Ok.ensures.asked (w.done.ensures.ends _) w.done.ensures.turns c.print_outcome-status.ensures
-      | in-Err w ↦ nothing-by-turns g.L.Sectors.seen g.D.Sectors.seen _ (g.S.Source.seen c.args.src.now)
+      | in-Err w ↦ nothing-by-turns g.L.Sectors.seen g.L.Sectors.gives g.D.Sectors.seen _ (g.S.Source.seen c.args.src.now)
           (g.S.Source.seen c.match-read_command.src) c.args.log c.args.store w.unasked.result c.match-read_command.outcome printed w.in-Err.fault
           w.outcome-is w.in-Err.ensures.fault w.unasked.ensures c.print_outcome-status.ensures
+    ]
+
+pub returns-clause-log_device : goal.returns-clause-log_device
+returns-clause-log_device g c =
+    elim c.match-read_command.branch [
+      | in-Ok w ↦ rw w.outcome-is w.done.ensures.log_device
+      | in-Err w ↦ rw w.outcome-is (inl (alone-from g.L.Sectors.seen g.L.Sectors.gives c.args.log _ w.unasked.ensures.log_inner w.unasked.ensures.log_fuse w.unasked.ensures.log_armed))
+    ]
+
+pub returns-clause-data_device : goal.returns-clause-data_device
+returns-clause-data_device g c =
+    elim c.match-read_command.branch [
+      | in-Ok w ↦ rw w.outcome-is w.done.ensures.data_device
+      | in-Err w ↦ rw w.outcome-is (inl (alone-from g.D.Sectors.seen g.D.Sectors.gives c.args.store _ w.unasked.ensures.data_inner w.unasked.ensures.data_fuse w.unasked.ensures.data_armed))
     ]

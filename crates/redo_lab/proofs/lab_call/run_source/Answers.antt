@@ -1,4 +1,5 @@
-use Rattle.std.proofs.Common.{ap}
+use Rattle.std.proofs.Common.{inl, ap}
+use Rattle.redo_lab.proofs.Led.{alone-from}
 use Rattle.redo_lab.proofs.Turned.{run-unscripted-told}
 use Rattle.redo_lab.proofs.Unscripted.{run-unscripted}
 use Rattle.redo_lab.proofs.lab_call.run_source.Goals as goal
@@ -26,4 +27,18 @@ returns-in-Ok-clause-turns g c = c.run_command.ensures.turns _ _ c.in-Ok.ensures
 pub returns-in-Err-clause-turns : goal.returns-in-Err-clause-turns
 returns-in-Err-clause-turns g c =
     rw c.unasked.ensures.outcome_is
-    (run-unscripted-told g.L.Sectors.seen g.D.Sectors.seen _ _ _ _ c.args.drive.now c.in-Err.fault _ _ c.in-Err.ensures.fault)
+    (run-unscripted-told g.L.Sectors.seen g.L.Sectors.gives g.D.Sectors.seen _ _ _ _ c.args.drive.now c.in-Err.fault _ _ c.in-Err.ensures.fault
+    (record { seen = ap g.L.Sectors.seen c.unasked.ensures.log_inner; fuse = c.unasked.ensures.log_fuse })
+    (record { seen = ap g.D.Sectors.seen c.unasked.ensures.data_inner; fuse = c.unasked.ensures.data_fuse }))
+
+pub returns-in-Ok-clause-log_device : goal.returns-in-Ok-clause-log_device
+returns-in-Ok-clause-log_device g c = c.run_command.ensures.log_device
+
+pub returns-in-Err-clause-log_device : goal.returns-in-Err-clause-log_device
+returns-in-Err-clause-log_device g c = inl (alone-from g.L.Sectors.seen g.L.Sectors.gives c.args.log _ c.unasked.ensures.log_inner c.unasked.ensures.log_fuse c.unasked.ensures.log_armed)
+
+pub returns-in-Ok-clause-data_device : goal.returns-in-Ok-clause-data_device
+returns-in-Ok-clause-data_device g c = c.run_command.ensures.data_device
+
+pub returns-in-Err-clause-data_device : goal.returns-in-Err-clause-data_device
+returns-in-Err-clause-data_device g c = inl (alone-from g.D.Sectors.seen g.D.Sectors.gives c.args.store _ c.unasked.ensures.data_inner c.unasked.ensures.data_fuse c.unasked.ensures.data_armed)

@@ -1,4 +1,6 @@
 -- A store is opened on armed fuses, and a script is run on it.
+use Rattle.redo_memdisk.specs.{seen_through}
+use Rattle.redo_lab.proofs.Led.{called-by, called-then, plays-called}
 use Rattle.redo_lab.proofs.OpenedRun.{driven-comes, opened-comes}
 use Rattle.redo_lab.proofs.Turned.{unopened-comes-not}
 use Rattle.redo_lab.proofs.UnderWay.{unopened-comes}
@@ -17,6 +19,7 @@ returns-in-Ok-clause-comes_to g c = λ log_entry data_entry stops log_found data
         runnable = c.in-Ok.ensures.runnable;
         log_calls = c.in-Ok.ensures.log_calls;
         data_calls = c.in-Ok.ensures.data_calls;
+        marks = c.in-Ok.ensures.marks;
       };
     })
     c.play.ensures.plays
@@ -34,6 +37,7 @@ returns-in-Ok-clause-turns g c = λ log_entry data_entry stops log_found data_fo
         runnable = c.in-Ok.ensures.runnable;
         log_calls = c.in-Ok.ensures.log_calls;
         data_calls = c.in-Ok.ensures.data_calls;
+        marks = c.in-Ok.ensures.marks;
       };
     })
     c.play.ensures.turns
@@ -54,4 +58,20 @@ returns-in-Err-clause-comes_to g c = λ log_entry data_entry stops log_found dat
 pub returns-in-Err-clause-turns : goal.returns-in-Err-clause-turns
 returns-in-Err-clause-turns g c = λ log_entry data_entry stops log_found data_found armed.
     rw c.unopened.ensures
-    (unopened-comes-not g.L.Sectors.seen g.D.Sectors.seen log_entry data_entry stops c.args.turns.now c.args.script.now c.in-Err.log c.in-Err.store c.in-Err.fault)
+    (unopened-comes-not g.L.Sectors.seen g.L.Sectors.gives g.D.Sectors.seen log_entry data_entry stops c.args.turns.now c.args.script.now c.in-Err.log c.in-Err.store c.in-Err.fault)
+
+pub returns-in-Ok-clause-log_called : goal.returns-in-Ok-clause-log_called
+returns-in-Ok-clause-log_called g c = called-then (called-by c.in-Ok.ensures.log_calls)
+    (plays-called g.L.Sectors.seen g.L.Sectors.gives g.D.Sectors.seen g.D.Sectors.gives c.in-Ok.opened c.args.turns.now c.args.script.now
+    (seen_through g.L.Sectors.seen) (seen_through g.D.Sectors.seen) c.play.result.course c.play.result.log c.play.result.store c.play.ensures.plays).0
+
+pub returns-in-Err-clause-log_called : goal.returns-in-Err-clause-log_called
+returns-in-Err-clause-log_called g c = called-by c.in-Err.ensures.log_calls
+
+pub returns-in-Ok-clause-data_called : goal.returns-in-Ok-clause-data_called
+returns-in-Ok-clause-data_called g c = called-then (called-by c.in-Ok.ensures.data_calls)
+    (plays-called g.L.Sectors.seen g.L.Sectors.gives g.D.Sectors.seen g.D.Sectors.gives c.in-Ok.opened c.args.turns.now c.args.script.now
+    (seen_through g.L.Sectors.seen) (seen_through g.D.Sectors.seen) c.play.result.course c.play.result.log c.play.result.store c.play.ensures.plays).1
+
+pub returns-in-Err-clause-data_called : goal.returns-in-Err-clause-data_called
+returns-in-Err-clause-data_called g c = called-by c.in-Err.ensures.data_calls

@@ -1,9 +1,10 @@
 -- Both devices are prepared, and their fuses are armed.
-use Rattle.std.proofs.Common.{ap}
+use Rattle.std.proofs.Common.{inl, inr, ap}
 use Rattle.redo_disk.specs.Seen.{Seen}
 use Rattle.redo_lab.specs.Call.{Guarded, guarded}
 use Rattle.redo_lab.specs.Prepared.{ArePrepared}
 use Rattle.redo_lab.proofs.Behind.{entered}
+use Rattle.redo_lab.proofs.Led.{plain-from}
 use Rattle.redo_lab.proofs.Stages.{armed-now}
 use Rattle.redo_lab.proofs.playing.run_lines.Goals as goal
 
@@ -13,7 +14,7 @@ returns-clause-comes_to g c =
     let data_found : Guarded = guarded g.D.Sectors.seen c.prepare.new.store in
     let prepared : ArePrepared (g.L.Sectors.seen c.args.log) (g.D.Sectors.seen c.args.store) log_found data_found =
     entered g.L.Sectors.seen g.D.Sectors.seen c.args.log c.plain-log.result.inner c.args.store c.plain-store.result.inner c.plain-log.ensures.inner c.plain-store.ensures.inner
-    (λ (log : Seen) (store : Seen). ArePrepared log store log_found data_found) c.in-Ok.ensures in
+    (λ (log : Seen) (store : Seen). ArePrepared log store log_found data_found) c.in-Ok.ensures.prepares in
     c.open_and_play.ensures.comes_to (g.L.Sectors.seen c.args.log) (g.D.Sectors.seen c.args.store) c.args.stops log_found data_found (record {
       prepared = prepared;
       log_device = armed-now g.L.Sectors.seen (g.L.Sectors.seen c.args.log) c.args.stops.log c.prepare.new.log c.arm.new.self prepared.log_device
@@ -30,7 +31,7 @@ returns-clause-turns g c =
     let data_found : Guarded = guarded g.D.Sectors.seen c.prepare.new.store in
     let prepared : ArePrepared (g.L.Sectors.seen c.args.log) (g.D.Sectors.seen c.args.store) log_found data_found =
     entered g.L.Sectors.seen g.D.Sectors.seen c.args.log c.plain-log.result.inner c.args.store c.plain-store.result.inner c.plain-log.ensures.inner c.plain-store.ensures.inner
-    (λ (log : Seen) (store : Seen). ArePrepared log store log_found data_found) c.in-Ok.ensures in
+    (λ (log : Seen) (store : Seen). ArePrepared log store log_found data_found) c.in-Ok.ensures.prepares in
     c.open_and_play.ensures.turns (g.L.Sectors.seen c.args.log) (g.D.Sectors.seen c.args.store) c.args.stops log_found data_found (record {
       prepared = prepared;
       log_device = armed-now g.L.Sectors.seen (g.L.Sectors.seen c.args.log) c.args.stops.log c.prepare.new.log c.arm.new.self prepared.log_device
@@ -40,3 +41,33 @@ returns-clause-turns g c =
       log_same = ap g.L.Sectors.seen c.arm.ensures.inner;
       data_same = ap g.D.Sectors.seen c.arm-2.ensures.inner;
     })
+
+pub returns-in-Err-clause-log_run : goal.returns-in-Err-clause-log_run
+returns-in-Err-clause-log_run g c = inl
+    (plain-from g.L.Sectors.seen g.L.Sectors.gives c.args.log c.plain-log.result c.prepare.new.log c.plain-log.ensures.inner c.plain-log.ensures.fuse c.plain-log.ensures.armed c.in-Err.ensures.log_called)
+
+pub returns-clause-log_run : goal.returns-clause-log_run
+returns-clause-log_run g c = inr (record {
+  found = c.prepare.new.log;
+  before = plain-from g.L.Sectors.seen g.L.Sectors.gives c.args.log c.plain-log.result c.prepare.new.log c.plain-log.ensures.inner c.plain-log.ensures.fuse c.plain-log.ensures.armed
+      c.in-Ok.ensures.log_called;
+  limit = c.args.stops.log;
+  armed = c.arm.new.self;
+  arms = record { inner = c.arm.ensures.inner; fuse = c.arm.ensures.fuse; armed = c.arm.ensures.armed };
+  called = c.open_and_play.ensures.log_called;
+})
+
+pub returns-in-Err-clause-data_run : goal.returns-in-Err-clause-data_run
+returns-in-Err-clause-data_run g c = inl
+    (plain-from g.D.Sectors.seen g.D.Sectors.gives c.args.store c.plain-store.result c.prepare.new.store c.plain-store.ensures.inner c.plain-store.ensures.fuse c.plain-store.ensures.armed c.in-Err.ensures.data_called)
+
+pub returns-clause-data_run : goal.returns-clause-data_run
+returns-clause-data_run g c = inr (record {
+  found = c.prepare.new.store;
+  before = plain-from g.D.Sectors.seen g.D.Sectors.gives c.args.store c.plain-store.result c.prepare.new.store c.plain-store.ensures.inner c.plain-store.ensures.fuse c.plain-store.ensures.armed
+      c.in-Ok.ensures.data_called;
+  limit = c.args.stops.store;
+  armed = c.arm-2.new.self;
+  arms = record { inner = c.arm-2.ensures.inner; fuse = c.arm-2.ensures.fuse; armed = c.arm-2.ensures.armed };
+  called = c.open_and_play.ensures.data_called;
+})

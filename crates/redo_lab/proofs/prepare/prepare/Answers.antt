@@ -1,20 +1,21 @@
 -- Both devices are prepared for a run.
-use Rattle.std.proofs.Common.{◌≤◌, arith}
+use Rattle.std.proofs.Common.{◌≤◌, Ok, Err, refl, arith}
 use Rattle.model_base.specs.{default_shape}
 use Rattle.model_log.specs.declared.layout.TheConstants.{HEADER_BYTES}
 use Rattle.redo_memdisk.specs.{seen_through}
 use Rattle.redo_lab.proofs.Formatting.{format-fault}
+use Rattle.redo_lab.proofs.Led.{called-by, called-then, format-called, uncalled}
 use Rattle.redo_lab.proofs.Preparing.{prepared-formatted, prepared-in-use, read-first, unprepared-formatted, unprepared-read}
 use Rattle.redo_lab.proofs.prepare.prepare.Goals as goal
 
-pub returns-in-Ok : goal.returns-in-Ok
-returns-in-Ok g c =
+pub returns-in-Ok-clause-prepares : goal.returns-in-Ok-clause-prepares
+returns-in-Ok-clause-prepares g c =
     let header : HEADER_BYTES ≤ (g.L.Sectors.seen c.args.log.now.inner).size = omega (arith, c.len.ensures.size, c.if-len-lt-HEADER_BYTES.false) in
     prepared-formatted c.in-Ok.field-0 header (read-first {data_seen = g.D.Sectors.seen} c.requires.log_fresh c.requires.data_fresh c.in-Ok-true.ensures.calls)
     (rw c.in-Ok-true.field-0-test at c.in-Ok-true.ensures.unused) c.in-Ok.ensures.calls (rw c.default_shape.ensures at c.in-Ok.ensures.lengths) (rw c.default_shape.ensures at c.in-Ok.ensures.formatted)
 
-pub returns-in-Err-format : goal.returns-in-Err-format
-returns-in-Err-format g c =
+pub returns-in-Err-format-clause-prepares : goal.returns-in-Err-format-clause-prepares
+returns-in-Err-format-clause-prepares g c =
     let header : HEADER_BYTES ≤ (g.L.Sectors.seen c.args.log.now.inner).size = omega (arith, c.len.ensures.size, c.if-len-lt-HEADER_BYTES.false) in
     unprepared-formatted g.L.Sectors.gives g.D.Sectors.gives c.format.new.log c.format.new.data_device c.in-Err-format.fault header
     (read-first {data_seen = g.D.Sectors.seen} c.requires.log_fresh c.requires.data_fresh c.in-Ok-true.ensures.calls)
@@ -24,14 +25,52 @@ returns-in-Err-format g c =
     (rw c.default_shape.ensures at c.in-Err-format.ensures.cause))
     (rw c.default_shape.ensures at c.in-Err-format.ensures.keeps)
 
-pub returns-in-Ok-false : goal.returns-in-Ok-false
-returns-in-Ok-false g c =
+pub returns-in-Ok-false-clause-prepares : goal.returns-in-Ok-false-clause-prepares
+returns-in-Ok-false-clause-prepares g c =
     let header : HEADER_BYTES ≤ (g.L.Sectors.seen c.args.log.now.inner).size = omega (arith, c.len.ensures.size, c.if-len-lt-HEADER_BYTES.false) in
     prepared-in-use g.L.Sectors.seen g.D.Sectors.seen _ _ c.is_unused.new.log c.args.store.now header
     (read-first c.requires.log_fresh c.requires.data_fresh c.in-Ok-false.ensures.calls) (rw c.in-Ok-false.field-0-test at c.in-Ok-false.ensures.unused)
 
-pub returns-in-Err : goal.returns-in-Err
-returns-in-Err g c =
+pub returns-in-Err-clause-prepares : goal.returns-in-Err-clause-prepares
+returns-in-Err-clause-prepares g c =
     rw c.first_fault.ensures
     (unprepared-read g.L.Sectors.seen g.D.Sectors.seen _ _ c.is_unused.new.log c.args.store.now c.in-Err.error
     (read-first c.requires.log_fresh c.requires.data_fresh c.in-Err.ensures.calls))
+
+pub returns-then-len-lt-HEADER_BYTES-clause-log_called : goal.returns-then-len-lt-HEADER_BYTES-clause-log_called
+returns-then-len-lt-HEADER_BYTES-clause-log_called g c = uncalled g.L.Sectors.seen g.L.Sectors.gives _ _ refl
+
+pub returns-then-len-lt-HEADER_BYTES-clause-data_called : goal.returns-then-len-lt-HEADER_BYTES-clause-data_called
+returns-then-len-lt-HEADER_BYTES-clause-data_called g c = uncalled g.D.Sectors.seen g.D.Sectors.gives _ _ refl
+
+pub returns-in-Ok-clause-log_called : goal.returns-in-Ok-clause-log_called
+returns-in-Ok-clause-log_called g c = called-then (called-by c.in-Ok-true.ensures.calls)
+    (format-called g.L.Sectors.seen g.L.Sectors.gives g.D.Sectors.seen g.D.Sectors.gives c.is_unused.new.log c.format.new.log c.args.store.now c.format.new.data_device
+    (Ok c.in-Ok.field-0) c.in-Ok.ensures.calls).0
+
+pub returns-in-Ok-clause-data_called : goal.returns-in-Ok-clause-data_called
+returns-in-Ok-clause-data_called g c =
+    (format-called g.L.Sectors.seen g.L.Sectors.gives g.D.Sectors.seen g.D.Sectors.gives c.is_unused.new.log c.format.new.log c.args.store.now c.format.new.data_device
+    (Ok c.in-Ok.field-0) c.in-Ok.ensures.calls).1
+
+pub returns-in-Err-format-clause-log_called : goal.returns-in-Err-format-clause-log_called
+returns-in-Err-format-clause-log_called g c = called-then (called-by c.in-Ok-true.ensures.calls)
+    (format-called g.L.Sectors.seen g.L.Sectors.gives g.D.Sectors.seen g.D.Sectors.gives c.is_unused.new.log c.format.new.log c.args.store.now c.format.new.data_device
+    (Err c.in-Err-format.fault) c.in-Err-format.ensures.calls).0
+
+pub returns-in-Err-format-clause-data_called : goal.returns-in-Err-format-clause-data_called
+returns-in-Err-format-clause-data_called g c =
+    (format-called g.L.Sectors.seen g.L.Sectors.gives g.D.Sectors.seen g.D.Sectors.gives c.is_unused.new.log c.format.new.log c.args.store.now c.format.new.data_device
+    (Err c.in-Err-format.fault) c.in-Err-format.ensures.calls).1
+
+pub returns-in-Ok-false-clause-log_called : goal.returns-in-Ok-false-clause-log_called
+returns-in-Ok-false-clause-log_called g c = called-by c.in-Ok-false.ensures.calls
+
+pub returns-in-Ok-false-clause-data_called : goal.returns-in-Ok-false-clause-data_called
+returns-in-Ok-false-clause-data_called g c = uncalled g.D.Sectors.seen g.D.Sectors.gives _ _ refl
+
+pub returns-in-Err-clause-log_called : goal.returns-in-Err-clause-log_called
+returns-in-Err-clause-log_called g c = called-by c.in-Err.ensures.calls
+
+pub returns-in-Err-clause-data_called : goal.returns-in-Err-clause-data_called
+returns-in-Err-clause-data_called g c = uncalled g.D.Sectors.seen g.D.Sectors.gives _ _ refl

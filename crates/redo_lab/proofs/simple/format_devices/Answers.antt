@@ -1,14 +1,15 @@
-use Rattle.std.proofs.Common.{refl}
+use Rattle.std.proofs.Common.{Err, inl, refl}
 use Rattle.redo_disk.specs.Seen.{Seen}
 use Rattle.redo_memdisk.specs.{seen_through}
 use Rattle.redo_lab.specs.Answer.{shape_of}
 use Rattle.redo_lab.proofs.Behind.{entered, format-leaves, formats-both}
+use Rattle.redo_lab.proofs.Led.{called-by, format-called, plain-from}
 use Rattle.redo_lab.proofs.Formatting.{IsFormatFault, format-ends, format-fails, format-fault}
 use Rattle.redo_lab.proofs.simple.format_devices.Goals as goal
 use Rattle.redo_lab.proofs.simple.format_devices.Goals.{in-Ok, in-Err}
 
-pub returns : goal.returns
-returns g c = λ words source.
+pub returns-clause-ends : goal.returns-clause-ends
+returns-clause-ends g c = λ words source.
     elim c.match-format.branch [
       | in-Ok w ↦
           let both = formats-both {log_gives = g.L.Sectors.gives} {data_gives = g.D.Sectors.gives} tt (record {
@@ -33,4 +34,24 @@ returns g c = λ words source.
           (λ (log : Seen) (store : Seen). IsFormatFault (shape_of c.args.pages c.args.space c.args.log_blocks) log.size store.size w.in-Err.fault)
           (format-fault (shape_of c.args.pages c.args.space c.args.log_blocks) (seen_through g.L.Sectors.seen c.plain-log.result) (seen_through g.D.Sectors.seen c.plain-store.result)
           (seen_through g.L.Sectors.seen c.format.new.log) (seen_through g.D.Sectors.seen c.format.new.data_device) w.in-Err.fault (rw c.shape_of.ensures at w.in-Err.ensures.cause))))
+    ]
+
+pub returns-clause-log_device : goal.returns-clause-log_device
+returns-clause-log_device g c =
+    elim c.match-format.branch [
+      | in-Ok w ↦ inl (inl (plain-from g.L.Sectors.seen g.L.Sectors.gives c.args.log c.plain-log.result _ c.plain-log.ensures.inner c.plain-log.ensures.fuse c.plain-log.ensures.armed
+          (called-by w.in-Ok.ensures.calls.log)))
+      | in-Err w ↦ inl (inl (plain-from g.L.Sectors.seen g.L.Sectors.gives c.args.log c.plain-log.result _ c.plain-log.ensures.inner c.plain-log.ensures.fuse c.plain-log.ensures.armed
+          (format-called g.L.Sectors.seen g.L.Sectors.gives g.D.Sectors.seen g.D.Sectors.gives c.plain-log.result c.format.new.log c.plain-store.result c.format.new.data_device
+          (Err w.in-Err.fault) w.in-Err.ensures.calls).0))
+    ]
+
+pub returns-clause-data_device : goal.returns-clause-data_device
+returns-clause-data_device g c =
+    elim c.match-format.branch [
+      | in-Ok w ↦ inl (inl (plain-from g.D.Sectors.seen g.D.Sectors.gives c.args.store c.plain-store.result _ c.plain-store.ensures.inner c.plain-store.ensures.fuse c.plain-store.ensures.armed
+          (called-by w.in-Ok.ensures.calls.data_device)))
+      | in-Err w ↦ inl (inl (plain-from g.D.Sectors.seen g.D.Sectors.gives c.args.store c.plain-store.result _ c.plain-store.ensures.inner c.plain-store.ensures.fuse c.plain-store.ensures.armed
+          (format-called g.L.Sectors.seen g.L.Sectors.gives g.D.Sectors.seen g.D.Sectors.gives c.plain-log.result c.format.new.log c.plain-store.result c.format.new.data_device
+          (Err w.in-Err.fault) w.in-Err.ensures.calls).1))
     ]

@@ -1,14 +1,15 @@
-use Rattle.std.proofs.Common.{refl}
+use Rattle.std.proofs.Common.{inl, refl}
 use Rattle.model_store.specs.{IsReading}
 use Rattle.redo_recover.specs.{HasCauseIn, HasLengthCause, OnContents, reading_of}
 use Rattle.redo_disk.specs.Seen.{Seen}
 use Rattle.redo_lab.proofs.Behind.{entered, log-behind, pieces-behind}
+use Rattle.redo_lab.proofs.Led.{called-by, plain-from}
 use Rattle.redo_lab.proofs.PlainEnds.{recover-ends, recover-fails}
 use Rattle.redo_lab.proofs.simple.print_pages.Goals as goal
 use Rattle.redo_lab.proofs.simple.print_pages.Goals.{in-Ok, in-Err}
 
-pub returns : goal.returns
-returns g c = λ words source.
+pub returns-clause-ends : goal.returns-clause-ends
+returns-clause-ends g c = λ words source.
     elim c.match-recover.branch [
       | in-Ok w ↦
           let log = log-behind c.plain-log.ensures.inner c.plain-log.ensures.fuse w.in-Ok.ensures.log_calls in
@@ -25,4 +26,22 @@ returns g c = λ words source.
           (entered g.L.Sectors.seen g.D.Sectors.seen c.args.log c.plain-log.result.inner c.args.store c.plain-store.result.inner c.plain-log.ensures.inner c.plain-store.ensures.inner
           (λ (log : Seen) (store : Seen). HasCauseIn log.tells store.tells w.in-Err.fault) w.in-Err.ensures.cause) (entered g.L.Sectors.seen g.D.Sectors.seen c.args.log c.plain-log.result.inner c.args.store c.plain-store.result.inner c.plain-log.ensures.inner c.plain-store.ensures.inner
           (λ (log : Seen) (store : Seen). HasLengthCause log.size store.size w.in-Err.fault) w.in-Err.ensures.lengths) c.one_answer.ensures.read)
+    ]
+
+pub returns-clause-log_device : goal.returns-clause-log_device
+returns-clause-log_device g c =
+    elim c.match-recover.branch [
+      | in-Ok w ↦ inl (inl (plain-from g.L.Sectors.seen g.L.Sectors.gives c.args.log c.plain-log.result _ c.plain-log.ensures.inner c.plain-log.ensures.fuse c.plain-log.ensures.armed
+          (called-by w.in-Ok.ensures.log_calls)))
+      | in-Err w ↦ inl (inl (plain-from g.L.Sectors.seen g.L.Sectors.gives c.args.log c.plain-log.result _ c.plain-log.ensures.inner c.plain-log.ensures.fuse c.plain-log.ensures.armed
+          (called-by w.in-Err.ensures.log_calls)))
+    ]
+
+pub returns-clause-data_device : goal.returns-clause-data_device
+returns-clause-data_device g c =
+    elim c.match-recover.branch [
+      | in-Ok w ↦ inl (inl (plain-from g.D.Sectors.seen g.D.Sectors.gives c.args.store c.plain-store.result _ c.plain-store.ensures.inner c.plain-store.ensures.fuse c.plain-store.ensures.armed
+          (called-by w.in-Ok.ensures.data_calls)))
+      | in-Err w ↦ inl (inl (plain-from g.D.Sectors.seen g.D.Sectors.gives c.args.store c.plain-store.result _ c.plain-store.ensures.inner c.plain-store.ensures.fuse c.plain-store.ensures.armed
+          (called-by w.in-Err.ensures.data_calls)))
     ]
