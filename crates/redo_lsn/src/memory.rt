@@ -18,16 +18,3 @@ impl<T: Drop> From<AllocFailed<T>> for NoMemory {
         NoMemory
     }
 }
-
-#[cfg(test)]
-mod tests {
-    use super::*;
-    use std::test::Fail;
-
-    #[test]
-    fn says_what_it_is(rt: HostRuntime) -> Result<(), Fail> {
-        let text = format!(in rt.alloc(); "{}", NoMemory::from(AllocError))?;
-        assert_eq!(rt; text.as_str(), "out of memory");
-        Ok(())
-    }
-}
