@@ -28,5 +28,5 @@ pub use laws::{
 pub use model_script::{Item, Items, Script, ScriptLine};
 pub use number::number_up_to;
 pub use parsing::parse;
-pub use printing::{push_init, push_number, push_string};
+pub use printing::{push_init, push_line, push_number, push_string};
 pub use unfit::Unfit;
