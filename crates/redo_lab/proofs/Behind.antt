@@ -59,8 +59,8 @@ pieces-behind {error = error} inner fuse made = (
   kept-behind inner (weaker_calls (reads-of-pieces error) made),
 )
 
-pub log-behind : {D : Type 0} {seen : D → Seen} {gives : D → Call → D → Type 0} {device : D} {old new : Fused D} {log : Seen} {error : Option DevError}
-    → inner_of old ≡ device → fuse_of old ≡ fresh → MakesCalls (CallsThrough seen gives) old new (ReadsLog log error)
+pub log-behind : {D : Type 0} {seen : D → Seen} {gives : D → Call → D → Type 0} {device : D} {old new : Fused D} {log : Seen} {data_size : ℕ} {error : Option DevError}
+    → inner_of old ≡ device → fuse_of old ≡ fresh → MakesCalls (CallsThrough seen gives) old new (ReadsLog log data_size error)
     → IsUnarmed (seen device) (failures error) (guarded seen new) × IsKept (seen device) (guarded seen new)
 log-behind inner fuse made = pieces-behind inner fuse (weaker_calls (λ calls log. log.reads) made)
 

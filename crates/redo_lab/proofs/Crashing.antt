@@ -57,8 +57,8 @@ crashed-since {seen = seen} {gives = gives} {crash_gives = crash_gives} {pick = 
     }
 
 -- the same of recovery's reads
-pub log-crashed : {D : Type 0} {seen : D → Seen} {gives : D → Call → D → Type 0} {crash_gives : D → ℕ → D → Type 0} {pick : ℕ} {old met new : Fused D} {log : Seen} {error : Option DevError}
-    → CrashesThrough seen crash_gives old pick met → MakesCalls (CallsThrough seen gives) met new (ReadsLog log error)
+pub log-crashed : {D : Type 0} {seen : D → Seen} {gives : D → Call → D → Type 0} {crash_gives : D → ℕ → D → Type 0} {pick : ℕ} {old met new : Fused D} {log : Seen} {data_size : ℕ} {error : Option DevError}
+    → CrashesThrough seen crash_gives old pick met → MakesCalls (CallsThrough seen gives) met new (ReadsLog log data_size error)
     → IsCrashedSince pick (failures error) (guarded seen old) (guarded seen new)
 log-crashed {error = error} crash made = crashed-since crash (weaker_calls (λ calls log. reads-of-pieces error calls log.reads) made)
 

@@ -191,15 +191,21 @@ counted-opened : {L D : Type 0} {log_seen : L → Seen} {log_gives : L → Call 
 counted-opened is = counted-opening is.armed is.opened.log_calls is.opened.data_calls
 
 -- what was opened, as the two devices were found
+read-found : {L D : Type 0} {log_seen : L → Seen} {log_gives : L → Call → L → Type 0} {data_seen : D → Seen} {data_gives : D → Call → D → Type 0}
+    {log_entry data_entry : Seen} {stops : Stops} {log_found data_found : Guarded} {log : Fused L} {data_device : Fused D} {store : Opened (Fused L) (Fused D)}
+    → IsOpenedUnderWay log_seen log_gives data_seen data_gives log_entry data_entry stops log_found data_found log data_device store
+    → OnContents log_found.seen.tells data_found.seen.tells (λ log_bytes data_bytes. IsOpeningOf log_bytes data_bytes store)
+read-found {log_seen = log_seen} {data_seen = data_seen} {log_found = log_found} {data_found = data_found} {log = log} {data_device = data_device} {store = store} is =
+    same-both (λ log_disk data_disk. IsOpeningOf log_disk.reads data_disk.reads store) log_found.seen.tells data_found.seen.tells
+    (log_seen log.inner).tells (data_seen data_device.inner).tells
+    (ap (λ (seen : Seen). seen.tells) is.armed.log_same) (ap (λ (seen : Seen). seen.tells) is.armed.data_same) is.opened.read
+
 end-found : {L D : Type 0} {log_seen : L → Seen} {log_gives : L → Call → L → Type 0} {data_seen : D → Seen} {data_gives : D → Call → D → Type 0}
     {log_entry data_entry : Seen} {stops : Stops} {log_found data_found : Guarded} {log : Fused L} {data_device : Fused D} {store : Opened (Fused L) (Fused D)}
     → IsOpenedUnderWay log_seen log_gives data_seen data_gives log_entry data_entry stops log_found data_found log data_device store
     → HasEnd log_found.seen.tells data_found.seen.tells store
-end-found {log_seen = log_seen} {data_seen = data_seen} {log_found = log_found} {data_found = data_found} {log = log} {data_device = data_device} {store = store} is =
-    has-end log_found.seen.tells data_found.seen.tells store is.opened.runnable
-    (same-both (λ log_disk data_disk. IsOpeningOf log_disk.reads data_disk.reads store) log_found.seen.tells data_found.seen.tells
-    (log_seen log.inner).tells (data_seen data_device.inner).tells
-    (ap (λ (seen : Seen). seen.tells) is.armed.log_same) (ap (λ (seen : Seen). seen.tells) is.armed.data_same) is.opened.read)
+end-found {log_found = log_found} {data_found = data_found} {store = store} is =
+    has-end log_found.seen.tells data_found.seen.tells store is.opened.runnable (read-found is)
 
 -- the run on it is closed
 closes-on : {L D : Type 0} {log_seen : L → Seen} {log_gives : L → Call → L → Type 0} {data_seen : D → Seen} {data_gives : D → Call → D → Type 0}
@@ -342,6 +348,7 @@ opened-on {log_seen = log_seen} {data_seen = data_seen} {log_entry = log_entry} 
       log_armed = log;
       armed = is.armed.log_device;
       marks = is.opened.marks;
+      read = read-found is;
       end = ends.end;
       start = ends.start;
       opens = opens-as is.laws log_entry data_entry log_found data_found store ends.end is.armed.prepared ends.read;

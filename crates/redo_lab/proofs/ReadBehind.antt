@@ -35,8 +35,8 @@ read-since {seen = seen} {gives = gives} {old = old} {new = new} made =
     }
 
 -- by recovery
-pub log-read : {D : Type 0} {seen : D → Seen} {gives : D → Call → D → Type 0} {old new : Fused D} {log : Seen} {error : Option DevError}
-    → MakesCalls (CallsThrough seen gives) old new (ReadsLog log error) → IsReadSince (failures error) (guarded seen old) (guarded seen new)
+pub log-read : {D : Type 0} {seen : D → Seen} {gives : D → Call → D → Type 0} {old new : Fused D} {log : Seen} {data_size : ℕ} {error : Option DevError}
+    → MakesCalls (CallsThrough seen gives) old new (ReadsLog log data_size error) → IsReadSince (failures error) (guarded seen old) (guarded seen new)
 log-read {error = error} made = read-since (weaker_calls (λ calls log. reads-of-pieces error calls log.reads) made)
 
 pub data-read : {D : Type 0} {seen : D → Seen} {gives : D → Call → D → Type 0} {old new : Fused D} {error : Option DevError}

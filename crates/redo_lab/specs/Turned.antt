@@ -23,9 +23,10 @@ use Rattle.redo_machine.specs.declared.running.Ran as running
 use Rattle.redo_machine.specs.declared.running.Ran.TheVariants as ended
 use Rattle.redo_memdisk.specs.{CallsThrough, fuse_of, seen_through}
 use Rattle.redo_memdisk.specs.declared.fused.Fused.{Fused}
-use Rattle.redo_open.specs.{IsOpenedReady, WhereBothTell}
+use Rattle.redo_open.specs.{IsOpenedReady, IsOpeningOf, WhereBothTell}
 use Rattle.redo_open.specs.Opening.{MarksStart}
 use Rattle.redo_pageactors.specs.declared.opened.Opened.{Opened}
+use Rattle.redo_recover.specs.{OnContents}
 use Rattle.redo_lab.specs.Asked.{command_of, drive_of_seed, reads_script, turns_of}
 use Rattle.redo_lab.specs.Behind.{AreReadSince}
 use Rattle.redo_lab.specs.Call.{Guarded, IsLeftAlone, LabCall, guarded}
@@ -112,6 +113,10 @@ pub record IsOpenedOn {L D : Type 0} (log_seen : L → Seen) (log_gives : L → 
   pub log_armed : Fused L
   pub armed : IsArmed stops.log log_entry way.log_found 0 (guarded log_seen log_armed)
   pub marks : MarksStart (CallsThrough log_seen log_gives) log_armed opened
+  -- where both devices told what they meant when the fuses were armed, it was opened as that is read, in order or not; so that
+  -- number is the one next to the number of the newest checkpoint
+  pub read : OnContents way.log_found.seen.tells way.data_found.seen.tells
+      (λ log_bytes data_bytes. IsOpeningOf log_bytes data_bytes opened)
   pub end : ℕ
   pub start : opened.start ≡ start_after end
   pub opens : WhereTold log_entry data_entry (IsOpenedAs (opened_at opened end))

@@ -72,8 +72,8 @@ header-append (Reads at before answer after ∷ xs) ys begins = begins
 header-append (Writes write answer ∷ xs) ys begins = absurd begins
 header-append (Syncs answer ∷ xs) ys begins = absurd begins
 
-pub opens_reads : {D : Type 0} {gives : D → Call → D → Type 0} {old new : D} {log : Seen} {error : Option DevError}
-    → MakesCalls gives old new (ReadsLog log error) → MakesCalls gives old new (OpensLog log.size error)
+pub opens_reads : {D : Type 0} {gives : D → Call → D → Type 0} {old new : D} {log : Seen} {data_size : ℕ} {error : Option DevError}
+    → MakesCalls gives old new (ReadsLog log data_size error) → MakesCalls gives old new (OpensLog log.size error)
 opens_reads = weaker_calls (λ calls is. record { ends = is.reads.ends; header = is.header })
 
 pub opens_then : {D : Type 0} {gives : D → Call → D → Type 0} {old middle new : D} {size : ℕ} {error : Option DevError}

@@ -4,6 +4,7 @@ use Rattle.std.specs.Prelude.{IsErrOf}
 use Rattle.model_base.specs.declared.shape.Shape.{Shape}
 use Rattle.model_device.specs.Disk.{Disk}
 use Rattle.model_log.specs.declared.layout.TheConstants.{HEADER_BYTES}
+use Rattle.model_page.specs.{data_device_length}
 use Rattle.redo_disk.specs.{Answer, Call, error_of, MakesCall, MakesCalls, Reads, Syncs, Writes}
 use Rattle.redo_disk.specs.Seen.{Seen}
 use Rattle.redo_disk.specs.declared.error.DevError.{DevError}
@@ -27,9 +28,9 @@ header-append (Reads at before answer after ∷ xs) ys begins = begins
 header-append (Writes write answer ∷ xs) ys begins = absurd begins
 header-append (Syncs answer ∷ xs) ys begins = absurd begins
 
--- the bytes of the log that are read, where the device tells
-abbrev IsReadOf : List ℕ → ℕ → Type 0
-IsReadOf content at = IsOfHeader at ⊎ IsNearScan content at
+-- the bytes of the log that are read, where the device tells, beside a data device of this size
+abbrev IsReadOf : ℕ → List ℕ → ℕ → Type 0
+IsReadOf data_size content at = IsOfHeader at ⊎ IsNearScan data_size content at
 
 -- the same calls, of which less is told
 pub pieces_made : {D : Type 0} {gives : D → Call → D → Type 0} {old new : D} {IsSuch : ℕ → Type 0} {error : Option DevError}
@@ -37,12 +38,12 @@ pub pieces_made : {D : Type 0} {gives : D → Call → D → Type 0} {old new : 
 pieces_made = weaker_calls (λ calls is. is.reads)
 
 -- the header alone
-pub log_made : {D : Type 0} {gives : D → Call → D → Type 0} {old new : D} {error : Option DevError} (log : Seen)
-    → MakesCalls gives old new (ReadsHeader log.size error) → MakesCalls gives old new (ReadsLog log error)
-log_made log = weaker_calls (λ calls is. record {
+pub log_made : {D : Type 0} {gives : D → Call → D → Type 0} {old new : D} {error : Option DevError} (log : Seen) (data_size : ℕ)
+    → MakesCalls gives old new (ReadsHeader log.size error) → MakesCalls gives old new (ReadsLog log data_size error)
+log_made log data_size = weaker_calls (λ calls is. record {
   reads = is.reads.reads;
   header = is.header;
-  bytes = content-any log.tells (λ content. AreBytesRead (IsReadOf content) calls) (λ content at i call there reads. inl (is.reads.bytes at i call there reads));
+  bytes = content-any log.tells (λ content. AreBytesRead (IsReadOf data_size content) calls) (λ content at i call there reads. inl (is.reads.bytes at i call there reads));
 })
 
 pub where_weaker : {D : Type 0} {gives : D → Call → D → Type 0} {old new : D} {One : ℕ → Type 0} {error : Option DevError} (Both : ℕ → Type 0)
@@ -57,22 +58,24 @@ where_then {One = One} {Other = Other} {error = error} Both front back apart fir
     joined_calls (where-append One Other Both error apart first second) front back
 
 -- the header, and then blocks near the scan
-log-bytes : (told : Option Disk) (start : Start) (xs ys : List Call) → OnContent told (λ content. IsLogStart content start) → AreBytesRead IsOfHeader xs
-    → AreBytesRead (IsOfScan start.shape start.ckpt told) ys → OnContent told (λ content. AreBytesRead (IsReadOf content) (xs ++ ys))
-log-bytes None start xs ys starts front back = tt
-log-bytes (Some disk) start xs ys starts front back =
-    bytes-append IsOfHeader (IsOfScan start.shape start.ckpt (Some disk)) (IsReadOf disk.reads) xs ys (λ at one. inl one)
-    (λ at other. inr (record { start = start; starts = starts; near = other.near })) front back
+log-bytes : (told : Option Disk) (data_size : ℕ) (start : Start) (xs ys : List Call) → OnContent told (λ content. IsLogStart content start)
+    → data_device_length start.shape ≤ data_size → AreBytesRead IsOfHeader xs
+    → AreBytesRead (IsOfScan start.shape start.ckpt told) ys → OnContent told (λ content. AreBytesRead (IsReadOf data_size content) (xs ++ ys))
+log-bytes None data_size start xs ys starts long front back = tt
+log-bytes (Some disk) data_size start xs ys starts long front back =
+    bytes-append IsOfHeader (IsOfScan start.shape start.ckpt (Some disk)) (IsReadOf data_size disk.reads) xs ys (λ at one. inl one)
+    (λ at other. inr (record { start = start; starts = starts; data_long = long; near = other.near })) front back
 
-pub log_then : {D : Type 0} {gives : D → Call → D → Type 0} {old middle new : D} {error : Option DevError} (log read : Seen) (start : Start)
-    → IsUnchanged log read → OnContent log.tells (λ content. IsLogStart content start) → MakesCalls gives old middle (ReadsHeader log.size None)
-    → MakesCalls gives middle new (ReadsWhere (IsOfScan start.shape start.ckpt read.tells) error) → MakesCalls gives old new (ReadsLog log error)
-log_then {gives = gives} {middle = middle} {new = new} {error = error} log read start same starts front back =
+pub log_then : {D : Type 0} {gives : D → Call → D → Type 0} {old middle new : D} {error : Option DevError} (log read : Seen) (data_size : ℕ) (start : Start)
+    → IsUnchanged log read → OnContent log.tells (λ content. IsLogStart content start) → data_device_length start.shape ≤ data_size
+    → MakesCalls gives old middle (ReadsHeader log.size None)
+    → MakesCalls gives middle new (ReadsWhere (IsOfScan start.shape start.ckpt read.tells) error) → MakesCalls gives old new (ReadsLog log data_size error)
+log_then {gives = gives} {middle = middle} {new = new} {error = error} log read data_size start same starts long front back =
     joined_calls (λ xs ys first then. record {
       reads = (where-append IsOfHeader (IsOfScan start.shape start.ckpt log.tells) (λ at. Unit {0}) error (λ at one other. omega (arith, one, other.behind))
           (λ at one. tt) (λ at other. tt) xs ys first.reads then).reads;
-      header = λ long. header-append xs ys (first.header long);
-      bytes = log-bytes log.tells start xs ys starts first.reads.bytes then.bytes;
+      header = λ room. header-append xs ys (first.header room);
+      bytes = log-bytes log.tells data_size start xs ys starts long first.reads.bytes then.bytes;
     }) front (subst (λ (told : Option Disk). MakesCalls gives middle new (ReadsWhere (IsOfScan start.shape start.ckpt told) error)) same.tells back)
 
 -- THE DATA DEVICE: the slots, and then each place.
@@ -179,9 +182,9 @@ pub own_header : {D : Type 0} {gives : D → Call → D → Type 0} {old new : D
     → MakesCalls gives old new (ReadsHeader size None) → MakesCalls gives old new (ReadsHeader size error)
 own_header size = own_calls (ReadsHeader size) (λ calls is. record { reads = where-no_memory IsOfHeader calls is.reads; header = is.header })
 
-pub own_log : {D : Type 0} {gives : D → Call → D → Type 0} {old new : D} (log : Seen) (error : Option DevError) → MayBeOwn error
-    → MakesCalls gives old new (ReadsLog log None) → MakesCalls gives old new (ReadsLog log error)
-own_log log = own_calls (ReadsLog log) (λ calls is. record { reads = pieces-no_memory calls is.reads; header = is.header; bytes = is.bytes })
+pub own_log : {D : Type 0} {gives : D → Call → D → Type 0} {old new : D} (log : Seen) (data_size : ℕ) (error : Option DevError) → MayBeOwn error
+    → MakesCalls gives old new (ReadsLog log data_size None) → MakesCalls gives old new (ReadsLog log data_size error)
+own_log log data_size = own_calls (ReadsLog log data_size) (λ calls is. record { reads = pieces-no_memory calls is.reads; header = is.header; bytes = is.bytes })
 
 pub log-own : (fault : RecFault) → (IsErrOf {T = Unit {0}} (Err fault) LogDev → ⊥) → MayBeOwn (log_error fault)
 log-own LogDev apart = absurd (apart refl)

@@ -6,6 +6,7 @@ use Rattle.model_device.specs.Disk.{Disk}
 use Rattle.model_log.specs.{is_full, offset_of}
 use Rattle.model_log.specs.declared.block.BlockView.{BlockView}
 use Rattle.model_log.specs.declared.layout.TheConstants.{HEADER_BYTES}
+use Rattle.model_page.specs.{data_device_length}
 use Rattle.model_store.specs.{lsn_at, view_at}
 use Rattle.redo_disk.specs.{Call}
 use Rattle.redo_disk.specs.Seen.{Seen}
@@ -38,17 +39,19 @@ pub record IsOfScan (shape : Shape) (ckpt : ℕ) (told : Option Disk) (at : ℕ)
   pub behind : IsBehindHeader at
   pub near : OnContent told (IsNear shape ckpt at)
 
--- it is such a one for the shape of the header and the newest checkpoint
-pub record IsNearScan (content : List ℕ) (at : ℕ) : Type 0 where
+-- it is such a one for the shape of the header, for which both devices are long enough, and the newest checkpoint
+pub record IsNearScan (data_size : ℕ) (content : List ℕ) (at : ℕ) : Type 0 where
   pub start : Start
   pub starts : IsLogStart content start
+  pub data_long : data_device_length start.shape ≤ data_size
   pub near : IsNear start.shape start.ckpt at content
 
--- The calls of a log device are reads of pieces, and read no byte twice. All but the last answered Ok, and the last one
--- answered this error, if any did; where memory ran out they may all have answered Ok. Where the device has room for a
--- header, the first of them reads that; and where it tells, no byte behind the header is read but of blocks that stand
--- less than a piece behind one to which the scan comes.
-pub record ReadsLog (log : Seen) (error : Option DevError) (calls : List Call) : Type 0 where
+-- The calls of a log device, beside a data device of this size, are reads of pieces, and read no byte twice. All but the
+-- last answered Ok, and the last one answered this error, if any did; where memory ran out they may all have answered Ok.
+-- Where the device has room for a header, the first of them reads that; and where it tells, a byte behind the header is
+-- read only if both devices are long enough, and only of a block that stands less than a piece behind one to which the scan
+-- comes.
+pub record ReadsLog (log : Seen) (data_size : ℕ) (error : Option DevError) (calls : List Call) : Type 0 where
   pub reads : ReadsPieces error calls
   pub header : HEADER_BYTES ≤ log.size → BeginWithHeader calls
-  pub bytes : OnContent log.tells (λ content. AreBytesRead (λ at. IsOfHeader at ⊎ IsNearScan content at) calls)
+  pub bytes : OnContent log.tells (λ content. AreBytesRead (λ at. IsOfHeader at ⊎ IsNearScan data_size content at) calls)

@@ -35,7 +35,7 @@ pub fn recover<L: Sectors, D: Sectors>(
     ensures cause { IfErr result (HasCauseIn (L.seen log.old).tells (D.seen data_device.old).tells) }
     ensures log { IsUnchanged (L.seen log.old) (L.seen log.new) }
     ensures data_device { IsUnchanged (D.seen data_device.old) (D.seen data_device.new) }
-    ensures log_calls { MakesCalls L.gives log.old log.new (ReadsLog (L.seen log.old) (log_error_of result)) }
+    ensures log_calls { MakesCalls L.gives log.old log.new (ReadsLog (L.seen log.old) (D.seen data_device.old).size (log_error_of result)) }
     ensures data_calls { MakesCalls D.gives data_device.old data_device.new (ReadsPieces (data_error_of result)) }
     ensures order { ReadsBehindLog (L.seen log.old).tells (D.seen data_device.old).size data_device.old data_device.new result }
     ensures log_failed { IsErrOf result RecFault.LogDev → HasRisen (L.seen log.old).faults (L.seen log.new).faults }

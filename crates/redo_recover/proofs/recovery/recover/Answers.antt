@@ -32,7 +32,7 @@ returns-in_err-pages-clause-lengths g c =
 
 pub returns-in_err-shape-clause-log_calls : goal.returns-in_err-shape-clause-log_calls
 returns-in_err-shape-clause-log_calls g c =
-    let made = log_made (g.L.Sectors.seen c.args.log.now) c.in_err-shape.ensures.calls in
+    let made = log_made (g.L.Sectors.seen c.args.log.now) (g.D.Sectors.seen c.args.data_device.now).size c.in_err-shape.ensures.calls in
     let p = err_from_is_err_and c.from_residual.result c.from_residual.ensures.1 in rw (p.1, p.2) made
 
 pub returns-in_err-shape-clause-data_calls : goal.returns-in_err-shape-clause-data_calls
@@ -43,8 +43,8 @@ returns-in_err-shape-clause-data_calls g c =
 
 pub returns-in_err-views-clause-log_calls : goal.returns-in_err-views-clause-log_calls
 returns-in_err-views-clause-log_calls g c =
-    let made = log_then (g.L.Sectors.seen c.args.log.now) (g.L.Sectors.seen c.read_start.new.log) c.in_ok-shape.field-0 c.read_start.ensures.unchanged
-    c.in_ok-shape.ensures.log_start c.in_ok-shape.ensures.calls c.in_err-views.ensures.calls in
+    let made = log_then (g.L.Sectors.seen c.args.log.now) (g.L.Sectors.seen c.read_start.new.log) (g.D.Sectors.seen c.args.data_device.now).size c.in_ok-shape.field-0
+    c.read_start.ensures.unchanged c.in_ok-shape.ensures.log_start c.in_ok-shape.ensures.usable.data_long c.in_ok-shape.ensures.calls c.in_err-views.ensures.calls in
     let p = err_from_is_err_and c.from_residual-in_err-views.result c.from_residual-in_err-views.ensures.1 in rw (p.1, p.2) made
 
 pub returns-in_err-views-clause-data_calls : goal.returns-in_err-views-clause-data_calls
@@ -56,14 +56,14 @@ returns-in_err-views-clause-data_calls g c =
 pub returns-in_err-pages-clause-log_calls : goal.returns-in_err-pages-clause-log_calls
 returns-in_err-pages-clause-log_calls g c =
     let fault = c.in_err-pages.field-0.0 in
-    let made = own_log (g.L.Sectors.seen c.args.log.now) (log_error fault) (log-own fault (λ is. c.in_err-pages.ensures.apart (err-of is)))
-    (log_then (g.L.Sectors.seen c.args.log.now) (g.L.Sectors.seen c.read_start.new.log) c.in_ok-shape.field-0 c.read_start.ensures.unchanged
-    c.in_ok-shape.ensures.log_start c.in_ok-shape.ensures.calls c.in_ok-views.ensures.calls) in
+    let made = own_log (g.L.Sectors.seen c.args.log.now) (g.D.Sectors.seen c.args.data_device.now).size (log_error fault) (log-own fault (λ is. c.in_err-pages.ensures.apart (err-of is)))
+    (log_then (g.L.Sectors.seen c.args.log.now) (g.L.Sectors.seen c.read_start.new.log) (g.D.Sectors.seen c.args.data_device.now).size c.in_ok-shape.field-0
+    c.read_start.ensures.unchanged c.in_ok-shape.ensures.log_start c.in_ok-shape.ensures.usable.data_long c.in_ok-shape.ensures.calls c.in_ok-views.ensures.calls) in
     let p = err_from_is_err_and c.from_residual-in_err-pages.result c.from_residual-in_err-pages.ensures.1 in rw (p.1, p.2) made
 
 pub returns-clause-log_calls : goal.returns-clause-log_calls
-returns-clause-log_calls g c = log_then (g.L.Sectors.seen c.args.log.now) (g.L.Sectors.seen c.read_start.new.log) c.in_ok-shape.field-0 c.read_start.ensures.unchanged
-    c.in_ok-shape.ensures.log_start c.in_ok-shape.ensures.calls c.in_ok-views.ensures.calls
+returns-clause-log_calls g c = log_then (g.L.Sectors.seen c.args.log.now) (g.L.Sectors.seen c.read_start.new.log) (g.D.Sectors.seen c.args.data_device.now).size c.in_ok-shape.field-0
+    c.read_start.ensures.unchanged c.in_ok-shape.ensures.log_start c.in_ok-shape.ensures.usable.data_long c.in_ok-shape.ensures.calls c.in_ok-views.ensures.calls
 
 pub returns-in_err-shape-clause-order : goal.returns-in_err-shape-clause-order
 returns-in_err-shape-clause-order g c =
