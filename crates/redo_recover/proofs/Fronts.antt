@@ -3,7 +3,7 @@ use Rattle.std.proofs.Common.{ℕ, List}
 use Rattle.model_base.specs.declared.shape.Shape.{Shape}
 use Rattle.model_page.specs.declared.content.Content.{Content}
 use Rattle.redo_recover.specs.Pages.{HasPageCause, AreKept, IsAheadFault}
-use Rattle.redo_recover.proofs.Making.{MayBeOwn}
+use Rattle.redo_recover.proofs.Once.{MayBeOwn}
 use Rattle.redo_recover.specs.Calls.{data_error}
 use Rattle.redo_recover.specs.declared.fault.RecFault.{RecFault}
 use Rattle.redo_recover.specs.declared.fault.RecFault.TheVariants as fault

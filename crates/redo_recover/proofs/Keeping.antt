@@ -1,9 +1,9 @@
 -- Kept pages, off the slots and one place after another.
-use Rattle.std.proofs.Common.{◌≡◌, ℕ, ◌+◌, ◌-◌, ◌*◌, ◌<◌, ◌≤◌, inr, List, length, take, drop, Option, None, arith, sym, ap, subst, ◌∙◌}
+use Rattle.std.proofs.Common.{◌≡◌, ℕ, ◌+◌, ◌-◌, ◌*◌, ◌<◌, ◌≤◌, inr, List, length, take, drop, Option, Some, None, arith, sym, ap, subst, ◌∙◌}
 use Rattle.std.proofs.lemmas.List.{drop-take, length-drop, length-take, length-take-le, take-take}
 use Rattle.model_base.specs.declared.limits.TheConstants.{PAGE_SIZE}
 use Rattle.model_base.specs.declared.shape.Shape.{Shape}
-use Rattle.model_page.specs.{copy_lsn, copy_lsn_by, HasNoCopy, IsBestCopy, IsKept, IsLost, page_check, place_bytes, place_lsn_by, slot_bytes, stretch_at, user_length, user_part}
+use Rattle.model_page.specs.{copy_lsn, copy_lsn_by, HasNoCopy, IsBestCopy, IsKept, IsLost, page_check, place_bytes, place_lsn, place_lsn_by, slot_bytes, stretch_at, user_length, user_part}
 use Rattle.model_page.specs.declared.content.Content.{Content}
 use Rattle.model_device.specs.Disk.{Disk}
 use Rattle.redo_apply.specs.{ArePagesOf}
@@ -12,6 +12,7 @@ use Rattle.redo_recover.proofs.Contents.{content-both, content-weaker}
 use Rattle.redo_recover.proofs.Paging.{AreKeptFirst, all-kept, first_lost, kept-put}
 use Rattle.redo_recover.specs.Devices.{OnContent}
 use Rattle.redo_recover.specs.Pages.{AreKept, HoldsSlots, IsFirstLost, IsFirstLostFault, IsLostFault, PutsKept}
+use Rattle.redo_recover.specs.Places.{IsFoundAt}
 use Rattle.redo_recover.specs.declared.fault.RecFault.{RecFault}
 use Rattle.redo_recover.specs.declared.fault.RecFault.TheVariants.{SmallLog, NotFormatted, BadFormat, SmallData, NoCheckpoint, BadRecord, PageLost, PageAhead, LogDev, DataDev, NoMemory}
 
@@ -36,10 +37,30 @@ slot-same shape slots image n is h =
 copy-same : (shape : Shape) (slots image : List ℕ) (p n : ℕ) → HoldsSlots shape slots image → n < shape.slots → copy_lsn shape slots p n ≡ copy_lsn shape image p n
 copy-same shape slots image p n is h = ap (λ bytes. copy_lsn_by shape p (page_check bytes)) (slot-same shape slots image n is h)
 
+broken-off : (shape : Shape) (place image : List ℕ) (p : ℕ) (found : Option ℕ) → place ≡ place_bytes shape p image
+    → place_lsn_by shape p (page_check place) ≡ found → place_lsn shape image p ≡ found
+broken-off shape place image p found at is = sym (ap (λ bytes. place_lsn_by shape p (page_check bytes)) at) ∙ is
+
+best-off : (shape : Shape) (slots image : List ℕ) (p slot lsn : ℕ) → HoldsSlots shape slots image → IsBestCopy shape slots p slot lsn → IsBestCopy shape image p slot lsn
+best-off shape slots image p slot lsn is best = record {
+  below = best.below;
+  passes = sym (copy-same shape slots image p slot is best.below) ∙ best.passes;
+  greatest = λ other found h there. best.greatest other found h (copy-same shape slots image p other is h ∙ there);
+  lowest = λ other found h there. (
+      let low : other < shape.slots = omega (arith, best.below) in
+      best.lowest other found h (copy-same shape slots image p other is low ∙ there));
+}
+
+-- the place doesn't pass, and a copy counts
+pub slot-found : (shape : Shape) (slots place image : List ℕ) (p slot lsn : ℕ) → HoldsSlots shape slots image → place ≡ place_bytes shape p image
+    → place_lsn_by shape p (page_check place) ≡ None → IsBestCopy shape slots p slot lsn → IsFoundAt shape image p (record { lsn = lsn; slot = Some slot })
+slot-found shape slots place image p slot lsn is at broken best =
+    (broken-off shape place image p None at broken, best-off shape slots image p slot lsn is best)
+
 pub lost-off : (shape : Shape) (slots place image : List ℕ) (p : ℕ) → HoldsSlots shape slots image → place ≡ place_bytes shape p image
     → place_lsn_by shape p (page_check place) ≡ None → HasNoCopy shape slots p → IsLost shape image p
 lost-off shape slots place image p is at broken none = record {
-  broken = sym (ap (λ bytes. place_lsn_by shape p (page_check bytes)) at) ∙ broken;
+  broken = broken-off shape place image p None at broken;
   no_copy = λ slot low. sym (copy-same shape slots image p slot is low) ∙ none slot low;
 }
 
@@ -47,16 +68,9 @@ pub slot-off : (shape : Shape) (slots place image user : List ℕ) (p slot lsn :
     → place_lsn_by shape p (page_check place) ≡ None → IsBestCopy shape slots p slot lsn → user ≡ user_part (slot_bytes shape slot slots)
     → IsKept shape image p (record { lsn = lsn; user = user })
 slot-off shape slots place image user p slot lsn is at broken best user_is = inr (record {
-  broken = sym (ap (λ bytes. place_lsn_by shape p (page_check bytes)) at) ∙ broken;
+  broken = broken-off shape place image p None at broken;
   slot = slot;
-  best = record {
-    below = best.below;
-    passes = sym (copy-same shape slots image p slot is best.below) ∙ best.passes;
-    greatest = λ other found h there. best.greatest other found h (copy-same shape slots image p other is h ∙ there);
-    lowest = λ other found h there. (
-        let low : other < shape.slots = omega (arith, best.below) in
-        best.lowest other found h (copy-same shape slots image p other is low ∙ there));
-  };
+  best = best-off shape slots image p slot lsn is best;
   user = user_is ∙ ap user_part (slot-same shape slots image slot is best.below);
 })
 

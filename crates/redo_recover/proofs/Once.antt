@@ -3,14 +3,14 @@ use Rattle.std.proofs.Common.{◌≡◌, ◌≤◌, ◌+◌, ◌⊎◌, ◌++◌
 use Rattle.std.specs.List.{AllByRecursion, slice_get}
 use Rattle.redo_disk.specs.{Answer, Call, error_of, Reads}
 use Rattle.redo_disk.specs.declared.error.DevError.{DevError}
-use Rattle.redo_disk.specs.declared.error.DevError.TheVariants.{NoMemory}
+use Rattle.redo_disk.specs.declared.error.DevError.TheVariants.{Failed, NoMemory}
 use Rattle.redo_disk.proofs.Calls.{MayEndWith-append, MayEndWith-ends, MayEndWith-no_memory}
 use Rattle.redo_disk.proofs.Made.{EndWith-one}
 use Rattle.redo_recover.specs.Calls.{AreBytesRead, IsInStretch, IsPieceRead, ReadOnce, ReadsByte, ReadsPieces, ReadsWhere}
 use Rattle.redo_recover.specs.declared.piece.TheConstants.{PIECE}
 
 -- a place of two lists, one behind the other, is one of the first or of the second
-joined_place : {X : Type 0} (xs ys : List X) (i : ℕ) (x : X) → slice_get (xs ++ ys) i ≡ Some x
+pub joined_place : {X : Type 0} (xs ys : List X) (i : ℕ) (x : X) → slice_get (xs ++ ys) i ≡ Some x
     → (slice_get xs i ≡ Some x) ⊎ ((k : ℕ) × (i ≡ length xs + k) × (slice_get ys k ≡ Some x))
 joined_place [] ys i x there = inr (i, omega arith, there)
 joined_place (y ∷ xs) ys zero x there = inl there
@@ -72,8 +72,11 @@ where-append One Other Both error apart first second xs ys front back = record {
   bytes = bytes-append One Other Both xs ys first second front.bytes back.bytes;
 }
 
-pub pieces-none : ReadsPieces None []
-pieces-none = record { pieces = tt; once = none-once; ends = MayEndWith-ends None [] (record { stop = tt; first = refl }) }
+pub none-where : (IsSuch : ℕ → Type 0) → ReadsWhere IsSuch None []
+none-where IsSuch = record {
+  reads = record { pieces = tt; once = none-once; ends = MayEndWith-ends None [] (record { stop = tt; first = refl }) };
+  bytes = λ at i call there reads. absurd cc;
+}
 
 pub where-one : (at : ℕ) (before : List ℕ) (answer : Answer) (after : List ℕ) → length before ≤ PIECE
     → ReadsWhere (IsInStretch at (length before)) (error_of answer) (Reads at before answer after ∷ [])
@@ -95,8 +98,20 @@ where-weaker One Both error weaker calls is = record {
 }
 
 -- memory ran out behind the calls
-pub pieces-no_memory : (calls : List Call) → ReadsPieces None calls → ReadsPieces (Some NoMemory) calls
+pieces-no_memory : (calls : List Call) → ReadsPieces None calls → ReadsPieces (Some NoMemory) calls
 pieces-no_memory calls is = record { pieces = is.pieces; once = is.once; ends = MayEndWith-no_memory calls is.ends }
 
 pub where-no_memory : (IsSuch : ℕ → Type 0) (calls : List Call) → ReadsWhere IsSuch None calls → ReadsWhere IsSuch (Some NoMemory) calls
 where-no_memory IsSuch calls is = record { reads = pieces-no_memory calls is.reads; bytes = is.bytes }
+
+-- an error that code answers by itself
+abbrev pub MayBeOwn : Option DevError → Type 0
+MayBeOwn None = Unit {0}
+MayBeOwn (Some NoMemory) = Unit {0}
+MayBeOwn (Some Failed) = ⊥
+
+pub where-own : (IsSuch : ℕ → Type 0) (error : Option DevError) → MayBeOwn error → (calls : List Call) → ReadsWhere IsSuch None calls
+    → ReadsWhere IsSuch error calls
+where-own IsSuch None own calls is = is
+where-own IsSuch (Some NoMemory) own calls is = where-no_memory IsSuch calls is
+where-own IsSuch (Some Failed) own calls is = absurd own

@@ -10,14 +10,14 @@ use Rattle.model_logdev.proofs.Places.{one-place_each, place-from, place-on, sec
 use Rattle.model_store.specs.{lsn_at}
 use Rattle.redo_disk.specs.{Call, MakesCalls}
 use Rattle.redo_disk.specs.declared.error.DevError.{DevError}
-use Rattle.redo_recover.specs.Calls.{IsBehindHeader, IsInStretch, ReadsWhere}
+use Rattle.redo_recover.specs.Calls.{IsBehindHeader, IsInStretch, ReadsFrom}
 use Rattle.redo_recover.specs.Devices.{OnContent}
 use Rattle.redo_recover.specs.Piece.{HasSector, IsPieceFor, IsReadFor, IsReadPiece, piece_length}
-use Rattle.redo_recover.specs.Reach.{IsNear, IsOfScan, IsReached, block_place}
+use Rattle.redo_recover.specs.Reach.{BeginsBlock, IsNear, IsOfScan, IsReached, IsReachedAt, block_place}
 use Rattle.redo_recover.specs.declared.piece.Piece.{Piece}
 use Rattle.redo_recover.specs.declared.piece.TheConstants.{PIECE}
+use Rattle.redo_recover.proofs.Begins.{from_then, from_weaker}
 use Rattle.redo_recover.proofs.Contents.{content-weaker}
-use Rattle.redo_recover.proofs.Making.{where_then, where_weaker}
 
 -- the checkpoint stands at the lsn of a block
 pub record IsAtBlock (ckpt : ℕ) : Type 0 where
@@ -120,14 +120,24 @@ pub record HasBlocksUpTo (shape : Shape) (ckpt i count : ℕ) (piece : Piece) : 
   pub to : piece.from + length piece.bytes.items ≡ block_place shape ckpt i + BLOCK_SIZE * (count - i)
   pub within : block_place shape ckpt i + BLOCK_SIZE * (count - i) ≤ log_device_length shape
 
+-- one of the blocks below this number stands there
+abbrev IsPlaceBelow : Shape → ℕ → ℕ → ℕ → Type 0
+IsPlaceBelow shape ckpt i at = (number : ℕ) × (number < i) × (at ≡ block_place shape ckpt number)
+
+place-below : (shape : Shape) (ckpt i more at : ℕ) → i ≤ more → IsPlaceBelow shape ckpt i at → IsPlaceBelow shape ckpt more at
+place-below shape ckpt i more at up_to is = (is.0, omega (arith, up_to, is.1), is.2)
+
+place-this : (shape : Shape) (ckpt i at from : ℕ) → at ≡ block_place shape ckpt i → from ≡ at → IsPlaceBelow shape ckpt (i + 1) from
+place-this shape ckpt i at from place is = (i, omega arith, is ∙ place)
+
 -- What was read while the blocks below this number were taken: bytes of the first so many blocks, at most a piece more
--- than are taken, and what of those isn't taken the piece has.
+-- than are taken, by reads that begin at blocks that are taken; and what of those bytes isn't taken the piece has.
 pub record HasReadBlocks {D : Type 0} (gives : D → Call → D → Type 0) (old new : D) (shape : Shape) (ckpt i : ℕ) (piece : Piece) : Type 0 where
   pub count : ℕ
   pub some : i ≤ count
   pub few : count ≤ shape.log_blocks
   pub near : BLOCK_SIZE * count ≤ BLOCK_SIZE * i + PIECE
-  pub calls : MakesCalls gives old new (ReadsWhere (IsOfBlocks shape ckpt 0 count) None)
+  pub calls : MakesCalls gives old new (ReadsFrom (IsPlaceBelow shape ckpt i) (IsOfBlocks shape ckpt 0 count) None)
   pub ahead : i < count → HasBlocksUpTo shape ckpt i count piece
 
 has-sector : (shape : Shape) (ckpt i count at : ℕ) (piece : Piece) → at ≡ block_place shape ckpt i → i < count → HasBlocksUpTo shape ckpt i count piece → HasSector piece at
@@ -183,11 +193,12 @@ for-apart shape ckpt i count at end byte piece may ahead one for =
 
 -- the piece has the block
 reads-kept : {D : Type 0} {gives : D → Call → D → Type 0} {old middle new : D} (shape : Shape) (ckpt i at end : ℕ) (piece : Piece) → IsReadable shape ckpt i at end
-    → HasReadBlocks gives old middle shape ckpt i piece → HasSector piece at → MakesCalls gives middle new (ReadsWhere (IsReadFor piece at end) None)
+    → HasReadBlocks gives old middle shape ckpt i piece → HasSector piece at → MakesCalls gives middle new (ReadsFrom (λ from. from ≡ at) (IsReadFor piece at end) None)
     → HasReadBlocks gives old new shape ckpt (i + 1) piece
 reads-kept {gives = gives} {old = old} {new = new} shape ckpt i at end piece may read has made =
-    let calls : (count : ℕ) → read.count ≤ count → MakesCalls gives old new (ReadsWhere (IsOfBlocks shape ckpt 0 count) None) =
-    λ count more. where_then (IsOfBlocks shape ckpt 0 count) read.calls made (λ byte one for. for.lacks has)
+    let calls : (count : ℕ) → read.count ≤ count → MakesCalls gives old new (ReadsFrom (IsPlaceBelow shape ckpt (i + 1)) (IsOfBlocks shape ckpt 0 count) None) =
+    λ count more. from_then (IsPlaceBelow shape ckpt (i + 1)) (IsOfBlocks shape ckpt 0 count) read.calls made
+    (λ from one. place-below shape ckpt i (i + 1) from (omega arith) one) (λ from one. place-this shape ckpt i at from may.place one) (λ byte one for. for.lacks has)
     (λ byte one. blocks-wider shape ckpt 0 read.count 0 count byte (omega arith) more one) (λ byte for. absurd (for.lacks has)) in
     ⊎_elim (λ less. record {
       count = read.count;
@@ -207,7 +218,7 @@ reads-kept {gives = gives} {old = old} {new = new} shape ckpt i at end piece may
 
 -- another piece was read
 reads-piece : {D : Type 0} {gives : D → Call → D → Type 0} {old middle new : D} (shape : Shape) (ckpt i at end : ℕ) (piece next : Piece) → IsReadable shape ckpt i at end
-    → HasReadBlocks gives old middle shape ckpt i piece → IsReadPiece piece at end next → MakesCalls gives middle new (ReadsWhere (IsReadFor piece at end) None)
+    → HasReadBlocks gives old middle shape ckpt i piece → IsReadPiece piece at end next → MakesCalls gives middle new (ReadsFrom (λ from. from ≡ at) (IsReadFor piece at end) None)
     → HasReadBlocks gives old new shape ckpt (i + 1) next
 reads-piece shape ckpt i at end piece next may read fresh made =
     let whole = readable-whole shape ckpt i at end may in
@@ -219,7 +230,8 @@ reads-piece shape ckpt i at end piece next may read fresh made =
       some = omega (arith, whole.1);
       few = few;
       near = omega (arith, one-piece i at end whole.0);
-      calls = where_then (IsOfBlocks shape ckpt 0 (i + blocks_read at end)) read.calls made
+      calls = from_then (IsPlaceBelow shape ckpt (i + 1)) (IsOfBlocks shape ckpt 0 (i + blocks_read at end)) read.calls made
+          (λ from one. place-below shape ckpt i (i + 1) from (omega arith) one) (λ from one. place-this shape ckpt i at from may.place one)
           (λ byte one for. for-apart shape ckpt i read.count at end byte piece may read.ahead one for)
           (λ byte one. blocks-wider shape ckpt 0 read.count 0 (i + blocks_read at end) byte (omega arith) (omega (arith, none_ahead)) one)
           (λ byte for. blocks-wider shape ckpt i (i + blocks_read at end) 0 (i + blocks_read at end) byte (omega arith) (omega arith) (for-blocks shape ckpt i at end byte piece may for));
@@ -231,7 +243,7 @@ reads-piece shape ckpt i at end piece next may read fresh made =
     }
 
 pub reads-next : {D : Type 0} {gives : D → Call → D → Type 0} {old middle new : D} (shape : Shape) (ckpt i at end : ℕ) (piece next : Piece) → IsReadable shape ckpt i at end
-    → HasReadBlocks gives old middle shape ckpt i piece → IsPieceFor piece at end next → MakesCalls gives middle new (ReadsWhere (IsReadFor piece at end) None)
+    → HasReadBlocks gives old middle shape ckpt i piece → IsPieceFor piece at end next → MakesCalls gives middle new (ReadsFrom (λ from. from ≡ at) (IsReadFor piece at end) None)
     → HasReadBlocks gives old new shape ckpt (i + 1) next
 reads-next {gives = gives} {old = old} {new = new} shape ckpt i at end piece next may read is made =
     elim is [
@@ -255,18 +267,41 @@ of-scan told shape ckpt i low high at reached near is = record {
   }) reached;
 }
 
+-- a read that begins at a block that is taken, or at the next one
+begins-block : (told : Option Disk) (shape : Shape) (ckpt i at : ℕ) → i ≤ shape.log_blocks → OnContent told (IsReached shape ckpt i)
+    → IsPlaceBelow shape ckpt i at → BeginsBlock shape ckpt told at
+begins-block told shape ckpt i at few reached is =
+    content-weaker told (IsReached shape ckpt i) (IsReachedAt shape ckpt at) (λ content known. record {
+      number = is.0;
+      few = omega (arith, few, is.1);
+      place = is.2;
+      reached = λ n below. known n (omega (arith, below, is.1));
+    }) reached
+
+begins-next : (told : Option Disk) (shape : Shape) (ckpt i from at : ℕ) → i < shape.log_blocks → OnContent told (IsReached shape ckpt i)
+    → at ≡ block_place shape ckpt i → from ≡ at → BeginsBlock shape ckpt told from
+begins-next told shape ckpt i from at below reached place is =
+    content-weaker told (IsReached shape ckpt i) (IsReachedAt shape ckpt from)
+    (λ content known. record { number = i; few = below; place = is ∙ place; reached = known }) reached
+
 pub reads-end : {D : Type 0} {gives : D → Call → D → Type 0} {old new : D} (told : Option Disk) (shape : Shape) (ckpt i : ℕ) (piece : Piece)
     → OnContent told (IsReached shape ckpt i) → HasReadBlocks gives old new shape ckpt i piece
-    → MakesCalls gives old new (ReadsWhere (IsOfScan shape ckpt told) None)
+    → MakesCalls gives old new (ReadsFrom (BeginsBlock shape ckpt told) (IsOfScan shape ckpt told) None)
 reads-end told shape ckpt i piece reached read =
-    where_weaker (IsOfScan shape ckpt told) read.calls (λ byte one. of-scan told shape ckpt i 0 read.count byte reached read.near one)
+    from_weaker (BeginsBlock shape ckpt told) (IsOfScan shape ckpt told) read.calls
+    (λ from one. begins-block told shape ckpt i from (omega (arith, read.some, read.few)) reached one)
+    (λ byte one. of-scan told shape ckpt i 0 read.count byte reached read.near one)
 
 pub reads-end_at : {D : Type 0} {gives : D → Call → D → Type 0} {old middle new : D} {error : Option DevError} (told : Option Disk) (shape : Shape)
     (ckpt i at end : ℕ) (piece : Piece) → OnContent told (IsReached shape ckpt i) → IsReadable shape ckpt i at end → HasReadBlocks gives old middle shape ckpt i piece
-    → MakesCalls gives middle new (ReadsWhere (IsReadFor piece at end) error) → MakesCalls gives old new (ReadsWhere (IsOfScan shape ckpt told) error)
+    → MakesCalls gives middle new (ReadsFrom (λ from. from ≡ at) (IsReadFor piece at end) error)
+    → MakesCalls gives old new (ReadsFrom (BeginsBlock shape ckpt told) (IsOfScan shape ckpt told) error)
 reads-end_at told shape ckpt i at end piece reached may read made =
     let near : BLOCK_SIZE * (i + blocks_read at end) ≤ BLOCK_SIZE * i + PIECE =
     omega (arith, one-piece i at end (readable-whole shape ckpt i at end may).0) in
-    where_then (IsOfScan shape ckpt told) read.calls made (λ byte one for. for-apart shape ckpt i read.count at end byte piece may read.ahead one for)
+    from_then (BeginsBlock shape ckpt told) (IsOfScan shape ckpt told) read.calls made
+    (λ from one. begins-block told shape ckpt i from (omega (arith, read.some, read.few)) reached one)
+    (λ from one. begins-next told shape ckpt i from at may.some reached may.place one)
+    (λ byte one for. for-apart shape ckpt i read.count at end byte piece may read.ahead one for)
     (λ byte one. of-scan told shape ckpt i 0 read.count byte reached read.near one)
     (λ byte for. of-scan told shape ckpt i i (i + blocks_read at end) byte reached near (for-blocks shape ckpt i at end byte piece may for))

@@ -12,11 +12,12 @@ use Rattle.redo_disk.specs.declared.error.DevError.{DevError}
 use Rattle.redo_disk.specs.declared.error.DevError.TheVariants as device
 use Rattle.redo_recover.specs.Devices.{IsUnchanged, OnContent, data_fault_of, log_fault_of}
 use Rattle.redo_recover.specs.Groups.{IsParseFault}
+use Rattle.redo_recover.specs.Header.{IsOfHead}
 use Rattle.redo_recover.specs.Order.{IsLogRead, IsLogStart, IsOfLog, IsOfPages, ReadsBehindLog}
 use Rattle.redo_recover.specs.Pages.{IsAheadFault, IsFirstLostFault}
 use Rattle.redo_recover.specs.Start.{IsHeadFault, IsLengthFault}
 use Rattle.redo_recover.specs.declared.fault.RecFault.{RecFault}
-use Rattle.redo_recover.specs.declared.fault.RecFault.TheVariants.{PageLost, PageAhead, DataDev, NoMemory}
+use Rattle.redo_recover.specs.declared.fault.RecFault.TheVariants.{SmallLog, NotFormatted, BadFormat, SmallData, NoCheckpoint, PageLost, PageAhead, DataDev, NoMemory}
 use Rattle.redo_recover.specs.declared.start.Start.{Start}
 use Rattle.redo_recover.proofs.Contents.{content-both}
 use Rattle.redo_recover.proofs.Unchanged.{content-before}
@@ -45,6 +46,30 @@ parse-of_log ckpt shape bytes (Some start) (PageLost p) none = absurd none
 parse-of_log ckpt shape bytes (Some start) (PageAhead p lsn) none = absurd none
 parse-of_log ckpt shape bytes (Some start) DataDev none = absurd none
 parse-of_log ckpt shape bytes (Some start) _ is = tt
+
+-- FAULTS BEHIND THE HEADER.
+
+pub log_fault-behind : (error : DevError) → IsOfHead (log_fault_of error) → ⊥
+log_fault-behind device.Failed none = none
+log_fault-behind device.NoMemory none = none
+
+pub parse-behind : (ckpt : ℕ) (shape : Shape) (bytes : List ℕ) (start : Option ℕ) (fault : RecFault) → IsParseFault ckpt shape bytes start fault
+    → IsOfHead fault → ⊥
+parse-behind ckpt shape bytes None fault none head = absurd none
+parse-behind ckpt shape bytes (Some start) NotFormatted none head = absurd none
+parse-behind ckpt shape bytes (Some start) (BadFormat n) none head = absurd none
+parse-behind ckpt shape bytes (Some start) (SmallLog n) none head = absurd none
+parse-behind ckpt shape bytes (Some start) (SmallData n) none head = absurd none
+parse-behind ckpt shape bytes (Some start) NoCheckpoint none head = absurd none
+parse-behind ckpt shape bytes (Some start) _ is none = absurd none
+
+pub pages-behind : (fault : RecFault) → IsOfPages fault → IsOfHead fault → ⊥
+pages-behind NotFormatted none head = absurd none
+pages-behind (BadFormat n) none head = absurd none
+pages-behind (SmallLog n) none head = absurd none
+pages-behind (SmallData n) none head = absurd none
+pages-behind NoCheckpoint none head = absurd none
+pages-behind _ is none = absurd none
 
 -- FAULTS OF THE PAGES.
 

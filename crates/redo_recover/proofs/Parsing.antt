@@ -9,7 +9,8 @@ use Rattle.model_log.specs.{sn_of}
 use Rattle.model_log.specs.declared.block.BlockView.{BlockView}
 use Rattle.model_store.specs.{AreGroups, groups_start, IsStorable}
 use Rattle.redo_recover.specs.Blocks.{AreBlocksOf}
-use Rattle.redo_recover.specs.Groups.{AreParsed, IsBreakFault, IsScanFault}
+use Rattle.redo_recover.proofs.Rising.{each-behind}
+use Rattle.redo_recover.specs.Groups.{AreParsed, EndBehindStarts, IsBreakFault, IsScanFault}
 use Rattle.redo_recover.specs.declared.fault.RecFault.{RecFault}
 use Rattle.redo_recover.specs.declared.fault.RecFault.TheVariants.{SmallLog, NotFormatted, BadFormat, SmallData, NoCheckpoint, BadRecord, PageLost, PageAhead, LogDev, DataDev, NoMemory}
 
@@ -23,6 +24,12 @@ pub parsed-fit : (ckpt count : ℕ) (shape : Shape) (bytes : List ℕ) (start : 
 parsed-fit ckpt count shape bytes None wholes end (none, at) =
     subst (λ ws. All (λ whole. GroupFits shape whole.group) ws) (sym none) (All-nil (λ whole. GroupFits shape whole.group))
 parsed-fit ckpt count shape bytes (Some start) wholes end parsed = good-fit shape wholes parsed.groups.each
+
+-- and each of them ends behind its start
+pub parsed-behind : (ckpt count : ℕ) (shape : Shape) (bytes : List ℕ) (start : Option ℕ) (wholes : List Whole) (end : ℕ)
+    → AreParsed ckpt count shape bytes start wholes end → EndBehindStarts wholes
+parsed-behind ckpt count shape bytes None wholes end (none, at) = subst EndBehindStarts (sym none) tt
+parsed-behind ckpt count shape bytes (Some start) wholes end parsed = each-behind shape wholes parsed.groups.run.lengths parsed.groups.each
 
 broken : (shape : Shape) (image : List ℕ) (ckpt : ℕ) (views : List BlockView) (bytes : List ℕ) (start : ℕ) (fault : RecFault)
     → AreBlocksOf shape ckpt views bytes image → groups_start ckpt views ≡ Some start

@@ -3,7 +3,8 @@ use Rattle.std.specs.Prelude.{ℕ, ◌≡◌, ◌≤◌, ◌<◌, ◌+◌, ◌*�
 use Rattle.std.specs.List.{AllByRecursion}
 use Rattle.model_base.specs.declared.shape.Shape.{Shape}
 use Rattle.model_log.specs.declared.layout.TheConstants.{HEADER_BYTES}
-use Rattle.redo_disk.specs.{Call, MayEndWith, Reads, Syncs, Writes}
+use Rattle.model_page.specs.{data_device_length}
+use Rattle.redo_disk.specs.{Answer, Call, MayEndWith, Reads, Syncs, Writes}
 use Rattle.redo_disk.specs.declared.error.DevError.{DevError}
 use Rattle.redo_disk.specs.declared.error.DevError.TheVariants as device
 use Rattle.redo_recover.specs.declared.fault.RecFault.{RecFault}
@@ -48,6 +49,16 @@ pub record ReadsWhere (IsSuch : ℕ → Type 0) (error : Option DevError) (calls
   pub reads : ReadsPieces error calls
   pub bytes : AreBytesRead IsSuch calls
 
+-- each of the calls begins at such a byte
+abbrev pub AreBegun : (ℕ → Type 0) → List Call → Type 0
+AreBegun IsSuch calls =
+    (i at : ℕ) (before after : List ℕ) (answer : Answer) → slice_get calls i ≡ Some (Reads at before answer after) → IsSuch at
+
+-- the same of calls that begin at such bytes alone
+pub record ReadsFrom (IsFrom IsSuch : ℕ → Type 0) (error : Option DevError) (calls : List Call) : Type 0 where
+  pub bytes_read : ReadsWhere IsSuch error calls
+  pub begins : AreBegun IsFrom calls
+
 -- the first of the calls reads the header
 abbrev pub BeginWithHeader : List Call → Type 0
 BeginWithHeader [] = ⊥
@@ -62,15 +73,13 @@ IsOfHeader at = at < HEADER_BYTES
 abbrev pub IsBehindHeader : ℕ → Type 0
 IsBehindHeader at = HEADER_BYTES ≤ at
 
--- The same of the calls of a log device of this size that read the header alone. Where it has room for a header, the first
--- of them reads that.
-pub record ReadsHeader (size : ℕ) (error : Option DevError) (calls : List Call) : Type 0 where
-  pub reads : ReadsWhere IsOfHeader error calls
-  pub header : HEADER_BYTES ≤ size → BeginWithHeader calls
+-- the byte is one of the slots or places of the store
+abbrev pub IsOfStore : Shape → ℕ → Type 0
+IsOfStore shape at = at < data_device_length shape
 
--- the byte stands behind the slots of the data device
-abbrev pub IsBehindSlots : Shape → ℕ → Type 0
-IsBehindSlots shape at = shape.slots * shape.page_size ≤ at
+-- the byte is one of the places of the first so many pages
+abbrev pub IsOfPlaces : Shape → ℕ → ℕ → Type 0
+IsOfPlaces shape count at = IsInStretch (shape.slots * shape.page_size) (count * shape.page_size) at
 
 -- the byte is one of a page's place
 abbrev pub IsOfPlace : Shape → ℕ → ℕ → Type 0

@@ -1,5 +1,5 @@
 -- What reading groups one after another off some bytes gives.
-use Rattle.std.specs.Prelude.{ℕ, ◌≡◌, ◌≤◌, ◌+◌, ◌-◌, ◌*◌, List, [], length, take, drop, Option, Some, None, ⊤}
+use Rattle.std.specs.Prelude.{ℕ, ◌≡◌, ◌≤◌, ◌<◌, ◌+◌, ◌-◌, ◌*◌, List, [], length, take, drop, Option, Some, None, ⊤}
 use Rattle.std.specs.List.{AllByRecursion}
 use Rattle.model_base.specs.declared.limits.TheConstants.{BLOCK_SIZE}
 use Rattle.model_base.specs.declared.shape.Shape.{Shape}
@@ -27,6 +27,10 @@ pub record EndAt (shape : Shape) (bytes : List ℕ) (start : ℕ) (wholes : List
   pub groups : AreGroups shape bytes start wholes rest
   pub front : IsFront rest
   pub at : end ≡ end_of start (spans_of wholes)
+
+-- each of the groups ends behind the lsn at which it starts
+abbrev pub EndBehindStarts : List Whole → Type 0
+EndBehindStarts wholes = AllByRecursion (λ (whole : Whole). whole.start < whole.end) wholes
 
 -- behind groups that fit comes at this lsn neither one more nor less than a whole one
 pub record BreakAt (shape : Shape) (bytes : List ℕ) (start lsn : ℕ) : Type 0 where

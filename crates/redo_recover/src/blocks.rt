@@ -8,10 +8,10 @@ ghost use Rattle.model_store.specs.{groups_start};
 ghost use Rattle.redo_disk.specs.{error_of, MakesCalls};
 ghost use Rattle.redo_disk.specs.declared.error.DevError.{DevError};
 ghost use Rattle.redo_recover.specs.Blocks.{AreBlocksOf, AreFew, HasFirst, HaveFirsts};
-ghost use Rattle.redo_recover.specs.Calls.{ReadsWhere};
+ghost use Rattle.redo_recover.specs.Calls.{ReadsFrom};
 ghost use Rattle.redo_recover.specs.Devices.{IsUnchanged, OnContent};
 ghost use Rattle.redo_recover.specs.Piece.{HasSector};
-ghost use Rattle.redo_recover.specs.Reach.{IsOfScan};
+ghost use Rattle.redo_recover.specs.Reach.{BeginsBlock, IsOfScan};
 
 use crate::piece::Piece;
 use model_base::{BLOCK_SIZE, LSN_LIMIT, Shape};
@@ -72,7 +72,8 @@ pub(crate) fn read_blocks<L: Sectors>(
     ensures firsts { IfOk result (λ blocks. HaveFirsts blocks.views.items) }
     ensures unchanged { IsUnchanged (L.seen log.old) (L.seen log.new) }
     ensures failed { IsErrOf result DevError.Failed → HasRisen (L.seen log.old).faults (L.seen log.new).faults }
-    ensures calls { MakesCalls L.gives log.old log.new (ReadsWhere (IsOfScan shape.now ckpt (L.seen log.old).tells) (error_of result)) }
+    ensures calls { MakesCalls L.gives log.old log.new (ReadsFrom (BeginsBlock shape.now ckpt (L.seen log.old).tells)
+        (IsOfScan shape.now ckpt (L.seen log.old).tells) (error_of result)) }
 {
     let mut views = Vec::new(alloc);
     let mut joined = Vec::new(alloc);

@@ -9,6 +9,7 @@ mod groups;
 mod kept;
 mod pages;
 mod piece;
+mod places;
 mod recovered;
 mod recovery;
 mod scan;
@@ -16,6 +17,7 @@ mod start;
 
 pub use errors::{data_fault, log_fault};
 pub use fault::RecFault;
+pub use places::{Found, Places};
 pub use recovered::Recovered;
 pub use recovery::recover;
 pub use start::check_lengths;

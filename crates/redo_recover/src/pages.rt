@@ -8,20 +8,29 @@ ghost use Rattle.std.specs.List.{AllByRecursion};
 ghost use Rattle.model_store.specs.{AreReadPages};
 ghost use Rattle.redo_apply.specs.{ArePagesOf, HaveLsns};
 ghost use Rattle.redo_disk.specs.{MakesCalls};
-ghost use Rattle.redo_recover.specs.Calls.{ReadsPieces, data_error_of};
+ghost use Rattle.redo_recover.specs.Calls.{IsOfStore, ReadsWhere, data_error_of};
 ghost use Rattle.redo_recover.specs.Devices.{HasLengthCause, IsUnchanged, OnContent};
+ghost use Rattle.redo_recover.specs.Groups.{EndBehindStarts};
 ghost use Rattle.redo_recover.specs.Order.{IsOfPages};
 ghost use Rattle.redo_recover.specs.Pages.{AreNotAhead, IsAheadFault, AreReplayed, HasPageCause};
+ghost use Rattle.redo_recover.specs.Places.{AreFoundOn, ArePlacesOf};
 
-use crate::RecFault;
 use crate::errors::data_fault;
 use crate::kept::keep_pages;
 use crate::piece::read_part;
+use crate::{Places, RecFault};
 use model_base::{MAX_PAGES, Shape};
 use model_record::Whole;
 use redo_apply::Pages;
 use redo_disk::Sectors;
 use std::alloc::Global;
+
+/// The pages of a store, and where each was found.
+#[derive(Debug, Drop)]
+pub(crate) struct Placed {
+    pub(crate) pages: Pages,
+    pub(crate) places: Places,
+}
 
 /// Whether a page has an lsn above the log's end.
 fn check_ahead(pages: &Pages, end: u64) -> Result<(), RecFault>
@@ -67,27 +76,31 @@ fn replay_pages(pages: &mut Pages, groups: &[Whole], shape: &Shape)
 }
 
 /// Reads the pages off the data device, where the log has these groups and ends there. All are judged for being lost
-/// before one is for being ahead. The slots are read once and held, and each place is read by itself.
+/// before one is for being ahead. The slots are read once and handed on, and each place is read by itself.
 pub(crate) fn read_pages<D: Sectors>(
     alloc: Global,
     device: &mut D,
     shape: &Shape,
     groups: &[Whole],
     end: u64,
-) -> Result<Pages, RecFault>
+) -> Result<Placed, RecFault>
     requires limits { IsWithinLimits shape.now }
     requires long { data_device_length shape.now ≤ (D.seen device.old).size }
     requires fit { All (λ whole. GroupFits shape.now whole.group) groups.now }
     requires ends { AllByRecursion (λ (whole : Whole). whole.end ≤ end) groups.now }
-    ensures pages { IfOk result (λ pages. OnContent (D.seen device.old).tells
-        (λ content. AreReadPages shape.now content groups.now end pages)) }
-    ensures its_pages { IfOk result (ArePagesOf shape.now) }
-    ensures not_ahead { IfOk result (λ pages. AreNotAhead pages end) }
+    requires rise { EndBehindStarts groups.now }
+    ensures pages { IfOk result (λ placed. OnContent (D.seen device.old).tells
+        (λ content. AreReadPages shape.now content groups.now end placed.pages)) }
+    ensures found { IfOk result (λ placed. OnContent (D.seen device.old).tells
+        (AreFoundOn shape.now placed.places placed.pages)) }
+    ensures its_pages { IfOk result (λ placed. ArePagesOf shape.now placed.pages) }
+    ensures its_places { IfOk result (λ placed. ArePlacesOf shape.now placed.places placed.pages) }
+    ensures not_ahead { IfOk result (λ placed. AreNotAhead placed.pages end) }
     ensures lengths { (log_size data_size : ℕ) → IfErr result (HasLengthCause log_size data_size) }
     ensures cause { IfErr result (λ fault. OnContent (D.seen device.old).tells (HasPageCause shape.now end fault)) }
     ensures unchanged { IsUnchanged (D.seen device.old) (D.seen device.new) }
     ensures failed { IsErrOf result RecFault.DataDev → HasRisen (D.seen device.old).faults (D.seen device.new).faults }
-    ensures calls { MakesCalls D.gives device.old device.new (ReadsPieces (data_error_of result)) }
+    ensures calls { MakesCalls D.gives device.old device.new (ReadsWhere (IsOfStore shape.now) (data_error_of result)) }
     ensures apart { IsErrOf result RecFault.LogDev → ⊥ }
     ensures of_pages { IfErr result IsOfPages }
 {
@@ -96,8 +109,9 @@ pub(crate) fn read_pages<D: Sectors>(
         Ok(slots) => slots,
         Err(error) => return Err(data_fault(error)),
     };
-    let mut pages = keep_pages(alloc, device, shape, slots.as_slice())?;
+    let (mut pages, found) = keep_pages(alloc, device, shape, slots.as_slice())?;
     check_ahead(&pages, end)?;
     replay_pages(&mut pages, groups, shape);
-    Ok(pages)
+    let places = Places { slots, found };
+    Ok(Placed { pages, places })
 }

@@ -4,7 +4,7 @@ ghost use Rattle.model_base.specs.{HasRisen};
 ghost use Rattle.model_log.specs.{sector_at};
 ghost use Rattle.redo_disk.specs.{error_of, IsRange, MakesCalls, part};
 ghost use Rattle.redo_disk.specs.declared.error.DevError.{DevError};
-ghost use Rattle.redo_recover.specs.Calls.{IsInStretch, ReadsWhere};
+ghost use Rattle.redo_recover.specs.Calls.{IsInStretch, ReadsFrom};
 ghost use Rattle.redo_recover.specs.Devices.{IsUnchanged, OnContent};
 ghost use Rattle.redo_recover.specs.Piece.{IsPieceFor, IsPieceOf, IsReadFor, HasSector};
 
@@ -58,7 +58,7 @@ impl Piece {
         ensures unchanged { IsUnchanged (D.seen device.old) (D.seen device.new) }
         ensures failed { IsErrOf result DevError.Failed → HasRisen (D.seen device.old).faults (D.seen device.new).faults }
         ensures piece { IfOk result (IsPieceFor self at end) }
-        ensures calls { MakesCalls D.gives device.old device.new (ReadsWhere (IsReadFor self at end) (error_of result)) }
+        ensures calls { MakesCalls D.gives device.old device.new (ReadsFrom (λ from. from ≡ at) (IsReadFor self at end) (error_of result)) }
     {
         if self.has_sector(at) {
             return Ok(self);
@@ -93,7 +93,7 @@ pub(crate) fn read_part<D: Sectors>(
     ensures count { IfOk result (λ bytes. length bytes.items ≡ count) }
     ensures unchanged { IsUnchanged (D.seen device.old) (D.seen device.new) }
     ensures failed { IsErrOf result DevError.Failed → HasRisen (D.seen device.old).faults (D.seen device.new).faults }
-    ensures calls { MakesCalls D.gives device.old device.new (ReadsWhere (IsInStretch at count) (error_of result)) }
+    ensures calls { MakesCalls D.gives device.old device.new (ReadsFrom (λ from. from ≡ at) (IsInStretch at count) (error_of result)) }
 {
     let mut bytes = vec![in alloc; 0u8; count]?;
     device.read(at, bytes.as_mut_slice())?;

@@ -1,4 +1,5 @@
 // What is recovered of a store.
+use crate::places::Places;
 use model_base::Shape;
 use model_log::BlockView;
 use model_record::Whole;
@@ -21,4 +22,6 @@ pub struct Recovered {
     pub end: u64,
     /// The pages, with the scanned groups applied.
     pub pages: Pages,
+    /// The slots, and where each page was found, before groups were applied.
+    pub places: Places,
 }

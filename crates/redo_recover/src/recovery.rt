@@ -3,13 +3,13 @@ ghost use Rattle.std.specs.Prelude.{◌≡◌, IfOk, IfErr, IfSome, IsErrOf};
 ghost use Rattle.model_base.specs.{HasRisen};
 ghost use Rattle.model_store.specs.{IsReading};
 ghost use Rattle.redo_disk.specs.{HasSize, MakesCalls};
-ghost use Rattle.redo_recover.specs.Calls.{ReadsPieces, data_error_of, log_error_of};
-ghost use Rattle.redo_recover.specs.Devices.{HasCauseIn, HasLengthCause, IsUnchanged, OnContents};
+ghost use Rattle.redo_recover.specs.Devices.{HasCauseIn, HasLengthCause, IsUnchanged, OnContent, OnContents};
 ghost use Rattle.redo_recover.specs.Order.{ReadsBehindLog};
-ghost use Rattle.redo_recover.specs.Reach.{ReadsLog};
+ghost use Rattle.redo_recover.specs.Places.{AreFoundOn};
+ghost use Rattle.redo_recover.specs.Reach.{ReadsLog, ReadsPages};
 ghost use Rattle.redo_recover.specs.Reading.{IsOfDevices, reading_of};
 
-use crate::pages::read_pages;
+use crate::pages::{Placed, read_pages};
 use crate::scan::{Scanned, scan_log};
 use crate::start::{Start, read_start};
 use crate::{RecFault, Recovered};
@@ -20,8 +20,8 @@ use std::alloc::Global;
 /// and the pages as they are kept, to which each group is applied that starts at or above a page's lsn.
 ///
 /// It writes nothing, and reads no byte twice: of the log the header, and then blocks in pieces of at most 65,536 bytes, none
-/// of them so far behind the block at which the scan ends; and then the data device, in pieces of that size too. A device's
-/// failure ends it at once.
+/// of them so far behind the block at which the scan ends; and then the slots and places of the data device, in pieces of that
+/// size too. A device's failure ends it at once.
 pub fn recover<L: Sectors, D: Sectors>(
     alloc: Global,
     log: &mut L,
@@ -29,14 +29,16 @@ pub fn recover<L: Sectors, D: Sectors>(
 ) -> Result<Recovered, RecFault>
     ensures read { IfOk result (λ recovered. OnContents (L.seen log.old).tells (D.seen data_device.old).tells
         (λ log_bytes data_bytes. IsReading log_bytes data_bytes (reading_of recovered))) }
+    ensures found { IfOk result (λ recovered. OnContent (D.seen data_device.old).tells
+        (AreFoundOn recovered.shape recovered.places recovered.pages)) }
     ensures sized { IfOk result (λ _. IfSome (D.seen data_device.old).tells (HasSize (D.seen data_device.old).size)) }
     ensures of_devices { IfOk result (IsOfDevices (L.seen log.old).size (D.seen data_device.old).size) }
     ensures lengths { IfErr result (HasLengthCause (L.seen log.old).size (D.seen data_device.old).size) }
     ensures cause { IfErr result (HasCauseIn (L.seen log.old).tells (D.seen data_device.old).tells) }
     ensures log { IsUnchanged (L.seen log.old) (L.seen log.new) }
     ensures data_device { IsUnchanged (D.seen data_device.old) (D.seen data_device.new) }
-    ensures log_calls { MakesCalls L.gives log.old log.new (ReadsLog (L.seen log.old) (D.seen data_device.old).size (log_error_of result)) }
-    ensures data_calls { MakesCalls D.gives data_device.old data_device.new (ReadsPieces (data_error_of result)) }
+    ensures log_calls { MakesCalls L.gives log.old log.new (ReadsLog (L.seen log.old) (D.seen data_device.old).size result) }
+    ensures data_calls { MakesCalls D.gives data_device.old data_device.new (ReadsPages (L.seen log.old).tells result) }
     ensures order { ReadsBehindLog (L.seen log.old).tells (D.seen data_device.old).size data_device.old data_device.new result }
     ensures log_failed { IsErrOf result RecFault.LogDev → HasRisen (L.seen log.old).faults (L.seen log.new).faults }
     ensures data_failed { IsErrOf result RecFault.DataDev
@@ -48,7 +50,7 @@ pub fn recover<L: Sectors, D: Sectors>(
         ckpt,
     } = read_start(log, data_device)?;
     let Scanned { views, groups, end } = scan_log(alloc, log, &shape, ckpt)?;
-    let pages = read_pages(alloc, data_device, &shape, groups.as_slice(), end)?;
+    let Placed { pages, places } = read_pages(alloc, data_device, &shape, groups.as_slice(), end)?;
     Ok(Recovered {
         shape,
         number,
@@ -57,5 +59,6 @@ pub fn recover<L: Sectors, D: Sectors>(
         groups,
         end,
         pages,
+        places,
     })
 }

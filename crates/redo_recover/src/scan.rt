@@ -6,11 +6,12 @@ ghost use Rattle.model_log.specs.{log_device_length};
 ghost use Rattle.model_record.specs.{GroupFits};
 ghost use Rattle.model_store.specs.{IsScan};
 ghost use Rattle.redo_disk.specs.{MakesCalls};
-ghost use Rattle.redo_recover.specs.Calls.{ReadsWhere, log_error_of};
+ghost use Rattle.redo_recover.specs.Calls.{ReadsFrom, log_error_of};
 ghost use Rattle.redo_recover.specs.Devices.{HasLengthCause, IsUnchanged, OnContent};
-ghost use Rattle.redo_recover.specs.Groups.{IsEndOf, IsScanFault};
+ghost use Rattle.redo_recover.specs.Groups.{EndBehindStarts, IsEndOf, IsScanFault};
+ghost use Rattle.redo_recover.specs.Header.{IsOfHead};
 ghost use Rattle.redo_recover.specs.Order.{IsOfLog};
-ghost use Rattle.redo_recover.specs.Reach.{IsOfScan};
+ghost use Rattle.redo_recover.specs.Reach.{BeginsBlock, IsOfScan};
 
 use crate::RecFault;
 use crate::blocks::{Blocks, read_blocks};
@@ -47,13 +48,16 @@ pub(crate) fn scan_log<L: Sectors>(
     ensures few { IfOk result (λ scanned. length scanned.views.items ≤ shape.now.log_blocks) }
     ensures end { IfOk result (λ scanned. IsEndOf shape.now ckpt scanned.groups.items scanned.end) }
     ensures fit { IfOk result (λ scanned. All (λ whole. GroupFits shape.now whole.group) scanned.groups.items) }
+    ensures rise { IfOk result (λ scanned. EndBehindStarts scanned.groups.items) }
     ensures fault { IfErr result (λ fault. OnContent (L.seen log.old).tells (λ content. IsScanFault shape.now ckpt content fault)) }
     ensures lengths { (log_size data_size : ℕ) → IfErr result (HasLengthCause log_size data_size) }
     ensures unchanged { IsUnchanged (L.seen log.old) (L.seen log.new) }
     ensures failed { IsErrOf result RecFault.LogDev → HasRisen (L.seen log.old).faults (L.seen log.new).faults }
-    ensures calls { MakesCalls L.gives log.old log.new (ReadsWhere (IsOfScan shape.now ckpt (L.seen log.old).tells) (log_error_of result)) }
+    ensures calls { MakesCalls L.gives log.old log.new (ReadsFrom (BeginsBlock shape.now ckpt (L.seen log.old).tells)
+        (IsOfScan shape.now ckpt (L.seen log.old).tells) (log_error_of result)) }
     ensures apart { IsErrOf result RecFault.DataDev → ⊥ }
     ensures of_log { IfErr result IsOfLog }
+    ensures behind_head { IfErr result (λ fault. IsOfHead fault → ⊥) }
 {
     let blocks = match read_blocks(alloc, log, shape, ckpt) {
         Ok(blocks) => blocks,

@@ -4,8 +4,8 @@ ghost use Rattle.model_base.specs.{HasRisen, IsWithinLimits};
 ghost use Rattle.model_log.specs.{header_block, log_device_length, newest_checkpoint, read_head};
 ghost use Rattle.model_page.specs.{data_device_length};
 ghost use Rattle.redo_disk.specs.{HasSize, MakesCalls};
-ghost use Rattle.redo_recover.specs.Calls.{ReadsHeader, log_error_of};
 ghost use Rattle.redo_recover.specs.Devices.{HasCauseIn, HasLengthCause, IsUnchanged, OnContent, OnContents};
+ghost use Rattle.redo_recover.specs.Header.{ReadsHeader};
 ghost use Rattle.redo_recover.specs.Order.{IsLogStart, IsOfLog};
 ghost use Rattle.redo_recover.specs.Start.{IsHeadFault, IsLengthFault, IsStart, IsUsable};
 
@@ -85,7 +85,7 @@ pub(crate) fn read_start<L: Sectors, D: Sectors>(log: &mut L, device: &D) -> Res
     ensures cause { IfErr result (HasCauseIn (L.seen log.old).tells (D.seen device.now).tells) }
     ensures unchanged { IsUnchanged (L.seen log.old) (L.seen log.new) }
     ensures failed { IsErrOf result RecFault.LogDev → HasRisen (L.seen log.old).faults (L.seen log.new).faults }
-    ensures calls { MakesCalls L.gives log.old log.new (ReadsHeader (L.seen log.old).size (log_error_of result)) }
+    ensures calls { MakesCalls L.gives log.old log.new (ReadsHeader (L.seen log.old).size (D.seen device.now).size result) }
     ensures apart { IsErrOf result RecFault.DataDev → ⊥ }
     ensures of_log { IfErr result IsOfLog }
 {

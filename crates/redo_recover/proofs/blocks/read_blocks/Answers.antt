@@ -5,13 +5,13 @@ use Rattle.model_log.specs.declared.layout.TheConstants.{BLOCK_DATA}
 use Rattle.redo_disk.specs.{MakesCalls}
 use Rattle.redo_disk.specs.declared.error.DevError.TheVariants.{NoMemory}
 use Rattle.redo_recover.specs.Blocks.{AreBlocksOf}
-use Rattle.redo_recover.specs.Calls.{ReadsWhere}
+use Rattle.redo_recover.specs.Calls.{ReadsFrom}
 use Rattle.redo_recover.specs.Devices.{OnContent}
 use Rattle.redo_recover.specs.Piece.{IsPieceOf}
-use Rattle.redo_recover.specs.Reach.{IsOfScan, IsReached, block_place}
+use Rattle.redo_recover.specs.Reach.{BeginsBlock, IsOfScan, IsReached, block_place}
+use Rattle.redo_recover.proofs.Begins.{own_from}
 use Rattle.redo_recover.proofs.Bounds.{firsts-push}
 use Rattle.redo_recover.proofs.Contents.{content-both, content-weaker}
-use Rattle.redo_recover.proofs.Making.{own_where}
 use Rattle.redo_recover.proofs.OneRound.{IsReadable, reads-end, reads-end_at, reads-next}
 use Rattle.redo_recover.proofs.Scanning.{AreBlocksSoFar, IsTakenAt, taken-at, so_far-next, read-stopped, read-last, read-all, length-data_of, so_far-reached}
 use Rattle.redo_recover.proofs.Unchanged.{IsUnchanged-then, content-before, content-after}
@@ -41,7 +41,8 @@ reached g c =
 read_once : (g : Over) (c : In_ok-piece g)
     → IsReadable c.args.shape.now c.args.ckpt c.loop-i.i c.offset_of-at.result c.readable_end-end.result
     → OnContent (g.L.Sectors.seen c.args.log.now).tells (IsReached c.args.shape.now c.args.ckpt c.loop-i.i)
-    → MakesCalls g.L.Sectors.gives c.args.log.now c.with_sector.new.device (ReadsWhere (IsOfScan c.args.shape.now c.args.ckpt (g.L.Sectors.seen c.args.log.now).tells) None)
+    → MakesCalls g.L.Sectors.gives c.args.log.now c.with_sector.new.device (ReadsFrom (BeginsBlock c.args.shape.now c.args.ckpt (g.L.Sectors.seen c.args.log.now).tells)
+    (IsOfScan c.args.shape.now c.args.ckpt (g.L.Sectors.seen c.args.log.now).tells) None)
 read_once g c may here =
     reads-end_at (g.L.Sectors.seen c.args.log.now).tells c.args.shape.now c.args.ckpt c.loop-i.i c.offset_of-at.result c.readable_end-end.result c.loop-i.piece
     here may c.loop-i.invariant.read c.in_ok-piece.ensures.calls
@@ -146,13 +147,15 @@ returns-in_default-clause-calls g c =
 pub returns-in_err-push-clause-calls : goal.returns-in_err-push-clause-calls
 returns-in_err-push-clause-calls g c =
     let at = goal.at.returns-in_err-push-clause-calls g c in
-    let made = own_where (IsOfScan c.args.shape.now c.args.ckpt (g.L.Sectors.seen c.args.log.now).tells) (Some NoMemory) tt (read_once g at.In_ok-piece (readable g at.After-readable_end-end) (reached g at.After-readable_end-end)) in
+    let made = own_from (BeginsBlock c.args.shape.now c.args.ckpt (g.L.Sectors.seen c.args.log.now).tells)
+    (IsOfScan c.args.shape.now c.args.ckpt (g.L.Sectors.seen c.args.log.now).tells) (Some NoMemory) tt (read_once g at.In_ok-piece (readable g at.After-readable_end-end) (reached g at.After-readable_end-end)) in
     let p = err_from_is_err_and c.from_residual-in_err-push.result c.from_residual-in_err-push.ensures.1 in rw (p.1, p.2) made
 
 pub returns-in_err-extend_from_slice-clause-calls : goal.returns-in_err-extend_from_slice-clause-calls
 returns-in_err-extend_from_slice-clause-calls g c =
     let at = goal.at.returns-in_err-extend_from_slice-clause-calls g c in
-    let made = own_where (IsOfScan c.args.shape.now c.args.ckpt (g.L.Sectors.seen c.args.log.now).tells) (Some NoMemory) tt (read_once g at.In_ok-piece (readable g at.After-readable_end-end) (reached g at.After-readable_end-end)) in
+    let made = own_from (BeginsBlock c.args.shape.now c.args.ckpt (g.L.Sectors.seen c.args.log.now).tells)
+    (IsOfScan c.args.shape.now c.args.ckpt (g.L.Sectors.seen c.args.log.now).tells) (Some NoMemory) tt (read_once g at.In_ok-piece (readable g at.After-readable_end-end) (reached g at.After-readable_end-end)) in
     let p = err_from_is_err_and c.from_residual-in_err-extend_from_slice.result c.from_residual-in_err-extend_from_slice.ensures.1 in rw (p.1, p.2) made
 
 pub returns-then-not-is_full-clause-calls : goal.returns-then-not-is_full-clause-calls

@@ -1,7 +1,7 @@
 -- The place passes, or a copy counts.
 use Rattle.std.proofs.Common.{◌∙◌, MatchOption, ap, length, subst, sym}
 use Rattle.model_page.specs.{HasNoCopy, IsBestCopy, slot_bytes, user_part}
-use Rattle.redo_recover.proofs.Keeping.{lost-off, slice-is, slot-off, slot-size, user-size}
+use Rattle.redo_recover.proofs.Keeping.{lost-off, slice-is, slot-found, slot-off, slot-size, user-size}
 use Rattle.redo_recover.proofs.kept.kept_in.Goals as goal
 
 pub returns-in-Some-clause-long : goal.returns-in-Some-clause-long
@@ -18,6 +18,11 @@ returns-clause-kept c image slots place =
     slot-off c.args.shape.now c.args.slots.now c.args.place.now image c.user_part-2.result.now c.args.page slot c.in-Some-best_copy.lsn slots place
     (sym c.place_lsn.ensures ∙ c.in_default.is) c.in-Some-best_copy.ensures
     (c.user_part-2.ensures ∙ ap user_part (slice-is c.args.shape.now c.args.slots.now slot))
+
+pub returns-clause-found : goal.returns-clause-found
+returns-clause-found c image slots place =
+    slot-found c.args.shape.now c.args.slots.now c.args.place.now image c.args.page c.in-Some-best_copy.slot c.in-Some-best_copy.lsn slots place
+    (sym c.place_lsn.ensures ∙ c.in_default.is) c.in-Some-best_copy.ensures
 
 pub returns-clause-long : goal.returns-clause-long
 returns-clause-long c =

@@ -1,7 +1,7 @@
 -- One read.
 use Rattle.std.proofs.Common.{◌≡◌, length, arith}
 use Rattle.std.proofs.lemmas.Result.{err_from_is_err_and}
-use Rattle.redo_recover.proofs.Making.{piece_read}
+use Rattle.redo_recover.proofs.Begins.{piece_read}
 use Rattle.redo_recover.proofs.piece.read_part.Goals as goal
 
 pub returns-in_err-read-clause-calls : goal.returns-in_err-read-clause-calls

@@ -1,15 +1,19 @@
-use Rattle.std.proofs.Common.{◌≤◌, List, rules, subst, sym}
+use Rattle.std.proofs.Common.{◌≤◌, List, Ok, Err, refl, rules, subst, sym}
 use Rattle.std.proofs.lemmas.Result.{err_from_is_err_and}
 use Rattle.std.specs.List.{AllByRecursion}
 use Rattle.model_record.specs.declared.group.Whole.{Whole}
-use Rattle.redo_recover.specs.Calls.{data_error, log_error}
+use Rattle.redo_recover.specs.Calls.{log_error}
 use Rattle.redo_recover.specs.Devices.{HasLengthCause, OnContent}
 use Rattle.redo_recover.specs.Order.{IsLogRead}
+use Rattle.redo_recover.specs.Reach.{BeginsBlock, IsOfScan}
 use Rattle.redo_recover.specs.declared.recovered.Recovered.{Recovered}
+use Rattle.redo_recover.proofs.Begins.{own_from}
 use Rattle.redo_recover.proofs.Causing.{page-cause, scan-cause}
-use Rattle.redo_recover.proofs.Ordering.{before-pages, behind-log, log-read}
-use Rattle.redo_recover.proofs.Making.{log_made, log_then, no_pieces, own_log, own_pieces, log-own, data-own, err-of}
-use Rattle.redo_recover.proofs.recovery.recover.Goals.{In_ok-views}
+use Rattle.redo_recover.proofs.Ordering.{before-pages, behind-log, log-read, pages-behind}
+use Rattle.redo_recover.proofs.Judging.{fault-behind, log_made, log_then, ok-behind}
+use Rattle.redo_recover.proofs.Making.{log-own, data-own, err-of}
+use Rattle.redo_recover.proofs.Naming.{no_pages, pages_made}
+use Rattle.redo_recover.proofs.recovery.recover.Goals.{In_ok-pages, In_ok-views}
 use Rattle.redo_recover.proofs.recovery.recover.Given.{Over}
 use Rattle.redo_recover.proofs.recovery.recover.Goals as goal
 
@@ -32,38 +36,73 @@ returns-in_err-pages-clause-lengths g c =
 
 pub returns-in_err-shape-clause-log_calls : goal.returns-in_err-shape-clause-log_calls
 returns-in_err-shape-clause-log_calls g c =
-    let made = log_made (g.L.Sectors.seen c.args.log.now) (g.D.Sectors.seen c.args.data_device.now).size c.in_err-shape.ensures.calls in
+    let made = log_made (g.L.Sectors.seen c.args.log.now) (g.D.Sectors.seen c.args.data_device.now).size c.in_err-shape.field-0.0 c.in_err-shape.ensures.calls in
     let p = err_from_is_err_and c.from_residual.result c.from_residual.ensures.1 in rw (p.1, p.2) made
 
 pub returns-in_err-shape-clause-data_calls : goal.returns-in_err-shape-clause-data_calls
 returns-in_err-shape-clause-data_calls g c =
     let fault = c.in_err-shape.field-0.0 in
-    let made = own_pieces (data_error fault) (data-own fault (λ is. c.in_err-shape.ensures.apart (err-of is))) (no_pieces g.D.Sectors.gives c.args.data_device.now) in
+    let made = no_pages g.D.Sectors.gives c.args.data_device.now (g.L.Sectors.seen c.args.log.now).tells fault
+    (data-own fault (λ is. c.in_err-shape.ensures.apart (err-of is))) in
     let p = err_from_is_err_and c.from_residual.result c.from_residual.ensures.1 in rw (p.1, p.2) made
 
 pub returns-in_err-views-clause-log_calls : goal.returns-in_err-views-clause-log_calls
 returns-in_err-views-clause-log_calls g c =
+    let fault = c.in_err-views.field-0.0 in
     let made = log_then (g.L.Sectors.seen c.args.log.now) (g.L.Sectors.seen c.read_start.new.log) (g.D.Sectors.seen c.args.data_device.now).size c.in_ok-shape.field-0
+    (Err fault) (fault-behind c.in_ok-shape.field-0 fault c.in_err-views.ensures.behind_head)
     c.read_start.ensures.unchanged c.in_ok-shape.ensures.log_start c.in_ok-shape.ensures.usable.data_long c.in_ok-shape.ensures.calls c.in_err-views.ensures.calls in
     let p = err_from_is_err_and c.from_residual-in_err-views.result c.from_residual-in_err-views.ensures.1 in rw (p.1, p.2) made
 
 pub returns-in_err-views-clause-data_calls : goal.returns-in_err-views-clause-data_calls
 returns-in_err-views-clause-data_calls g c =
     let fault = c.in_err-views.field-0.0 in
-    let made = own_pieces (data_error fault) (data-own fault (λ is. c.in_err-views.ensures.apart (err-of is))) (no_pieces g.D.Sectors.gives c.args.data_device.now) in
+    let made = no_pages g.D.Sectors.gives c.args.data_device.now (g.L.Sectors.seen c.args.log.now).tells fault
+    (data-own fault (λ is. c.in_err-views.ensures.apart (err-of is))) in
     let p = err_from_is_err_and c.from_residual-in_err-views.result c.from_residual-in_err-views.ensures.1 in rw (p.1, p.2) made
 
 pub returns-in_err-pages-clause-log_calls : goal.returns-in_err-pages-clause-log_calls
 returns-in_err-pages-clause-log_calls g c =
+    let start = c.in_ok-shape.field-0 in
+    let read = g.L.Sectors.seen c.read_start.new.log in
     let fault = c.in_err-pages.field-0.0 in
-    let made = own_log (g.L.Sectors.seen c.args.log.now) (g.D.Sectors.seen c.args.data_device.now).size (log_error fault) (log-own fault (λ is. c.in_err-pages.ensures.apart (err-of is)))
-    (log_then (g.L.Sectors.seen c.args.log.now) (g.L.Sectors.seen c.read_start.new.log) (g.D.Sectors.seen c.args.data_device.now).size c.in_ok-shape.field-0
-    c.read_start.ensures.unchanged c.in_ok-shape.ensures.log_start c.in_ok-shape.ensures.usable.data_long c.in_ok-shape.ensures.calls c.in_ok-views.ensures.calls) in
+    let back = own_from (BeginsBlock start.shape start.ckpt read.tells) (IsOfScan start.shape start.ckpt read.tells) (log_error fault)
+    (log-own fault (λ is. c.in_err-pages.ensures.apart (err-of is))) c.in_ok-views.ensures.calls in
+    let made = log_then (g.L.Sectors.seen c.args.log.now) read (g.D.Sectors.seen c.args.data_device.now).size start
+    (Err fault) (fault-behind start fault (pages-behind fault c.in_err-pages.ensures.of_pages))
+    c.read_start.ensures.unchanged c.in_ok-shape.ensures.log_start c.in_ok-shape.ensures.usable.data_long c.in_ok-shape.ensures.calls back in
     let p = err_from_is_err_and c.from_residual-in_err-pages.result c.from_residual-in_err-pages.ensures.1 in rw (p.1, p.2) made
 
+pub returns-in_err-pages-clause-data_calls : goal.returns-in_err-pages-clause-data_calls
+returns-in_err-pages-clause-data_calls g c =
+    let made = pages_made (g.L.Sectors.seen c.args.log.now).tells c.in_ok-shape.field-0 (Err c.in_err-pages.field-0.0) tt c.in_ok-shape.ensures.log_start
+    c.in_err-pages.ensures.calls in
+    let p = err_from_is_err_and c.from_residual-in_err-pages.result c.from_residual-in_err-pages.ensures.1 in rw (p.1, p.2) made
+
+-- what is recovered
+abbrev recovered : (g : Over) → In_ok-pages g → Recovered
+recovered g c = record {
+  shape = c.in_ok-shape.field-0.shape;
+  number = c.in_ok-shape.field-0.number;
+  ckpt = c.in_ok-shape.field-0.ckpt;
+  views = c.in_ok-views.field-0.views;
+  groups = c.in_ok-views.field-0.groups;
+  end = c.in_ok-views.field-0.end;
+  pages = c.in_ok-pages.field-0.pages;
+  places = c.in_ok-pages.field-0.places;
+}
+
 pub returns-clause-log_calls : goal.returns-clause-log_calls
-returns-clause-log_calls g c = log_then (g.L.Sectors.seen c.args.log.now) (g.L.Sectors.seen c.read_start.new.log) (g.D.Sectors.seen c.args.data_device.now).size c.in_ok-shape.field-0
+returns-clause-log_calls g c =
+    let all = recovered g (goal.at.returns-clause-log_calls g c).In_ok-pages in
+    log_then (g.L.Sectors.seen c.args.log.now) (g.L.Sectors.seen c.read_start.new.log) (g.D.Sectors.seen c.args.data_device.now).size c.in_ok-shape.field-0
+    (Ok all) (ok-behind c.in_ok-shape.field-0 all refl)
     c.read_start.ensures.unchanged c.in_ok-shape.ensures.log_start c.in_ok-shape.ensures.usable.data_long c.in_ok-shape.ensures.calls c.in_ok-views.ensures.calls
+
+pub returns-clause-data_calls : goal.returns-clause-data_calls
+returns-clause-data_calls g c =
+    pages_made (g.L.Sectors.seen c.args.log.now).tells c.in_ok-shape.field-0 (Ok (recovered g (goal.at.returns-clause-data_calls g c).In_ok-pages)) refl
+    c.in_ok-shape.ensures.log_start c.in_ok-pages.ensures.calls
 
 pub returns-in_err-shape-clause-order : goal.returns-in_err-shape-clause-order
 returns-in_err-shape-clause-order g c =
