@@ -1,4 +1,5 @@
 pub mod Asked
 pub mod Buffered
+pub mod Copies
 pub mod Repaired
 pub mod TextWrites

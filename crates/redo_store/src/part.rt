@@ -1,20 +1,21 @@
 // The data part.
 ghost use Rattle.std.specs.Prelude.{◌≡◌, ◌≤◌, ◌<◌, ◌*◌, ℕ, ◌+◌, List, [], ◌∷◌, length, None, IfOk, MatchResult, MatchOption, IfSome, OnOk, vec_len};
 ghost use Rattle.model_base.specs.{IsWithinLimits};
-ghost use Rattle.model_datadev.specs.{after_batch, batch_of, Fresh, HasNothingPending, IsBefore, IsCopyPut, IsLater, IsOpened, IsRepairable, IsRepaired, IsSteady, IsWritable, KeepsAll, KeepsPages, slots_write};
+ghost use Rattle.model_datadev.specs.{after_batch, batch_of, Fresh, HasNothingPending, IsBefore, IsCopyPut, IsLater, IsOpened, IsRepairable, IsRepaired, IsSteady, IsWritable, KeepsAll, KeepsPages, repair_write, slots_write};
 ghost use Rattle.model_device.specs.{synced, written};
 ghost use Rattle.model_page.specs.{data_device_length, HasNoCopy, IsBestCopy, place_bytes};
 ghost use Rattle.model_page.specs.declared.content.Content.{Content};
 ghost use Rattle.redo_dblwr.specs.{slots_read, stretch_read};
 ghost use Rattle.redo_disk.specs.{error_of, MakesCall, MakesCalls, OnTold, put_requests, Reads, Serve};
+ghost use Rattle.redo_store.specs.Copies.{IsCopyToPut};
 ghost use Rattle.redo_store.specs.Part.{PartStep, PartStores, PartKeeps};
 ghost use Rattle.redo_store.specs.Requests.{RepairCalls, batch_requests};
 
 use crate::batch::{put_pages, put_slots};
 use crate::mend::{find_copy, put_back};
 use model_base::Shape;
-use redo_dblwr::read_stretch;
-use redo_disk::{DevError, Sectors};
+use redo_dblwr::{place_at, read_stretch};
+use redo_disk::{DevError, Sectors, write_and_sync};
 use redo_lsn::NoMemory;
 use std::alloc::{AllocError, Global};
 use std::marker::Model;
@@ -192,6 +193,35 @@ impl<D: Sectors> DataPart<D> {
         // What the device tells is as long as it says.
         let _size = self.dev.len();
         match put_back(&mut self.dev, &self.shape, page, &mut self.buffer) {
+            Ok(()) => Ok(()),
+            Err(error) => {
+                self.failed = Some(error);
+                Err(error)
+            }
+        }
+    }
+
+    /// Puts the copy of a page that counts, which was read off the slots before, into its place, and makes it stay. Where
+    /// nothing was pending, no kept page changes, wherever it ends. It reads nothing.
+    pub fn put_copy(&mut self, page: u32, copy: &[u8]) -> Result<(), DevError>
+        requires live { self.old.failed ≡ None }
+        requires page { page < self.old.shape.pages }
+        requires copy { length copy.now ≡ self.old.shape.page_size }
+        requires counts { IfSome (D.seen self.old.dev).tells (IsCopyToPut self.old.shape page copy.now) }
+        ensures keeps { IfSome (D.seen self.old.dev).tells HasNothingPending
+            → OnTold (D.seen self.old.dev).tells (D.seen self.new.dev).tells (KeepsAll self.old.shape) }
+        ensures put { OnOk result (OnTold (D.seen self.old.dev).tells (D.seen self.new.dev).tells
+            (IsCopyPut self.old.shape page)) }
+        ensures ok { IfSome (D.seen self.old.dev).tells HasNothingPending
+            → OnOk result (OnTold (D.seen self.old.dev).tells (D.seen self.new.dev).tells
+            (IsRepaired self.old.shape page)) }
+        ensures calls { MakesCalls D.gives self.old.dev self.new.dev
+            (Serve (put_requests (repair_write self.old.shape page copy.now)) (error_of result)) }
+        ensures step { PartStep D.seen self.old result self.new }
+    {
+        // What the device tells is as long as it says.
+        let _size = self.dev.len();
+        match write_and_sync(&mut self.dev, place_at(&self.shape, page), copy) {
             Ok(()) => Ok(()),
             Err(error) => {
                 self.failed = Some(error);
