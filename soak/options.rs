@@ -29,7 +29,7 @@ impl Options {
                 .once_in(40)
                 .then(|| draws.number() >> draws.within(40, 63)),
             stop_log: (stops && which != 0).then(|| draw_stop(draws, 21, 4 * groups as u64)),
-            stop_data: (stops && which != 1).then(|| draw_stop(draws, 26, 22)),
+            stop_data: (stops && which != 1).then(|| draw_stop(draws, 10, 22)),
             pick: crashes.then(|| draw_pick(draws)).flatten(),
         }
     }

@@ -1,18 +1,15 @@
 -- The faults of opening and formatting, with their causes.
-use Rattle.std.proofs.Common.{◌≡◌, ℕ, inl, inr, Option, Some, None, Err, refl, sym, ap, subst, arith}
-use Rattle.std.specs.Prelude.{IfSome, IsErrOf}
+use Rattle.std.proofs.Common.{◌≡◌, ℕ, inl, inr, Some, None, Err, refl, sym, ap, subst, arith}
+use Rattle.std.specs.Prelude.{IsErrOf}
 use Rattle.model_base.specs.{HasRisen}
 use Rattle.model_base.specs.declared.shape.Shape.{Shape}
-use Rattle.model_device.specs.Disk.{Disk}
-use Rattle.model_store.specs.Reading.{Reading}
 use Rattle.redo_disk.specs.{Call, HasCause}
 use Rattle.redo_disk.specs.Seen.{Seen}
 use Rattle.redo_disk.specs.declared.error.DevError.{DevError}
 use Rattle.redo_disk.specs.declared.error.DevError.TheVariants as device
 use Rattle.redo_open.specs.Devices.{IsOpenFault}
 use Rattle.redo_open.specs.Formatting.{FormatCalls, HasFormatCause, JudgesLengths, MakesBoth}
-use Rattle.redo_open.specs.Mend.{IsMendFault, IsPageFault}
-use Rattle.redo_open.proofs.Endings.{any-known}
+use Rattle.redo_open.specs.Places.{IsPageFault}
 use Rattle.redo_recover.specs.{data_fault_of, IsLengthFault, log_fault_of}
 use Rattle.redo_recover.specs.declared.fault.RecFault.{RecFault}
 use Rattle.redo_recover.specs.declared.fault.RecFault.TheVariants.{SmallLog, NotFormatted, BadFormat, SmallData, NoCheckpoint, BadRecord, PageLost, PageAhead, LogDev, DataDev, NoMemory}
@@ -54,23 +51,22 @@ judges-fault shape log_size data_size NoMemory is = absurd is
 
 -- THE FAULTS OF THE DEVICES.
 
-pub log-cause : (opened : Reading) (told : Option Disk) (error : DevError) (fault : RecFault) → fault ≡ log_fault_of error → IsOpenFault opened told fault
-log-cause opened told device.Failed fault is = subst (IsOpenFault opened told) (sym is) tt
-log-cause opened told device.NoMemory fault is = subst (IsOpenFault opened told) (sym is) (tt, any-known told (λ disk. Unit {0}) (λ disk. tt))
+pub log-cause : (error : DevError) (fault : RecFault) → fault ≡ log_fault_of error → IsOpenFault fault
+log-cause device.Failed fault is = subst IsOpenFault (sym is) tt
+log-cause device.NoMemory fault is = subst IsOpenFault (sym is) tt
 
-pub places-cause : (opened : Reading) (told : Option Disk) (fault : RecFault) → IsPageFault fault → IfSome told (λ disk. IsMendFault opened.shape disk.base fault)
-    → IsOpenFault opened told fault
-places-cause opened told LogDev own is = tt
-places-cause opened told DataDev own is = (own, is)
-places-cause opened told NoMemory own is = (own, is)
-places-cause opened told (PageLost p) own is = (own, is)
-places-cause opened told (SmallLog n) own is = absurd own
-places-cause opened told (SmallData n) own is = absurd own
-places-cause opened told NotFormatted own is = absurd own
-places-cause opened told (BadFormat n) own is = absurd own
-places-cause opened told NoCheckpoint own is = absurd own
-places-cause opened told (BadRecord lsn) own is = absurd own
-places-cause opened told (PageAhead p lsn) own is = absurd own
+pub places-cause : (fault : RecFault) → IsPageFault fault → IsOpenFault fault
+places-cause LogDev own = absurd own
+places-cause DataDev own = own
+places-cause NoMemory own = own
+places-cause (PageLost p) own = absurd own
+places-cause (SmallLog n) own = absurd own
+places-cause (SmallData n) own = absurd own
+places-cause NotFormatted own = absurd own
+places-cause (BadFormat n) own = absurd own
+places-cause NoCheckpoint own = absurd own
+places-cause (BadRecord lsn) own = absurd own
+places-cause (PageAhead p lsn) own = absurd own
 
 pub log-risen : (before now : ℕ) (error : DevError) (fault : RecFault) → fault ≡ log_fault_of error → HasCause {T = Unit {0}} before now (Err error)
     → IsErrOf {T = Unit {0}} (Err fault) LogDev → HasRisen before now

@@ -1,5 +1,5 @@
 -- The steps that gather pages and write them, as calls of the data part.
-use Rattle.std.proofs.Common.{◌≡◌, ◌≤◌, ◌<◌, ◌+◌, ◌∙◌, length, ℕ, [], List, false, Bool, None, sym, ap, subst}
+use Rattle.std.proofs.Common.{◌≡◌, ◌≤◌, ◌<◌, ◌+◌, ◌∙◌, length, ℕ, [], List, false, Bool, None, refl, sym, ap, subst, arith}
 use Rattle.std.specs.Prelude.{IfSome, Err, Ok, OnOk, Result, is_some}
 use Rattle.model_base.specs.declared.shape.Shape.{Shape}
 use Rattle.model_datadev.specs.{after_batch, batch_of, Fresh, IsLater, IsUpTo, Keeps}
@@ -11,19 +11,21 @@ use Rattle.redo_open.proofs.Gathers.{AreTopPages, added, fresh, gathered-added, 
 use Rattle.redo_open.proofs.Told.{cause-since}
 use Rattle.redo_open.proofs.Writings.{PageRead, live-ok, on-ok-both}
 use Rattle.redo_open.specs.Gather.{AreGathered, Gathered, GatherStep, IsGatheredTo}
-use Rattle.redo_open.specs.Rewrite.{AreTop, IsWrittenTo, KeepsWritten, WriteStep}
+use Rattle.redo_open.specs.Needed.{HasChanged}
+use Rattle.redo_open.specs.Rewrite.{AreTop, IsWrittenTo, WriteStep}
+use Rattle.redo_recover.specs.declared.places.Found.{Found}
 use Rattle.redo_store.specs.{PartKeeps, PartStep, PartStores}
 use Rattle.redo_store.specs.Part.{Part}
 
 -- the batch was given to `write_batch`
-pub wrote-step : {D : Type 0} (seen : D → Seen) (pages : List Content) (count : ℕ) (old new : Part D) (batch after : Gathered) (pairs : List (ℕ × ℕ)) (users : List ℕ)
+pub wrote-step : {D : Type 0} (seen : D → Seen) (pages : List Content) (found : List Found) (count : ℕ) (old new : Part D) (batch after : Gathered) (pairs : List (ℕ × ℕ)) (users : List ℕ)
     (result : Result (Unit {0}) DevError) → pairs ≡ batch.pairs → users ≡ batch.users
-    → old.failed ≡ None → AreGathered old.shape pages count batch → OnOk result (AreGathered old.shape pages count after)
+    → old.failed ≡ None → AreGathered old.shape pages found count batch → OnOk result (AreGathered old.shape pages found count after)
     → ((top was : ℕ → Content) → PartStores seen top was [] old → IsLater top (batch_of pairs users) → PartKeeps seen top was (batch_of pairs users) new)
     → ((top was : ℕ → Content) → PartStores seen top was [] old → IsLater top (batch_of pairs users)
     → OnOk result (PartStores seen (after_batch (batch_of pairs users) top) (after_batch (batch_of pairs users) was) [] new))
-    → PartStep seen old result new → GatherStep seen old.shape pages count count old batch result new after
-wrote-step seen pages count old new batch after pairs users result pairs_is users_is live gathered then keeps_given ok_given step =
+    → PartStep seen old result new → GatherStep seen old.shape pages found count count old batch result new after
+wrote-step seen pages found count old new batch after pairs users result pairs_is users_is live gathered then keeps_given ok_given step =
     let same : batch_of pairs users ≡ fresh batch = ap (λ (ps : List (ℕ × ℕ)). batch_of ps users) pairs_is ∙ ap (batch_of batch.pairs) users_is in
     let keeps = subst (λ (new_pages : List Fresh). (top was : ℕ → Content) → PartStores seen top was [] old → IsLater top new_pages → PartKeeps seen top was new_pages new) same keeps_given in
     let ok = subst (λ (new_pages : List Fresh). (top was : ℕ → Content) → PartStores seen top was [] old → IsLater top new_pages
@@ -31,7 +33,7 @@ wrote-step seen pages count old new batch after pairs users result pairs_is user
     let shape : Shape = old.shape in
     let told = (seen old.dev).tells in
     let now = (seen new.dev).tells in
-    let is_top : (top start : ℕ → Content) → AreTop pages top start → AreTopPages top (fresh batch) = λ top start tops. gathered-top shape pages top start count batch tops gathered in
+    let is_top : (top start : ℕ → Content) → AreTop pages found top start → AreTopPages top (fresh batch) = λ top start tops. gathered-top shape pages found top start count batch tops gathered in
     let stores : (top was : ℕ → Content) → IfSome told (Stored shape (IsUpTo top) was [] false) → PartStores seen top was [] old = λ top was known.
     subst (λ (b : Bool). IfSome told (Stored shape (IsUpTo top) was [] b)) (sym (ap is_some live)) known in
     record {
@@ -52,41 +54,24 @@ wrote-step seen pages count old new batch after pairs users result pairs_is user
     }
 
 -- nothing was written, and the pages up to this number are gathered
-pub kept-step : {D : Type 0} (seen : D → Seen) (shape : Shape) (pages : List Content) (from to : ℕ) (old new : Part D) (batch after : Gathered)
-    → (seen new.dev).tells ≡ (seen old.dev).tells → new.failed ≡ None → new.shape ≡ old.shape → (seen new.dev).size ≡ (seen old.dev).size
-    → (seen old.dev).faults ≤ (seen new.dev).faults → AreGathered shape pages to after
-    → ((top start : ℕ → Content) → AreTop pages top start → IsGatheredTo shape top start from batch (seen old.dev).tells → IsGatheredTo shape top start to after (seen old.dev).tells)
-    → GatherStep seen shape pages from to old batch (Ok tt) new after
-kept-step seen shape pages from to old new batch after same live shape_stays size later gathered step = record {
-  keeps = λ top start tops w. subst (KeepsWritten shape top start) (sym same) (gathered-steady shape top start from batch (seen old.dev).tells w);
-  ok = λ top start tops w. subst (IsGatheredTo shape top start to after) (sym same) (step top start tops w);
+pub kept-step : {D : Type 0} (seen : D → Seen) (shape : Shape) (pages : List Content) (found : List Found) (from to : ℕ) (part : Part D) (batch : Gathered)
+    → part.failed ≡ None → AreGathered shape pages found to batch
+    → ((top start : ℕ → Content) → AreTop pages found top start → IsGatheredTo shape top start from batch (seen part.dev).tells → IsGatheredTo shape top start to batch (seen part.dev).tells)
+    → GatherStep seen shape pages found from to part batch (Ok tt) part batch
+kept-step seen shape pages found from to part batch live gathered step = record {
+  keeps = λ top start tops w. gathered-steady shape top start from batch (seen part.dev).tells w;
+  ok = step;
   gathered = gathered;
   live = live;
-  shape_stays = shape_stays;
-  size = size;
-  cause = record { later = later; failed = λ is. absurd cc };
+  shape_stays = refl;
+  size = refl;
+  cause = record { later = omega arith; failed = λ is. absurd cc };
 }
 
--- the same behind a call that changed nothing
-pub after-read : {D : Type 0} (seen : D → Seen) (shape : Shape) (pages : List Content) (from to : ℕ) (old mid new : Part D) (batch after : Gathered) (result : Result (Unit {0}) DevError)
-    → shape ≡ mid.shape → mid.shape ≡ old.shape → (seen mid.dev).tells ≡ (seen old.dev).tells → (seen mid.dev).size ≡ (seen old.dev).size → (seen old.dev).faults ≤ (seen mid.dev).faults
-    → GatherStep seen mid.shape pages from to mid batch result new after → GatherStep seen shape pages from to old batch result new after
-after-read seen shape pages from to old mid new batch after result is stays same size later given =
-    let step : GatherStep seen shape pages from to mid batch result new after = subst (λ (s : Shape). GatherStep seen s pages from to mid batch result new after) (sym is) given in
-    record {
-      keeps = λ top start tops w. step.keeps top start tops (subst (IsGatheredTo shape top start from batch) (sym same) w);
-      ok = λ top start tops w. step.ok top start tops (subst (IsGatheredTo shape top start from batch) (sym same) w);
-      gathered = step.gathered;
-      live = step.live;
-      shape_stays = step.shape_stays ∙ stays;
-      size = step.size ∙ size;
-      cause = cause-since (seen old.dev).faults (seen mid.dev).faults (seen new.dev).faults result later step.cause;
-    }
-
 -- a step that failed has gathered nothing
-pub failed-step : {D : Type 0} (seen : D → Seen) (shape : Shape) (pages : List Content) (from to : ℕ) (old new : Part D) (batch after : Gathered) (error : DevError)
-    → GatherStep seen shape pages from from old batch (Err error) new after → GatherStep seen shape pages from to old batch (Err error) new after
-failed-step seen shape pages from to old new batch after error step = record {
+pub failed-step : {D : Type 0} (seen : D → Seen) (shape : Shape) (pages : List Content) (found : List Found) (from to : ℕ) (old new : Part D) (batch after : Gathered) (error : DevError)
+    → GatherStep seen shape pages found from from old batch (Err error) new after → GatherStep seen shape pages found from to old batch (Err error) new after
+failed-step seen shape pages found from to old new batch after error step = record {
   keeps = step.keeps;
   ok = λ top start tops w. tt;
   gathered = tt;
@@ -97,13 +82,13 @@ failed-step seen shape pages from to old new batch after error step = record {
 }
 
 -- one more page is gathered
-pub added-step : {D : Type 0} (seen : D → Seen) (shape : Shape) (pages : List Content) (page lsn : ℕ) (user : List ℕ) (old new : Part D) (batch after : Gathered)
-    → length after.pairs < shape.slots → PageRead pages page lsn user
-    → GatherStep seen shape pages page page old batch (Ok tt) new after → GatherStep seen shape pages page (page + 1) old batch (Ok tt) new (added after page lsn user)
-added-step seen shape pages page lsn user old new batch after room read step = record {
+pub added-step : {D : Type 0} (seen : D → Seen) (shape : Shape) (pages : List Content) (found : List Found) (page lsn : ℕ) (user : List ℕ) (old new : Part D) (batch after : Gathered)
+    → length after.pairs < shape.slots → PageRead pages page lsn user → HasChanged found pages page
+    → GatherStep seen shape pages found page page old batch (Ok tt) new after → GatherStep seen shape pages found page (page + 1) old batch (Ok tt) new (added after page lsn user)
+added-step seen shape pages found page lsn user old new batch after room read changed step = record {
   keeps = step.keeps;
   ok = λ top start tops w. gathered-added shape top start page lsn user after (seen new.dev).tells (step.ok top start tops w);
-  gathered = gathered-with shape pages page lsn user read.content after step.gathered room read.at read.same_lsn read.same_user read.long;
+  gathered = gathered-with shape pages found page lsn user read.content after step.gathered changed room read.at read.same_lsn read.same_user read.long;
   live = step.live;
   shape_stays = step.shape_stays;
   size = step.size;
@@ -111,13 +96,13 @@ added-step seen shape pages page lsn user old new batch after room read step = r
 }
 
 -- from a number on up to another, behind steps that went well: all that is gathered in the end is written
-pub written-step : {D : Type 0} (seen : D → Seen) (shape : Shape) (pages : List Content) (count : ℕ) (old mid new : Part D) (batch after : Gathered) (result : Result (Unit {0}) DevError)
+pub written-step : {D : Type 0} (seen : D → Seen) (shape : Shape) (pages : List Content) (found : List Found) (count : ℕ) (old mid new : Part D) (batch after : Gathered) (result : Result (Unit {0}) DevError)
     → shape ≡ mid.shape → mid.shape ≡ old.shape → (seen mid.dev).size ≡ (seen old.dev).size → (seen old.dev).faults ≤ (seen mid.dev).faults
-    → ((top start : ℕ → Content) → AreTop pages top start → IsWrittenTo shape top start 0 (seen old.dev).tells → IsGatheredTo shape top start count batch (seen mid.dev).tells)
-    → GatherStep seen mid.shape pages count count mid batch result new after → OnOk result (length after.pairs ≡ 0)
-    → WriteStep seen shape pages 0 count old result new
-written-step seen shape pages count old mid new batch after result is stays size later told given emptied =
-    let step : GatherStep seen shape pages count count mid batch result new after = subst (λ (s : Shape). GatherStep seen s pages count count mid batch result new after) (sym is) given in
+    → ((top start : ℕ → Content) → AreTop pages found top start → IsWrittenTo shape top start 0 (seen old.dev).tells → IsGatheredTo shape top start count batch (seen mid.dev).tells)
+    → GatherStep seen mid.shape pages found count count mid batch result new after → OnOk result (length after.pairs ≡ 0)
+    → WriteStep seen shape pages found 0 count old result new
+written-step seen shape pages found count old mid new batch after result is stays size later told given emptied =
+    let step : GatherStep seen shape pages found count count mid batch result new after = subst (λ (s : Shape). GatherStep seen s pages found count count mid batch result new after) (sym is) given in
     record {
       keeps = λ top start tops w. step.keeps top start tops (told top start tops w);
       ok = λ top start tops w. on-ok-both result (λ none gathered. gathered-written shape top start count after (seen new.dev).tells none gathered) emptied (step.ok top start tops (told top start tops w));

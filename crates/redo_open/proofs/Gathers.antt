@@ -1,5 +1,5 @@
 -- Pages that are gathered and written together.
-use Rattle.std.proofs.Common.{◌≡◌, ◌≢◌, ◌≤◌, ◌<◌, ◌+◌, ◌*◌, ◌^◌, ◌==◌, ◌⊎◌, ◌++◌, ℕ, zero, suc, inl, inr, true, false, cond, List, [], ◌∷◌, length, take, drop, Option, Some, None, refl, sym, ap, subst, ◌∙◌, ⊎_elim, eq-eqb, arith}
+use Rattle.std.proofs.Common.{◌≡◌, ◌≢◌, ◌≤◌, ◌<◌, ◌+◌, ◌*◌, ◌^◌, ◌==◌, ◌⊎◌, ◌++◌, ℕ, zero, suc, inl, inr, true, false, cond, List, [], ◌∷◌, length, take, drop, Option, Some, refl, sym, ap, subst, ◌∙◌, ⊎_elim, eq-eqb, arith}
 use Rattle.std.specs.Prelude.{IfSome}
 use Rattle.std.specs.List.{slice_get}
 use Rattle.std.proofs.lemmas.Bool.{cases_lt}
@@ -12,11 +12,13 @@ use Rattle.model_datadev.specs.{after_batch, batch_of, Fresh, IsLater, IsNew, Is
 use Rattle.model_datadev.specs.Stored.{Stored}
 use Rattle.model_device.specs.Disk.{Disk}
 use Rattle.model_page.proofs.Kept.{same_content}
-use Rattle.model_page.specs.{page_check, place_bytes, place_lsn_by, user_part}
 use Rattle.model_page.specs.declared.content.Content.{Content}
-use Rattle.redo_open.proofs.Writings.{PageRead, any-known, below-next, kept-in_place, known-as}
+use Rattle.redo_disk.proofs.Told.{known-as}
+use Rattle.redo_open.proofs.Writings.{below-next}
 use Rattle.redo_open.specs.Gather.{AreGathered, Gathered, IsAmong, IsGatheredTo}
+use Rattle.redo_open.specs.Needed.{HasChanged}
 use Rattle.redo_open.specs.Rewrite.{AreTop, IsWrittenTo, KeepsWritten}
+use Rattle.redo_recover.specs.declared.places.Found.{Found}
 
 -- LISTS WITH ONE MORE AT THE END.
 
@@ -48,9 +50,9 @@ added batch page lsn user = record { pairs = batch.pairs ++ (page, lsn) ∷ []; 
 pub record AreTopPages (top : ℕ → Content) (batch : List Fresh) : Type 0 where
   pub each : (p : ℕ) (content : Content) → IsNew batch p content → content ≡ top p
 
-pub gathered-top : (shape : Shape) (pages : List Content) (top start : ℕ → Content) (count : ℕ) (batch : Gathered) → AreTop pages top start
-    → AreGathered shape pages count batch → AreTopPages top (fresh batch)
-gathered-top shape pages top start count batch tops gathered = record {
+pub gathered-top : (shape : Shape) (pages : List Content) (found : List Found) (top start : ℕ → Content) (count : ℕ) (batch : Gathered) → AreTop pages found top start
+    → AreGathered shape pages found count batch → AreTopPages top (fresh batch)
+gathered-top shape pages found top start count batch tops gathered = record {
   each = λ p content new.
       let one : IsPairAt batch.pairs batch.users new.i (record { page = p; content = content }) = pair-at batch.pairs batch.users new.i (record { page = p; content = content }) new.at in
       let page : p ≡ one.pair.0 = ap (λ (f : Fresh). f.page) one.is in
@@ -101,10 +103,10 @@ among-new batch p among = record { i = among.i; at = batch-at batch.pairs batch.
 
 -- A BATCH THAT IS WRITTEN.
 
-pub gathered-writable : (shape : Shape) (pages : List Content) (count : ℕ) (batch : Gathered) → AreGathered shape pages count batch
+pub gathered-writable : (shape : Shape) (pages : List Content) (found : List Found) (count : ℕ) (batch : Gathered) → AreGathered shape pages found count batch
     → ((p : ℕ) → p < count → p < shape.pages) → ((p : ℕ) (content : Content) → slice_get pages p ≡ Some content → content.lsn < 2 ^ 61)
     → IsWritable shape batch.pairs batch.users
-gathered-writable shape pages count batch gathered within small = record {
+gathered-writable shape pages found count batch gathered within small = record {
   few = gathered.few;
   count = gathered.joined;
   below = λ i pair at. within pair.0 (gathered.below i pair at);
@@ -164,17 +166,6 @@ gathered-written shape top start count batch told none w = record {
 
 -- ONE PAGE MORE.
 
-pub already-gathered : (shape : Shape) (top start : ℕ → Content) (page : ℕ) (batch : Gathered) (told : Option Disk) → IsGatheredTo shape top start page batch told
-    → IfSome told (λ disk. (was : ℕ → Content) → ((p : ℕ) → (was p ≡ start p) ⊎ (was p ≡ top p)) → Stored shape (IsUpTo top) was [] false disk → was page ≡ top page)
-    → IsGatheredTo shape top start (page + 1) batch told
-already-gathered shape top start page batch None w holds = record { was = top; stored = tt; before = λ p. inr refl; done = λ p below. inl refl }
-already-gathered shape top start page batch (Some disk) w holds = record {
-  was = w.was;
-  stored = w.stored;
-  before = w.before;
-  done = below-next (λ p. (w.was p ≡ top p) ⊎ IsAmong batch p) page w.done (inl (holds w.was w.before w.stored));
-}
-
 pub gathered-added : (shape : Shape) (top start : ℕ → Content) (page lsn : ℕ) (user : List ℕ) (batch : Gathered) (told : Option Disk)
     → IsGatheredTo shape top start page batch told → IsGatheredTo shape top start (page + 1) (added batch page lsn user) told
 gathered-added shape top start page lsn user batch told w = record {
@@ -187,22 +178,25 @@ gathered-added shape top start page lsn user batch told w = record {
       (inr (record { i = length batch.pairs; lsn = lsn; at = at-end batch.pairs (page, lsn) }));
 }
 
-pub gathered-more : (shape : Shape) (pages : List Content) (count : ℕ) (batch : Gathered) → AreGathered shape pages count batch → AreGathered shape pages (count + 1) batch
-gathered-more shape pages count batch gathered = record {
+pub gathered-more : (shape : Shape) (pages : List Content) (found : List Found) (count : ℕ) (batch : Gathered) → AreGathered shape pages found count batch
+    → AreGathered shape pages found (count + 1) batch
+gathered-more shape pages found count batch gathered = record {
   few = gathered.few;
   joined = gathered.joined;
   below = λ i pair at. omega (arith, gathered.below i pair at);
   each = gathered.each;
   different = gathered.different;
+  changed = gathered.changed;
 }
 
-pub gathered-none : (shape : Shape) (pages : List Content) (count : ℕ) → AreGathered shape pages count (record { pairs = []; users = [] })
-gathered-none shape pages count = record {
+pub gathered-none : (shape : Shape) (pages : List Content) (found : List Found) (count : ℕ) → AreGathered shape pages found count (record { pairs = []; users = [] })
+gathered-none shape pages found count = record {
   few = omega arith;
   joined = refl;
   below = λ i pair at. absurd cc;
   each = λ i pair at. absurd cc;
   different = λ i j pair other at there same. absurd cc;
+  changed = λ i pair at. absurd cc;
 }
 
 user-front : (i : ℕ) (users user : List ℕ) → (i + 1) * 4050 ≤ length users → take 4050 (drop (i * 4050) (users ++ user)) ≡ take 4050 (drop (i * 4050) users)
@@ -213,10 +207,11 @@ user-front i users user within =
 user-end : (i : ℕ) (users user : List ℕ) → length users ≡ i * 4050 → length user ≡ 4050 → take 4050 (drop (i * 4050) (users ++ user)) ≡ user
 user-end i users user at long = ap (take 4050) (drop_at users user (i * 4050) at) ∙ take_all 4050 user (omega arith)
 
-pub gathered-with : (shape : Shape) (pages : List Content) (page lsn : ℕ) (user : List ℕ) (content : Content) (batch : Gathered) → AreGathered shape pages page batch
+pub gathered-with : (shape : Shape) (pages : List Content) (found : List Found) (page lsn : ℕ) (user : List ℕ) (content : Content) (batch : Gathered)
+    → AreGathered shape pages found page batch → HasChanged found pages page
     → length batch.pairs < shape.slots → slice_get pages page ≡ Some content → lsn ≡ content.lsn → user ≡ content.user → length user ≡ 4050
-    → AreGathered shape pages (page + 1) (added batch page lsn user)
-gathered-with shape pages page lsn user content batch gathered room read same_lsn same_user long =
+    → AreGathered shape pages found (page + 1) (added batch page lsn user)
+gathered-with shape pages found page lsn user content batch gathered page_changed room read same_lsn same_user long =
     let one : ℕ × ℕ = (page, lsn) in
     let counted : length (batch.pairs ++ one ∷ []) ≡ length batch.pairs + 1 = length_push batch.pairs one in
     record {
@@ -237,25 +232,19 @@ gathered-with shape pages page lsn user content batch gathered room read same_ls
           (λ other_last. absurd (omega (arith, gathered.below i pair old, ap (λ (x : ℕ × ℕ). x.0) other_last.1))) (at-either batch.pairs one j other there))
           (λ last. ⊎_elim (λ other_old. absurd (omega (arith, gathered.below j other other_old, ap (λ (x : ℕ × ℕ). x.0) last.1)))
           (λ other_last. omega (arith, last.0, other_last.0)) (at-either batch.pairs one j other there)) (at-either batch.pairs one i pair at);
+      changed = λ i pair at. ⊎_elim (λ old. gathered.changed i pair old) (λ last. subst (λ (x : ℕ × ℕ). HasChanged found pages x.0) last.1 page_changed)
+          (at-either batch.pairs one i pair at);
     }
 
--- a page of lsn 0 is as it was
-pub blank-gathered : (shape : Shape) (pages : List Content) (top start : ℕ → Content) (page lsn : ℕ) (user : List ℕ) (batch : Gathered) (told : Option Disk) → AreTop pages top start
-    → PageRead pages page lsn user → lsn ≡ 0 → IsGatheredTo shape top start page batch told → IsGatheredTo shape top start (page + 1) batch told
-blank-gathered shape pages top start page lsn user batch told tops read none w =
-    let same : start page ≡ top page = tops.blank page read.content read.at (sym read.same_lsn ∙ none) in
-    already-gathered shape top start page batch told w
-    (any-known told (λ disk. (was : ℕ → Content) → ((p : ℕ) → (was p ≡ start p) ⊎ (was p ≡ top p)) → Stored shape (IsUpTo top) was [] false disk → was page ≡ top page)
-    (λ disk was before stored. ⊎_elim (λ old. old ∙ same) (λ new. new) (before page)))
-
--- and so is a place that holds its page
-pub held-gathered : (shape : Shape) (pages : List Content) (top start : ℕ → Content) (page lsn : ℕ) (user buffer : List ℕ) (batch : Gathered) (told : Option Disk) → AreTop pages top start
-    → PageRead pages page lsn user → page < shape.pages → IfSome told (λ disk. buffer ≡ place_bytes shape page disk.reads)
-    → place_lsn_by shape page (page_check buffer) ≡ Some lsn → user ≡ user_part buffer → IsGatheredTo shape top start page batch told → IsGatheredTo shape top start (page + 1) batch told
-held-gathered shape pages top start page lsn user buffer batch told tops read below bytes passes user_is w =
-    let is : (let c : Content = record { lsn = lsn; user = user } in c) ≡ top page =
-    same_content (record { lsn = lsn; user = user }) read.content read.same_lsn read.same_user ∙ sym (tops.each page read.content read.at) in
-    already-gathered shape top start page batch told w
-    (known-as told (λ disk. buffer ≡ place_bytes shape page disk.reads)
-    (λ disk. (was : ℕ → Content) → ((p : ℕ) → (was p ≡ start p) ⊎ (was p ≡ top p)) → Stored shape (IsUpTo top) was [] false disk → was page ≡ top page)
-    (λ disk place was before stored. kept-in_place shape top was page lsn user buffer disk below stored place passes user_is is) bytes)
+-- a page that has still the lsn with which it was found is as it was
+pub same-gathered : (shape : Shape) (pages : List Content) (found : List Found) (top start : ℕ → Content) (page : ℕ) (one : Found) (content : Content) (batch : Gathered) (told : Option Disk)
+    → AreTop pages found top start → slice_get found page ≡ Some one → slice_get pages page ≡ Some content → one.lsn ≡ content.lsn
+    → IsGatheredTo shape top start page batch told → IsGatheredTo shape top start (page + 1) batch told
+same-gathered shape pages found top start page one content batch told tops there read lsns w =
+    let same : start page ≡ top page = tops.same page one content there read lsns in
+    record {
+      was = w.was;
+      stored = w.stored;
+      before = w.before;
+      done = below-next (λ p. (w.was p ≡ top p) ⊎ IsAmong batch p) page w.done (inl (⊎_elim (λ old. old ∙ same) (λ new. new) (w.before page)));
+    }

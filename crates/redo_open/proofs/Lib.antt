@@ -1,6 +1,7 @@
 pub mod Asked
 pub mod Blanks
 pub mod Both
+pub mod Called
 pub mod Causes
 pub mod Clears
 pub mod Endings
@@ -8,11 +9,15 @@ pub mod Erases
 pub mod Formats
 pub mod Gathers
 pub mod GatherSteps
+pub mod Lengths
 pub mod Marks
 pub mod Mends
+pub mod Needs
 pub mod Opens
+pub mod Puts
 pub mod Recovered
 pub mod Rows
+pub mod Standing
 pub mod Stores
 pub mod Told
 pub mod Writings

@@ -1,7 +1,8 @@
 -- The data part of a store that is read, opened.
-use Rattle.std.proofs.Common.{◌≡◌, ◌<◌, ◌⊎◌, ℕ, inl, inr, false, List, [], Option, Some, None, refl, sym, ap, subst, ◌∙◌, ⊎_elim, arith}
+use Rattle.std.proofs.Common.{◌≡◌, ◌<◌, ◌⊎◌, ℕ, inl, inr, false, List, [], length, Option, Some, None, refl, sym, ap, subst, ◌∙◌, ⊎_elim, arith}
 use Rattle.std.specs.Prelude.{IfSome}
 use Rattle.std.specs.List.{slice_get}
+use Rattle.std.proofs.lemmas.Option.{slice_get_within}
 use Rattle.model_base.specs.declared.shape.Shape.{Shape}
 use Rattle.model_base.specs.{IsWithinLimits}
 use Rattle.model_datadev.specs.{Fresh, ImageHolds, IsNew, IsUpTo, Keeps, KeepsAll, KeepsPage, read_as}
@@ -11,17 +12,22 @@ use Rattle.model_datadev.proofs.Parts.{opened-stored}
 use Rattle.model_device.specs.{settled}
 use Rattle.model_device.specs.Disk.{Disk}
 use Rattle.model_opening.specs.{AreHeld, IsRepaired, IsRewriting, IsWrittenOver}
-use Rattle.model_opening.proofs.Mended.{repaired-orderly, held_at, repaired-held, blank-held}
+use Rattle.model_opening.proofs.Mended.{repaired-orderly, held_at, repaired-held}
 use Rattle.model_opening.proofs.Pages.{read-page, repairing-image, writing-image}
+use Rattle.model_page.proofs.Kept.{same_kept}
 use Rattle.model_page.specs.{IsInPlace, IsKept}
 use Rattle.model_page.specs.declared.content.Content.{Content}
 use Rattle.model_store.specs.{IsOrderly}
 use Rattle.model_store.specs.Reading.{Reading}
+use Rattle.redo_disk.proofs.Told.{known-as}
 use Rattle.redo_disk.specs.{OnTold}
 use Rattle.redo_open.proofs.Mends.{settled-keeps}
 use Rattle.redo_open.specs.Mend.{AreMended, IsSettledData}
 use Rattle.redo_open.specs.Places.{IsReadAs, KeepsPlaces, HoldsPlaces, MayBeWritten}
 use Rattle.redo_open.specs.Rewrite.{IsWrittenTo, KeepsWritten}
+use Rattle.redo_recover.specs.{AreFoundOn}
+use Rattle.redo_recover.specs.declared.places.Found.{Found}
+use Rattle.redo_recover.specs.declared.places.Places.{Places}
 
 -- WHILE PLACES ARE REPAIRED.
 
@@ -35,12 +41,23 @@ repair-keeps shape pages log_bytes data_bytes opened a b is same =
 
 -- ONCE THEY ARE, pages may be written.
 
+-- a page that has still the lsn with which it was found is in its place then
+found-held : (log_bytes : List ℕ) (opened : Reading) (places : Places) (a b : List ℕ) (p : ℕ) (one : Found) (page : Content) → length opened.pages ≡ opened.shape.pages
+    → IsRepaired opened.shape a b → AreFoundOn opened.shape places opened.pages a
+    → slice_get places.found.items p ≡ Some one → slice_get opened.pages p ≡ Some page → one.lsn ≡ page.lsn → held_at opened.shape b p ≡ read_as opened p
+found-held log_bytes opened places a b p one page count repaired found there at lsns =
+    let within = slice_get_within opened.pages p page at in
+    let below : p < opened.shape.pages = omega arith in
+    let kept : IsKept opened.shape b p page = (repaired.same p page below).0 (found.same p one page there at lsns) in
+    let are : AreHeld opened.shape b (held_at opened.shape b) = repaired-held opened.shape a b repaired in
+    same_kept opened.shape b p (held_at opened.shape b p) page (inl (are p below)) kept ∙ sym (read-page opened p page at)
+
 mended-repaired : (shape : Shape) (a b : Disk) → AreMended shape shape.pages a b → IsRepaired shape a.base b.base
 mended-repaired shape a b is = record { same_length = is.stays.same_length; same = is.stays.same; slots = is.stays.slots; pass = is.pass }
 
-may-write-own : (log_bytes : List ℕ) (opened : Reading) (a b : Disk) → IsWithinLimits opened.shape → IsOrderly log_bytes a.base opened
-    → AreMended opened.shape opened.shape.pages a b → MayBeWritten opened.shape opened.pages a.base opened (Some b)
-may-write-own log_bytes opened a b limits orderly mended =
+may-write-own : (log_bytes : List ℕ) (opened : Reading) (places : Places) (a b : Disk) → IsWithinLimits opened.shape → IsOrderly log_bytes a.base opened
+    → AreFoundOn opened.shape places opened.pages a.base → AreMended opened.shape opened.shape.pages a b → MayBeWritten opened.shape opened.pages places.found.items a.base opened (Some b)
+may-write-own log_bytes opened places a b limits orderly found mended =
     let shape : Shape = opened.shape in
     let repaired : IsRepaired shape a.base b.base = mended-repaired shape a b mended in
     let again : IsOrderly log_bytes b.base opened = repaired-orderly log_bytes a.base b.base opened orderly repaired in
@@ -50,7 +67,7 @@ may-write-own log_bytes opened a b limits orderly mended =
       start = held;
       tops = record {
         each = λ p page at. read-page opened p page at;
-        blank = λ p page at zero_lsn. blank-held log_bytes b.base opened held p page again.reads are at zero_lsn;
+        same = λ p one page there at lsns. found-held log_bytes opened places a.base b.base p one page orderly.reads.count repaired found there at lsns;
       };
       written = record {
         was = held;
@@ -61,34 +78,33 @@ may-write-own log_bytes opened a b limits orderly mended =
       kept = λ p below. inl ((repaired.same p (held p) below).1 (inl (are p below)));
     }
 
-pub may-write : (shape : Shape) (pages : List Content) (log_bytes data_bytes : List ℕ) (opened : Reading) (a b : Disk) → IsWithinLimits shape
-    → IsReadAs shape pages log_bytes data_bytes opened → a ≡ settled data_bytes → AreMended shape shape.pages a b → MayBeWritten shape pages data_bytes opened (Some b)
-may-write shape pages log_bytes data_bytes opened a b limits is same =
+pub may-write : (shape : Shape) (pages : List Content) (places : Places) (log_bytes data_bytes : List ℕ) (opened : Reading) (a b : Disk) → IsWithinLimits shape
+    → IsReadAs shape pages log_bytes data_bytes opened → a ≡ settled data_bytes → AreFoundOn shape places pages a.base → AreMended shape shape.pages a b
+    → MayBeWritten shape pages places.found.items data_bytes opened (Some b)
+may-write shape pages places log_bytes data_bytes opened a b limits is same =
     let base : a.base ≡ data_bytes = ap (λ (d : Disk). d.base) same in
     let orderly : IsOrderly log_bytes a.base opened = subst (λ (bytes : List ℕ). IsOrderly log_bytes bytes opened) (sym base) is.orderly in
-    subst (λ (s : Shape). AreMended s s.pages a b → MayBeWritten s pages data_bytes opened (Some b)) is.shape_is
-    (λ mended. subst (λ (list : List Content). MayBeWritten opened.shape list data_bytes opened (Some b)) is.pages_are
-    (subst (λ (bytes : List ℕ). MayBeWritten opened.shape opened.pages bytes opened (Some b)) base
-    (may-write-own log_bytes opened a b (subst IsWithinLimits (sym is.shape_is) limits) orderly mended)))
+    let found : List Found = places.found.items in
+    subst (λ (s : Shape). AreFoundOn s places pages a.base → AreMended s s.pages a b → MayBeWritten s pages found data_bytes opened (Some b)) is.shape_is
+    (subst (λ (list : List Content). AreFoundOn opened.shape places list a.base → AreMended opened.shape opened.shape.pages a b
+    → MayBeWritten opened.shape list found data_bytes opened (Some b)) is.pages_are
+    (λ found_on mended. subst (λ (bytes : List ℕ). MayBeWritten opened.shape opened.pages found bytes opened (Some b)) base
+    (may-write-own log_bytes opened places a b (subst IsWithinLimits (sym is.shape_is) limits) orderly found_on mended)))
 
 -- where the device doesn't tell, they may too
-pub may-write-untold : (shape : Shape) (pages : List Content) (log_bytes data_bytes : List ℕ) (opened : Reading) → IsReadAs shape pages log_bytes data_bytes opened
-    → MayBeWritten shape pages data_bytes opened None
-may-write-untold shape pages log_bytes data_bytes opened is = record {
+pub may-write-untold : (shape : Shape) (pages : List Content) (found : List Found) (log_bytes data_bytes : List ℕ) (opened : Reading) → IsReadAs shape pages log_bytes data_bytes opened
+    → MayBeWritten shape pages found data_bytes opened None
+may-write-untold shape pages found log_bytes data_bytes opened is = record {
   start = read_as opened;
   tops = record {
     each = λ p page at. read-page opened p page (ap (λ (list : List Content). slice_get list p) is.pages_are ∙ at);
-    blank = λ p page at zero_lsn. refl;
+    same = λ p one page there at lsns. refl;
   };
   written = record { was = read_as opened; stored = tt; before = λ p. inl refl; done = λ p below. refl };
   kept = λ p below. inr refl;
 }
 
 -- WHILE PAGES ARE WRITTEN.
-
-known-as : (told : Option Disk) (P Q : Disk → Type 0) → ((a : Disk) → P a → Q a) → IfSome told P → IfSome told Q
-known-as None P Q step known = tt
-known-as (Some a) P Q step known = step a known
 
 write-keeps-own : (log_bytes data_bytes : List ℕ) (opened : Reading) (was start : ℕ → Content) (batch : List Fresh) (disk : Disk) → IsOrderly log_bytes data_bytes opened
     → ((p : ℕ) → p < opened.shape.pages → IsKept opened.shape data_bytes p (start p) ⊎ (start p ≡ read_as opened p))
@@ -144,13 +160,14 @@ all-written shape opened start told w =
 
 -- ONE BEHIND THE OTHER.
 
-pub mended-may_write : (shape : Shape) (pages : List Content) (log_bytes data_bytes : List ℕ) (opened : Reading) (old mid : Option Disk) → IsWithinLimits shape
-    → IsReadAs shape pages log_bytes data_bytes opened → IfSome old (λ disk. disk ≡ settled data_bytes) → OnTold old mid (AreMended shape shape.pages)
-    → MayBeWritten shape pages data_bytes opened mid
-mended-may_write shape pages log_bytes data_bytes opened None mid limits is known told =
-    subst (λ (o : Option Disk). MayBeWritten shape pages data_bytes opened o) (sym told) (may-write-untold shape pages log_bytes data_bytes opened is)
-mended-may_write shape pages log_bytes data_bytes opened (Some a) mid limits is known told =
-    subst (λ (o : Option Disk). MayBeWritten shape pages data_bytes opened o) (sym told.1) (may-write shape pages log_bytes data_bytes opened a told.0 limits is known told.2)
+pub mended-may_write : (shape : Shape) (pages : List Content) (places : Places) (log_bytes data_bytes : List ℕ) (opened : Reading) (old mid : Option Disk) → IsWithinLimits shape
+    → IsReadAs shape pages log_bytes data_bytes opened → IfSome old (λ disk. disk ≡ settled data_bytes) → IfSome old (λ disk. AreFoundOn shape places pages disk.base)
+    → OnTold old mid (AreMended shape shape.pages) → MayBeWritten shape pages places.found.items data_bytes opened mid
+mended-may_write shape pages places log_bytes data_bytes opened None mid limits is known found told =
+    subst (λ (o : Option Disk). MayBeWritten shape pages places.found.items data_bytes opened o) (sym told) (may-write-untold shape pages places.found.items log_bytes data_bytes opened is)
+mended-may_write shape pages places log_bytes data_bytes opened (Some a) mid limits is known found told =
+    subst (λ (o : Option Disk). MayBeWritten shape pages places.found.items data_bytes opened o) (sym told.1)
+    (may-write shape pages places log_bytes data_bytes opened a told.0 limits is known found told.2)
 
 pub unchanged-keeps : (shape : Shape) (pages : List Content) (log_bytes data_bytes : List ℕ) (opened : Reading) (told : Option Disk)
     → IsReadAs shape pages log_bytes data_bytes opened → IfSome told (IsSettledData shape) → IfSome told (λ disk. disk ≡ settled data_bytes)

@@ -22,7 +22,6 @@ use Rattle.redo_logdev.specs.Part.{Part as Log}
 use Rattle.redo_open.specs.Clear.{MayStart}
 use Rattle.redo_open.specs.Devices.{DevicesStep, IsFrom, IsOpenFault, IsSameDevice, WhereBothTell}
 use Rattle.redo_open.specs.Opening.{Answer, IsOpenedAs, IsRunOn, IsStarted, OpensRecovered}
-use Rattle.redo_open.proofs.Endings.{any-known}
 use Rattle.redo_pageactors.specs.{IsRunnable}
 use Rattle.redo_pageactors.specs.declared.opened.Opened.{Opened}
 use Rattle.redo_recover.specs.{AreNotAhead, IsEndOf, reading_of}
@@ -83,7 +82,7 @@ recovered-none log_seen data_seen opened log data_device = record {
   runnable = tt;
   log = record { size = refl; later = omega arith };
   data_device = record { size = refl; later = omega arith };
-  fault = (tt, any-known (data_seen data_device).tells (λ disk. Unit {0}) (λ disk. tt));
+  fault = tt;
   log_failed = λ is. absurd cc;
   data_failed = λ is. absurd cc;
 }
@@ -190,7 +189,7 @@ recovered-started log_seen data_seen recovered start log_old data_old log store 
       runnable = tt;
       log = subst (IsSameDevice log_old) (sym log_same) step.log;
       data_device = subst (IsSameDevice data_old) (sym data_same) step.data_device;
-      fault = subst (IsOpenFault opened data_old.tells) (sym none) (tt, any-known data_old.tells (λ disk. Unit {0}) (λ disk. tt));
+      fault = subst IsOpenFault (sym none) tt;
       log_failed = λ is. absurd cc;
       data_failed = λ is. absurd cc;
     }

@@ -33,16 +33,6 @@ pub told-known : (old new : Option Disk) (P : Disk → Type 0) (R : Disk → Dis
 told-known None new P R step known same = same
 told-known (Some a) new P R step known same = (a, same, step a known)
 
--- what holds of the device before, seen from the one after
-pub told-back : (old new : Option Disk) (P Q : Disk → Type 0) (R : Disk → Disk → Type 0) → ((a b : Disk) → R a b → Q b → P a)
-    → OnTold old new R → IfSome new Q → IfSome old P
-told-back None new P Q R step told known = tt
-told-back (Some a) new P Q R step told known = step a told.0 told.2 (subst (λ (o : Option Disk). IfSome o Q) told.1 known)
-
--- a call behind one that changed nothing
-pub told-moved : (old mid new : Option Disk) (R : Disk → Disk → Type 0) → mid ≡ old → OnTold mid new R → OnTold old new R
-told-moved old mid new R same told = subst (λ (o : Option Disk). OnTold o new R) same told
-
 -- two facts of one call
 pub told-both : (old new : Option Disk) (R S T : Disk → Disk → Type 0) → ((a b : Disk) → R a b → S a b → T a b) → OnTold old new R → OnTold old new S → OnTold old new T
 told-both None new R S T step first second = first
@@ -50,7 +40,3 @@ told-both (Some a) new R S T step first second =
     let same : Some first.0 ≡ Some second.0 = sym first.1 ∙ second.1 in
     let one : first.0 ≡ second.0 = cc in
     (first.0, first.1, step a first.0 first.2 (subst (λ (b : Disk). S a b) (sym one) second.2))
-
-pub known-three : (told : Option Disk) (P Q R S : Disk → Type 0) → ((a : Disk) → P a → Q a → R a → S a) → IfSome told P → IfSome told Q → IfSome told R → IfSome told S
-known-three None P Q R S step first second third = tt
-known-three (Some a) P Q R S step first second third = step a first second third

@@ -8,7 +8,7 @@ use Rattle.model_opening.specs.{IsAtRest, IsReady, KeepsOpened}
 use Rattle.model_store.specs.{IsOrderly}
 use Rattle.model_store.specs.Reading.{Reading}
 use Rattle.redo_disk.specs.Seen.{Seen}
-use Rattle.redo_open.specs.Mend.{IsMendFault, IsPageFault}
+use Rattle.redo_open.specs.Places.{IsPageFault}
 use Rattle.redo_recover.specs.declared.fault.RecFault.{RecFault}
 use Rattle.redo_recover.specs.declared.fault.RecFault.TheVariants.{LogDev, DataDev}
 
@@ -30,11 +30,10 @@ pub record IsSameDevice (old new : Seen) : Type 0 where
   pub size : new.size ≡ old.size
   pub later : old.faults ≤ new.faults
 
--- why opening ends early behind the reading of the store: a device failed, memory ran out, or a page that was read is
--- lost, which can only be where the device doesn't tell
-abbrev pub IsOpenFault : Reading → Option Disk → RecFault → Type 0
-IsOpenFault opened data_old LogDev = Unit {0}
-IsOpenFault opened data_old fault = IsPageFault fault × IfSome data_old (λ disk. IsMendFault opened.shape disk.base fault)
+-- opening ends early behind the reading of the store where a device fails or memory runs out, and for nothing else
+abbrev pub IsOpenFault : RecFault → Type 0
+IsOpenFault LogDev = Unit {0}
+IsOpenFault fault = IsPageFault fault
 
 -- At each exit whatever a crash leaves is read with the opened pages, and after Ok a run can start; where both devices
 -- told at first a store that is in order. Until then the log's newest checkpoint is the old one.
@@ -47,6 +46,6 @@ pub record DevicesStep (opened : Reading) (log_old data_old : Seen) (result : Re
       → OnErr result (IfSome log_new.tells (HasSameCheckpoint opened))
   pub log : IsSameDevice log_old log_new
   pub data_device : IsSameDevice data_old data_new
-  pub fault : IfErr result (IsOpenFault opened data_old.tells)
+  pub fault : IfErr result IsOpenFault
   pub log_failed : IsErrOf result LogDev → HasRisen log_old.faults log_new.faults
   pub data_failed : IsErrOf result DataDev → HasRisen data_old.faults data_new.faults

@@ -1,4 +1,5 @@
 pub mod Blank
+pub mod Called
 pub mod Clear
 pub mod Devices
 pub mod Erase
@@ -6,11 +7,14 @@ pub mod Formatting
 pub mod Gather
 pub mod Mark
 pub mod Mend
+pub mod Needed
 pub mod Opening
 pub mod Places
+pub mod Puts
 pub mod Rewrite
 pub mod Store
 pub mod Zeros
+pub use Rattle.redo_open.specs.Called.{OpensData, OpensLog}
 pub use Rattle.redo_open.specs.Devices.{HasSameCheckpoint, WhereBothTell}
 pub use Rattle.redo_open.specs.Formatting.{FormatCalls, HasFormatCause, JudgesLengths}
-pub use Rattle.redo_open.specs.Opening.{HasFaultCause, IsOpenedReady, IsOpeningOf, OpensLog}
+pub use Rattle.redo_open.specs.Opening.{HasFaultCause, IsOpenedReady, IsOpeningOf}

@@ -1,14 +1,14 @@
 -- Opening a store off two devices that are handed in: what is opened, and what is left of the devices.
-use Rattle.std.specs.Prelude.{ℕ, ◌≡◌, ◌≢◌, ◌≤◌, ◌<◌, ◌+◌, ◌-◌, List, Option, Some, None, Result, Ok, Err, IfOk, IfErr, IfSome}
+use Rattle.std.specs.Prelude.{ℕ, ◌≡◌, ◌≢◌, ◌<◌, ◌+◌, ◌-◌, List, Option, Some, None, Result, Ok, Err, IfOk, IfErr, IfSome}
 use Rattle.model_base.specs.{HasRisen}
 use Rattle.model_base.specs.declared.limits.TheConstants.{LSN_LIMIT}
-use Rattle.model_log.specs.declared.layout.TheConstants.{BLOCK_HEADER, HEADER_BYTES}
+use Rattle.model_log.specs.declared.layout.TheConstants.{BLOCK_HEADER}
 use Rattle.model_logdev.specs.{first_marks, next_number}
 use Rattle.model_device.specs.{settled}
 use Rattle.model_opening.specs.{IsReady, KeepsOpened, start_of}
 use Rattle.model_store.specs.{IsOrderly, IsReading}
 use Rattle.model_store.specs.Reading.{Reading}
-use Rattle.redo_disk.specs.{Call, MakesCalls, MayEndWith}
+use Rattle.redo_disk.specs.{Call, MakesCalls}
 use Rattle.redo_disk.specs.Seen.{Seen}
 use Rattle.redo_disk.specs.declared.error.DevError.{DevError}
 use Rattle.redo_store.specs.Part.{Part}
@@ -16,7 +16,7 @@ use Rattle.redo_open.specs.Devices.{HasSameCheckpoint, IsFrom, IsOpenFault, IsSa
 use Rattle.redo_open.specs.Mark.{EndWithMark}
 use Rattle.redo_pageactors.specs.{IsRunnable}
 use Rattle.redo_pageactors.specs.declared.opened.Opened.{Opened}
-use Rattle.redo_recover.specs.{BeginWithHeader, data_error, HasCauseIn, HasLengthCause, log_error, refusal_of}
+use Rattle.redo_recover.specs.{data_error, HasCauseIn, HasLengthCause, log_error, refusal_of}
 use Rattle.redo_recover.specs.declared.recovered.Recovered.{Recovered}
 use Rattle.redo_recover.specs.declared.fault.RecFault.{RecFault}
 use Rattle.redo_recover.specs.declared.fault.RecFault.TheVariants.{LogDev, DataDev, NoMemory}
@@ -93,7 +93,7 @@ pub record OpensRecovered {L D : Type 0} (log_seen : L → Seen) (data_seen : D 
   pub runnable : IfOk result IsRunnable
   pub log : IsSameDevice log_old (log_seen (log_left result))
   pub data_device : IsSameDevice data_old (data_seen (data_left result))
-  pub fault : IfErr result (λ error. IsOpenFault opened data_old.tells error.0)
+  pub fault : IfErr result (λ error. IsOpenFault error.0)
   pub log_failed : IfErr result (λ error. error.0 ≡ LogDev → HasRisen log_old.faults (log_seen error.1).faults)
   pub data_failed : IfErr result (λ error. error.0 ≡ DataDev → HasRisen data_old.faults (data_seen error.2).faults)
 
@@ -105,12 +105,6 @@ log_error_in (Err error) = log_error error.0
 abbrev pub data_error_in : {L D : Type 0} → Answer L D → Option DevError
 data_error_in (Ok store) = None
 data_error_in (Err error) = data_error error.0
-
--- The calls of a log device of this size. All but the last answered Ok, and the last one answered this error, if any did;
--- where memory ran out they may all have answered Ok. Where the device has room for a header, the first of them reads that.
-pub record OpensLog (size : ℕ) (error : Option DevError) (calls : List Call) : Type 0 where
-  pub ends : MayEndWith error calls
-  pub header : HEADER_BYTES ≤ size → BeginWithHeader calls
 
 -- The last calls of the log device wrote the checkpoint of the store's number where its run starts, and made it stay.
 abbrev pub MarksStart : {L D : Type 0} → (L → Call → L → Type 0) → L → Opened L D → Type 0

@@ -12,10 +12,10 @@ use Rattle.model_page.specs.declared.content.Content.{Content}
 use Rattle.model_store.specs.{IsFair, IsOrderly}
 use Rattle.model_store.specs.Reading.{Reading}
 use Rattle.redo_disk.specs.Seen.{Seen}
-use Rattle.redo_open.specs.Mend.{IsMendFault, IsPageFault}
 use Rattle.redo_open.specs.Rewrite.{AreTop, IsWrittenTo}
 use Rattle.redo_recover.specs.declared.fault.RecFault.{RecFault}
-use Rattle.redo_recover.specs.declared.fault.RecFault.TheVariants.{DataDev}
+use Rattle.redo_recover.specs.declared.fault.RecFault.TheVariants.{DataDev, NoMemory}
+use Rattle.redo_recover.specs.declared.places.Found.{Found}
 use Rattle.redo_store.specs.Part.{Part}
 
 -- an orderly store is read as this, of this shape and with these pages
@@ -33,11 +33,17 @@ abbrev pub HoldsPlaces : Shape → Reading → Disk → Type 0
 HoldsPlaces shape opened disk = Stored shape (IsUpTo (read_as opened)) (read_as opened) [] false disk
 
 -- where pages may begin to be written: from what the places hold
-pub record MayBeWritten (shape : Shape) (pages : List Content) (data_bytes : List ℕ) (opened : Reading) (told : Option Disk) : Type 0 where
+pub record MayBeWritten (shape : Shape) (pages : List Content) (found : List Found) (data_bytes : List ℕ) (opened : Reading) (told : Option Disk) : Type 0 where
   pub start : ℕ → Content
-  pub tops : AreTop pages (read_as opened) start
+  pub tops : AreTop pages found (read_as opened) start
   pub written : IsWrittenTo shape (read_as opened) start 0 told
   pub kept : (p : ℕ) → p < shape.pages → IsKept shape data_bytes p (start p) ⊎ (start p ≡ read_as opened p)
+
+-- the opening of the data part ends early where the data device fails or memory runs out, and for nothing else
+abbrev pub IsPageFault : RecFault → Type 0
+IsPageFault DataDev = Unit {0}
+IsPageFault NoMemory = Unit {0}
+IsPageFault _ = ⊥
 
 -- The opening of the data part. At each exit each fair image is read with the same pages; a fault has its cause.
 pub record PlacesStep {D : Type 0} (seen : D → Seen) (shape : Shape) (pages : List Content) (old : Part D) (result : Result (Unit {0}) RecFault) (new : Part D) : Type 0 where
@@ -46,7 +52,6 @@ pub record PlacesStep {D : Type 0} (seen : D → Seen) (shape : Shape) (pages : 
   pub ok : (log_bytes data_bytes : List ℕ) (opened : Reading) → IsReadAs shape pages log_bytes data_bytes opened
       → IfSome (seen old.dev).tells (λ disk. disk ≡ settled data_bytes) → OnOk result (IfSome (seen new.dev).tells (HoldsPlaces shape opened))
   pub live : OnOk result (new.failed ≡ None)
-  pub fault : IfErr result (λ fault. IfSome (seen old.dev).tells (λ disk. IsMendFault shape disk.base fault))
   pub own : IfErr result IsPageFault
   pub shape_stays : new.shape ≡ old.shape
   pub size : (seen new.dev).size ≡ (seen old.dev).size

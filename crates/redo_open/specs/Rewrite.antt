@@ -8,12 +8,13 @@ use Rattle.model_page.specs.declared.content.Content.{Content}
 use Rattle.redo_disk.specs.{HasCause}
 use Rattle.redo_disk.specs.Seen.{Seen}
 use Rattle.redo_disk.specs.declared.error.DevError.{DevError}
+use Rattle.redo_recover.specs.declared.places.Found.{Found}
 use Rattle.redo_store.specs.Part.{Part}
 
--- these are the pages, and one of lsn 0 is as it was
-pub record AreTop (pages : List Content) (top start : ℕ → Content) : Type 0 where
+-- these are the pages, and one that has still the lsn with which it was found is as it was
+pub record AreTop (pages : List Content) (found : List Found) (top start : ℕ → Content) : Type 0 where
   pub each : (p : ℕ) (page : Content) → slice_get pages p ≡ Some page → top p ≡ page
-  pub blank : (p : ℕ) (page : Content) → slice_get pages p ≡ Some page → page.lsn ≡ 0 → start p ≡ top p
+  pub same : (p : ℕ) (one : Found) (page : Content) → slice_get found p ≡ Some one → slice_get pages p ≡ Some page → one.lsn ≡ page.lsn → start p ≡ top p
 
 -- The pages below this number are written, each other one is written or as it was, and nothing is pending.
 pub record IsWrittenTo (shape : Shape) (top start : ℕ → Content) (count : ℕ) (told : Option Disk) : Type 0 where
@@ -31,10 +32,10 @@ pub record KeepsWritten (shape : Shape) (top start : ℕ → Content) (told : Op
   pub as_top : (p : ℕ) (content : Content) → IsNew batch p content → content ≡ top p
 
 -- A step that writes the pages from `from` to the one before `to`, where it answers Ok.
-pub record WriteStep {D : Type 0} (seen : D → Seen) (shape : Shape) (pages : List Content) (from to : ℕ) (old : Part D) (result : Result (Unit {0}) DevError) (new : Part D) : Type 0 where
-  pub keeps : (top start : ℕ → Content) → AreTop pages top start → IsWrittenTo shape top start from (seen old.dev).tells
+pub record WriteStep {D : Type 0} (seen : D → Seen) (shape : Shape) (pages : List Content) (found : List Found) (from to : ℕ) (old : Part D) (result : Result (Unit {0}) DevError) (new : Part D) : Type 0 where
+  pub keeps : (top start : ℕ → Content) → AreTop pages found top start → IsWrittenTo shape top start from (seen old.dev).tells
       → KeepsWritten shape top start (seen new.dev).tells
-  pub ok : (top start : ℕ → Content) → AreTop pages top start → IsWrittenTo shape top start from (seen old.dev).tells
+  pub ok : (top start : ℕ → Content) → AreTop pages found top start → IsWrittenTo shape top start from (seen old.dev).tells
       → OnOk result (IsWrittenTo shape top start to (seen new.dev).tells)
   pub live : OnOk result (new.failed ≡ None)
   pub shape_stays : new.shape ≡ old.shape

@@ -4,12 +4,14 @@ ghost use Rattle.model_log.specs.{log_device_length, start_after};
 ghost use Rattle.model_logdev.specs.{next_number};
 ghost use Rattle.model_page.specs.declared.content.Content.{Content};
 ghost use Rattle.redo_apply.specs.{ArePagesOf};
-ghost use Rattle.redo_disk.specs.{MakesCalls, MayEndWith};
+ghost use Rattle.redo_disk.specs.{MakesCalls};
 ghost use Rattle.redo_open.specs.Clear.{MayStart};
 ghost use Rattle.redo_open.specs.Devices.{DevicesStep};
 ghost use Rattle.redo_open.specs.Mark.{EndWithMark};
 ghost use Rattle.redo_open.specs.Mend.{IsSettledData};
-ghost use Rattle.redo_recover.specs.{data_error_of, log_error_of, reading_of};
+ghost use Rattle.redo_open.specs.Needed.{IsNeededWrite};
+ghost use Rattle.redo_open.specs.Puts.{MayPutWhere, PutsMayEndWith};
+ghost use Rattle.redo_recover.specs.{AreFoundOn, ArePlacesOf, data_error_of, log_error_of, reading_of};
 
 use crate::clear::clear;
 use crate::mark::mark;
@@ -36,13 +38,17 @@ pub(crate) fn open_devices<L: Sectors, D: Sectors>(
     requires shape { recovered.now.shape ≡ part.old.shape }
     requires settled { IfSome (D.seen part.old.dev).tells (IsSettledData recovered.now.shape) }
     requires pages { ArePagesOf recovered.now.shape recovered.now.pages }
+    requires places { ArePlacesOf recovered.now.shape recovered.now.places recovered.now.pages }
+    requires found { IfSome (D.seen part.old.dev).tells
+        (λ disk. AreFoundOn recovered.now.shape recovered.now.places recovered.now.pages disk.base) }
     requires small { (p : ℕ) (content : Content) → slice_get recovered.now.pages p ≡ Some content → content.lsn < 2 ^ 61 }
     ensures step { DevicesStep (reading_of recovered.now) (L.seen log.old) (D.seen part.old.dev)
         result (L.seen log.new) (D.seen part.new.dev) }
     ensures shape { part.new.shape ≡ part.old.shape }
     ensures live { OnOk result (part.new.failed ≡ None) }
-    ensures log_calls { MakesCalls L.gives log.old log.new (MayEndWith (log_error_of result)) }
-    ensures data_calls { MakesCalls D.gives part.old.dev part.new.dev (MayEndWith (data_error_of result)) }
+    ensures log_calls { MakesCalls L.gives log.old log.new (PutsMayEndWith (log_error_of result)) }
+    ensures data_calls { MakesCalls D.gives part.old.dev part.new.dev
+        (MayPutWhere (IsNeededWrite recovered.now) (data_error_of result)) }
     ensures marks { OnOk result (MakesCalls L.gives log.old log.new
         (EndWithMark recovered.now.shape (next_number recovered.now.number) (start - BLOCK_HEADER))) }
 {
@@ -50,7 +56,13 @@ pub(crate) fn open_devices<L: Sectors, D: Sectors>(
         Ok(()) => {}
         Err(error) => return Err(log_fault(error)),
     }
-    match open_places(alloc, part, &recovered.shape, &recovered.pages) {
+    match open_places(
+        alloc,
+        part,
+        &recovered.shape,
+        &recovered.pages,
+        &recovered.places,
+    ) {
         Ok(()) => {}
         Err(fault) => return Err(fault),
     }

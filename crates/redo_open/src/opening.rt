@@ -4,12 +4,15 @@ ghost use Rattle.model_base.specs.declared.limits.TheConstants.{FIRST_DATA_LSN, 
 ghost use Rattle.model_log.specs.{IsAtDataStart, log_device_length};
 ghost use Rattle.model_opening.specs.{IsOpenable, KeepsOpened};
 ghost use Rattle.model_store.specs.Reading.{Reading};
-ghost use Rattle.redo_disk.specs.{MakesCalls, MayEndWith};
+ghost use Rattle.redo_disk.specs.{MakesCalls};
+ghost use Rattle.redo_open.specs.Called.{OpensData, OpensLog};
 ghost use Rattle.redo_open.specs.Devices.{HasSameCheckpoint, IsSameDevice, WhereBothTell};
 ghost use Rattle.redo_open.specs.Mend.{IsSettledData};
-ghost use Rattle.redo_open.specs.Opening.{log_left, data_left, log_error_in, data_error_in, HasFaultCause, IsOpeningOf, IsOpenedReady, IsStarted, MarksStart, OpensLog, OpensRecovered};
+ghost use Rattle.redo_open.specs.Needed.{IsNeededWrite};
+ghost use Rattle.redo_open.specs.Opening.{log_left, data_left, log_error_in, data_error_in, HasFaultCause, IsOpeningOf, IsOpenedReady, IsStarted, MarksStart, OpensRecovered};
+ghost use Rattle.redo_open.specs.Puts.{MayPutWhere, PutsMayEndWith};
 ghost use Rattle.redo_pageactors.specs.{IsRunnable};
-ghost use Rattle.redo_recover.specs.{IsOfDevices, OnContents, reading_of};
+ghost use Rattle.redo_recover.specs.{AreFoundOn, IsOfDevices, OnContents, reading_of};
 
 use crate::devices::open_devices;
 use redo_disk::Sectors;
@@ -63,9 +66,12 @@ fn open_recovered<L: Sectors, D: Sectors>(
 ) -> Result<Opened<L, D>, (RecFault, L, D)>
     requires of_devices { IsOfDevices (L.seen log).size (D.seen data_device).size recovered }
     requires settled { IfSome (D.seen data_device).tells (IsSettledData recovered.shape) }
+    requires found { IfSome (D.seen data_device).tells
+        (λ disk. AreFoundOn recovered.shape recovered.places recovered.pages disk.base) }
     ensures step { OpensRecovered L.seen D.seen (reading_of recovered) (L.seen log) (D.seen data_device) result }
-    ensures log_calls { MakesCalls L.gives log (log_left result) (MayEndWith (log_error_in result)) }
-    ensures data_calls { MakesCalls D.gives data_device (data_left result) (MayEndWith (data_error_in result)) }
+    ensures log_calls { MakesCalls L.gives log (log_left result) (PutsMayEndWith (log_error_in result)) }
+    ensures data_calls { MakesCalls D.gives data_device (data_left result)
+        (MayPutWhere (IsNeededWrite recovered) (data_error_in result)) }
     ensures marks { IfOk result (MarksStart L.gives log) }
 {
     let mut store = match DataPart::new(alloc, data_device, &recovered.shape) {
@@ -81,7 +87,9 @@ fn open_recovered<L: Sectors, D: Sectors>(
 }
 
 /// Opens the store on two devices, so that a run can start on it: reads it, clears away what stands on the log behind its
-/// end, repairs the places of pages that don't pass, writes each page as it was read, and moves the checkpoint.
+/// end, repairs the places of pages that don't pass, writes each page as it was read where that isn't in its place then,
+/// and moves the checkpoint. No byte of a device is read twice, no place is written that holds its page already, and a
+/// store that is refused is only read.
 ///
 /// Wherever it ends, whatever a crash leaves of the two devices is read with the same pages. The devices of a store that
 /// isn't opened are handed back beside the fault.
@@ -105,8 +113,8 @@ pub fn open_store<L: Sectors, D: Sectors>(
         (L.seen error.1) (D.seen error.2) error.0) }
     ensures log { IsSameDevice (L.seen log) (L.seen (log_left result)) }
     ensures data_device { IsSameDevice (D.seen data_device) (D.seen (data_left result)) }
-    ensures log_calls { MakesCalls L.gives log (log_left result) (OpensLog (L.seen log).size (log_error_in result)) }
-    ensures data_calls { MakesCalls D.gives data_device (data_left result) (MayEndWith (data_error_in result)) }
+    ensures log_calls { MakesCalls L.gives log (log_left result) (OpensLog (L.seen log).size (D.seen data_device).size result) }
+    ensures data_calls { MakesCalls D.gives data_device (data_left result) (OpensData (L.seen log).tells (D.seen data_device).tells result) }
     ensures marks { IfOk result (MarksStart L.gives log) }
 {
     let recovered = match recover(alloc, &mut log, &mut data_device) {

@@ -12,7 +12,7 @@ use std::test::Fail;
 /// in their place. Behind them stand lines of another page, behind which the cleaner writes both pages.
 const UNSEEN: &str = "1 f s 3 2000 f176ec0501 / [1 f b1 4 100 7 / *500]";
 
-/// Opening makes 26 calls of the data device, and a batch the write of its slots, a sync, and then the write of page 3 to its
+/// Opening makes 10 calls of the data device, and a batch the write of its slots, a sync, and then the write of page 3 to its
 /// place, which fails. Where the pick keeps the first and the last of its eight sectors, and so not the fourth, which has the
 /// five bytes, the place passes its check though it is torn: the image isn't fair, and the page has lost what was flushed.
 /// Kept whole, or not at all, it has the bytes.
@@ -25,7 +25,7 @@ fn a_torn_page_that_passes_loses_its_bytes(rt: HostRuntime) -> Result<(), Fail> 
         (0, whole.as_str()),
         (255, whole.as_str()),
     ] {
-        let words = format!(in rt.alloc(); "crash --stop-data 28 --pick {pick}")?;
+        let words = format!(in rt.alloc(); "crash --stop-data 12 --pick {pick}")?;
         let lines = ["g 8204 8216 1 0 flushed", page];
         assert!(rt; has_lines(rt.alloc(), &words, &script, lines)?, "at {pick}");
     }

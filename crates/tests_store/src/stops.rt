@@ -21,7 +21,7 @@ const PICKS: [u64; 6] = [
 /// How many calls of each device an opening of the torn store makes.
 const LOG_CALLS: u64 = 14;
 
-const DATA_CALLS: u64 = 20;
+const DATA_CALLS: u64 = 12;
 
 /// The picks in turn.
 fn pick_of(turn: u64) -> u64 {
@@ -216,18 +216,15 @@ fn a_stop_of_the_data_device_that_keeps_runs_leaves_the_pages(rt: HostRuntime) -
 
 /// Of the log device the header is read and two stretches of blocks, of which one goes to the log's end; 1,022 blocks are
 /// cleared by writes of 128 at the most, and synced; and the checkpoint is written and synced. Of the data device the slots
-/// and three places are read; behind a sync each place is read and one repaired, by two reads of the slots, a write and a
-/// sync; then each is read once more, and two pages are written by five calls.
+/// and three places are read; behind a sync one place is repaired, by a write and a sync, and two pages are written by five
+/// calls.
 #[test]
 fn counts_the_calls(rt: HostRuntime) -> Result<(), Fail> {
     let (log, data) = torn_store(rt.alloc())?.devices(rt.alloc())?;
     let (log, data, fault) = open_to_end(rt.alloc(), Fused::new(log, None), Fused::new(data, None));
     let calls = (log.fuse().passed, data.fuse().passed);
     assert_eq!(rt; fault, None);
-    assert_eq!(rt;
-        calls,
-        (3 + (8 + 1) + 2, (1 + 3) + 1 + (3 + 2 + 2) + (3 + 5))
-    );
+    assert_eq!(rt; calls, (3 + (8 + 1) + 2, (1 + 3) + 1 + 2 + 5));
     assert_eq!(rt; calls, (LOG_CALLS, DATA_CALLS));
     Ok(())
 }

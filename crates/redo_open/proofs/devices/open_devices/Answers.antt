@@ -4,11 +4,11 @@ use Rattle.model_opening.specs.{start_block}
 use Rattle.model_store.specs.{IsOrderly}
 use Rattle.model_store.specs.Reading.{Reading}
 use Rattle.redo_open.specs.Places.{IsReadAs}
-use Rattle.redo_disk.proofs.Made.{ends_then, may_end, none_may_end, serves_end}
 use Rattle.redo_open.proofs.Asked.{log_ends, beside_log, beside_pages, marks_behind}
 use Rattle.redo_open.proofs.Both.{log-clears, log-cleared, cleared-known, rewriting-both, marking-both, ready-both, unmoved-clears, unmoved-marks}
 use Rattle.redo_open.proofs.Causes.{log-cause, places-cause, log-risen, log-not_data, places-not_log}
 use Rattle.redo_open.proofs.Opens.{unchanged-keeps}
+use Rattle.redo_open.proofs.Puts.{may_put, put_nothing, put_served, puts_then}
 use Rattle.redo_open.proofs.Told.{cause-since}
 use Rattle.redo_recover.specs.{reading_of}
 use Rattle.redo_open.proofs.devices.open_devices.Goals as goal
@@ -28,7 +28,7 @@ returns-in-Err-clause-step g c =
           (log-clears opened log_bytes data_bytes c.args.start _ _ c.requires.behind orderly log_known c.in-Err.ensures.keeps);
       log = record { size = c.in-Err.ensures.size; later = c.in-Err.ensures.cause.later };
       data_device = record { size = refl; later = omega arith };
-      fault = log-cause opened _ c.in-Err.error c.log_fault.result c.log_fault.ensures;
+      fault = log-cause c.in-Err.error c.log_fault.result c.log_fault.ensures;
       log_failed = log-risen _ _ c.in-Err.error c.log_fault.result c.log_fault.ensures c.in-Err.ensures.cause;
       data_failed = log-not_data c.in-Err.error c.log_fault.result c.log_fault.ensures;
     }
@@ -45,7 +45,7 @@ returns-in-Err-open_places-clause-step g c =
           (cleared-known opened log_bytes _ (log-cleared opened log_bytes data_bytes c.args.start _ _ c.requires.behind orderly log_known c.in-Ok.ensures.ok));
       log = record { size = c.in-Ok.ensures.size; later = c.in-Ok.ensures.cause.later };
       data_device = record { size = c.in-Err-open_places.ensures.step.size; later = c.in-Err-open_places.ensures.step.later };
-      fault = places-cause opened _ c.in-Err-open_places.fault c.in-Err-open_places.ensures.step.own c.in-Err-open_places.ensures.step.fault;
+      fault = places-cause c.in-Err-open_places.fault c.in-Err-open_places.ensures.step.own;
       log_failed = places-not_log c.in-Err-open_places.fault c.in-Err-open_places.ensures.step.own;
       data_failed = c.in-Err-open_places.ensures.step.failed;
     }
@@ -90,32 +90,32 @@ returns-in-Err-mark-clause-step g c =
           (log-cleared opened log_bytes data_bytes c.args.start _ _ c.requires.behind orderly log_known c.in-Ok.ensures.ok) c.in-Err-mark.ensures.unmoved;
       log = record { size = c.in-Err-mark.ensures.size ∙ c.in-Ok.ensures.size; later = omega (arith, c.in-Err-mark.ensures.cause.later, c.in-Ok.ensures.cause.later) };
       data_device = record { size = c.in-Ok-open_places.ensures.step.size; later = c.in-Ok-open_places.ensures.step.later };
-      fault = log-cause opened _ c.in-Err-mark.error c.log_fault-in-Err-mark.result c.log_fault-in-Err-mark.ensures;
+      fault = log-cause c.in-Err-mark.error c.log_fault-in-Err-mark.result c.log_fault-in-Err-mark.ensures;
       log_failed = log-risen _ _ c.in-Err-mark.error c.log_fault-in-Err-mark.result c.log_fault-in-Err-mark.ensures (cause-since _ _ _ (Err c.in-Err-mark.error) c.in-Ok.ensures.cause.later c.in-Err-mark.ensures.cause);
       data_failed = λ failed. log-not_data c.in-Err-mark.error c.log_fault-in-Err-mark.result c.log_fault-in-Err-mark.ensures failed;
     }
 
 pub returns-in-Err-clause-log_calls : goal.returns-in-Err-clause-log_calls
-returns-in-Err-clause-log_calls g c = may_end (log_ends c.in-Err.error c.log_fault.result c.log_fault.ensures c.in-Err.ensures.calls)
+returns-in-Err-clause-log_calls g c = may_put (log_ends c.in-Err.error c.log_fault.result c.log_fault.ensures c.in-Err.ensures.calls)
 
 pub returns-in-Err-clause-data_calls : goal.returns-in-Err-clause-data_calls
-returns-in-Err-clause-data_calls g c = beside_log c.in-Err.error c.log_fault.result c.log_fault.ensures (none_may_end g.D.Sectors.gives c.args.part.now.dev)
+returns-in-Err-clause-data_calls g c = beside_log c.in-Err.error c.log_fault.result c.log_fault.ensures (may_put (put_nothing g.D.Sectors.gives c.args.part.now.dev))
 
 pub returns-in-Err-open_places-clause-log_calls : goal.returns-in-Err-open_places-clause-log_calls
-returns-in-Err-open_places-clause-log_calls g c = beside_pages c.in-Err-open_places.fault c.in-Err-open_places.ensures.step.own (may_end c.in-Ok.ensures.calls)
+returns-in-Err-open_places-clause-log_calls g c = beside_pages c.in-Err-open_places.fault c.in-Err-open_places.ensures.step.own (may_put c.in-Ok.ensures.calls)
 
 pub returns-in-Err-open_places-clause-data_calls : goal.returns-in-Err-open_places-clause-data_calls
 returns-in-Err-open_places-clause-data_calls g c = c.in-Err-open_places.ensures.calls
 
 pub returns-in-Ok-mark-clause-log_calls : goal.returns-in-Ok-mark-clause-log_calls
-returns-in-Ok-mark-clause-log_calls g c = may_end (ends_then c.in-Ok.ensures.calls (serves_end c.in-Ok-mark.ensures.calls))
+returns-in-Ok-mark-clause-log_calls g c = may_put (puts_then c.in-Ok.ensures.calls (put_served tt c.in-Ok-mark.ensures.calls))
 
 pub returns-in-Ok-mark-clause-data_calls : goal.returns-in-Ok-mark-clause-data_calls
 returns-in-Ok-mark-clause-data_calls g c = c.in-Ok-open_places.ensures.calls
 
 pub returns-in-Err-mark-clause-log_calls : goal.returns-in-Err-mark-clause-log_calls
 returns-in-Err-mark-clause-log_calls g c =
-    may_end (log_ends c.in-Err-mark.error c.log_fault-in-Err-mark.result c.log_fault-in-Err-mark.ensures (ends_then c.in-Ok.ensures.calls (serves_end c.in-Err-mark.ensures.calls)))
+    may_put (log_ends c.in-Err-mark.error c.log_fault-in-Err-mark.result c.log_fault-in-Err-mark.ensures (puts_then c.in-Ok.ensures.calls (put_served tt c.in-Err-mark.ensures.calls)))
 
 pub returns-in-Err-mark-clause-data_calls : goal.returns-in-Err-mark-clause-data_calls
 returns-in-Err-mark-clause-data_calls g c = beside_log c.in-Err-mark.error c.log_fault-in-Err-mark.result c.log_fault-in-Err-mark.ensures c.in-Ok-open_places.ensures.calls

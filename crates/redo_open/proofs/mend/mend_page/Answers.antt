@@ -1,174 +1,94 @@
--- The place passes, or the copy that counts is put into it.
-use Rattle.std.proofs.Common.{◌≡◌, ◌∙◌, ℕ, Option, Some, None, Err, sym, ap, subst, arith}
-use Rattle.std.specs.Prelude.{IfSome, MatchOption}
-use Rattle.model_base.specs.declared.shape.Shape.{Shape}
-use Rattle.model_datadev.specs.{HasNothingPending, IsRepairable, IsRepaired, KeepsAll}
-use Rattle.model_device.specs.Disk.{Disk}
-use Rattle.model_page.specs.{HasNoCopy, IsBestCopy, place_bytes}
-use Rattle.redo_disk.specs.{OnTold}
-use Rattle.redo_disk.specs.declared.error.DevError.{DevError}
-use Rattle.redo_open.specs.Mend.{IsSettledData, IsMended, IsMendFault}
-use Rattle.redo_disk.proofs.Made.{ends_then, serves_end}
-use Rattle.redo_open.proofs.Asked.{data_ends, repair_ends}
-use Rattle.redo_open.proofs.Endings.{mend-failed, mend-lost, mend-done}
-use Rattle.redo_open.proofs.Mends.{settled-keeps, mended-same, mended-repaired, place-passes, is-repairable, is-lost}
+-- The place passed, or the copy that counts is put into it.
+use Rattle.std.proofs.Common.{◌≡◌, ◌<◌, ◌+◌, ◌-◌, ◌*◌, ◌∙◌, ℕ, List, length, take, drop, Some, inr, refl, sym, ap, subst, arith}
+use Rattle.std.proofs.lemmas.Option.{slice_get_read}
+use Rattle.std.proofs.lemmas.Result.{on_ok_weaker}
+use Rattle.std.specs.Prelude.{IfSome}
+use Rattle.std.specs.List.{slice_get}
+use Rattle.model_datadev.specs.{HasNothingPending, IsRepaired, KeepsAll}
 use Rattle.redo_disk.proofs.Told.{known-as, known-both}
-use Rattle.redo_open.proofs.Told.{told-known, known-three, told-moved, told-both, risen-since}
-use Rattle.redo_recover.specs.declared.fault.RecFault.TheVariants.{PageLost}
+use Rattle.redo_disk.specs.{OnTold}
+use Rattle.redo_open.proofs.Lengths.{copy-long}
+use Rattle.redo_open.proofs.Mends.{mended-repaired, mended-same, settled-keeps}
+use Rattle.redo_open.proofs.Puts.{put_nothing, put_served}
+use Rattle.redo_open.proofs.Standing.{slot-below, slot-room, stands-in_place, stands-in_slot}
+use Rattle.redo_open.proofs.Told.{told-both, told-known}
+use Rattle.redo_open.proofs.Writings.{live-ok}
+use Rattle.redo_open.specs.Mend.{IsMended, IsSettledData, StandFrom}
+use Rattle.redo_open.specs.Needed.{WasBroken}
+use Rattle.redo_store.specs.{IsCopyToPut}
 use Rattle.redo_open.proofs.mend.mend_page.Goals as goal
 
-pub place_lsn-requires : goal.place_lsn-requires
-place_lsn-requires g c = omega (arith, c.read_page.auto.out, c.requires.buffer, c.requires.sizes)
+pub slice_bounds-put_copy-end : goal.slice_bounds-put_copy-end
+slice_bounds-put_copy-end g c =
+    let shape = c.args.part.now.shape in
+    let at : slice_get c.args.places.now.found.items c.args.page ≡ Some c.index.result.now =
+    slice_get_read c.args.places.now.found.items c.args.part.now.shape.pages c.args.page c.index.result.now (sym c.requires.slots.count) c.requires.page c.index.ensures in
+    let in_slot : c.index.result.now.slot ≡ Some c.in-Some.slot = c.in-Some.is in
+    let below : c.in-Some.slot < shape.slots = slot-below shape c.args.places.now c.args.page c.in-Some.slot c.index.result.now c.requires.slots at in_slot in
+    omega (arith, slot-room c.in-Some.slot shape.slots shape.page_size below c.requires.sizes, c.requires.slots.room, ap length c.deref.ensures.value)
 
-pub repair-requires-clause-repairable : goal.repair-requires-clause-repairable
-repair-requires-clause-repairable g c =
-    let told = (g.D.Sectors.seen c.args.part.now.dev).tells in
-    let shape = c.args.shape.now in
-    let shape_is : c.best_copy.new.self.shape ≡ shape = c.in-Ok-Some.ensures.step.shape ∙ c.in-Ok.ensures.step.shape ∙ sym c.requires.shape in
+pub put_copy-requires-clause-counts : goal.put_copy-requires-clause-counts
+put_copy-requires-clause-counts g c =
+    let shape = c.args.part.now.shape in
     let page = c.args.page in
-    let buffer = c.read_page.new.out in
-    let p1 = c.read_page.new.self in
-    let p1_shape : p1.shape ≡ shape = c.in-Ok.ensures.step.shape ∙ sym c.requires.shape in
-    let bytes : IfSome told (λ disk. buffer ≡ place_bytes shape page disk.reads) =
-    subst (λ (s : Shape). IfSome told (λ disk. buffer ≡ place_bytes s page disk.reads)) (sym c.requires.shape) c.in-Ok.ensures.bytes in
-    let Found : Shape → Option Disk → Option (ℕ × ℕ) → Type 0 = λ s o f. IfSome o (λ disk. MatchOption f (HasNoCopy s disk.reads page) (λ best. IsBestCopy s disk.reads page best.0 best.1)) in
-    let found_there : Found p1.shape (g.D.Sectors.seen p1.dev).tells (Some c.in-Ok-Some.field-0-0) =
-    subst (λ (f : Option (ℕ × ℕ)). Found p1.shape (g.D.Sectors.seen p1.dev).tells f) c.in-Ok-Some.field-0-is c.in-Ok-Some.ensures.found in
-    let found_shape : Found shape (g.D.Sectors.seen p1.dev).tells (Some c.in-Ok-Some.field-0-0) =
-    subst (λ (s : Shape). Found s (g.D.Sectors.seen p1.dev).tells (Some c.in-Ok-Some.field-0-0)) p1_shape found_there in
-    let found : Found shape told (Some c.in-Ok-Some.field-0-0) =
-    subst (λ (o : Option Disk). Found shape o (Some c.in-Ok-Some.field-0-0)) c.in-Ok.ensures.same found_shape in
-    let repairable : IfSome told (IsRepairable shape page) =
-    known-both told (λ disk. buffer ≡ place_bytes shape page disk.reads)
-    (λ disk. IsBestCopy shape disk.reads page c.in-Ok-Some.field-0-0.0 c.in-Ok-Some.field-0-0.1) (IsRepairable shape page)
-    (λ disk read best. is-repairable shape page c.in-Ok-Some.field-0-0.0 c.in-Ok-Some.field-0-0.1 disk buffer read c.in-None.ensures best) bytes found in
-    subst (λ (s : Shape). IfSome (g.D.Sectors.seen c.best_copy.new.self.dev).tells (IsRepairable s c.args.page)) (sym shape_is)
-    (subst (λ (o : Option Disk). IfSome o (IsRepairable shape c.args.page)) (sym (c.in-Ok-Some.ensures.same ∙ c.in-Ok.ensures.same)) repairable)
+    let places = c.args.places.now in
+    let slot = c.in-Some.slot in
+    let copy : List ℕ → List ℕ = λ bytes. take (slot * 4096 + 4096 - slot * 4096) (drop (slot * 4096) bytes) in
+    subst (λ bytes. IfSome (g.D.Sectors.seen c.args.part.now.dev).tells (IsCopyToPut shape page (copy bytes))) (sym c.deref.ensures.value)
+    (known-both _ (IsSettledData shape) (StandFrom shape places page) (IsCopyToPut shape page (copy places.slots.items))
+    (λ disk settled stand. stands-in_slot shape places page slot c.index.result.now disk c.requires.sizes settled stand
+    (slice_get_read c.args.places.now.found.items c.args.part.now.shape.pages c.args.page c.index.result.now (sym c.requires.slots.count) c.requires.page c.index.ensures) c.in-Some.is) c.requires.settled c.requires.stand)
 
-pub returns-in-Err-clause-step : goal.returns-in-Err-clause-step
-returns-in-Err-clause-step g c =
-    mend-failed g.D.Sectors.seen c.args.shape.now (IsMended c.args.shape.now c.args.page) c.args.part.now c.read_page.new.self c.in-Err.error c.data_fault.result c.data_fault.ensures
-    (told-known _ _ (IsSettledData c.args.shape.now) (KeepsAll c.args.shape.now) (settled-keeps c.args.shape.now) c.requires.settled c.in-Err.ensures.same)
-    (record { shape = c.in-Err.ensures.step.shape; size = c.in-Err.ensures.step.size; later = c.in-Err.ensures.step.cause.later })
-    (λ failed. c.in-Err.ensures.step.cause.failed (ap (λ (e : DevError). Err e) failed))
+pub returns-in-None-clause-step : goal.returns-in-None-clause-step
+returns-in-None-clause-step g c =
+    let shape = c.args.part.now.shape in
+    let page = c.args.page in
+    let places = c.args.places.now in
+    record {
+      keeps = told-known _ _ (IsSettledData shape) (KeepsAll shape) (settled-keeps shape) c.requires.settled refl;
+      ok = told-known _ _ (λ disk. IsMended shape page disk disk) (IsMended shape page) (λ a is. is)
+          (known-both _ (IsSettledData shape) (StandFrom shape places page) (λ disk. IsMended shape page disk disk)
+          (λ disk settled stand. mended-same shape page disk settled (stands-in_place shape places page c.index.result.now disk stand
+          (slice_get_read c.args.places.now.found.items c.args.part.now.shape.pages c.args.page c.index.result.now (sym c.requires.slots.count) c.requires.page c.index.ensures) c.in-None.is)) c.requires.settled c.requires.stand) refl;
+      live = c.requires.live;
+      shape_stays = refl;
+      size = refl;
+      cause = record { later = omega arith; failed = λ failed. absurd cc };
+    }
 
 pub returns-in-Some-clause-step : goal.returns-in-Some-clause-step
 returns-in-Some-clause-step g c =
-    let shape = c.args.shape.now in
-    let told = (g.D.Sectors.seen c.args.part.now.dev).tells in
-    let bytes : IfSome told (λ disk. c.read_page.new.out ≡ place_bytes shape c.args.page disk.reads) =
-    subst (λ (s : Shape). IfSome told (λ disk. c.read_page.new.out ≡ place_bytes s c.args.page disk.reads)) (sym c.requires.shape) c.in-Ok.ensures.bytes in
-    mend-done g.D.Sectors.seen shape (IsMended shape c.args.page) c.args.part.now c.read_page.new.self
-    (told-known _ _ (IsSettledData shape) (KeepsAll shape) (settled-keeps shape) c.requires.settled c.in-Ok.ensures.same)
-    (told-known _ _ (λ disk. IsMended shape c.args.page disk disk) (IsMended shape c.args.page) (λ a is. is)
-    (known-both told (IsSettledData shape) (λ disk. c.read_page.new.out ≡ place_bytes shape c.args.page disk.reads) (λ disk. IsMended shape c.args.page disk disk)
-    (λ disk is read. mended-same shape c.args.page disk is (place-passes shape c.args.page c.in-Some.field-0 disk c.read_page.new.out is read c.in-Some.ensures)) c.requires.settled bytes)
-    c.in-Ok.ensures.same)
-    c.in-Ok.ensures.step.failed
-    (record { shape = c.in-Ok.ensures.step.shape; size = c.in-Ok.ensures.step.size; later = c.in-Ok.ensures.step.cause.later })
-
-pub returns-in-Ok-None-clause-step : goal.returns-in-Ok-None-clause-step
-returns-in-Ok-None-clause-step g c =
-    let told = (g.D.Sectors.seen c.args.part.now.dev).tells in
-    let shape = c.args.shape.now in
+    let shape = c.args.part.now.shape in
     let page = c.args.page in
-    let buffer = c.read_page.new.out in
-    let p1 = c.read_page.new.self in
-    let p1_shape : p1.shape ≡ shape = c.in-Ok.ensures.step.shape ∙ sym c.requires.shape in
-    let bytes : IfSome told (λ disk. buffer ≡ place_bytes shape page disk.reads) =
-    subst (λ (s : Shape). IfSome told (λ disk. buffer ≡ place_bytes s page disk.reads)) (sym c.requires.shape) c.in-Ok.ensures.bytes in
-    let Found : Shape → Option Disk → Option (ℕ × ℕ) → Type 0 = λ s o f. IfSome o (λ disk. MatchOption f (HasNoCopy s disk.reads page) (λ best. IsBestCopy s disk.reads page best.0 best.1)) in
-    let found_there : Found p1.shape (g.D.Sectors.seen p1.dev).tells None =
-    subst (λ (f : Option (ℕ × ℕ)). Found p1.shape (g.D.Sectors.seen p1.dev).tells f) c.in-Ok-None.field-0-is c.in-Ok-None.ensures.found in
-    let found_shape : Found shape (g.D.Sectors.seen p1.dev).tells None =
-    subst (λ (s : Shape). Found s (g.D.Sectors.seen p1.dev).tells None) p1_shape found_there in
-    let found : Found shape told None =
-    subst (λ (o : Option Disk). Found shape o None) c.in-Ok.ensures.same found_shape in
-    mend-lost g.D.Sectors.seen shape (IsMended shape page) c.args.part.now c.best_copy.new.self page
-    (known-three told (IsSettledData shape) (λ disk. buffer ≡ place_bytes shape page disk.reads) (λ disk. HasNoCopy shape disk.reads page) (λ disk. IsMendFault shape disk.base (PageLost page))
-    (λ disk is read none. is-lost shape page disk buffer c.requires.page is read c.in-None.ensures none) c.requires.settled bytes found)
-    (told-known _ _ (IsSettledData shape) (KeepsAll shape) (settled-keeps shape) c.requires.settled (c.in-Ok-None.ensures.same ∙ c.in-Ok.ensures.same))
-    (record {
-      shape = c.in-Ok-None.ensures.step.shape ∙ c.in-Ok.ensures.step.shape;
-      size = c.in-Ok-None.ensures.step.size ∙ c.in-Ok.ensures.step.size;
-      later = omega (arith, c.in-Ok-None.ensures.step.cause.later, c.in-Ok.ensures.step.cause.later);
-    })
-
-pub returns-in-Err-best_copy-clause-step : goal.returns-in-Err-best_copy-clause-step
-returns-in-Err-best_copy-clause-step g c =
-    mend-failed g.D.Sectors.seen c.args.shape.now (IsMended c.args.shape.now c.args.page) c.args.part.now c.best_copy.new.self c.in-Err-best_copy.error
-    c.data_fault-in-Err-best_copy.result c.data_fault-in-Err-best_copy.ensures
-    (told-known _ _ (IsSettledData c.args.shape.now) (KeepsAll c.args.shape.now) (settled-keeps c.args.shape.now) c.requires.settled (c.in-Err-best_copy.ensures.same ∙ c.in-Ok.ensures.same))
-    (record {
-      shape = c.in-Err-best_copy.ensures.step.shape ∙ c.in-Ok.ensures.step.shape;
-      size = c.in-Err-best_copy.ensures.step.size ∙ c.in-Ok.ensures.step.size;
-      later = omega (arith, c.in-Err-best_copy.ensures.step.cause.later, c.in-Ok.ensures.step.cause.later);
-    })
-    (λ failed. risen-since _ _ _ c.in-Ok.ensures.step.cause.later c.in-Err-best_copy.ensures.step.cause.later
-    (c.in-Err-best_copy.ensures.step.cause.failed (ap (λ (e : DevError). Err e) failed)))
-
-pub returns-in-Ok-repair-clause-step : goal.returns-in-Ok-repair-clause-step
-returns-in-Ok-repair-clause-step g c =
-    let shape = c.args.shape.now in
-    let page = c.args.page in
-    let shape_is : c.best_copy.new.self.shape ≡ shape = c.in-Ok-Some.ensures.step.shape ∙ c.in-Ok.ensures.step.shape ∙ sym c.requires.shape in
-    let same = c.in-Ok-Some.ensures.same ∙ c.in-Ok.ensures.same in
-    let nothing : IfSome (g.D.Sectors.seen c.best_copy.new.self.dev).tells HasNothingPending =
-    subst (λ (o : Option Disk). IfSome o HasNothingPending) (sym (c.in-Ok-Some.ensures.same ∙ c.in-Ok.ensures.same))
-    (known-as (g.D.Sectors.seen c.args.part.now.dev).tells (IsSettledData shape) HasNothingPending (λ disk is. is.nothing_pending) c.requires.settled) in
-    let keeps : OnTold (g.D.Sectors.seen c.args.part.now.dev).tells (g.D.Sectors.seen c.repair.new.self.dev).tells (KeepsAll shape) =
-    told-moved _ _ _ (KeepsAll shape) same
-    (subst (λ (s : Shape). OnTold (g.D.Sectors.seen c.best_copy.new.self.dev).tells (g.D.Sectors.seen c.repair.new.self.dev).tells (KeepsAll s)) shape_is (c.in-Ok-repair.ensures.keeps nothing)) in
-    let repaired : OnTold (g.D.Sectors.seen c.args.part.now.dev).tells (g.D.Sectors.seen c.repair.new.self.dev).tells (IsRepaired shape page) =
-    told-moved _ _ _ (IsRepaired shape page) same
-    (subst (λ (s : Shape). OnTold (g.D.Sectors.seen c.best_copy.new.self.dev).tells (g.D.Sectors.seen c.repair.new.self.dev).tells (IsRepaired s page)) shape_is (c.in-Ok-repair.ensures.ok nothing)) in
-    mend-done g.D.Sectors.seen shape (IsMended shape page) c.args.part.now c.repair.new.self keeps
-    (told-both _ _ (KeepsAll shape) (IsRepaired shape page) (IsMended shape page) (λ a b one two. mended-repaired shape page a b c.requires.page one two) keeps repaired)
-    c.in-Ok-repair.ensures.step.failed
-    (record {
-      shape = c.in-Ok-repair.ensures.step.shape ∙ c.in-Ok-Some.ensures.step.shape ∙ c.in-Ok.ensures.step.shape;
-      size = c.in-Ok-repair.ensures.step.size ∙ c.in-Ok-Some.ensures.step.size ∙ c.in-Ok.ensures.step.size;
-      later = omega (arith, c.in-Ok-repair.ensures.step.cause.later, c.in-Ok-Some.ensures.step.cause.later, c.in-Ok.ensures.step.cause.later);
-    })
-
-pub returns-in-Err-repair-clause-step : goal.returns-in-Err-repair-clause-step
-returns-in-Err-repair-clause-step g c =
-    let shape = c.args.shape.now in
-    let shape_is : c.best_copy.new.self.shape ≡ shape = c.in-Ok-Some.ensures.step.shape ∙ c.in-Ok.ensures.step.shape ∙ sym c.requires.shape in
-    let nothing : IfSome (g.D.Sectors.seen c.best_copy.new.self.dev).tells HasNothingPending =
-    subst (λ (o : Option Disk). IfSome o HasNothingPending) (sym (c.in-Ok-Some.ensures.same ∙ c.in-Ok.ensures.same))
-    (known-as (g.D.Sectors.seen c.args.part.now.dev).tells (IsSettledData shape) HasNothingPending (λ disk is. is.nothing_pending) c.requires.settled) in
-    mend-failed g.D.Sectors.seen shape (IsMended shape c.args.page) c.args.part.now c.repair.new.self c.in-Err-repair.error
-    c.data_fault-in-Err-repair.result c.data_fault-in-Err-repair.ensures
-    (told-moved _ _ _ (KeepsAll shape) (c.in-Ok-Some.ensures.same ∙ c.in-Ok.ensures.same)
-    (subst (λ (s : Shape). OnTold (g.D.Sectors.seen c.best_copy.new.self.dev).tells (g.D.Sectors.seen c.repair.new.self.dev).tells (KeepsAll s)) shape_is (c.in-Err-repair.ensures.keeps nothing)))
-    (record {
-      shape = c.in-Err-repair.ensures.step.shape ∙ c.in-Ok-Some.ensures.step.shape ∙ c.in-Ok.ensures.step.shape;
-      size = c.in-Err-repair.ensures.step.size ∙ c.in-Ok-Some.ensures.step.size ∙ c.in-Ok.ensures.step.size;
-      later = omega (arith, c.in-Err-repair.ensures.step.cause.later, c.in-Ok-Some.ensures.step.cause.later, c.in-Ok.ensures.step.cause.later);
-    })
-    (λ failed. risen-since _ _ _ (omega (arith, c.in-Ok-Some.ensures.step.cause.later, c.in-Ok.ensures.step.cause.later)) c.in-Err-repair.ensures.step.cause.later
-    (c.in-Err-repair.ensures.step.cause.failed (ap (λ (e : DevError). Err e) failed)))
-
-pub returns-in-Err-clause-calls : goal.returns-in-Err-clause-calls
-returns-in-Err-clause-calls g c = data_ends c.in-Err.error c.data_fault.result c.data_fault.ensures (serves_end c.in-Err.ensures.calls)
+    let nothing : IfSome (g.D.Sectors.seen c.args.part.now.dev).tells HasNothingPending =
+    known-as _ (IsSettledData shape) HasNothingPending (λ disk is. is.nothing_pending) c.requires.settled in
+    let keeps : OnTold (g.D.Sectors.seen c.args.part.now.dev).tells (g.D.Sectors.seen c.put_copy.new.self.dev).tells (KeepsAll shape) = c.put_copy.ensures.keeps nothing in
+    record {
+      keeps = keeps;
+      ok = on_ok_weaker c.put_copy.result
+          (told-both _ _ (KeepsAll shape) (IsRepaired shape page) (IsMended shape page) (λ a b one two. mended-repaired shape page a b one two) keeps)
+          (c.put_copy.ensures.ok nothing);
+      live = live-ok c.put_copy.result c.put_copy.new.self.failed c.put_copy.ensures.step.failed;
+      shape_stays = c.put_copy.ensures.step.shape;
+      size = c.put_copy.ensures.step.size;
+      cause = c.put_copy.ensures.step.cause;
+    }
 
 pub returns-in-Some-clause-calls : goal.returns-in-Some-clause-calls
-returns-in-Some-clause-calls g c = serves_end c.in-Ok.ensures.calls
+returns-in-Some-clause-calls g c =
+    let shape = c.args.part.now.shape in
+    let places = c.args.places.now in
+    let slot = c.in-Some.slot in
+    let broken : WasBroken places.found.items c.args.page = record {
+      one = c.index.result.now;
+      at = slice_get_read places.found.items shape.pages c.args.page c.index.result.now (sym c.requires.slots.count) c.requires.page c.index.ensures;
+      slot = slot;
+      in_slot = c.in-Some.is;
+    } in
+    let below : slot < shape.slots = slot-below shape places c.args.page slot c.index.result.now c.requires.slots broken.at c.in-Some.is in
+    let long : length (take (slot * 4096 + 4096 - slot * 4096) (drop (slot * 4096) c.deref.result.now)) ≡ shape.page_size =
+    copy-long slot shape.slots shape.page_size c.deref.result.now below c.requires.sizes (ap length c.deref.ensures.value ∙ c.requires.slots.room) in
+    put_served (inr (record { page = c.args.page; such = broken; at = refl; long = long })) c.put_copy.ensures.calls
 
-pub returns-in-Ok-None-clause-calls : goal.returns-in-Ok-None-clause-calls
-returns-in-Ok-None-clause-calls g c = ends_then (serves_end c.in-Ok.ensures.calls) (serves_end c.in-Ok-None.ensures.calls)
-
-pub returns-in-Err-best_copy-clause-calls : goal.returns-in-Err-best_copy-clause-calls
-returns-in-Err-best_copy-clause-calls g c =
-    data_ends c.in-Err-best_copy.error c.data_fault-in-Err-best_copy.result c.data_fault-in-Err-best_copy.ensures
-    (ends_then (serves_end c.in-Ok.ensures.calls) (serves_end c.in-Err-best_copy.ensures.calls))
-
-pub returns-in-Ok-repair-clause-calls : goal.returns-in-Ok-repair-clause-calls
-returns-in-Ok-repair-clause-calls g c =
-    ends_then (serves_end c.in-Ok.ensures.calls) (ends_then (serves_end c.in-Ok-Some.ensures.calls) (repair_ends c.in-Ok-repair.ensures.calls))
-
-pub returns-in-Err-repair-clause-calls : goal.returns-in-Err-repair-clause-calls
-returns-in-Err-repair-clause-calls g c =
-    data_ends c.in-Err-repair.error c.data_fault-in-Err-repair.result c.data_fault-in-Err-repair.ensures
-    (ends_then (serves_end c.in-Ok.ensures.calls) (ends_then (serves_end c.in-Ok-Some.ensures.calls) (repair_ends c.in-Err-repair.ensures.calls)))
+pub returns-in-None-clause-calls : goal.returns-in-None-clause-calls
+returns-in-None-clause-calls g c = put_nothing g.D.Sectors.gives c.args.part.now.dev

@@ -1,15 +1,19 @@
 -- The store is read and opened.
-use Rattle.std.proofs.Common.{◌≢◌, ◌∙◌, Err, ap, arith}
+use Rattle.std.proofs.Common.{◌≢◌, ◌∙◌, Err, sym, ap, subst, arith}
 use Rattle.std.specs.Prelude.{IfOk, IfErr, IfSome}
 use Rattle.model_opening.specs.{KeepsOpened}
 use Rattle.model_store.specs.Reading.{Reading}
 use Rattle.redo_open.specs.Devices.{HasSameCheckpoint, WhereBothTell}
 use Rattle.redo_open.specs.Opening.{log_left, data_left, IsOpenedReady}
-use Rattle.redo_disk.proofs.Made.{call_ends, may_end, may_end_then}
-use Rattle.redo_open.proofs.Asked.{data_ends, marks_read, opens_beside, opens_reads, opens_then, reads_ends}
-use Rattle.redo_open.proofs.Stores.{openable-same, opened-read, opening-cause, both-err, kept-same, sync-cause, where-refused}
+use Rattle.redo_open.specs.Places.{IsPageFault}
+use Rattle.redo_open.proofs.Asked.{beside_pages, data_ends, marks_read}
+use Rattle.redo_open.proofs.Called.{data_opened, data_refused, log_opened, log_refused}
+use Rattle.redo_open.proofs.Causes.{places-cause}
+use Rattle.redo_open.proofs.Endings.{device-own}
+use Rattle.redo_open.proofs.Puts.{may_put, may_put_then, put_nothing, put_one}
+use Rattle.redo_open.proofs.Stores.{openable-same, opened-read, opening-cause, both-err, kept-same, sync-cause, synced-holds, where-refused}
 use Rattle.redo_open.proofs.Told.{cause-since}
-use Rattle.redo_recover.specs.{reading_of, refusal_of}
+use Rattle.redo_recover.specs.{AreFoundOn, reading_of, refusal_of}
 use Rattle.redo_recover.specs.declared.fault.RecFault.{RecFault}
 use Rattle.redo_recover.specs.declared.fault.RecFault.TheVariants.{NoMemory}
 use Rattle.redo_open.proofs.opening.open_store.Goals as goal
@@ -40,17 +44,16 @@ returns-clause-ready g c = λ opened.
     (λ (read : Reading). IfOk c.open_recovered.result (IsOpenedReady g.L.Sectors.seen g.D.Sectors.seen read))
     c.in-Ok.ensures.read c.in-Ok.ensures.log.tells c.in-Ok.ensures.data_device.tells c.in-Ok-sync.ensures.step.ok c.open_recovered.ensures.step.ready
 
+pub open_recovered-requires-clause-found : goal.open_recovered-requires-clause-found
+open_recovered-requires-clause-found g c =
+    let recovered = c.in-Ok.recovered in
+    synced-holds (AreFoundOn recovered.shape recovered.places recovered.pages) _ _ _ c.in-Ok.ensures.found c.in-Ok.ensures.data_device.tells c.in-Ok-sync.ensures.step.ok
+
 pub returns-clause-cause : goal.returns-clause-cause
 returns-clause-cause g c =
-    opening-cause g.L.Sectors.seen g.D.Sectors.seen (reading_of c.in-Ok.recovered) (g.L.Sectors.seen c.args.log) (g.D.Sectors.seen c.args.data_device)
-    (g.L.Sectors.seen c.recover.new.log) (g.D.Sectors.seen c.recover.new.data_device) (g.D.Sectors.seen c.sync.new.self) c.open_recovered.result
-    (record {
-      reads = c.in-Ok.ensures.read;
-      data_same = c.in-Ok.ensures.data_device.tells;
-      is_synced = c.in-Ok-sync.ensures.step.ok;
-      log_later = c.in-Ok.ensures.log.later;
-      data_later = omega (arith, c.in-Ok.ensures.data_device.later, c.in-Ok-sync.ensures.step.cause.later);
-    })
+    opening-cause g.L.Sectors.seen g.D.Sectors.seen (g.L.Sectors.seen c.args.log) (g.D.Sectors.seen c.args.data_device)
+    (g.L.Sectors.seen c.recover.new.log) (g.D.Sectors.seen c.sync.new.self) c.open_recovered.result c.in-Ok.ensures.log.later
+    (omega (arith, c.in-Ok.ensures.data_device.later, c.in-Ok-sync.ensures.step.cause.later))
     c.open_recovered.ensures.step.fault c.open_recovered.ensures.step.log_failed c.open_recovered.ensures.step.data_failed
     (both-err g.L.Sectors.seen g.D.Sectors.seen (g.L.Sectors.seen c.recover.new.log) (g.D.Sectors.seen c.sync.new.self) c.open_recovered.result c.open_recovered.ensures.step.log c.open_recovered.ensures.step.data_device)
 
@@ -71,25 +74,34 @@ returns-in-Err-sync-clause-cause g c =
     (cause-since _ _ _ (Err c.in-Err-sync.error) c.in-Ok.ensures.data_device.later c.in-Err-sync.ensures.step.cause)
 
 pub returns-in-Err-clause-log_calls : goal.returns-in-Err-clause-log_calls
-returns-in-Err-clause-log_calls g c = opens_reads c.in-Err.ensures.log_calls
+returns-in-Err-clause-log_calls g c = log_refused c.in-Err.fault c.recover.new.log c.recover.new.data_device c.in-Err.ensures.log_calls
 
 pub returns-in-Err-clause-data_calls : goal.returns-in-Err-clause-data_calls
-returns-in-Err-clause-data_calls g c = reads_ends c.in-Err.ensures.data_calls
+returns-in-Err-clause-data_calls g c =
+    data_refused (g.D.Sectors.seen c.args.data_device).tells c.in-Err.fault c.recover.new.log c.recover.new.data_device c.in-Err.ensures.data_calls
 
 pub returns-in-Err-sync-clause-log_calls : goal.returns-in-Err-sync-clause-log_calls
-returns-in-Err-sync-clause-log_calls g c = opens_beside c.in-Err-sync.error c.data_fault.result c.data_fault.ensures (opens_reads c.in-Ok.ensures.log_calls)
+returns-in-Err-sync-clause-log_calls g c =
+    let own : IsPageFault c.data_fault.result = subst IsPageFault (sym c.data_fault.ensures) (device-own c.in-Err-sync.error) in
+    log_opened (Err (c.data_fault.result, c.recover.new.log, c.sync.new.self)) tt (places-cause c.data_fault.result own) c.in-Ok.ensures.log_calls
+    (beside_pages c.data_fault.result own (may_put (put_nothing g.L.Sectors.gives c.recover.new.log)))
 
 pub returns-in-Err-sync-clause-data_calls : goal.returns-in-Err-sync-clause-data_calls
 returns-in-Err-sync-clause-data_calls g c =
-    may_end_then (reads_ends c.in-Ok.ensures.data_calls)
-    (may_end (data_ends c.in-Err-sync.error c.data_fault.result c.data_fault.ensures (call_ends c.in-Err-sync.ensures.gives)))
+    let own : IsPageFault c.data_fault.result = subst IsPageFault (sym c.data_fault.ensures) (device-own c.in-Err-sync.error) in
+    data_opened _ _ (Err (c.data_fault.result, c.recover.new.log, c.sync.new.self)) tt (places-cause c.data_fault.result own)
+    c.in-Ok.ensures.of_devices.limits c.in-Ok.ensures.of_devices.its_places c.in-Ok.ensures.read c.in-Ok.ensures.found c.in-Ok.ensures.data_calls
+    (may_put (data_ends c.in-Err-sync.error c.data_fault.result c.data_fault.ensures (put_one tt c.in-Err-sync.ensures.gives)))
 
 pub returns-clause-log_calls : goal.returns-clause-log_calls
-returns-clause-log_calls g c = opens_then (opens_reads c.in-Ok.ensures.log_calls) c.open_recovered.ensures.log_calls
+returns-clause-log_calls g c =
+    log_opened c.open_recovered.result c.open_recovered.ensures.step.opened_as c.open_recovered.ensures.step.fault c.in-Ok.ensures.log_calls c.open_recovered.ensures.log_calls
 
 pub returns-clause-data_calls : goal.returns-clause-data_calls
 returns-clause-data_calls g c =
-    may_end_then (may_end_then (reads_ends c.in-Ok.ensures.data_calls) (may_end (call_ends c.in-Ok-sync.ensures.gives))) c.open_recovered.ensures.data_calls
+    data_opened _ _ c.open_recovered.result c.open_recovered.ensures.step.opened_as c.open_recovered.ensures.step.fault
+    c.in-Ok.ensures.of_devices.limits c.in-Ok.ensures.of_devices.its_places c.in-Ok.ensures.read c.in-Ok.ensures.found c.in-Ok.ensures.data_calls
+    (may_put_then (put_one tt c.in-Ok-sync.ensures.gives) c.open_recovered.ensures.data_calls)
 
 pub returns-clause-marks : goal.returns-clause-marks
 returns-clause-marks g c = marks_read c.open_recovered.result c.in-Ok.ensures.log_calls c.open_recovered.ensures.marks

@@ -1,0 +1,99 @@
+-- Pages that stand where they were found, while others are repaired.
+use Rattle.std.proofs.Common.{◌≡◌, ◌≢◌, ◌≤◌, ◌<◌, ◌+◌, ◌-◌, ◌*◌, ◌∙◌, ℕ, List, take, drop, Option, Some, None, sym, ap, subst, arith}
+use Rattle.std.specs.Prelude.{IfSome, MatchOption}
+use Rattle.std.specs.List.{slice_get}
+use Rattle.std.proofs.lemmas.List.{drop-take, take-take}
+use Rattle.std.proofs.lemmas.Option.{slice_get_within}
+use Rattle.model_base.specs.declared.shape.Shape.{Shape}
+use Rattle.model_datadev.proofs.Kept.{same-place_lsn}
+use Rattle.model_datadev.proofs.Repairs.{same-best}
+use Rattle.model_datadev.specs.{SameSlots}
+use Rattle.model_device.specs.Disk.{Disk}
+use Rattle.model_page.specs.{IsBestCopy, place_bytes, place_lsn, slot_bytes, stretch_at}
+use Rattle.model_page.specs.declared.content.Content.{Content}
+use Rattle.redo_open.specs.Mend.{AreMended, HaveSlots, IsSettledData, StandFrom}
+use Rattle.redo_recover.specs.{AreFoundOn, ArePlacesOf}
+use Rattle.redo_recover.specs.Pages.{HoldsSlots}
+use Rattle.redo_recover.specs.declared.places.Found.{Found}
+use Rattle.redo_recover.specs.declared.places.Places.{Places}
+use Rattle.redo_store.proofs.Repaired.{slot-part}
+use Rattle.redo_store.specs.{IsCopyToPut}
+
+-- AT FIRST.
+
+room : (slots n size : ℕ) → n < slots → n * size + size ≤ slots * size
+room slots n size below = grind arith
+
+slot-held : (shape : Shape) (slots image : List ℕ) (n : ℕ) → HoldsSlots shape slots image → n < shape.slots → slot_bytes shape n slots ≡ slot_bytes shape n image
+unfolding stretch_at
+slot-held shape slots image n is below =
+    let size = shape.page_size in
+    let all = shape.slots * size in
+    let inside : n * size + size ≤ all = room shape.slots n size below in
+    let rest : all ≡ n * size + (all - n * size) = omega (arith, inside) in
+    ap (λ bytes. take size (drop (n * size) bytes)) is
+    ∙ ap (λ k. take size (drop (n * size) (take k image))) rest
+    ∙ ap (take size) (drop-take (n * size) (all - n * size) image)
+    ∙ take-take size (all - n * size) (drop (n * size) image) (omega (arith, inside))
+
+pub stand-first : (shape : Shape) (places : Places) (pages : List Content) (disk : Disk) → AreFoundOn shape places pages disk.base → StandFrom shape places 0 disk
+stand-first shape places pages disk are = record {
+  slots = λ slot below. slot-held shape places.slots.items disk.base slot are.slots below;
+  each = λ p found from at. are.each p found at;
+}
+
+pub have-slots : (shape : Shape) (places : Places) (pages : List Content) → ArePlacesOf shape places pages → HaveSlots shape places
+have-slots shape places pages are = record { room = are.room; count = are.count; below = are.below }
+
+-- WHILE OTHERS ARE REPAIRED.
+
+still : (shape : Shape) (a b : List ℕ) (p lsn : ℕ) (slot : Option ℕ) → place_bytes shape p b ≡ place_bytes shape p a → SameSlots shape a b
+    → MatchOption slot (place_lsn shape a p ≡ Some lsn) (λ s. (place_lsn shape a p ≡ None) × IsBestCopy shape a p s lsn)
+    → MatchOption slot (place_lsn shape b p ≡ Some lsn) (λ s. (place_lsn shape b p ≡ None) × IsBestCopy shape b p s lsn)
+still shape a b p lsn None place slots is = same-place_lsn shape a b p place ∙ is
+still shape a b p lsn (Some slot) place slots is = (same-place_lsn shape a b p place ∙ is.0, same-best shape a b p slot lsn slots is.1)
+
+pub stand-behind : (shape : Shape) (places : Places) (count : ℕ) (a b : Disk) → HaveSlots shape places → StandFrom shape places 0 a → AreMended shape count a b
+    → StandFrom shape places count b
+stand-behind shape places count a b have stand mended = record {
+  slots = λ slot below. stand.slots slot below ∙ sym (mended.stays.slots slot below);
+  each = λ p found from at. (
+      let within = slice_get_within places.found.items p found at in
+      still shape a.base b.base p found.lsn found.slot (mended.others p (omega (arith, have.count)) from) mended.stays.slots (stand.each p found (omega arith) at));
+}
+
+-- THE PAGE THAT COMES NEXT.
+
+-- its place passes
+pub stands-in_place : (shape : Shape) (places : Places) (page : ℕ) (found : Found) (disk : Disk) → StandFrom shape places page disk
+    → slice_get places.found.items page ≡ Some found → found.slot ≡ None → place_lsn shape disk.base page ≢ None
+stands-in_place shape places page found disk stand at no_slot none =
+    let is = subst (λ (o : Option ℕ). MatchOption o (place_lsn shape disk.base page ≡ Some found.lsn)
+    (λ s. (place_lsn shape disk.base page ≡ None) × IsBestCopy shape disk.base page s found.lsn)) no_slot (stand.each page found (omega arith) at) in
+    let both : Some found.lsn ≡ None = sym is ∙ none in cc
+
+-- or this is the copy that is to be put there
+pub stands-in_slot : (shape : Shape) (places : Places) (page slot : ℕ) (found : Found) (disk : Disk) → shape.page_size ≡ 4096 → IsSettledData shape disk
+    → StandFrom shape places page disk → slice_get places.found.items page ≡ Some found → found.slot ≡ Some slot
+    → IsCopyToPut shape page (take (slot * 4096 + 4096 - slot * 4096) (drop (slot * 4096) places.slots.items)) disk
+stands-in_slot shape places page slot found disk size settled stand at in_slot =
+    let is = subst (λ (o : Option ℕ). MatchOption o (place_lsn shape disk.base page ≡ Some found.lsn)
+    (λ s. (place_lsn shape disk.base page ≡ None) × IsBestCopy shape disk.base page s found.lsn)) in_slot (stand.each page found (omega arith) at) in
+    let reads : disk.reads ≡ disk.base = ap (λ (d : Disk). d.reads) settled.nothing_pending in
+    record {
+      broken = ap (λ bytes. place_lsn shape bytes page) reads ∙ is.0;
+      slot = slot;
+      lsn = found.lsn;
+      best = subst (λ bytes. IsBestCopy shape bytes page slot found.lsn) (sym reads) is.1;
+      copy = slot-part shape slot places.slots.items size ∙ stand.slots slot is.1.below ∙ sym (ap (slot_bytes shape slot) reads);
+    }
+
+-- its slot is one of the store's
+pub slot-below : (shape : Shape) (places : Places) (page slot : ℕ) (found : Found) → HaveSlots shape places → slice_get places.found.items page ≡ Some found
+    → found.slot ≡ Some slot → slot < shape.slots
+slot-below shape places page slot found have at in_slot =
+    subst (λ (o : Option ℕ). IfSome o (λ s. s < shape.slots)) in_slot (have.below page found at)
+
+-- which stands within the slots
+pub slot-room : (slot slots size : ℕ) → slot < slots → size ≡ 4096 → slot * 4096 + 4096 ≤ slots * size
+slot-room slot slots size below is = subst (λ n. slot * 4096 + 4096 ≤ slots * n) (sym is) (omega arith)

@@ -1,0 +1,74 @@
+-- The calls that opening makes of the two devices.
+use Rattle.std.specs.Prelude.{ℕ, ◌≡◌, ◌≤◌, ◌<◌, ◌+◌, List, [], ◌∷◌, length, slice_get, Option, Some, Result, Err, IfOk, IfErr, IfSome}
+use Rattle.model_base.specs.declared.shape.Shape.{Shape}
+use Rattle.model_datadev.specs.{place_at, read_as}
+use Rattle.model_device.specs.Disk.{Disk}
+use Rattle.model_device.specs.declared.write.Write.{Write}
+use Rattle.model_log.specs.declared.layout.TheConstants.{HEADER_BYTES}
+use Rattle.model_logdev.specs.{next_number}
+use Rattle.model_page.specs.{IsInPlace}
+use Rattle.model_store.specs.{IsReading}
+use Rattle.model_store.specs.Reading.{Reading}
+use Rattle.redo_disk.specs.{AreReads, Call, MayEndWith, Reads, Syncs, Writes}
+use Rattle.redo_disk.specs.declared.error.DevError.{DevError}
+use Rattle.redo_open.specs.Needed.{IsWriteFor}
+use Rattle.redo_open.specs.Opening.{Answer, data_error_in, log_error_in}
+use Rattle.redo_pageactors.specs.declared.opened.Opened.{Opened}
+use Rattle.redo_recover.specs.{BeginWithHeader, IsStartIn, JudgesHeader, OnContents, ReadOnce, refusal_of}
+
+-- a store that is refused is refused behind reads alone
+abbrev pub RefusesUnwritten : {L D : Type 0} → Answer L D → List Call → Type 0
+RefusesUnwritten result calls = IfErr result (λ error. IfSome (refusal_of error.0) (λ _. AreReads calls))
+
+-- the header that was read is that of the opened store, whose number is the one next to that of the newest checkpoint there
+pub record IsOpenedBy {L D : Type 0} (header : List ℕ) (log_size data_size : ℕ) (store : Opened L D) : Type 0 where
+  pub number : ℕ
+  pub ckpt : ℕ
+  pub starts : IsStartIn header log_size data_size (record { shape = store.shape; number = number; ckpt = ckpt })
+  pub next : store.log.marks.number ≡ next_number number
+
+-- the first call read a header by which the store was opened
+abbrev pub OpensByHeader : {L D : Type 0} → ℕ → ℕ → Opened L D → List Call → Type 0
+OpensByHeader log_size data_size store [] = ⊥
+OpensByHeader log_size data_size store (Reads at before answer header ∷ calls) = IsOpenedBy header log_size data_size store
+OpensByHeader log_size data_size store (Writes write answer ∷ calls) = ⊥
+OpensByHeader log_size data_size store (Syncs answer ∷ calls) = ⊥
+
+-- The calls of a log device of this size, beside a data device of that size. All but the last answered Ok, and the last one
+-- answered this error, if any did; where memory ran out they may all have answered Ok. No byte is read twice. Where the
+-- device has room for a header, the first of them reads that, and what it says is what is answered by, also of devices that
+-- don't tell. Where the store is refused they are reads alone.
+pub record OpensLog {L D : Type 0} (log_size data_size : ℕ) (result : Answer L D) (calls : List Call) : Type 0 where
+  pub ends : MayEndWith (log_error_in result) calls
+  pub once : ReadOnce calls
+  pub header : HEADER_BYTES ≤ log_size → BeginWithHeader calls
+  pub judged : IfErr result (λ error. JudgesHeader log_size data_size (Err error.0) calls)
+  pub by_header : IfOk result (λ store. OpensByHeader log_size data_size store calls)
+  pub unwritten : RefusesUnwritten result calls
+
+-- what is written and the place of the page overlap
+pub record Overlaps (shape : Shape) (p : ℕ) (write : Write) : Type 0 where
+  pub begins : write.at < place_at shape p + shape.page_size
+  pub ends : place_at shape p < write.at + length write.bytes
+
+-- no call writes a byte of the place of a page that holds what the page is read as
+abbrev pub SparesHeld : Reading → List ℕ → List Call → Type 0
+SparesHeld reading data_bytes calls = (i p : ℕ) (write : Write) (answer : Result (Unit {0}) DevError)
+    → slice_get calls i ≡ Some (Writes write answer) → p < reading.shape.pages → Overlaps reading.shape p write
+    → IsInPlace reading.shape data_bytes p (read_as reading p) → ⊥
+
+-- each write of an opened store is of slots, or of one place
+abbrev pub WritesWithin : {L D : Type 0} → Opened L D → List Call → Type 0
+WritesWithin store calls = (i : ℕ) (write : Write) (answer : Result (Unit {0}) DevError)
+    → slice_get calls i ≡ Some (Writes write answer) → IsWriteFor store.shape (λ p. p < store.shape.pages) write
+
+-- The calls of a data device: they end so too, no byte is read twice, and where the store is refused they are reads alone.
+-- Each write is of slots or of one place, over any devices; where both tell, no byte is written of a place that holds its
+-- page already.
+pub record OpensData {L D : Type 0} (log_told data_told : Option Disk) (result : Answer L D) (calls : List Call) : Type 0 where
+  pub ends : MayEndWith (data_error_in result) calls
+  pub once : ReadOnce calls
+  pub unwritten : RefusesUnwritten result calls
+  pub within : IfOk result (λ store. WritesWithin store calls)
+  pub spares : OnContents log_told data_told (λ log_bytes data_bytes.
+      (reading : Reading) → IsReading log_bytes data_bytes reading → SparesHeld reading data_bytes calls)

@@ -1,0 +1,33 @@
+-- The calls of opening behind recovery: writes and syncs, and no reads.
+use Rattle.std.specs.Prelude.{List, Option}
+use Rattle.std.specs.List.{AllByRecursion}
+use Rattle.model_device.specs.declared.write.Write.{Write}
+use Rattle.redo_disk.specs.{Call, EndWith, MayEndWith, Reads, Syncs, Writes}
+use Rattle.redo_disk.specs.declared.error.DevError.{DevError}
+
+-- the call is such a write, or a sync
+abbrev pub IsPut : (Write → Type 0) → Call → Type 0
+IsPut IsSuch (Reads at before answer after) = ⊥
+IsPut IsSuch (Writes write answer) = IsSuch write
+IsPut IsSuch (Syncs answer) = Unit {0}
+
+-- none of the calls is a read, each write is such a one, and they end so
+pub record PutsWhere (IsSuch : Write → Type 0) (error : Option DevError) (calls : List Call) : Type 0 where
+  pub puts : AllByRecursion (IsPut IsSuch) calls
+  pub ends : EndWith error calls
+
+-- the same of code that may run out of memory by itself
+pub record MayPutWhere (IsSuch : Write → Type 0) (error : Option DevError) (calls : List Call) : Type 0 where
+  pub puts : AllByRecursion (IsPut IsSuch) calls
+  pub ends : MayEndWith error calls
+
+-- the write is any
+abbrev pub IsAnyWrite : Write → Type 0
+IsAnyWrite write = Unit {0}
+
+-- none of the calls is a read, and they end so
+abbrev pub PutsEndWith : Option DevError → List Call → Type 0
+PutsEndWith = PutsWhere IsAnyWrite
+
+abbrev pub PutsMayEndWith : Option DevError → List Call → Type 0
+PutsMayEndWith = MayPutWhere IsAnyWrite
