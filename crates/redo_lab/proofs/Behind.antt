@@ -1,6 +1,7 @@
 -- What the calls of the layers below leave of a device behind its fuse.
 use Rattle.std.proofs.Common.{ℕ, ◌≡◌, List, [], ◌∷◌, Option, Result, Ok, Err, ap, subst, ◌∙◌, ⊎_elim}
 use Rattle.std.specs.List.{AllByRecursion}
+use Rattle.model_device.specs.Disk.{Disk}
 use Rattle.redo_disk.specs.{AreReads, Call, EndWith, failures, MakesCalls, MayEndWith, Reads, ReadsMayEndWith, Syncs, Writes}
 use Rattle.redo_disk.specs.Seen.{Seen}
 use Rattle.redo_disk.specs.declared.error.DevError.{DevError}
@@ -9,8 +10,9 @@ use Rattle.redo_disk.proofs.Made.{weaker_calls}
 use Rattle.redo_memdisk.specs.{CallsThrough, fresh, fuse_of, inner_of}
 use Rattle.redo_memdisk.specs.declared.fused.Fused.{Fused}
 use Rattle.redo_open.specs.{FormatCalls}
-use Rattle.redo_recover.specs.{IsPieceRead, ReadsLog, ReadsPieces}
+use Rattle.redo_recover.specs.{IsPieceRead, ReadsLog, ReadsPages, ReadsPieces, data_error_of, log_error_of}
 use Rattle.redo_recover.specs.declared.fault.RecFault.{RecFault}
+use Rattle.redo_recover.specs.declared.recovered.Recovered.{Recovered}
 use Rattle.redo_recover.specs.declared.fault.RecFault.TheVariants.{SmallLog, NotFormatted, BadFormat, SmallData, NoCheckpoint, BadRecord, PageLost, PageAhead, LogDev, DataDev, NoMemory}
 use Rattle.redo_lab.specs.Call.{Guarded, IsKept, IsLeftAlone, guarded}
 use Rattle.redo_lab.specs.Stages.{IsUnarmed}
@@ -59,10 +61,15 @@ pieces-behind {error = error} inner fuse made = (
   kept-behind inner (weaker_calls (reads-of-pieces error) made),
 )
 
-pub log-behind : {D : Type 0} {seen : D → Seen} {gives : D → Call → D → Type 0} {device : D} {old new : Fused D} {log : Seen} {data_size : ℕ} {error : Option DevError}
-    → inner_of old ≡ device → fuse_of old ≡ fresh → MakesCalls (CallsThrough seen gives) old new (ReadsLog log data_size error)
-    → IsUnarmed (seen device) (failures error) (guarded seen new) × IsKept (seen device) (guarded seen new)
+pub log-behind : {D : Type 0} {seen : D → Seen} {gives : D → Call → D → Type 0} {device : D} {old new : Fused D} {log : Seen} {data_size : ℕ} {result : Result Recovered RecFault}
+    → inner_of old ≡ device → fuse_of old ≡ fresh → MakesCalls (CallsThrough seen gives) old new (ReadsLog log data_size result)
+    → IsUnarmed (seen device) (failures (log_error_of result)) (guarded seen new) × IsKept (seen device) (guarded seen new)
 log-behind inner fuse made = pieces-behind inner fuse (weaker_calls (λ calls log. log.reads) made)
+
+pub pages-behind : {D : Type 0} {seen : D → Seen} {gives : D → Call → D → Type 0} {device : D} {old new : Fused D} {log_told : Option Disk} {result : Result Recovered RecFault}
+    → inner_of old ≡ device → fuse_of old ≡ fresh → MakesCalls (CallsThrough seen gives) old new (ReadsPages log_told result)
+    → IsUnarmed (seen device) (failures (data_error_of result)) (guarded seen new) × IsKept (seen device) (guarded seen new)
+pages-behind inner fuse made = pieces-behind inner fuse (weaker_calls (λ calls pages. pages.reads) made)
 
 -- a device of which no call was made
 pub alone-behind : {D : Type 0} (seen : D → Seen) (device : D) (old new : Fused D) → inner_of old ≡ device → fuse_of old ≡ fresh → new ≡ old

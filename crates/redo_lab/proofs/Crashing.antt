@@ -17,7 +17,8 @@ use Rattle.redo_memdisk.specs.declared.fuse.Fuse.{Fuse}
 use Rattle.redo_memdisk.specs.declared.fuse.Stage.{Stage}
 use Rattle.redo_memdisk.specs.declared.fuse.Stage.TheVariants.{Before, Stopping, Crashed}
 use Rattle.redo_memdisk.specs.declared.fused.Fused.{Fused}
-use Rattle.redo_recover.specs.{data_error, HasCauseIn, HasLengthCause, log_error, OnContents, ReadsLog, ReadsPieces}
+use Rattle.redo_recover.specs.{data_error, data_error_of, HasCauseIn, HasLengthCause, log_error, log_error_of, OnContents, ReadsLog, ReadsPages}
+use Rattle.redo_recover.specs.declared.recovered.Recovered.{Recovered}
 use Rattle.redo_recover.specs.declared.fault.RecFault.{RecFault}
 use Rattle.redo_recover.specs.declared.fault.RecFault.TheVariants.{SmallLog, NotFormatted, BadFormat, SmallData, NoCheckpoint, BadRecord, PageLost, PageAhead, LogDev, DataDev, NoMemory}
 use Rattle.redo_lab.specs.Call.{Guarded, guarded}
@@ -57,15 +58,15 @@ crashed-since {seen = seen} {gives = gives} {crash_gives = crash_gives} {pick = 
     }
 
 -- the same of recovery's reads
-pub log-crashed : {D : Type 0} {seen : D → Seen} {gives : D → Call → D → Type 0} {crash_gives : D → ℕ → D → Type 0} {pick : ℕ} {old met new : Fused D} {log : Seen} {data_size : ℕ} {error : Option DevError}
-    → CrashesThrough seen crash_gives old pick met → MakesCalls (CallsThrough seen gives) met new (ReadsLog log data_size error)
-    → IsCrashedSince pick (failures error) (guarded seen old) (guarded seen new)
-log-crashed {error = error} crash made = crashed-since crash (weaker_calls (λ calls log. reads-of-pieces error calls log.reads) made)
+pub log-crashed : {D : Type 0} {seen : D → Seen} {gives : D → Call → D → Type 0} {crash_gives : D → ℕ → D → Type 0} {pick : ℕ} {old met new : Fused D} {log : Seen} {data_size : ℕ} {result : Result Recovered RecFault}
+    → CrashesThrough seen crash_gives old pick met → MakesCalls (CallsThrough seen gives) met new (ReadsLog log data_size result)
+    → IsCrashedSince pick (failures (log_error_of result)) (guarded seen old) (guarded seen new)
+log-crashed {result = result} crash made = crashed-since crash (weaker_calls (λ calls log. reads-of-pieces (log_error_of result) calls log.reads) made)
 
-pub data-crashed : {D : Type 0} {seen : D → Seen} {gives : D → Call → D → Type 0} {crash_gives : D → ℕ → D → Type 0} {pick : ℕ} {old met new : Fused D} {error : Option DevError}
-    → CrashesThrough seen crash_gives old pick met → MakesCalls (CallsThrough seen gives) met new (ReadsPieces error)
-    → IsCrashedSince pick (failures error) (guarded seen old) (guarded seen new)
-data-crashed {error = error} crash made = crashed-since crash (weaker_calls (reads-of-pieces error) made)
+pub data-crashed : {D : Type 0} {seen : D → Seen} {gives : D → Call → D → Type 0} {crash_gives : D → ℕ → D → Type 0} {pick : ℕ} {old met new : Fused D} {log_told : Option Disk} {result : Result Recovered RecFault}
+    → CrashesThrough seen crash_gives old pick met → MakesCalls (CallsThrough seen gives) met new (ReadsPages log_told result)
+    → IsCrashedSince pick (failures (data_error_of result)) (guarded seen old) (guarded seen new)
+data-crashed {result = result} crash made = crashed-since crash (weaker_calls (λ calls pages. reads-of-pieces (data_error_of result) calls pages.reads) made)
 
 -- the device tells what the reads behind the crash met, and has its size
 pub record IsAsMet (met now : Seen) : Type 0 where

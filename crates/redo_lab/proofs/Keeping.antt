@@ -39,7 +39,7 @@ openable-fresh log data_disk log_faults data_faults opened log_fresh data_fresh 
   orderly = opens.orderly;
 }
 
-same-told : (old new : Option Disk) (before now : Disk) → new ≡ old → old ≡ Some before → new ≡ Some now → before ≡ now
+pub same-told : (old new : Option Disk) (before now : Disk) → new ≡ old → old ≡ Some before → new ≡ Some now → before ≡ now
 same-told old new before now same before_is now_is = cc
 
 pub keeps-store : (call : Call) → OpenableLaw → AreKept call → KeepsStore call

@@ -18,6 +18,7 @@ pub mod LinesRun
 pub mod Once
 pub mod OpenedFirst
 pub mod OpenedRun
+pub mod OpenedTurns
 pub mod PlainEnds
 pub mod Preparing
 pub mod Printed

@@ -25,27 +25,26 @@ use Rattle.redo_disk.specs.declared.error.DevError.{DevError}
 use Rattle.redo_disk.specs.declared.error.DevError.TheVariants as device
 use Rattle.redo_memdisk.specs.{CallsThrough, seen_through}
 use Rattle.redo_memdisk.specs.declared.fused.Fused.{Fused}
-use Rattle.redo_open.specs.{IsOpenedReady, IsOpeningOf, OpensLog, WhereBothTell}
+use Rattle.redo_open.specs.{IsOpenedReady, IsOpeningOf, WhereBothTell}
 use Rattle.redo_open.specs.Opening.{MarksStart}
 use Rattle.redo_pageactors.specs.{IsRunnable}
 use Rattle.redo_pageactors.specs.declared.opened.Opened.{Opened}
 use Rattle.redo_recover.specs.{OnContents}
 use Rattle.redo_lab.specs.Call.{Guarded, guarded}
 use Rattle.redo_machine.specs.{room_from}
-use Rattle.redo_machine.specs.declared.drive.Driven.{Driven}
 use Rattle.redo_machine.specs.declared.drive.Turns.{Turns}
 use Rattle.redo_lab.specs.Course.{AreMisfitted, ArePlayed, ArePlayedThrough, AreSpent, ClosesRun, ComesTo, ran_of}
 use Rattle.redo_lab.specs.Playing.{AreArmed, AreRun, AreSpentOn, OwesRun, Plays}
 use Rattle.redo_lab.specs.Prepared.{ArePrepared, WhereTold}
 use Rattle.redo_lab.specs.Store.{IsOpenedAs}
-use Rattle.redo_lab.specs.Turned.{AreCountedFailures, ComesByTurnsTo, IsDrivenTo, IsOpenedOn, MakePartCalls, opened_at}
+use Rattle.redo_lab.specs.Turned.{opened_at}
 use Rattle.redo_lab.specs.declared.playing.Course.{Course}
 use Rattle.redo_lab.specs.declared.playing.Course.TheVariants as course
 use Rattle.redo_lab.specs.declared.playing.Played.{Played}
 use Rattle.redo_lab.specs.declared.playing.Stops.{Stops}
 use Rattle.redo_lab.proofs.Told.{both-told, on-contents}
 use Rattle.redo_lab.proofs.Telling.{calls-go_on}
-use Rattle.redo_lab.proofs.UnderWay.{AreCounted, ReadingLaws, counted-more, counted-opening, formatted-read, goes-on, keeps-found, same-both, told-some, way-of}
+use Rattle.redo_lab.proofs.UnderWay.{AreCounted, counted-more, counted-opening, formatted-read, goes-on, HeaderFirst, keeps-found, ReadingLaws, same-both, told-some, way-of}
 
 -- what was read of these bytes is that
 pub record IsReadOff {L D : Type 0} (store : Opened L D) (end : ℕ) (log_bytes data_bytes : List ℕ) : Type 0 where
@@ -128,7 +127,7 @@ pub record IsOpened {L D : Type 0} (log_seen : L → Seen) (log_gives : L → Ca
       IsOpenable reading log_disk data_disk → IsOpenedReady (seen_through log_seen) (seen_through data_seen) reading store)
   pub read : OnContents (log_seen log.inner).tells (data_seen data_device.inner).tells (λ log_bytes data_bytes. IsOpeningOf log_bytes data_bytes store)
   pub runnable : IsRunnable store
-  pub log_calls : MakesCalls (CallsThrough log_seen log_gives) log store.log.dev (OpensLog (log_seen log.inner).size None)
+  pub log_calls : MakesCalls (CallsThrough log_seen log_gives) log store.log.dev (HeaderFirst (log_seen log.inner).size None)
   pub data_calls : MakesCalls (CallsThrough data_seen data_gives) data_device store.store.dev (MayEndWith None)
   pub marks : MarksStart (CallsThrough log_seen log_gives) log store
 
@@ -184,14 +183,14 @@ pub record IsOpenedUnderWay {L D : Type 0} (log_seen : L → Seen) (log_gives : 
   pub armed : AreArmed log_entry data_entry stops log_found data_found (guarded log_seen log) (guarded data_seen data_device)
   pub opened : IsOpened log_seen log_gives data_seen data_gives log data_device store
 
-counted-opened : {L D : Type 0} {log_seen : L → Seen} {log_gives : L → Call → L → Type 0} {data_seen : D → Seen} {data_gives : D → Call → D → Type 0}
+pub counted-opened : {L D : Type 0} {log_seen : L → Seen} {log_gives : L → Call → L → Type 0} {data_seen : D → Seen} {data_gives : D → Call → D → Type 0}
     {log_entry data_entry : Seen} {stops : Stops} {log_found data_found : Guarded} {log : Fused L} {data_device : Fused D} {store : Opened (Fused L) (Fused D)}
     → IsOpenedUnderWay log_seen log_gives data_seen data_gives log_entry data_entry stops log_found data_found log data_device store
     → AreCounted log_entry data_entry stops log_found data_found 0 0 (guarded log_seen store.log.dev) (guarded data_seen store.store.dev)
 counted-opened is = counted-opening is.armed is.opened.log_calls is.opened.data_calls
 
 -- what was opened, as the two devices were found
-read-found : {L D : Type 0} {log_seen : L → Seen} {log_gives : L → Call → L → Type 0} {data_seen : D → Seen} {data_gives : D → Call → D → Type 0}
+pub read-found : {L D : Type 0} {log_seen : L → Seen} {log_gives : L → Call → L → Type 0} {data_seen : D → Seen} {data_gives : D → Call → D → Type 0}
     {log_entry data_entry : Seen} {stops : Stops} {log_found data_found : Guarded} {log : Fused L} {data_device : Fused D} {store : Opened (Fused L) (Fused D)}
     → IsOpenedUnderWay log_seen log_gives data_seen data_gives log_entry data_entry stops log_found data_found log data_device store
     → OnContents log_found.seen.tells data_found.seen.tells (λ log_bytes data_bytes. IsOpeningOf log_bytes data_bytes store)
@@ -200,7 +199,7 @@ read-found {log_seen = log_seen} {data_seen = data_seen} {log_found = log_found}
     (log_seen log.inner).tells (data_seen data_device.inner).tells
     (ap (λ (seen : Seen). seen.tells) is.armed.log_same) (ap (λ (seen : Seen). seen.tells) is.armed.data_same) is.opened.read
 
-end-found : {L D : Type 0} {log_seen : L → Seen} {log_gives : L → Call → L → Type 0} {data_seen : D → Seen} {data_gives : D → Call → D → Type 0}
+pub end-found : {L D : Type 0} {log_seen : L → Seen} {log_gives : L → Call → L → Type 0} {data_seen : D → Seen} {data_gives : D → Call → D → Type 0}
     {log_entry data_entry : Seen} {stops : Stops} {log_found data_found : Guarded} {log : Fused L} {data_device : Fused D} {store : Opened (Fused L) (Fused D)}
     → IsOpenedUnderWay log_seen log_gives data_seen data_gives log_entry data_entry stops log_found data_found log data_device store
     → HasEnd log_found.seen.tells data_found.seen.tells store
@@ -335,61 +334,3 @@ opened-comes turns script (course.Played played (Some fault.Sink)) log_now data_
 opened-comes turns script (course.Played played (Some (fault.Store cause))) log_now data_now is plays = absurd plays
 opened-comes turns script (course.Played played (Some (fault.Fit misfit))) log_now data_now is plays = absurd plays
 opened-comes turns script (course.Played played (Some (fault.Turns count user))) log_now data_now is plays = absurd plays
-
--- BY TURNS
-opened-on : {L D : Type 0} {log_seen : L → Seen} {log_gives : L → Call → L → Type 0} {data_seen : D → Seen} {data_gives : D → Call → D → Type 0}
-    {log_entry data_entry : Seen} {stops : Stops} {log_found data_found : Guarded} {log : Fused L} {data_device : Fused D} {store : Opened (Fused L) (Fused D)}
-    → IsOpenedUnderWay log_seen log_gives data_seen data_gives log_entry data_entry stops log_found data_found log data_device store
-    → IsOpenedOn log_seen log_gives data_seen log_entry data_entry stops store
-opened-on {log_seen = log_seen} {data_seen = data_seen} {log_entry = log_entry} {data_entry = data_entry} {log_found = log_found} {data_found = data_found} {log = log} {data_device = data_device} {store = store} is =
-    let ends : HasEnd log_found.seen.tells data_found.seen.tells store = end-found is in
-    record {
-      way = way-of log_found data_found is.armed.prepared (counted-opened is);
-      log_armed = log;
-      armed = is.armed.log_device;
-      marks = is.opened.marks;
-      read = read-found is;
-      end = ends.end;
-      start = ends.start;
-      opens = opens-as is.laws log_entry data_entry log_found data_found store ends.end is.armed.prepared ends.read;
-      ready = λ reading. same-both (λ log_disk data_disk. IsOpenable reading log_disk data_disk → IsOpenedReady (seen_through log_seen) (seen_through data_seen) reading store)
-          log_found.seen.tells data_found.seen.tells (log_seen log.inner).tells (data_seen data_device.inner).tells
-          (ap (λ (seen : Seen). seen.tells) is.armed.log_same) (ap (λ (seen : Seen). seen.tells) is.armed.data_same) (is.opened.ready reading);
-    }
-
--- the calls of the parts, as the fuses counted them
-counted-failures : {L D : Type 0} {log_seen : L → Seen} {log_gives : L → Call → L → Type 0} {data_seen : D → Seen} {data_gives : D → Call → D → Type 0}
-    {log_entry data_entry : Seen} {stops : Stops} {log_found data_found : Guarded} {log : Fused L} {data_device : Fused D} {store : Opened (Fused L) (Fused D)}
-    (driven : Driven (Fused L) (Fused D)) (log_now : Fused L) (data_now : Fused D)
-    → IsOpenedUnderWay log_seen log_gives data_seen data_gives log_entry data_entry stops log_found data_found log data_device store
-    → MakePartCalls (CallsThrough log_seen log_gives) (CallsThrough data_seen data_gives) store driven log_now data_now
-    → AreCountedFailures driven log_now data_now
-counted-failures driven log_now data_now is calls =
-    let counted = counted-more (counted-opened is) calls.log calls.data_part in
-    record { log_device = counted.log_device.mid; data_device = counted.data_device.mid }
-
-pub driven-comes : {L D : Type 0} {log_seen : L → Seen} {log_gives : L → Call → L → Type 0} {data_seen : D → Seen} {data_gives : D → Call → D → Type 0}
-    {log_entry data_entry : Seen} {stops : Stops} {log_found data_found : Guarded} {log : Fused L} {data_device : Fused D} {store : Opened (Fused L) (Fused D)}
-    (turns : Turns) (script : List ScriptLine) (c : Course) (log_now : Fused L) (data_now : Fused D)
-    → IsOpenedUnderWay log_seen log_gives data_seen data_gives log_entry data_entry stops log_found data_found log data_device store
-    → IsDrivenTo (seen_through log_seen) (CallsThrough log_seen log_gives) (seen_through data_seen) (CallsThrough data_seen data_gives) store turns script c log_now data_now
-    → ComesByTurnsTo log_seen log_gives data_seen log_entry data_entry stops turns script c log_now data_now
-driven-comes {store = store} turns script (course.Played played f) log_now data_now is driven = record {
-  opened = store;
-  is_opened = opened-on is;
-  done = driven.0;
-  counted = counted-failures driven.0.is_driven.driven log_now data_now is driven.1;
-}
-driven-comes {store = store} turns script (course.Ended (fault.Turns count user)) log_now data_now is driven = record {
-  opened = store;
-  is_opened = opened-on is;
-  spent = driven.0;
-  counted = counted-failures driven.0.is_driven.driven log_now data_now is driven.1;
-}
-driven-comes {store = store} turns script (course.Ended (fault.Fit misfit)) log_now data_now is driven = record {
-  opened = store;
-  is_opened = opened-on is;
-  unfit = driven;
-}
-driven-comes turns script (course.Ended f) log_now data_now is driven = tt
-driven-comes turns script (course.Stopped f) log_now data_now is driven = tt

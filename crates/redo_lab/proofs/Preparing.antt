@@ -30,7 +30,7 @@ use Rattle.redo_lab.specs.Prepared.{ArePrepared, AreTooShort, BothBegun, BothKep
 use Rattle.redo_lab.specs.Stages.{IsUnarmed}
 use Rattle.redo_lab.specs.Store.{IsTooShort}
 use Rattle.redo_lab.proofs.Behind.{kept-behind, unarmed-behind}
-use Rattle.redo_lab.proofs.Formatting.{IsFormatFault}
+use Rattle.redo_lab.proofs.Formatting.{FormatKeeps, IsFormatFault}
 use Rattle.redo_lab.proofs.Stages.{unarmed-calls, unarmed-fresh}
 use Rattle.redo_lab.proofs.Told.{both-told}
 
@@ -187,15 +187,10 @@ unformatted-short {L = L} {D = D} log_seen data_seen log_entry data_entry log lo
       short = inr (header, same-short cause _ _ _ _ first.log_device.same.size first.data_device.same.size short, was-unused log_entry data_entry unused);
     }))
 
--- formatting keeps no store but the new one
-abbrev pub FormatKeeps : {L D : Type 0} → (L → Seen) → (D → Seen) → (log log_new : Fused L) → (store data_new : Fused D) → Type 0
-FormatKeeps log_seen data_seen log log_new store data_new =
-    WhereBothTell (log_seen log.inner).tells (data_seen store.inner).tells (λ log_before data_before.
-    WhereBothTell (log_seen log_new.inner).tells (data_seen data_new.inner).tells (KeepsNoStore default_shape log_before data_before))
-
 both-begun : {L D : Type 0} {log_seen : L → Seen} {data_seen : D → Seen} {log_entry data_entry : Seen} {log : Fused L} {store : Fused D} (log_new : Fused L) (data_new : Fused D)
     → IsReadFirst log_seen data_seen log_entry data_entry 0 log store → IfSome log_entry.tells (λ disk. IsTrue true ↔ IsUnused disk.reads)
-    → FormatKeeps log_seen data_seen log log_new store data_new → BothBegun log_entry data_entry (guarded log_seen log_new) (guarded data_seen data_new)
+    → FormatKeeps default_shape (log_seen log.inner) (data_seen store.inner) (log_seen log_new.inner) (data_seen data_new.inner)
+    → BothBegun log_entry data_entry (guarded log_seen log_new) (guarded data_seen data_new)
 both-begun {log_seen = log_seen} {data_seen = data_seen} {log_entry = log_entry} {data_entry = data_entry} {log = log} {store = store} log_new data_new first unused keeps = record {
   unused = was-unused log_entry data_entry unused;
   no_store = λ log_disk data_disk log_is data_is.
@@ -210,7 +205,8 @@ pub unprepared-formatted : {L D : Type 0} {log_seen : L → Seen} {data_seen : D
     → HEADER_BYTES ≤ log_entry.size → IsReadFirst log_seen data_seen log_entry data_entry 0 log store
     → IfSome log_entry.tells (λ disk. IsTrue true ↔ IsUnused disk.reads) → IfSome log_entry.tells (HasSize log_entry.size)
     → FormatCalls (CallsThrough log_seen log_gives) (CallsThrough data_seen data_gives) log log_new store data_new (Err f)
-    → IsFormatFault default_shape (log_seen log.inner).size (data_seen store.inner).size f → FormatKeeps log_seen data_seen log log_new store data_new
+    → IsFormatFault default_shape (log_seen log.inner).size (data_seen store.inner).size f
+    → FormatKeeps default_shape (log_seen log.inner) (data_seen store.inner) (log_seen log_new.inner) (data_seen data_new.inner)
     → IsUnpreparedBy log_entry data_entry f (guarded log_seen log_new) (guarded data_seen data_new)
 unprepared-formatted {log_seen = log_seen} {data_seen = data_seen} log_gives data_gives log_new data_new (SmallLog n) header first unused sized calls short keeps =
     unformatted-short log_seen data_seen _ _ _ _ _ _ (refusal.SmallLog n) header first unused sized calls short

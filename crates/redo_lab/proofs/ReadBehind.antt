@@ -1,5 +1,6 @@
 -- Two devices that are read behind a run.
 use Rattle.std.proofs.Common.{ℕ, ◌≡◌, List, Option, Result, Ok, Err, IfOk}
+use Rattle.model_device.specs.Disk.{Disk}
 use Rattle.model_store.specs.{IsReading}
 use Rattle.model_store.specs.Reading.{Reading}
 use Rattle.model_theorem.specs.{Ran}
@@ -10,7 +11,8 @@ use Rattle.redo_disk.proofs.Made.{weaker_calls}
 use Rattle.redo_memdisk.specs.{CallsThrough}
 use Rattle.redo_memdisk.specs.declared.fused.Fused.{Fused}
 use Rattle.redo_memdisk.proofs.Behind.{counts-calls}
-use Rattle.redo_recover.specs.{data_error, HasCauseIn, HasLengthCause, log_error, OnContents, ReadsLog, ReadsPieces}
+use Rattle.redo_recover.specs.{data_error, data_error_of, HasCauseIn, HasLengthCause, log_error, log_error_of, OnContents, ReadsLog, ReadsPages}
+use Rattle.redo_recover.specs.declared.recovered.Recovered.{Recovered}
 use Rattle.redo_recover.specs.declared.fault.RecFault.{RecFault}
 use Rattle.redo_lab.specs.Behind.{AreReadSince, IsReadSince, ReadsBehind}
 use Rattle.redo_lab.specs.Call.{Guarded, guarded}
@@ -35,13 +37,13 @@ read-since {seen = seen} {gives = gives} {old = old} {new = new} made =
     }
 
 -- by recovery
-pub log-read : {D : Type 0} {seen : D → Seen} {gives : D → Call → D → Type 0} {old new : Fused D} {log : Seen} {data_size : ℕ} {error : Option DevError}
-    → MakesCalls (CallsThrough seen gives) old new (ReadsLog log data_size error) → IsReadSince (failures error) (guarded seen old) (guarded seen new)
-log-read {error = error} made = read-since (weaker_calls (λ calls log. reads-of-pieces error calls log.reads) made)
+pub log-read : {D : Type 0} {seen : D → Seen} {gives : D → Call → D → Type 0} {old new : Fused D} {log : Seen} {data_size : ℕ} {result : Result Recovered RecFault}
+    → MakesCalls (CallsThrough seen gives) old new (ReadsLog log data_size result) → IsReadSince (failures (log_error_of result)) (guarded seen old) (guarded seen new)
+log-read {result = result} made = read-since (weaker_calls (λ calls log. reads-of-pieces (log_error_of result) calls log.reads) made)
 
-pub data-read : {D : Type 0} {seen : D → Seen} {gives : D → Call → D → Type 0} {old new : Fused D} {error : Option DevError}
-    → MakesCalls (CallsThrough seen gives) old new (ReadsPieces error) → IsReadSince (failures error) (guarded seen old) (guarded seen new)
-data-read {error = error} made = read-since (weaker_calls (reads-of-pieces error) made)
+pub data-read : {D : Type 0} {seen : D → Seen} {gives : D → Call → D → Type 0} {old new : Fused D} {log_told : Option Disk} {result : Result Recovered RecFault}
+    → MakesCalls (CallsThrough seen gives) old new (ReadsPages log_told result) → IsReadSince (failures (data_error_of result)) (guarded seen old) (guarded seen new)
+data-read {result = result} made = read-since (weaker_calls (λ calls pages. reads-of-pieces (data_error_of result) calls pages.reads) made)
 
 -- THE STORE WAS READ.
 pub behind-read : {E : Type 0} (run : Ran) (reading : Reading) (log_old data_old log_now data_now : Guarded) (log_met data_met : Seen) (r : Result (List ℕ) E)

@@ -24,10 +24,11 @@ use Rattle.redo_recover.specs.declared.fault.RecFault.TheVariants.{SmallLog, Not
 use Rattle.redo_recover.specs.declared.fault.RecFault.TheVariants as rec
 use Rattle.redo_script.specs.declared.unfit.Unfit.{Unfit}
 use Rattle.redo_script.specs.declared.unfit.Unfit.TheVariants as unfit
+use Rattle.redo_lab.specs.Answer.{shape_of}
 use Rattle.redo_lab.specs.Asked.{command_of, drive_of_seed, reads_script}
 use Rattle.redo_lab.specs.Behind.{ReadsBehind}
 use Rattle.redo_lab.specs.Call as lab
-use Rattle.redo_lab.specs.Call.{IsLeftAlone, guarded}
+use Rattle.redo_lab.specs.Call.{AreLeftAlone, IsLeftAlone, guarded}
 use Rattle.redo_lab.specs.Course.{ran_of}
 use Rattle.redo_lab.specs.Crashed.{ReadsBack}
 use Rattle.redo_lab.specs.Faults.{fault_of}
@@ -43,7 +44,9 @@ use Rattle.redo_lab.specs.declared.playing.Course.{Course}
 use Rattle.redo_lab.specs.declared.playing.Course.TheVariants as course
 use Rattle.redo_lab.specs.declared.playing.Played.{Played}
 use Rattle.redo_lab.specs.declared.playing.Stops.{Stops}
+use Rattle.redo_lab.proofs.Behind.{alone-behind}
 use Rattle.redo_lab.proofs.Called.{Printed, lab_of}
+use Rattle.redo_lab.proofs.Formatting.{alone-no-store}
 use Rattle.redo_lab.proofs.LinesRun.{none-lacks, some-failed}
 
 -- ON AN OPENED STORE
@@ -105,8 +108,8 @@ unfit-undriven log_seen log_gives data_seen data_gives opened turns script (unfi
 unfit-undriven log_seen log_gives data_seen data_gives opened turns script unfit.NoMemory log_now data_now plays = tt
 
 -- ON THE TWO DEVICES: none was begun on a store that wasn't opened, or whose devices weren't prepared
-module _ {L D : Type 0} (log_seen : L → Seen) (log_gives : L → Call → L → Type 0) (data_seen : D → Seen) (log_entry data_entry : Seen) (stops : Stops) (turns : Turns) (script : List ScriptLine) (log_now : Fused L) (data_now : Fused D) where
-  pub unopened-comes-not : (f : RecFault) → ComesByTurnsTo log_seen log_gives data_seen log_entry data_entry stops turns script (unopened f) log_now data_now
+module _ {L D : Type 0} (log_seen : L → Seen) (log_gives : L → Call → L → Type 0) (data_seen : D → Seen) (data_gives : D → Call → D → Type 0) (log_entry data_entry : Seen) (stops : Stops) (turns : Turns) (script : List ScriptLine) (log_now : Fused L) (data_now : Fused D) where
+  pub unopened-comes-not : (f : RecFault) → ComesByTurnsTo log_seen log_gives data_seen data_gives log_entry data_entry stops turns script (unopened f) log_now data_now
   unopened-comes-not (SmallLog n) = tt
   unopened-comes-not NotFormatted = tt
   unopened-comes-not (BadFormat n) = tt
@@ -119,7 +122,7 @@ module _ {L D : Type 0} (log_seen : L → Seen) (log_gives : L → Call → L �
   unopened-comes-not DataDev = tt
   unopened-comes-not rec.NoMemory = tt
 
-  pub unprepared-comes-not : (f : RecFault) → ComesByTurnsTo log_seen log_gives data_seen log_entry data_entry stops turns script (course.Ended (fault_of f)) log_now data_now
+  pub unprepared-comes-not : (f : RecFault) → ComesByTurnsTo log_seen log_gives data_seen data_gives log_entry data_entry stops turns script (course.Ended (fault_of f)) log_now data_now
   unprepared-comes-not (SmallLog n) = tt
   unprepared-comes-not NotFormatted = tt
   unprepared-comes-not (BadFormat n) = tt
@@ -142,14 +145,14 @@ abbrev is-unspent : Fault → Type 0
 is-unspent (fault.Turns count user) = ⊥
 is-unspent f = Unit {0}
 
-module _ {L D : Type 0} (log_seen : L → Seen) (log_gives : L → Call → L → Type 0) (data_seen : D → Seen) (handed : Handed) where
-  abbrev runs-handed : (played : Played) (f : Option Fault) (log_then : Fused L) (data_then : Fused D) → ComesAsHanded log_seen log_gives data_seen handed (course.Played played f) log_then data_then
-      → RunsAsHanded log_seen log_gives data_seen handed f log_then data_then
+module _ {L D : Type 0} (log_seen : L → Seen) (log_gives : L → Call → L → Type 0) (data_seen : D → Seen) (data_gives : D → Call → D → Type 0) (handed : Handed) where
+  abbrev runs-handed : (played : Played) (f : Option Fault) (log_then : Fused L) (data_then : Fused D) → ComesAsHanded log_seen log_gives data_seen data_gives handed (course.Played played f) log_then data_then
+      → RunsAsHanded log_seen log_gives data_seen data_gives handed f log_then data_then
   runs-handed played f log_then data_then comes = record { script = comes.script; is_script = comes.is_script; played = played; comes = comes.by_turns }
 
   -- a run that came so far
-  told-met : (so_far : Course) (f : Fault) (log_then log_now : Fused L) (data_then data_now : Fused D) → is-unspent f → ComesAsHanded log_seen log_gives data_seen handed so_far log_then data_then
-      → FailsSince log_seen data_seen log_then log_now data_then data_now handed.command so_far f → TellsFault log_seen log_gives data_seen handed f log_now data_now
+  told-met : (so_far : Course) (f : Fault) (log_then log_now : Fused L) (data_then data_now : Fused D) → is-unspent f → ComesAsHanded log_seen log_gives data_seen data_gives handed so_far log_then data_then
+      → FailsSince log_seen data_seen log_then log_now data_then data_now handed.command so_far f → TellsFault log_seen log_gives data_seen data_gives handed f log_now data_now
   told-met so_far (fault.Turns count user) log_then log_now data_then data_now unspent comes fails = absurd unspent
   told-met so_far fault.LogDevice log_then log_now data_then data_now unspent comes fails =
       record { so_far = so_far; log_then = log_then; data_then = data_then; comes = comes; fails = fails }
@@ -162,15 +165,15 @@ module _ {L D : Type 0} (log_seen : L → Seen) (log_gives : L → Call → L �
   told-met so_far f log_then log_now data_then data_now unspent comes fails = tt
 
   -- one that ended before its first line, or whose turns were spent
-  ended-told : (f : Fault) (log_now : Fused L) (data_now : Fused D) → ComesAsHanded log_seen log_gives data_seen handed (course.Ended f) log_now data_now
-      → TellsFault log_seen log_gives data_seen handed f log_now data_now
+  ended-told : (f : Fault) (log_now : Fused L) (data_now : Fused D) → ComesAsHanded log_seen log_gives data_seen data_gives handed (course.Ended f) log_now data_now
+      → TellsFault log_seen log_gives data_seen data_gives handed f log_now data_now
   ended-told (fault.Turns count user) log_now data_now comes = record { script = comes.script; is_script = comes.is_script; comes = comes.by_turns }
   ended-told f log_now data_now comes = told-met (course.Ended f) f log_now log_now data_now data_now tt comes (there f log_now data_now)
 
   -- no script was read for it, and no device was called
   unscripted-told : (f : Fault) (log_now : Fused L) (data_now : Fused D) → reads_script handed.command ≡ true → IsScriptFault handed.source handed.source_now f
       → IsLeftAlone handed.log_entry (guarded log_seen log_now) → IsLeftAlone handed.data_entry (guarded data_seen data_now)
-      → TellsFault log_seen log_gives data_seen handed f log_now data_now
+      → TellsFault log_seen log_gives data_seen data_gives handed f log_now data_now
   unscripted-told fault.Memory log_now data_now reads cause log_alone data_alone = tt
   unscripted-told fault.Source log_now data_now reads cause log_alone data_alone = tt
   unscripted-told (fault.Script n) log_now data_now reads cause log_alone data_alone = tt
@@ -178,15 +181,15 @@ module _ {L D : Type 0} (log_seen : L → Seen) (log_gives : L → Call → L �
       inl (record { reads = reads; long = cause; log_device = log_alone; data_device = data_alone })
   unscripted-told f log_now data_now reads cause log_alone data_alone = absurd cause
 
-module _ {L D : Type 0} (log_seen : L → Seen) (log_gives : L → Call → L → Type 0) (data_seen : D → Seen) (source source_now : SourceSeen) (log_entry data_entry : Seen) where
+module _ {L D : Type 0} (log_seen : L → Seen) (log_gives : L → Call → L → Type 0) (data_seen : D → Seen) (data_gives : D → Call → D → Type 0) (source source_now : SourceSeen) (log_entry data_entry : Seen) where
   abbrev handed : Command → Stops → Drive → Handed
-  handed = handed_as log_seen log_gives data_seen source source_now log_entry data_entry
+  handed = handed_as log_seen log_gives data_seen data_gives source source_now log_entry data_entry
 
   abbrev Tells : Command → Outcome → Fused L → Fused D → Type 0
-  Tells = TellsByTurns log_seen log_gives data_seen source source_now log_entry data_entry
+  Tells = TellsByTurns log_seen log_gives data_seen data_gives source source_now log_entry data_entry
 
   abbrev Comes : Handed → Course → Fused L → Fused D → Type 0
-  Comes = ComesAsHanded log_seen log_gives data_seen
+  Comes = ComesAsHanded log_seen log_gives data_seen data_gives
 
   -- of `run`
   abbrev run : Drive → Handed
@@ -194,19 +197,19 @@ module _ {L D : Type 0} (log_seen : L → Seen) (log_gives : L → Call → L �
 
   pub run-ended-told : (drive : Drive) (f : Fault) (log_now : Fused L) (data_now : Fused D) → Comes (run drive) (course.Ended f) log_now data_now
       → Tells (Run drive) (outcome.Fault f) log_now data_now
-  run-ended-told drive f log_now data_now comes = ended-told log_seen log_gives data_seen (run drive) f log_now data_now comes
+  run-ended-told drive f log_now data_now comes = ended-told log_seen log_gives data_seen data_gives (run drive) f log_now data_now comes
 
   pub run-stopped-told : (drive : Drive) (f : Fault) (log_now : Fused L) (data_now : Fused D) → Comes (run drive) (course.Stopped f) log_now data_now
       → Tells (Run drive) (outcome.Fault f) log_now data_now
   run-stopped-told drive (fault.Turns count user) log_now data_now comes = absurd comes.comes_to
-  run-stopped-told drive f log_now data_now comes = told-met log_seen log_gives data_seen (run drive) (course.Stopped f) f log_now log_now data_now data_now tt comes (there f log_now data_now)
+  run-stopped-told drive f log_now data_now comes = told-met log_seen log_gives data_seen data_gives (run drive) (course.Stopped f) f log_now log_now data_now data_now tt comes (there f log_now data_now)
 
   run-text-told : (drive : Drive) (played : Played) (f : Option Fault) (text : List ℕ) (log_now : Fused L) (data_now : Fused D)
       → (comes : Comes (run drive) (course.Played played f) log_now data_now) → IsReportOf comes.script (Some (ran_of played)) None text
       → Tells (Run drive) (report_outcome text f) log_now data_now
-  run-text-told drive played None text log_now data_now comes report = record { runs = runs-handed log_seen log_gives data_seen (run drive) played None log_now data_now comes; report = report }
+  run-text-told drive played None text log_now data_now comes report = record { runs = runs-handed log_seen log_gives data_seen data_gives (run drive) played None log_now data_now comes; report = report }
   run-text-told drive played (Some (fault.Turns count user)) text log_now data_now comes report = absurd comes.comes_to
-  run-text-told drive played (Some f) text log_now data_now comes report = record { runs = runs-handed log_seen log_gives data_seen (run drive) played (Some f) log_now data_now comes; report = report }
+  run-text-told drive played (Some f) text log_now data_now comes report = record { runs = runs-handed log_seen log_gives data_seen data_gives (run drive) played (Some f) log_now data_now comes; report = report }
 
   pub run-played-told : (drive : Drive) (played : Played) (f : Option Fault) (o : Outcome) (log_now : Fused L) (data_now : Fused D)
       → (comes : Comes (run drive) (course.Played played f) log_now data_now) → IsRunPrinted comes.script (ran_of played) f o → Tells (Run drive) o log_now data_now
@@ -218,7 +221,7 @@ module _ {L D : Type 0} (log_seen : L → Seen) (log_gives : L → Call → L �
   pub run-unscripted-told : (drive : Drive) (f : Fault) (log_now : Fused L) (data_now : Fused D) → IsScriptFault source source_now f
       → IsLeftAlone log_entry (guarded log_seen log_now) → IsLeftAlone data_entry (guarded data_seen data_now) → Tells (Run drive) (outcome.Fault f) log_now data_now
   run-unscripted-told drive f log_now data_now cause log_alone data_alone =
-      unscripted-told log_seen log_gives data_seen (run drive) f log_now data_now refl cause log_alone data_alone
+      unscripted-told log_seen log_gives data_seen data_gives (run drive) f log_now data_now refl cause log_alone data_alone
 
   -- of `crash`
   abbrev crash : Drive → Stops → ℕ → Command
@@ -229,7 +232,7 @@ module _ {L D : Type 0} (log_seen : L → Seen) (log_gives : L → Call → L �
 
   pub crash-ended-told : (drive : Drive) (stops : Stops) (pick : ℕ) (f : Fault) (log_now : Fused L) (data_now : Fused D)
       → Comes (crashing drive stops pick) (course.Ended f) log_now data_now → Tells (crash drive stops pick) (outcome.Fault f) log_now data_now
-  crash-ended-told drive stops pick f log_now data_now comes = ended-told log_seen log_gives data_seen (crashing drive stops pick) f log_now data_now comes
+  crash-ended-told drive stops pick f log_now data_now comes = ended-told log_seen log_gives data_seen data_gives (crashing drive stops pick) f log_now data_now comes
 
   pub crash-stopped-told : (drive : Drive) (stops : Stops) (pick : ℕ) (met : Fault) (o : Outcome) (log_then log_now : Fused L) (data_then data_now : Fused D)
       → (comes : Comes (crashing drive stops pick) (course.Stopped met) log_then data_then)
@@ -247,7 +250,7 @@ module _ {L D : Type 0} (log_seen : L → Seen) (log_gives : L → Call → L �
   crash-stopped-told drive stops pick met (outcome.Report text f) log_then log_now data_then data_now comes back = absurd back
   crash-stopped-told drive stops pick met (outcome.Fault (fault.Turns count user)) log_then log_now data_then data_now comes back = absurd back
   crash-stopped-told drive stops pick met (outcome.Fault f) log_then log_now data_then data_now comes back =
-      told-met log_seen log_gives data_seen (crashing drive stops pick) (course.Stopped met) f log_then log_now data_then data_now tt comes back
+      told-met log_seen log_gives data_seen data_gives (crashing drive stops pick) (course.Stopped met) f log_then log_now data_then data_now tt comes back
 
   pub crash-played-told : (drive : Drive) (stops : Stops) (pick : ℕ) (played : Played) (met : Option Fault) (o : Outcome) (log_then log_now : Fused L) (data_then data_now : Fused D)
       → (comes : Comes (crashing drive stops pick) (course.Played played met) log_then data_then)
@@ -259,18 +262,18 @@ module _ {L D : Type 0} (log_seen : L → Seen) (log_gives : L → Call → L �
     crashed = back.crashed;
     read = (back.reading.end, back.reading.pages);
     fault = met;
-    run = record { runs = runs-handed log_seen log_gives data_seen (crashing drive stops pick) played met log_then data_then comes; report = back.report };
+    run = record { runs = runs-handed log_seen log_gives data_seen data_gives (crashing drive stops pick) played met log_then data_then comes; report = back.report };
   })
   crash-played-told drive stops pick played met (outcome.Report text f) log_then log_now data_then data_now comes back = absurd back
   crash-played-told drive stops pick played met (outcome.Fault (fault.Turns count user)) log_then log_now data_then data_now comes back = absurd back
   crash-played-told drive stops pick played met (outcome.Fault f) log_then log_now data_then data_now comes back =
-      told-met log_seen log_gives data_seen (crashing drive stops pick) (course.Played played met) f log_then log_now data_then data_now tt comes back
+      told-met log_seen log_gives data_seen data_gives (crashing drive stops pick) (course.Played played met) f log_then log_now data_then data_now tt comes back
 
   pub crash-unscripted-told : (drive : Drive) (stops : Stops) (pick : ℕ) (f : Fault) (log_now : Fused L) (data_now : Fused D) → IsScriptFault source source_now f
       → IsLeftAlone log_entry (guarded log_seen log_now) → IsLeftAlone data_entry (guarded data_seen data_now)
       → Tells (crash drive stops pick) (outcome.Fault f) log_now data_now
   crash-unscripted-told drive stops pick f log_now data_now cause log_alone data_alone =
-      unscripted-told log_seen log_gives data_seen (crashing drive stops pick) f log_now data_now refl cause log_alone data_alone
+      unscripted-told log_seen log_gives data_seen data_gives (crashing drive stops pick) f log_now data_now refl cause log_alone data_alone
 
   -- of `gen`
   module _ (seed users groups max : ℕ) where
@@ -281,17 +284,17 @@ module _ {L D : Type 0} (log_seen : L → Seen) (log_gives : L → Call → L �
     seeded = handed gen no_stops (drive_of_seed seed max)
 
     pub gen-ended-told : (f : Fault) (log_now : Fused L) (data_now : Fused D) → Comes seeded (course.Ended f) log_now data_now → Tells gen (outcome.Fault f) log_now data_now
-    gen-ended-told f log_now data_now comes = ended-told log_seen log_gives data_seen seeded f log_now data_now comes
+    gen-ended-told f log_now data_now comes = ended-told log_seen log_gives data_seen data_gives seeded f log_now data_now comes
 
     pub gen-stopped-told : (f : Fault) (log_now : Fused L) (data_now : Fused D) → Comes seeded (course.Stopped f) log_now data_now → Tells gen (outcome.Fault f) log_now data_now
     gen-stopped-told (fault.Turns count user) log_now data_now comes = absurd comes.comes_to
-    gen-stopped-told f log_now data_now comes = told-met log_seen log_gives data_seen seeded (course.Stopped f) f log_now log_now data_now data_now tt comes (there f log_now data_now)
+    gen-stopped-told f log_now data_now comes = told-met log_seen log_gives data_seen data_gives seeded (course.Stopped f) f log_now log_now data_now data_now tt comes (there f log_now data_now)
 
     pub gen-cut-told : (played : Played) (f : Fault) (log_now : Fused L) (data_now : Fused D) → Comes seeded (course.Played played (Some f)) log_now data_now
         → Tells gen (outcome.Fault f) log_now data_now
     gen-cut-told played (fault.Turns count user) log_now data_now comes = absurd comes.comes_to
     gen-cut-told played f log_now data_now comes =
-        told-met log_seen log_gives data_seen seeded (course.Played played (Some f)) f log_now log_now data_now data_now tt comes (there f log_now data_now)
+        told-met log_seen log_gives data_seen data_gives seeded (course.Played played (Some f)) f log_now log_now data_now data_now tt comes (there f log_now data_now)
 
     pub gen-played-told : (played : Played) (o : Outcome) (log_then log_now : Fused L) (data_then data_now : Fused D) → Comes seeded (course.Played played None) log_then data_then
         → ReadsBehind (ran_of played) o (guarded log_seen log_then) (guarded data_seen data_then) (guarded log_seen log_now) (guarded data_seen data_now)
@@ -300,65 +303,69 @@ module _ {L D : Type 0} (log_seen : L → Seen) (log_gives : L → Call → L �
       log_then = log_then;
       data_then = data_then;
       read_since = behind.read_since;
-      runs = runs-handed log_seen log_gives data_seen seeded played None log_then data_then comes;
+      runs = runs-handed log_seen log_gives data_seen data_gives seeded played None log_then data_then comes;
       reading = behind.reading;
       text_is = behind.text_is;
     }
     gen-played-told played (outcome.Report text f) log_then log_now data_then data_now comes behind = absurd behind
     gen-played-told played (outcome.Fault (fault.Turns count user)) log_then log_now data_then data_now comes behind = absurd behind
     gen-played-told played (outcome.Fault f) log_then log_now data_then data_now comes behind =
-        told-met log_seen log_gives data_seen seeded (course.Played played None) f log_then log_now data_then data_now tt comes behind
+        told-met log_seen log_gives data_seen data_gives seeded (course.Played played None) f log_then log_now data_then data_now tt comes behind
 
 -- A WHOLE CALL
 -- a command that memory ran out for tells of no run
-memory-untold : {L D : Type 0} (log_seen : L → Seen) (log_gives : L → Call → L → Type 0) (data_seen : D → Seen) (source source_now : SourceSeen) (log_entry data_entry : Seen) (command : Command) (log_now : Fused L) (data_now : Fused D)
-    → TellsByTurns log_seen log_gives data_seen source source_now log_entry data_entry command (outcome.Fault fault.Memory) log_now data_now
-memory-untold log_seen log_gives data_seen source source_now log_entry data_entry (Format pages space log_blocks) log_now data_now = tt
-memory-untold log_seen log_gives data_seen source source_now log_entry data_entry (Run drive) log_now data_now = tt
-memory-untold log_seen log_gives data_seen source source_now log_entry data_entry (Crash drive stop_log stop_data pick) log_now data_now = tt
-memory-untold log_seen log_gives data_seen source source_now log_entry data_entry Recover log_now data_now = tt
-memory-untold log_seen log_gives data_seen source source_now log_entry data_entry Dump log_now data_now = tt
-memory-untold log_seen log_gives data_seen source source_now log_entry data_entry (Gen seed users groups true max) log_now data_now = tt
-memory-untold log_seen log_gives data_seen source source_now log_entry data_entry (Gen seed users groups false max) log_now data_now = tt
+memory-untold : {L D : Type 0} (log_seen : L → Seen) (log_gives : L → Call → L → Type 0) (data_seen : D → Seen) (data_gives : D → Call → D → Type 0) (source source_now : SourceSeen) (log_entry data_entry : Seen) (command : Command) (log_now : Fused L) (data_now : Fused D)
+    → TellsByTurns log_seen log_gives data_seen data_gives source source_now log_entry data_entry command (outcome.Fault fault.Memory) log_now data_now
+memory-untold log_seen log_gives data_seen data_gives source source_now log_entry data_entry (Format pages space log_blocks) log_now data_now = tt
+memory-untold log_seen log_gives data_seen data_gives source source_now log_entry data_entry (Run drive) log_now data_now = tt
+memory-untold log_seen log_gives data_seen data_gives source source_now log_entry data_entry (Crash drive stop_log stop_data pick) log_now data_now = tt
+memory-untold log_seen log_gives data_seen data_gives source source_now log_entry data_entry Recover log_now data_now = tt
+memory-untold log_seen log_gives data_seen data_gives source source_now log_entry data_entry Dump log_now data_now = tt
+memory-untold log_seen log_gives data_seen data_gives source source_now log_entry data_entry (Gen seed users groups true max) log_now data_now = tt
+memory-untold log_seen log_gives data_seen data_gives source source_now log_entry data_entry (Gen seed users groups false max) log_now data_now = tt
 
--- and that is what it means, whatever was done
-memory-means : (call : lab.Call) (command : Command) → IsOutcome call command (outcome.Fault fault.Memory)
-memory-means call (Format pages space log_blocks) = (tt, tt)
-memory-means call (Run drive) = (tt, tt)
-memory-means call (Crash drive stop_log stop_data pick) = (tt, tt)
-memory-means call Recover = (tt, tt)
-memory-means call Dump = (tt, tt)
-memory-means call (Gen seed users groups run max) = (tt, tt)
+-- and that is what it means, where no device was called
+memory-means : (call : lab.Call) (command : Command) → AreLeftAlone call → IsOutcome call command (outcome.Fault fault.Memory)
+memory-means call (Format pages space log_blocks) alone = (tt, alone-no-store call (shape_of pages space log_blocks) alone)
+memory-means call (Run drive) alone = (tt, tt)
+memory-means call (Crash drive stop_log stop_data pick) alone = (tt, tt)
+memory-means call Recover alone = (tt, tt)
+memory-means call Dump alone = (tt, tt)
+memory-means call (Gen seed users groups run max) alone = (tt, tt)
 
-pub command-by-turns : {L D : Type 0} (log_seen : L → Seen) (log_gives : L → Call → L → Type 0) (data_seen : D → Seen) (words : List (List ℕ)) (source left source_now : SourceSeen)
+pub command-by-turns : {L D : Type 0} (log_seen : L → Seen) (log_gives : L → Call → L → Type 0) (data_seen : D → Seen) (data_gives : D → Call → D → Type 0) (words : List (List ℕ)) (source left source_now : SourceSeen)
     (log : L) (store : D) (done given : Done L D) (printed : Printed) (command : Command) → source_now ≡ left → given ≡ done → command_of words ≡ Some command
     → EndsCommand (call_of log_seen data_seen words source left log store done) command done.outcome
-    → TellsByTurns log_seen log_gives data_seen source left (log_seen log) (data_seen store) command done.outcome done.log done.store
+    → TellsByTurns log_seen log_gives data_seen data_gives source left (log_seen log) (data_seen store) command done.outcome done.log done.store
     → IsOutcomePrinted given.outcome printed.status printed.sink printed.sink_now
-    → IsByTurns log_seen log_gives data_seen (lab_of log_seen data_seen words source source_now log store given printed) given.log given.store
-command-by-turns {L} {D} log_seen log_gives data_seen words source left source_now log store done given printed command same_source same asked ends tells is_printed other asked_other =
+    → IsByTurns log_seen log_gives data_seen data_gives (lab_of log_seen data_seen words source source_now log store given printed) given.log given.store
+command-by-turns {L} {D} log_seen log_gives data_seen data_gives words source left source_now log store done given printed command same_source same asked ends tells is_printed other asked_other =
     let is : other ≡ command = cc (asked, asked_other) in
     let Told : SourceSeen → Command → Done L D → Type 0 = λ now command found. IsOutcome (call_of log_seen data_seen words source now log store found) command found.outcome
-    × TellsByTurns log_seen log_gives data_seen source now (log_seen log) (data_seen store) command found.outcome found.log found.store in
+    × TellsByTurns log_seen log_gives data_seen data_gives source now (log_seen log) (data_seen store) command found.outcome found.log found.store in
     let told : Told source_now other given = subst (λ (c : Command). Told source_now c given) (sym is)
     (subst (λ (found : Done L D). Told source_now command found) (sym same)
     (subst (λ (now : SourceSeen). Told now command done) (sym same_source) (ends.means, tells))) in
     (given.outcome, is_printed, told.0, told.1)
 
-pub nothing-by-turns : {L D : Type 0} (log_seen : L → Seen) (log_gives : L → Call → L → Type 0) (data_seen : D → Seen) (words : List (List ℕ)) (source source_now : SourceSeen)
+pub nothing-by-turns : {L D : Type 0} (log_seen : L → Seen) (log_gives : L → Call → L → Type 0) (data_seen : D → Seen) (data_gives : D → Call → D → Type 0) (words : List (List ℕ)) (source source_now : SourceSeen)
     (log : L) (store : D) (done given : Done L D) (printed : Printed) (f : Fault) → given ≡ done
     → ((command_of words ≡ None) × (f ≡ fault.Words)) ⊎ (f ≡ fault.Memory) → IsUnasked f log store done
     → IsOutcomePrinted given.outcome printed.status printed.sink printed.sink_now
-    → IsByTurns log_seen log_gives data_seen (lab_of log_seen data_seen words source source_now log store given printed) given.log given.store
-nothing-by-turns {L} {D} log_seen log_gives data_seen words source source_now log store done given printed f same why unasked is_printed command asked = ⊎_elim
+    → IsByTurns log_seen log_gives data_seen data_gives (lab_of log_seen data_seen words source source_now log store given printed) given.log given.store
+nothing-by-turns {L} {D} log_seen log_gives data_seen data_gives words source source_now log store done given printed f same why unasked is_printed command asked = ⊎_elim
     (λ other. let none = other.0 in absurd (cc))
     (λ memory.
-    let is : given.outcome ≡ outcome.Fault fault.Memory = ap (λ (found : Done L D). found.outcome) same ∙ unasked.outcome_is ∙ ap (λ (f : Fault). outcome.Fault f) memory in (
+    let is : given.outcome ≡ outcome.Fault fault.Memory = ap (λ (found : Done L D). found.outcome) same ∙ unasked.outcome_is ∙ ap (λ (f : Fault). outcome.Fault f) memory in
+    let alone : AreLeftAlone (call_of log_seen data_seen words source source_now log store given) = record {
+      log_device = alone-behind log_seen log done.log given.log unasked.log_inner unasked.log_fuse (ap (λ (found : Done L D). found.log) same);
+      data_device = alone-behind data_seen store done.store given.store unasked.data_inner unasked.data_fuse (ap (λ (found : Done L D). found.store) same);
+    } in (
       given.outcome,
       is_printed,
       subst (λ (o : Outcome). IsOutcome (call_of log_seen data_seen words source source_now log store given) command o) (sym is)
-          (memory-means (call_of log_seen data_seen words source source_now log store given) command),
-      subst (λ (o : Outcome). TellsByTurns log_seen log_gives data_seen source source_now (log_seen log) (data_seen store) command o given.log given.store) (sym is)
-          (memory-untold log_seen log_gives data_seen source source_now (log_seen log) (data_seen store) command given.log given.store),
+          (memory-means (call_of log_seen data_seen words source source_now log store given) command alone),
+      subst (λ (o : Outcome). TellsByTurns log_seen log_gives data_seen data_gives source source_now (log_seen log) (data_seen store) command o given.log given.store) (sym is)
+          (memory-untold log_seen log_gives data_seen data_gives source source_now (log_seen log) (data_seen store) command given.log given.store),
     ))
     why

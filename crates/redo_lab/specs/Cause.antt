@@ -3,6 +3,7 @@
 -- met.
 use Rattle.std.specs.Prelude.{ℕ, ◌≡◌, ◌≢◌, ◌≤◌, ◌<◌, ◌⊎◌, true, false, List, Option, Some, None, ⊤}
 use Rattle.model_base.specs.{default_shape, HasRisen, IsWithinLimits}
+use Rattle.model_base.specs.declared.shape.Shape.{Shape}
 use Rattle.model_command.specs.declared.asked.Command.{Command}
 use Rattle.model_command.specs.declared.asked.Command.TheVariants.{Format, Run, Crash, Recover, Dump, Gen}
 use Rattle.model_command.specs.declared.asked.Drive.{Drive}
@@ -39,11 +40,16 @@ IsPastSource call command =
     ((reads_script command ≡ true) × (text : List ℕ) × (script : List ScriptLine) × IsScriptOf call.source call.source_now text script)
     ⊎ ((reads_script command ≡ false) × IsUnread call)
 
+-- formatting both devices was begun with these sizes, or it wasn't: whatever a crash would leave is what they held, or no
+-- store, or the new one
+abbrev pub LeavesNoStore : Call → Shape → Type 0
+LeavesNoStore call shape = WhereToldAtEntry call (λ log data_disk. WhereToldNow call (KeepsNoStore shape log data_disk))
+
 -- The log device was unused, and formatting both was begun: whatever a crash would leave is what they held, or no store, or
 -- the new one.
 pub record IsFormattingBegun (call : Call) : Type 0 where
   pub unused : WhereToldAtEntry call (λ log data_disk. IsUnused log.reads)
-  pub no_store : WhereToldAtEntry call (λ log data_disk. WhereToldNow call (KeepsNoStore default_shape log data_disk))
+  pub no_store : LeavesNoStore call default_shape
 
 -- Both devices are as they were, and no call was made but one at the most, of the log device: the read of its first block.
 pub record AreUntouched (call : Call) : Type 0 where
@@ -79,7 +85,7 @@ IsLogUnfailed call command = IsUnfailed call.log_device_now.fuse
 
 -- The store is refused that a run was to open: a device is too short for a header, or the log device is unused and a
 -- device is too short for a new store; or it is in use, and what reads gave at entry is refused. Nothing was changed. A device
--- that doesn't tell may read otherwise the second time, when opening has begun to write; so the last is said of those that tell.
+-- that doesn't tell may read otherwise the second time, when both were formatted; so the last is said of those that tell.
 abbrev pub IsUnopenable : Call → Refusal → Type 0
 IsUnopenable call refusal =
     (AreKept call × HasNoHeader call.log_device.size refusal)
@@ -225,6 +231,7 @@ LeavesStopped call =
 
 -- what a fault leaves beside its cause: spent turns come behind a run, and want of memory may
 abbrev pub LeavesBehind : Call → Command → Fault → Type 0
+LeavesBehind call (Format pages space log_blocks) fault = LeavesNoStore call (shape_of pages space log_blocks)
 LeavesBehind call (Run drive) Memory = ⊤
 LeavesBehind call (Run drive) (Turns turns user) = ⊤
 LeavesBehind call (Run drive) LogDevice = LeavesStopped call

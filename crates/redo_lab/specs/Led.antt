@@ -5,6 +5,7 @@ use Rattle.std.specs.Prelude.{ℕ, ◌≡◌, ◌⊎◌, List, Option, Some, Non
 use Rattle.redo_disk.specs.{Call, Makes}
 use Rattle.redo_disk.specs.Seen.{Seen}
 use Rattle.redo_memdisk.specs.{CallsThrough, CrashesThrough, armed, armed_at, fresh, fuse_of, inner_of}
+use Rattle.redo_memdisk.specs.declared.fuse.Fuse.{Fuse}
 use Rattle.redo_memdisk.specs.declared.fused.Fused.{Fused}
 
 -- the device stands behind a new fuse
@@ -18,6 +19,14 @@ pub record IsArming {D : Type 0} (limit : Option ℕ) (old new : Fused D) : Type
   pub inner : inner_of new ≡ inner_of old
   pub fuse : fuse_of new ≡ armed limit (fuse_of old)
   pub armed : armed_at new ≡ Some (inner_of old)
+
+-- This is the device at the moment at which its fuse, which told this, was armed with this limit: what was armed is what stands
+-- behind the fuse, and no call was counted since, none that was passed on and none that failed.
+pub record IsAtArming {D : Type 0} (limit : Option ℕ) (told : Fuse) (now : Fused D) : Type 0 where
+  pub at_arming : armed_at now ≡ Some (inner_of now)
+  pub fuse : fuse_of now ≡ armed limit told
+  pub none_passed : (fuse_of now).passed ≡ 0
+  pub none_failed : (fuse_of now).mid ≡ 0
 
 -- calls through its fuse led from the one to the other
 pub record IsCalled {D : Type 0} (seen : D → Seen) (gives : D → Call → D → Type 0) (old new : Fused D) : Type 0 where

@@ -13,7 +13,7 @@ use Rattle.model_script.specs.declared.misfit.Misfit.{Misfit}
 use Rattle.model_script.specs.declared.script.ScriptLine.{ScriptLine}
 use Rattle.model_store.specs.Reading.{Reading}
 use Rattle.model_theorem.specs.Values as values
-use Rattle.redo_disk.specs.{Call, failures}
+use Rattle.redo_disk.specs.{Call, failures, MakesCalls, MayEndWith}
 use Rattle.redo_disk.specs.Seen.{Seen}
 use Rattle.redo_io.specs.{SourceSeen}
 use Rattle.redo_machine.specs.{HasMemory, RunsByTurns}
@@ -32,6 +32,7 @@ use Rattle.redo_lab.specs.Behind.{AreReadSince}
 use Rattle.redo_lab.specs.Call.{Guarded, IsLeftAlone, LabCall, guarded}
 use Rattle.redo_lab.specs.Course.{AreUnderWay, ComesTo, ran_of}
 use Rattle.redo_lab.specs.Crashed.{AreCrashedSince}
+use Rattle.redo_lab.specs.Led.{IsAtArming}
 use Rattle.redo_lab.specs.Outcome.{IsOutcome, IsOutcomePrinted}
 use Rattle.redo_lab.specs.Playing.{IsUnfit, MakeCalls, ended_by, played_of}
 use Rattle.redo_lab.specs.Prepared.{WhereTold}
@@ -106,13 +107,19 @@ abbrev pub opened_at : {L D : Type 0} → Opened L D → ℕ → values.Opened
 opened_at opened end = record { shape = opened.shape; pages = opened.pages; end = end }
 
 -- The store was opened on the two devices, behind their fuses, which stop them so.
-pub record IsOpenedOn {L D : Type 0} (log_seen : L → Seen) (log_gives : L → Call → L → Type 0) (data_seen : D → Seen)
+pub record IsOpenedOn {L D : Type 0} (log_seen : L → Seen) (log_gives : L → Call → L → Type 0) (data_seen : D → Seen) (data_gives : D → Call → D → Type 0)
     (log_entry data_entry : Seen) (stops : Stops) (opened : Opened (Fused L) (Fused D)) : Type 0 where
   pub way : AreUnderWay log_entry data_entry stops 0 0 (guarded log_seen opened.log.dev) (guarded data_seen opened.store.dev)
-  -- since its fuse was armed, the last calls of the log device wrote the checkpoint of the next number and made it stay
+  -- the log device as its fuse was armed; since then its last calls wrote the checkpoint of the next number and made it stay
   pub log_armed : Fused L
   pub armed : IsArmed stops.log log_entry way.log_found 0 (guarded log_seen log_armed)
+  pub log_at_arming : IsAtArming stops.log way.log_found.fuse log_armed
   pub marks : MarksStart (CallsThrough log_seen log_gives) log_armed opened
+  -- the data device as its fuse was armed; since then all its calls answered Ok
+  pub data_armed : Fused D
+  pub armed_data : IsArmed stops.store data_entry way.data_found 0 (guarded data_seen data_armed)
+  pub data_at_arming : IsAtArming stops.store way.data_found.fuse data_armed
+  pub data_calls : MakesCalls (CallsThrough data_seen data_gives) data_armed opened.store.dev (MayEndWith None)
   -- where both devices told what they meant when the fuses were armed, it was opened as that is read, in order or not; so that
   -- number is the one next to the number of the newest checkpoint
   pub read : OnContents way.log_found.seen.tells way.data_found.seen.tells
@@ -131,40 +138,49 @@ pub record AreCountedFailures {L D : Type 0} (driven : Driven (Fused L) (Fused D
   pub data_device : (fuse_of data_now).mid ≡ failures driven.closed.store.failed
 
 -- A store was opened on them, and the turns of the drive led from it to where all users had ended.
-pub record ComesToEnd {L D : Type 0} (log_seen : L → Seen) (log_gives : L → Call → L → Type 0) (data_seen : D → Seen) (log_entry data_entry : Seen) (stops : Stops)
+pub record ComesToEnd {L D : Type 0} (log_seen : L → Seen) (log_gives : L → Call → L → Type 0) (data_seen : D → Seen) (data_gives : D → Call → D → Type 0)
+    (log_entry data_entry : Seen) (stops : Stops)
     (turns : drive.Turns) (script : List ScriptLine) (played : Played) (fault : Option Fault)
     (log_now : Fused L) (data_now : Fused D) : Type 0 where
   pub opened : Opened (Fused L) (Fused D)
-  pub is_opened : IsOpenedOn log_seen log_gives data_seen log_entry data_entry stops opened
+  pub is_opened : IsOpenedOn log_seen log_gives data_seen data_gives log_entry data_entry stops opened
   pub done : IsDrivenDone (seen_through log_seen) (seen_through data_seen) opened turns script played fault log_now data_now
+  -- the calls that the two parts of the run made led from the opened store's devices to these
+  pub calls : MakePartCalls (CallsThrough log_seen log_gives) (CallsThrough data_seen data_gives) opened
+      done.is_driven.driven log_now data_now
   pub counted : AreCountedFailures done.is_driven.driven log_now data_now
 
 -- A store was opened on them, and the turns of the drive were spent on it.
-pub record ComesToSpent {L D : Type 0} (log_seen : L → Seen) (log_gives : L → Call → L → Type 0) (data_seen : D → Seen) (log_entry data_entry : Seen) (stops : Stops)
+pub record ComesToSpent {L D : Type 0} (log_seen : L → Seen) (log_gives : L → Call → L → Type 0) (data_seen : D → Seen) (data_gives : D → Call → D → Type 0)
+    (log_entry data_entry : Seen) (stops : Stops)
     (turns : drive.Turns) (script : List ScriptLine) (count user : ℕ) (log_now : Fused L) (data_now : Fused D) : Type 0 where
   pub opened : Opened (Fused L) (Fused D)
-  pub is_opened : IsOpenedOn log_seen log_gives data_seen log_entry data_entry stops opened
+  pub is_opened : IsOpenedOn log_seen log_gives data_seen data_gives log_entry data_entry stops opened
   pub spent : IsDrivenOut (seen_through log_seen) (seen_through data_seen) opened turns script count user log_now data_now
+  -- the calls that the two parts of the run made led from the opened store's devices to these
+  pub calls : MakePartCalls (CallsThrough log_seen log_gives) (CallsThrough data_seen data_gives) opened
+      spent.is_driven.driven log_now data_now
   pub counted : AreCountedFailures spent.is_driven.driven log_now data_now
 
 -- A store was opened on them, and the script doesn't fit that: no call was made since.
-pub record ComesToMisfit {L D : Type 0} (log_seen : L → Seen) (log_gives : L → Call → L → Type 0) (data_seen : D → Seen) (log_entry data_entry : Seen) (stops : Stops)
+pub record ComesToMisfit {L D : Type 0} (log_seen : L → Seen) (log_gives : L → Call → L → Type 0) (data_seen : D → Seen) (data_gives : D → Call → D → Type 0)
+    (log_entry data_entry : Seen) (stops : Stops)
     (turns : drive.Turns) (script : List ScriptLine) (misfit : Misfit) (log_now : Fused L) (data_now : Fused D) : Type 0 where
   pub opened : Opened (Fused L) (Fused D)
-  pub is_opened : IsOpenedOn log_seen log_gives data_seen log_entry data_entry stops opened
+  pub is_opened : IsOpenedOn log_seen log_gives data_seen data_gives log_entry data_entry stops opened
   pub unfit : IsUnfit opened turns script misfit log_now data_now
 
 -- a store was opened on them, and a run came so far on it that the turns of the drive led, or the script doesn't fit it
-abbrev pub ComesByTurnsTo : {L D : Type 0} → (L → Seen) → (L → Call → L → Type 0) → (D → Seen)
+abbrev pub ComesByTurnsTo : {L D : Type 0} → (L → Seen) → (L → Call → L → Type 0) → (D → Seen) → (D → Call → D → Type 0)
     → (log_entry data_entry : Seen) → Stops → drive.Turns → List ScriptLine → Course → Fused L → Fused D → Type 0
-ComesByTurnsTo log_seen log_gives data_seen log_entry data_entry stops turns script (course.Played played fault) log_now data_now =
-    ComesToEnd log_seen log_gives data_seen log_entry data_entry stops turns script played fault log_now data_now
-ComesByTurnsTo log_seen log_gives data_seen log_entry data_entry stops turns script (course.Ended (Turns count user)) log_now data_now =
-    ComesToSpent log_seen log_gives data_seen log_entry data_entry stops turns script count user log_now data_now
-ComesByTurnsTo log_seen log_gives data_seen log_entry data_entry stops turns script (course.Ended (Fit misfit)) log_now data_now =
-    ComesToMisfit log_seen log_gives data_seen log_entry data_entry stops turns script misfit log_now data_now
-ComesByTurnsTo log_seen log_gives data_seen log_entry data_entry stops turns script (course.Ended _) log_now data_now = Unit {0}
-ComesByTurnsTo log_seen log_gives data_seen log_entry data_entry stops turns script (course.Stopped _) log_now data_now = Unit {0}
+ComesByTurnsTo log_seen log_gives data_seen data_gives log_entry data_entry stops turns script (course.Played played fault) log_now data_now =
+    ComesToEnd log_seen log_gives data_seen data_gives log_entry data_entry stops turns script played fault log_now data_now
+ComesByTurnsTo log_seen log_gives data_seen data_gives log_entry data_entry stops turns script (course.Ended (Turns count user)) log_now data_now =
+    ComesToSpent log_seen log_gives data_seen data_gives log_entry data_entry stops turns script count user log_now data_now
+ComesByTurnsTo log_seen log_gives data_seen data_gives log_entry data_entry stops turns script (course.Ended (Fit misfit)) log_now data_now =
+    ComesToMisfit log_seen log_gives data_seen data_gives log_entry data_entry stops turns script misfit log_now data_now
+ComesByTurnsTo log_seen log_gives data_seen data_gives log_entry data_entry stops turns script (course.Ended _) log_now data_now = Unit {0}
+ComesByTurnsTo log_seen log_gives data_seen data_gives log_entry data_entry stops turns script (course.Stopped _) log_now data_now = Unit {0}
 
 -- WHAT IS TOLD OF IT.
 
@@ -181,32 +197,35 @@ pub record Handed : Type 0 where
 
 -- A run by turns took place of the script that the command runs; this fault ended it, if one did, and at its end the devices were
 -- these.
-pub record RunsAsHanded {L D : Type 0} (log_seen : L → Seen) (log_gives : L → Call → L → Type 0) (data_seen : D → Seen) (handed : Handed) (fault : Option Fault)
+pub record RunsAsHanded {L D : Type 0} (log_seen : L → Seen) (log_gives : L → Call → L → Type 0) (data_seen : D → Seen) (data_gives : D → Call → D → Type 0)
+    (handed : Handed) (fault : Option Fault)
     (log_then : Fused L) (data_then : Fused D) : Type 0 where
   pub script : List ScriptLine
   pub is_script : IsScriptFor handed.command handed.source handed.source_now script
   pub played : Played
-  pub comes : ComesToEnd log_seen log_gives data_seen handed.log_entry handed.data_entry handed.stops handed.turns script
+  pub comes : ComesToEnd log_seen log_gives data_seen data_gives handed.log_entry handed.data_entry handed.stops handed.turns script
       played fault log_then data_then
 
 -- A run by turns of that script came so far, if it was begun, and then the devices were these.
-pub record ComesAsHanded {L D : Type 0} (log_seen : L → Seen) (log_gives : L → Call → L → Type 0) (data_seen : D → Seen) (handed : Handed) (so_far : Course)
+pub record ComesAsHanded {L D : Type 0} (log_seen : L → Seen) (log_gives : L → Call → L → Type 0) (data_seen : D → Seen) (data_gives : D → Call → D → Type 0)
+    (handed : Handed) (so_far : Course)
     (log_then : Fused L) (data_then : Fused D) : Type 0 where
   pub script : List ScriptLine
   pub is_script : IsScriptFor handed.command handed.source handed.source_now script
   pub comes_to : ComesTo handed.log_entry handed.data_entry handed.stops handed.turns script so_far
       (guarded log_seen log_then) (guarded data_seen data_then)
-  pub by_turns : ComesByTurnsTo log_seen log_gives data_seen handed.log_entry handed.data_entry handed.stops handed.turns script
+  pub by_turns : ComesByTurnsTo log_seen log_gives data_seen data_gives handed.log_entry handed.data_entry handed.stops handed.turns script
       so_far log_then data_then
 
 -- The text is the report of such a run; behind a crash it has what was read.
-pub record TellsRun {L D : Type 0} (log_seen : L → Seen) (log_gives : L → Call → L → Type 0) (data_seen : D → Seen) (handed : Handed)
+pub record TellsRun {L D : Type 0} (log_seen : L → Seen) (log_gives : L → Call → L → Type 0) (data_seen : D → Seen) (data_gives : D → Call → D → Type 0)
+    (handed : Handed)
     (read : Option (ℕ × List Content)) (fault : Option Fault) (text : List ℕ) (log_then : Fused L) (data_then : Fused D) : Type 0 where
-  pub runs : RunsAsHanded log_seen log_gives data_seen handed fault log_then data_then
+  pub runs : RunsAsHanded log_seen log_gives data_seen data_gives handed fault log_then data_then
   pub report : IsReportOf runs.script (Some (ran_of runs.played)) read text
 
 -- The same of a text of `crash`: the devices were crashed at the end of the run, whatever ended it, and then read.
-pub record TellsCrash {L D : Type 0} (log_seen : L → Seen) (log_gives : L → Call → L → Type 0) (data_seen : D → Seen)
+pub record TellsCrash {L D : Type 0} (log_seen : L → Seen) (log_gives : L → Call → L → Type 0) (data_seen : D → Seen) (data_gives : D → Call → D → Type 0)
     (handed : Handed) (pick : ℕ) (text : List ℕ) (log_now : Fused L) (data_now : Fused D) : Type 0 where
   pub log_then : Fused L
   pub data_then : Fused D
@@ -214,37 +233,37 @@ pub record TellsCrash {L D : Type 0} (log_seen : L → Seen) (log_gives : L → 
       (guarded log_seen log_now) (guarded data_seen data_now)
   pub read : ℕ × List Content
   pub fault : Option Fault
-  pub run : TellsRun log_seen log_gives data_seen handed (Some read) fault text log_then data_then
+  pub run : TellsRun log_seen log_gives data_seen data_gives handed (Some read) fault text log_then data_then
 
 -- The text is the summary of such a run that no fault ended, and of a reading: since the end of the run the devices mean the same.
-pub record TellsSummary {L D : Type 0} (log_seen : L → Seen) (log_gives : L → Call → L → Type 0) (data_seen : D → Seen)
+pub record TellsSummary {L D : Type 0} (log_seen : L → Seen) (log_gives : L → Call → L → Type 0) (data_seen : D → Seen) (data_gives : D → Call → D → Type 0)
     (handed : Handed) (text : List ℕ) (log_now : Fused L) (data_now : Fused D) : Type 0 where
   pub log_then : Fused L
   pub data_then : Fused D
   pub read_since : AreReadSince 0 0 (guarded log_seen log_then) (guarded data_seen data_then)
       (guarded log_seen log_now) (guarded data_seen data_now)
-  pub runs : RunsAsHanded log_seen log_gives data_seen handed None log_then data_then
+  pub runs : RunsAsHanded log_seen log_gives data_seen data_gives handed None log_then data_then
   pub reading : Reading
   pub text_is : text ≡ summary_of (ran_of runs.played) reading
 
 -- The text of `crash` tells that there was no run: a device stopped opening, and then both were crashed and read.
-pub record TellsNone {L D : Type 0} (log_seen : L → Seen) (log_gives : L → Call → L → Type 0) (data_seen : D → Seen)
+pub record TellsNone {L D : Type 0} (log_seen : L → Seen) (log_gives : L → Call → L → Type 0) (data_seen : D → Seen) (data_gives : D → Call → D → Type 0)
     (handed : Handed) (pick : ℕ) (text : List ℕ) (log_now : Fused L) (data_now : Fused D) : Type 0 where
   pub met : Fault
   pub log_then : Fused L
   pub data_then : Fused D
-  pub stopped : ComesAsHanded log_seen log_gives data_seen handed (course.Stopped met) log_then data_then
+  pub stopped : ComesAsHanded log_seen log_gives data_seen data_gives handed (course.Stopped met) log_then data_then
   pub crashed : AreCrashedSince pick 0 0 (guarded log_seen log_then) (guarded data_seen data_then)
       (guarded log_seen log_now) (guarded data_seen data_now)
   pub read : ℕ × List Content
   pub report : IsReportOf stopped.script None (Some read) text
 
 -- the turns of a run were spent, so many, and this is the least user that hasn't ended
-pub record TellsSpent {L D : Type 0} (log_seen : L → Seen) (log_gives : L → Call → L → Type 0) (data_seen : D → Seen)
+pub record TellsSpent {L D : Type 0} (log_seen : L → Seen) (log_gives : L → Call → L → Type 0) (data_seen : D → Seen) (data_gives : D → Call → D → Type 0)
     (handed : Handed) (count user : ℕ) (log_now : Fused L) (data_now : Fused D) : Type 0 where
   pub script : List ScriptLine
   pub is_script : IsScriptFor handed.command handed.source handed.source_now script
-  pub comes : ComesToSpent log_seen log_gives data_seen handed.log_entry handed.data_entry handed.stops handed.turns script
+  pub comes : ComesToSpent log_seen log_gives data_seen data_gives handed.log_entry handed.data_entry handed.stops handed.turns script
       count user log_now data_now
 
 -- the run met this fault, and nothing was done since
@@ -272,12 +291,13 @@ module _ {L D : Type 0} (log_seen : L → Seen) (data_seen : D → Seen) (log_th
   FailsSince command so_far fault = ⊥
 
 -- This fault ended such a run, or what the command does behind it.
-pub record FailsAsHanded {L D : Type 0} (log_seen : L → Seen) (log_gives : L → Call → L → Type 0) (data_seen : D → Seen) (handed : Handed) (fault : Fault)
+pub record FailsAsHanded {L D : Type 0} (log_seen : L → Seen) (log_gives : L → Call → L → Type 0) (data_seen : D → Seen) (data_gives : D → Call → D → Type 0)
+    (handed : Handed) (fault : Fault)
     (log_now : Fused L) (data_now : Fused D) : Type 0 where
   pub so_far : Course
   pub log_then : Fused L
   pub data_then : Fused D
-  pub comes : ComesAsHanded log_seen log_gives data_seen handed so_far log_then data_then
+  pub comes : ComesAsHanded log_seen log_gives data_seen data_gives handed so_far log_then data_then
   pub fails : FailsSince log_seen data_seen log_then log_now data_then data_now handed.command so_far fault
 
 -- The source had more bytes than a script may have, and no device was called.
@@ -290,21 +310,22 @@ pub record IsTooLong {L D : Type 0} (log_seen : L → Seen) (data_seen : D → S
 
 -- What a fault's line alone tells of a run: where the turns were spent, the devices decided, or the script doesn't fit the store
 -- that was opened. Memory may run out anywhere, and any other fault comes of reading the script.
-abbrev pub TellsFault : {L D : Type 0} → (L → Seen) → (L → Call → L → Type 0) → (D → Seen) → Handed → Fault → Fused L → Fused D → Type 0
-TellsFault log_seen log_gives data_seen handed (Turns count user) log_now data_now = TellsSpent log_seen log_gives data_seen handed count user log_now data_now
-TellsFault log_seen log_gives data_seen handed LogDevice log_now data_now = FailsAsHanded log_seen log_gives data_seen handed LogDevice log_now data_now
-TellsFault log_seen log_gives data_seen handed DataDevice log_now data_now = FailsAsHanded log_seen log_gives data_seen handed DataDevice log_now data_now
-TellsFault log_seen log_gives data_seen handed (Store refusal) log_now data_now =
-    FailsAsHanded log_seen log_gives data_seen handed (Store refusal) log_now data_now
-TellsFault log_seen log_gives data_seen handed (Fit misfit) log_now data_now =
-    IsTooLong log_seen data_seen handed misfit log_now data_now ⊎ FailsAsHanded log_seen log_gives data_seen handed (Fit misfit) log_now data_now
-TellsFault log_seen log_gives data_seen handed fault log_now data_now = Unit {0}
+abbrev pub TellsFault : {L D : Type 0} → (L → Seen) → (L → Call → L → Type 0) → (D → Seen) → (D → Call → D → Type 0)
+    → Handed → Fault → Fused L → Fused D → Type 0
+TellsFault log_seen log_gives data_seen data_gives handed (Turns count user) log_now data_now = TellsSpent log_seen log_gives data_seen data_gives handed count user log_now data_now
+TellsFault log_seen log_gives data_seen data_gives handed LogDevice log_now data_now = FailsAsHanded log_seen log_gives data_seen data_gives handed LogDevice log_now data_now
+TellsFault log_seen log_gives data_seen data_gives handed DataDevice log_now data_now = FailsAsHanded log_seen log_gives data_seen data_gives handed DataDevice log_now data_now
+TellsFault log_seen log_gives data_seen data_gives handed (Store refusal) log_now data_now =
+    FailsAsHanded log_seen log_gives data_seen data_gives handed (Store refusal) log_now data_now
+TellsFault log_seen log_gives data_seen data_gives handed (Fit misfit) log_now data_now =
+    IsTooLong log_seen data_seen handed misfit log_now data_now ⊎ FailsAsHanded log_seen log_gives data_seen data_gives handed (Fit misfit) log_now data_now
+TellsFault log_seen log_gives data_seen data_gives handed fault log_now data_now = Unit {0}
 
 -- the devices of a command that isn't `crash` aren't stopped
 abbrev pub no_stops : Stops
 no_stops = record { log = None; store = None }
 
-module _ {L D : Type 0} (log_seen : L → Seen) (log_gives : L → Call → L → Type 0) (data_seen : D → Seen)
+module _ {L D : Type 0} (log_seen : L → Seen) (log_gives : L → Call → L → Type 0) (data_seen : D → Seen) (data_gives : D → Call → D → Type 0)
     (source source_now : SourceSeen) (log_entry data_entry : Seen) where
   -- the call of a command that runs a script so
   abbrev pub handed_as : Command → Stops → Drive → Handed
@@ -322,30 +343,31 @@ module _ {L D : Type 0} (log_seen : L → Seen) (log_gives : L → Call → L �
   -- reported of a crash.
   abbrev pub TellsByTurns : Command → Outcome → Fused L → Fused D → Type 0
   TellsByTurns (Run drive) (outcome.Text text) log_now data_now =
-      TellsRun log_seen log_gives data_seen (handed_as (Run drive) no_stops drive) None None text log_now data_now
+      TellsRun log_seen log_gives data_seen data_gives (handed_as (Run drive) no_stops drive) None None text log_now data_now
   TellsByTurns (Run drive) (outcome.Report text (Turns count user)) log_now data_now = ⊥
   TellsByTurns (Run drive) (outcome.Report text fault) log_now data_now =
-      TellsRun log_seen log_gives data_seen (handed_as (Run drive) no_stops drive) None (Some fault) text log_now data_now
+      TellsRun log_seen log_gives data_seen data_gives (handed_as (Run drive) no_stops drive) None (Some fault) text log_now data_now
   TellsByTurns (Run drive) (outcome.Fault fault) log_now data_now =
-      TellsFault log_seen log_gives data_seen (handed_as (Run drive) no_stops drive) fault log_now data_now
+      TellsFault log_seen log_gives data_seen data_gives (handed_as (Run drive) no_stops drive) fault log_now data_now
   TellsByTurns (Crash drive stop_log stop_data pick) (outcome.Text text) log_now data_now =
-      TellsNone log_seen log_gives data_seen (handed_as (Crash drive stop_log stop_data pick) (record { log = stop_log; store = stop_data }) drive) pick text log_now data_now
-      ⊎ TellsCrash log_seen log_gives data_seen (handed_as (Crash drive stop_log stop_data pick) (record { log = stop_log; store = stop_data }) drive) pick text log_now data_now
+      TellsNone log_seen log_gives data_seen data_gives (handed_as (Crash drive stop_log stop_data pick) (record { log = stop_log; store = stop_data }) drive) pick text log_now data_now
+      ⊎ TellsCrash log_seen log_gives data_seen data_gives (handed_as (Crash drive stop_log stop_data pick) (record { log = stop_log; store = stop_data }) drive) pick text log_now data_now
   TellsByTurns (Crash drive stop_log stop_data pick) (outcome.Report text fault) log_now data_now = ⊥
   TellsByTurns (Crash drive stop_log stop_data pick) (outcome.Fault fault) log_now data_now =
-      TellsFault log_seen log_gives data_seen (handed_as (Crash drive stop_log stop_data pick) (record { log = stop_log; store = stop_data }) drive) fault log_now data_now
+      TellsFault log_seen log_gives data_seen data_gives (handed_as (Crash drive stop_log stop_data pick) (record { log = stop_log; store = stop_data }) drive) fault log_now data_now
   TellsByTurns (Gen seed users groups true max) (outcome.Text text) log_now data_now =
-      TellsSummary log_seen log_gives data_seen (handed_as (Gen seed users groups true max) no_stops (drive_of_seed seed max)) text log_now data_now
+      TellsSummary log_seen log_gives data_seen data_gives (handed_as (Gen seed users groups true max) no_stops (drive_of_seed seed max)) text log_now data_now
   TellsByTurns (Gen seed users groups true max) (outcome.Report text fault) log_now data_now = ⊥
   TellsByTurns (Gen seed users groups true max) (outcome.Fault fault) log_now data_now =
-      TellsFault log_seen log_gives data_seen (handed_as (Gen seed users groups true max) no_stops (drive_of_seed seed max)) fault log_now data_now
+      TellsFault log_seen log_gives data_seen data_gives (handed_as (Gen seed users groups true max) no_stops (drive_of_seed seed max)) fault log_now data_now
   TellsByTurns command outcome log_now data_now = Unit {0}
 
 -- What the words' command came to was printed; it means what it says of the call, and a run that it tells of is one by its
 -- turns.
-abbrev pub IsByTurns : {L D : Type 0} → (L → Seen) → (L → Call → L → Type 0) → (D → Seen) → LabCall → Fused L → Fused D → Type 0
-IsByTurns log_seen log_gives data_seen lab log_now data_now =
+abbrev pub IsByTurns : {L D : Type 0} → (L → Seen) → (L → Call → L → Type 0) → (D → Seen) → (D → Call → D → Type 0)
+    → LabCall → Fused L → Fused D → Type 0
+IsByTurns log_seen log_gives data_seen data_gives lab log_now data_now =
     (command : Command) → command_of lab.call.words ≡ Some command
     → (outcome : Outcome) × IsOutcomePrinted outcome lab.status lab.sink lab.sink_now × IsOutcome lab.call command outcome
-    × TellsByTurns log_seen log_gives data_seen lab.call.source lab.call.source_now lab.call.log_device lab.call.data_device
+    × TellsByTurns log_seen log_gives data_seen data_gives lab.call.source lab.call.source_now lab.call.log_device lab.call.data_device
     command outcome log_now data_now

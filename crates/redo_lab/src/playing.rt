@@ -10,7 +10,7 @@ ghost use Rattle.redo_machine.specs.{room_from};
 ghost use Rattle.redo_pageactors.specs.{IsRunnable};
 ghost use Rattle.redo_lab.specs.Call.{Guarded, guarded};
 ghost use Rattle.redo_lab.specs.Course.{ComesTo};
-ghost use Rattle.redo_lab.specs.Led.{IsCalled, IsRunFrom};
+ghost use Rattle.redo_lab.specs.Led.{IsAtArming, IsCalled, IsRunFrom};
 ghost use Rattle.redo_lab.specs.declared.playing.Stops.{Stops};
 ghost use Rattle.redo_lab.specs.Turned.{ComesByTurnsTo, IsDrivenTo};
 ghost use Rattle.redo_lab.specs.Playing.{AreArmed, Plays, course_done, course_of, ended_by, fault_of_unfit, played_of, unopened};
@@ -205,7 +205,8 @@ fn open_and_play<L: Sectors, D: Sectors>(
         → ComesTo log_entry data_entry stops turns.now script.now result.course (guarded L.seen result.log) (guarded D.seen result.store) }
     ensures turns { (log_entry data_entry : Seen) (stops : Stops) (log_found data_found : Guarded)
         → AreArmed log_entry data_entry stops log_found data_found (guarded L.seen log) (guarded D.seen store)
-        → ComesByTurnsTo L.seen L.gives D.seen log_entry data_entry stops turns.now script.now result.course result.log result.store }
+        → IsAtArming stops.log log_found.fuse log → IsAtArming stops.store data_found.fuse store
+        → ComesByTurnsTo L.seen L.gives D.seen D.gives log_entry data_entry stops turns.now script.now result.course result.log result.store }
     ensures log_called { IsCalled L.seen L.gives log result.log }
     ensures data_called { IsCalled D.seen D.gives store result.store }
 {
@@ -233,7 +234,7 @@ pub(crate) fn run_lines<L: Sectors, D: Sectors>(
 ) -> Ran<L, D>
     requires { AllByRecursion IsScriptLine script.now }
     ensures comes_to { ComesTo (L.seen log) (D.seen store) stops turns.now script.now result.course (guarded L.seen result.log) (guarded D.seen result.store) }
-    ensures turns { ComesByTurnsTo L.seen L.gives D.seen (L.seen log) (D.seen store) stops turns.now script.now result.course result.log result.store }
+    ensures turns { ComesByTurnsTo L.seen L.gives D.seen D.gives (L.seen log) (D.seen store) stops turns.now script.now result.course result.log result.store }
     ensures log_run { IsRunFrom L.seen L.gives log result.log }
     ensures data_run { IsRunFrom D.seen D.gives store result.store }
 {

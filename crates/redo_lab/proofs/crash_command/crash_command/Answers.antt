@@ -38,7 +38,7 @@ pub returns-clause-turns : goal.returns-clause-turns
 returns-clause-turns g c = λ source source_now read.
     elim c.match-course.branch [
       | in-Ended w ↦ rw (w.outcome-is, w.log-is, w.store-is)
-          (crash-ended-told g.L.Sectors.seen g.L.Sectors.gives g.D.Sectors.seen source source_now _ _ c.args.drive.now c.args.stops c.args.pick w.in-Ended.fault _ _
+          (crash-ended-told g.L.Sectors.seen g.L.Sectors.gives g.D.Sectors.seen g.D.Sectors.gives source source_now _ _ c.args.drive.now c.args.stops c.args.pick w.in-Ended.fault _ _
           (record {
             script = c.args.script.now;
             is_script = read;
@@ -46,7 +46,7 @@ returns-clause-turns g c = λ source source_now read.
             by_turns = rw (c.turns_of.ensures, w.in-Ended.is) at c.run_lines-course.ensures.turns;
           }))
       | in-Stopped w ↦ rw (w.outcome-is, w.log-is, w.store-is)
-          (crash-stopped-told g.L.Sectors.seen g.L.Sectors.gives g.D.Sectors.seen source source_now _ _ c.args.drive.now c.args.stops c.args.pick w.in-Stopped.field-0 _ _ _ _ _
+          (crash-stopped-told g.L.Sectors.seen g.L.Sectors.gives g.D.Sectors.seen g.D.Sectors.gives source source_now _ _ c.args.drive.now c.args.stops c.args.pick w.in-Stopped.field-0 _ _ _ _ _
           (record {
             script = c.args.script.now;
             is_script = read;
@@ -55,7 +55,7 @@ returns-clause-turns g c = λ source source_now read.
           })
           w.crash_and_read-outcome.ensures.reads)
       | in-Played w ↦ rw (w.outcome-is, w.log-is, w.store-is)
-          (crash-played-told g.L.Sectors.seen g.L.Sectors.gives g.D.Sectors.seen source source_now _ _ c.args.drive.now c.args.stops c.args.pick
+          (crash-played-told g.L.Sectors.seen g.L.Sectors.gives g.D.Sectors.seen g.D.Sectors.gives source source_now _ _ c.args.drive.now c.args.stops c.args.pick
           w.in-Played.played w.in-Played.field-1 _ _ _ _ _
           (record {
             script = c.args.script.now;

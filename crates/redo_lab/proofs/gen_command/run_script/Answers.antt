@@ -37,14 +37,14 @@ pub returns-clause-turns : goal.returns-clause-turns
 returns-clause-turns g c = λ source users groups is.
     elim c.match-course.branch [
       | in-Ended2 w ↦ rw (w.outcome-is, w.log-is, w.store-is) (elim w.in-Ended.is [
-        | inl ended ↦ gen-ended-told g.L.Sectors.seen g.L.Sectors.gives g.D.Sectors.seen source source _ _ c.args.seed users groups c.args.max w.in-Ended.fault _ _
+        | inl ended ↦ gen-ended-told g.L.Sectors.seen g.L.Sectors.gives g.D.Sectors.seen g.D.Sectors.gives source source _ _ c.args.seed users groups c.args.max w.in-Ended.fault _ _
             (record {
               script = c.args.script.now;
               is_script = is;
               comes_to = rw (c.turns_of_seed.ensures, ended) at c.run_lines-course.ensures.comes_to;
               by_turns = rw (c.turns_of_seed.ensures, ended) at c.run_lines-course.ensures.turns;
             })
-        | inr stopped ↦ gen-stopped-told g.L.Sectors.seen g.L.Sectors.gives g.D.Sectors.seen source source _ _ c.args.seed users groups c.args.max w.in-Ended.fault _ _
+        | inr stopped ↦ gen-stopped-told g.L.Sectors.seen g.L.Sectors.gives g.D.Sectors.seen g.D.Sectors.gives source source _ _ c.args.seed users groups c.args.max w.in-Ended.fault _ _
             (record {
               script = c.args.script.now;
               is_script = is;
@@ -54,7 +54,7 @@ returns-clause-turns g c = λ source users groups is.
       ])
       | in-Played w ↦ rw (w.outcome-is, w.log-is, w.store-is) (elim w.match-ended.branch [
         | in-Some cut ↦ rw (cut.outcome-is, cut.log-is, cut.store-is)
-            (gen-cut-told g.L.Sectors.seen g.L.Sectors.gives g.D.Sectors.seen source source _ _ c.args.seed users groups c.args.max
+            (gen-cut-told g.L.Sectors.seen g.L.Sectors.gives g.D.Sectors.seen g.D.Sectors.gives source source _ _ c.args.seed users groups c.args.max
             w.in-Played.played cut.in-Some.fault _ _
             (record {
               script = c.args.script.now;
@@ -63,7 +63,7 @@ returns-clause-turns g c = λ source users groups is.
               by_turns = rw (c.turns_of_seed.ensures, w.in-Played.is, cut.in-Some.is) at c.run_lines-course.ensures.turns;
             }))
         | in-None done ↦ rw (done.outcome-is, done.log-is, done.store-is)
-            (gen-played-told g.L.Sectors.seen g.L.Sectors.gives g.D.Sectors.seen source source _ _ c.args.seed users groups c.args.max
+            (gen-played-told g.L.Sectors.seen g.L.Sectors.gives g.D.Sectors.seen g.D.Sectors.gives source source _ _ c.args.seed users groups c.args.max
             w.in-Played.played _ _ _ _ _
             (record {
               script = c.args.script.now;

@@ -1,9 +1,11 @@
 -- A store is opened on armed fuses, and a script is run on it.
+use Rattle.redo_disk.proofs.Made.{weaker_calls}
 use Rattle.redo_memdisk.specs.{seen_through}
 use Rattle.redo_lab.proofs.Led.{called-by, called-then, plays-called}
-use Rattle.redo_lab.proofs.OpenedRun.{driven-comes, opened-comes}
+use Rattle.redo_lab.proofs.OpenedRun.{opened-comes}
+use Rattle.redo_lab.proofs.OpenedTurns.{driven-comes}
 use Rattle.redo_lab.proofs.Turned.{unopened-comes-not}
-use Rattle.redo_lab.proofs.UnderWay.{unopened-comes}
+use Rattle.redo_lab.proofs.UnderWay.{header-first, unopened-comes}
 use Rattle.redo_lab.proofs.playing.open_and_play.Goals as goal
 
 pub returns-in-Ok-clause-comes_to : goal.returns-in-Ok-clause-comes_to
@@ -17,15 +19,15 @@ returns-in-Ok-clause-comes_to g c = λ log_entry data_entry stops log_found data
         ready = c.in-Ok.ensures.ready;
         read = c.in-Ok.ensures.read;
         runnable = c.in-Ok.ensures.runnable;
-        log_calls = c.in-Ok.ensures.log_calls;
-        data_calls = c.in-Ok.ensures.data_calls;
+        log_calls = weaker_calls (λ calls opens. header-first opens.ends opens.header) c.in-Ok.ensures.log_calls;
+        data_calls = weaker_calls (λ calls opens. opens.ends) c.in-Ok.ensures.data_calls;
         marks = c.in-Ok.ensures.marks;
       };
     })
     c.play.ensures.plays
 
 pub returns-in-Ok-clause-turns : goal.returns-in-Ok-clause-turns
-returns-in-Ok-clause-turns g c = λ log_entry data_entry stops log_found data_found armed.
+returns-in-Ok-clause-turns g c = λ log_entry data_entry stops log_found data_found armed log_at data_at.
     driven-comes {log_gives = g.L.Sectors.gives} {data_gives = g.D.Sectors.gives} c.args.turns.now c.args.script.now c.play.result.course c.play.result.log c.play.result.store
     (record {
       laws = record { one_reading = c.one_reading.ensures; one_answer = c.one_answer.ensures.read; formatted = c.formatted_is_openable.ensures };
@@ -35,12 +37,12 @@ returns-in-Ok-clause-turns g c = λ log_entry data_entry stops log_found data_fo
         ready = c.in-Ok.ensures.ready;
         read = c.in-Ok.ensures.read;
         runnable = c.in-Ok.ensures.runnable;
-        log_calls = c.in-Ok.ensures.log_calls;
-        data_calls = c.in-Ok.ensures.data_calls;
+        log_calls = weaker_calls (λ calls opens. header-first opens.ends opens.header) c.in-Ok.ensures.log_calls;
+        data_calls = weaker_calls (λ calls opens. opens.ends) c.in-Ok.ensures.data_calls;
         marks = c.in-Ok.ensures.marks;
       };
     })
-    c.play.ensures.turns
+    log_at data_at c.play.ensures.turns
 
 pub returns-in-Err-clause-comes_to : goal.returns-in-Err-clause-comes_to
 returns-in-Err-clause-comes_to g c = λ log_entry data_entry stops log_found data_found armed.
@@ -51,14 +53,14 @@ returns-in-Err-clause-comes_to g c = λ log_entry data_entry stops log_found dat
       keeps = c.in-Err.ensures.keeps;
       unmoved = c.in-Err.ensures.unmoved;
       cause = c.in-Err.ensures.cause;
-      log_calls = c.in-Err.ensures.log_calls;
-      data_calls = c.in-Err.ensures.data_calls;
+      log_calls = weaker_calls (λ calls opens. header-first opens.ends opens.header) c.in-Err.ensures.log_calls;
+      data_calls = weaker_calls (λ calls opens. opens.ends) c.in-Err.ensures.data_calls;
     }))
 
 pub returns-in-Err-clause-turns : goal.returns-in-Err-clause-turns
-returns-in-Err-clause-turns g c = λ log_entry data_entry stops log_found data_found armed.
+returns-in-Err-clause-turns g c = λ log_entry data_entry stops log_found data_found armed log_at data_at.
     rw c.unopened.ensures
-    (unopened-comes-not g.L.Sectors.seen g.L.Sectors.gives g.D.Sectors.seen log_entry data_entry stops c.args.turns.now c.args.script.now c.in-Err.log c.in-Err.store c.in-Err.fault)
+    (unopened-comes-not g.L.Sectors.seen g.L.Sectors.gives g.D.Sectors.seen g.D.Sectors.gives log_entry data_entry stops c.args.turns.now c.args.script.now c.in-Err.log c.in-Err.store c.in-Err.fault)
 
 pub returns-in-Ok-clause-log_called : goal.returns-in-Ok-clause-log_called
 returns-in-Ok-clause-log_called g c = called-then (called-by c.in-Ok.ensures.log_calls)

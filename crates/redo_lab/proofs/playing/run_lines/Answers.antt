@@ -5,7 +5,7 @@ use Rattle.redo_lab.specs.Call.{Guarded, guarded}
 use Rattle.redo_lab.specs.Prepared.{ArePrepared}
 use Rattle.redo_lab.proofs.Behind.{entered}
 use Rattle.redo_lab.proofs.Led.{plain-from}
-use Rattle.redo_lab.proofs.Stages.{armed-now}
+use Rattle.redo_lab.proofs.Stages.{armed-now, at-arming-now}
 use Rattle.redo_lab.proofs.playing.run_lines.Goals as goal
 
 pub returns-clause-comes_to : goal.returns-clause-comes_to
@@ -41,6 +41,10 @@ returns-clause-turns g c =
       log_same = ap g.L.Sectors.seen c.arm.ensures.inner;
       data_same = ap g.D.Sectors.seen c.arm-2.ensures.inner;
     })
+    (at-arming-now g.L.Sectors.seen (g.L.Sectors.seen c.args.log) c.args.stops.log c.prepare.new.log c.arm.new.self prepared.log_device
+    c.arm.ensures.inner c.arm.ensures.fuse c.arm.ensures.armed)
+    (at-arming-now g.D.Sectors.seen (g.D.Sectors.seen c.args.store) c.args.stops.store c.prepare.new.store c.arm-2.new.self prepared.data_device
+    c.arm-2.ensures.inner c.arm-2.ensures.fuse c.arm-2.ensures.armed)
 
 pub returns-in-Err-clause-log_run : goal.returns-in-Err-clause-log_run
 returns-in-Err-clause-log_run g c = inl

@@ -4,12 +4,16 @@ use Rattle.redo_memdisk.specs.{seen_through}
 use Rattle.redo_lab.specs.Answer.{shape_of}
 use Rattle.redo_lab.proofs.Behind.{entered, format-leaves, formats-both}
 use Rattle.redo_lab.proofs.Led.{called-by, format-called, plain-from}
-use Rattle.redo_lab.proofs.Formatting.{IsFormatFault, format-ends, format-fails, format-fault}
+use Rattle.redo_lab.proofs.Formatting.{FormatKeeps, IsFormatFault, format-ends, format-fails, format-fault}
 use Rattle.redo_lab.proofs.simple.format_devices.Goals as goal
 use Rattle.redo_lab.proofs.simple.format_devices.Goals.{in-Ok, in-Err}
 
 pub returns-clause-ends : goal.returns-clause-ends
 returns-clause-ends g c = λ words source.
+    let Keeps : Seen → Seen → Type 0 = λ log store. FormatKeeps (shape_of c.args.pages c.args.space c.args.log_blocks) log store
+    (seen_through g.L.Sectors.seen c.format.new.log) (seen_through g.D.Sectors.seen c.format.new.data_device) in
+    let of_entry = entered g.L.Sectors.seen g.D.Sectors.seen c.args.log c.plain-log.result.inner c.args.store c.plain-store.result.inner
+    c.plain-log.ensures.inner c.plain-store.ensures.inner Keeps in
     elim c.match-format.branch [
       | in-Ok w ↦
           let both = formats-both {log_gives = g.L.Sectors.gives} {data_gives = g.D.Sectors.gives} tt (record {
@@ -20,7 +24,7 @@ returns-clause-ends g c = λ words source.
             calls = w.in-Ok.ensures.calls;
           }) in
           rw (w.outcome-is, w.of_text-outcome.ensures) (format-ends _ c.args.pages c.args.space c.args.log_blocks _ refl both c.requires c.formatted_is_openable.ensures
-          (rw c.shape_of.ensures at w.in-Ok.ensures.formatted) w.formatted.ensures)
+          (rw c.shape_of.ensures at w.in-Ok.ensures.formatted) (of_entry (rw c.shape_of.ensures at w.in-Ok.ensures.keeps)) w.formatted.ensures)
       | in-Err w ↦
           let leaves = format-leaves {log_gives = g.L.Sectors.gives} {data_gives = g.D.Sectors.gives} w.in-Err.fault (record {
             log_inner = c.plain-log.ensures.inner;
@@ -33,7 +37,8 @@ returns-clause-ends g c = λ words source.
           (entered g.L.Sectors.seen g.D.Sectors.seen c.args.log c.plain-log.result.inner c.args.store c.plain-store.result.inner c.plain-log.ensures.inner c.plain-store.ensures.inner
           (λ (log : Seen) (store : Seen). IsFormatFault (shape_of c.args.pages c.args.space c.args.log_blocks) log.size store.size w.in-Err.fault)
           (format-fault (shape_of c.args.pages c.args.space c.args.log_blocks) (seen_through g.L.Sectors.seen c.plain-log.result) (seen_through g.D.Sectors.seen c.plain-store.result)
-          (seen_through g.L.Sectors.seen c.format.new.log) (seen_through g.D.Sectors.seen c.format.new.data_device) w.in-Err.fault (rw c.shape_of.ensures at w.in-Err.ensures.cause))))
+          (seen_through g.L.Sectors.seen c.format.new.log) (seen_through g.D.Sectors.seen c.format.new.data_device) w.in-Err.fault (rw c.shape_of.ensures at w.in-Err.ensures.cause)))
+          (of_entry (rw c.shape_of.ensures at w.in-Err.ensures.keeps)))
     ]
 
 pub returns-clause-log_device : goal.returns-clause-log_device

@@ -2,7 +2,7 @@ use Rattle.std.proofs.Common.{inl, refl}
 use Rattle.model_store.specs.{IsReading}
 use Rattle.redo_recover.specs.{HasCauseIn, HasLengthCause, OnContents, reading_of}
 use Rattle.redo_disk.specs.Seen.{Seen}
-use Rattle.redo_lab.proofs.Behind.{entered, log-behind, pieces-behind}
+use Rattle.redo_lab.proofs.Behind.{entered, log-behind, pages-behind}
 use Rattle.redo_lab.proofs.Led.{called-by, plain-from}
 use Rattle.redo_lab.proofs.PlainEnds.{recover-ends, recover-fails}
 use Rattle.redo_lab.proofs.simple.print_pages.Goals as goal
@@ -13,14 +13,14 @@ returns-clause-ends g c = λ words source.
     elim c.match-recover.branch [
       | in-Ok w ↦
           let log = log-behind c.plain-log.ensures.inner c.plain-log.ensures.fuse w.in-Ok.ensures.log_calls in
-          let store = pieces-behind c.plain-store.ensures.inner c.plain-store.ensures.fuse w.in-Ok.ensures.data_calls in
+          let store = pages-behind c.plain-store.ensures.inner c.plain-store.ensures.fuse w.in-Ok.ensures.data_calls in
           rw (w.outcome-is, w.of_text-outcome.ensures) (recover-ends _ (reading_of w.in-Ok.recovered) _
           (record { unread = refl; kept = record { log_device = log.1; data_device = store.1 }; log_device = log.0; data_device = store.0 })
           (entered g.L.Sectors.seen g.D.Sectors.seen c.args.log c.plain-log.result.inner c.args.store c.plain-store.result.inner c.plain-log.ensures.inner c.plain-store.ensures.inner
           (λ (log : Seen) (store : Seen). OnContents log.tells store.tells (λ log_bytes data_bytes. IsReading log_bytes data_bytes (reading_of w.in-Ok.recovered))) w.in-Ok.ensures.read) w.reading_text.ensures)
       | in-Err w ↦
           let log = log-behind c.plain-log.ensures.inner c.plain-log.ensures.fuse w.in-Err.ensures.log_calls in
-          let store = pieces-behind c.plain-store.ensures.inner c.plain-store.ensures.fuse w.in-Err.ensures.data_calls in
+          let store = pages-behind c.plain-store.ensures.inner c.plain-store.ensures.fuse w.in-Err.ensures.data_calls in
           rw (w.outcome-is, w.fault_of.ensures) (recover-fails _ w.in-Err.fault
           (record { unread = refl; kept = record { log_device = log.1; data_device = store.1 }; log_device = log.0; data_device = store.0 })
           (entered g.L.Sectors.seen g.D.Sectors.seen c.args.log c.plain-log.result.inner c.args.store c.plain-store.result.inner c.plain-log.ensures.inner c.plain-store.ensures.inner
