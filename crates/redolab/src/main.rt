@@ -1,6 +1,15 @@
 // The program: the top call on standard input and output, and on two devices in memory or in files.
 #![tactic(auto)]
 
+ghost use Rattle.std.specs.Prelude.{◌≡◌, [], false, map, replicate, None, Some, IfErr, IfOk};
+ghost use Rattle.std.specs.String.{string_bytes};
+ghost use Rattle.model_command.specs.{asked_of};
+ghost use Rattle.model_command.specs.declared.asked.Asked.{Asked};
+ghost use Rattle.model_device.specs.{settled};
+ghost use Rattle.model_report.specs.declared.fault.Fault.TheVariants.{Memory};
+ghost use Rattle.redo_io.specs.{unused};
+ghost use Rattle.redo_lab.specs.declared.shapes.TheConstants.{LOG_LENGTH, STORE_LENGTH};
+
 use model_report::Fault;
 use redo_command::{WordsFault, read_words};
 use redo_disk::Sectors;
@@ -27,7 +36,12 @@ fn words(rt: &HostRuntime) -> Result<Vec<String>, Fault> {
 }
 
 /// Whether the words ask for devices in files. Words that are no command ask for nothing.
-fn asks_for_files(alloc: Global, words: &[String]) -> Result<bool, Fault> {
+fn asks_for_files(alloc: Global, words: &[String]) -> Result<bool, Fault>
+    ensures files { (asked : Asked) → asked_of (map (λ word. string_bytes word) words.now) ≡ Some asked
+        → IfOk result (λ files. files ≡ asked.files) }
+    ensures none { asked_of (map (λ word. string_bytes word) words.now) ≡ None → IfOk result (λ files. files ≡ false) }
+    ensures memory { IfErr result (λ fault. fault ≡ Memory) }
+{
     match read_words(alloc, words) {
         Ok(asked) => Ok(asked.files),
         Err(WordsFault::NotCommand) => Ok(false),
@@ -36,7 +50,12 @@ fn asks_for_files(alloc: Global, words: &[String]) -> Result<bool, Fault> {
 }
 
 /// A log device and a data device in memory.
-fn in_memory(alloc: Global) -> Result<(MemDisk, MemDisk), AllocError> {
+fn in_memory(alloc: Global) -> Result<(MemDisk, MemDisk), AllocError>
+    ensures log { IfOk result (λ devices. devices.0
+        ≡ record { disk = settled (replicate LOG_LENGTH 0); crashed_from = None; plan = unused [] }) }
+    ensures store { IfOk result (λ devices. devices.1
+        ≡ record { disk = settled (replicate STORE_LENGTH 0); crashed_from = None; plan = unused [] }) }
+{
     Ok((
         MemDisk::new(alloc, LOG_LENGTH)?,
         MemDisk::new(alloc, STORE_LENGTH)?,
