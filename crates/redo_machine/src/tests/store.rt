@@ -37,9 +37,8 @@ const DATA: u64 = 65_536;
 /// which the log ends; 1,024 blocks are cleared by writes of 128, and synced; the checkpoint is written and synced.
 pub const LOG_CALLS: u64 = 2 + (8 + 1) + 2;
 
-/// How many calls of the data device it makes: the slots and eight places are read; behind a sync each place is read once to
-/// see whether it passes, and once to see whether it is as it was read.
-pub const DATA_CALLS: u64 = (1 + 8) + 1 + 8 + 8;
+/// How many calls of the data device it makes: the slots and eight places are read, and there is a sync.
+pub const DATA_CALLS: u64 = (1 + 8) + 1;
 
 /// A store that was formatted, and opened on devices that pass so many calls.
 pub fn opened(
