@@ -12,11 +12,6 @@ module _ {A : Type 0} where
   at_set (x ∷ xs) (suc i) zero a b e = inr ((λ h. omega arith), e)
   at_set (x ∷ xs) (suc i) (suc j) a b e = ⊎_elim (λ t. inl (ap suc t.0, t.1)) (λ t. let n = t.0 in inr ((λ h. n (omega arith)), t.1)) (at_set xs i j a b e)
 
-  pub set_here : (l : List A) (i : ℕ) (a : A) → i < length l → get_elem? (set l i a) i ≡ some a
-  set_here [] i a h = absurd (omega arith)
-  set_here (x ∷ xs) zero a h = refl
-  set_here (x ∷ xs) (suc i) a h = set_here xs i a (omega arith)
-
   pub set_else : (l : List A) (i j : ℕ) (a : A) → j ≢ i → get_elem? (set l i a) j ≡ get_elem? l j
   set_else [] i j a n = refl
   set_else (x ∷ xs) zero zero a n = absurd (n refl)

@@ -16,14 +16,6 @@ pub lsn_le : (x y : ℕ) → x ≤ y → lsn x ≤ lsn y
 unfolding lsn
 lsn_le x y h = omega arith
 
-pub lsn_under : (x y : ℕ) → lsn x < lsn y → x < y
-unfolding lsn
-lsn_under x y h = omega arith
-
-pub lsn_back : (x y : ℕ) → lsn x ≤ lsn y → x ≤ y
-unfolding lsn
-lsn_back x y h = omega arith
-
 pub lsn_same : (x y : ℕ) → lsn x ≡ lsn y → x ≡ y
 unfolding lsn
 lsn_same x y h = omega arith
@@ -56,9 +48,6 @@ lsn_offset x = omega arith
 pub floor_lsn : (x : ℕ) → floor (lsn x) ≡ x / BLOCK_DATA * BLOCK_SIZE
 unfolding lsn
 floor_lsn x = omega arith
-
-pub floor_le : (x : ℕ) → floor (lsn x) ≤ lsn x
-floor_le x = omega arith
 
 -- a floor grows with its mark
 pub floor_grows : (x y : ℕ) → x ≤ y → floor x ≤ floor y

@@ -3,7 +3,7 @@ use Rattle.std.specs.Prelude.{ℕ, ◌≡◌, ◌≤◌, ◌<◌, ◌⊎◌, Boo
 use Rattle.model_base.specs.declared.shape.Shape.{Shape}
 use Rattle.model_page.specs.{blank_page, copy_lsn, data_device_length, IsInPlace, IsKept, IsLost, slot_bytes, user_part}
 use Rattle.model_page.specs.declared.content.Content.{Content}
-use Rattle.model_device.specs.{Crashes, settled}
+use Rattle.model_device.specs.{settled}
 use Rattle.model_device.specs.Disk.{Disk}
 use Rattle.std.specs.List.{slice_index_or as get_or}
 use Rattle.model_store.specs.{IsFair}
@@ -97,12 +97,6 @@ pub record CrashKeeps (shape : Shape) (top was : ℕ → Content) (batch : List 
   pub not_lost : (p : ℕ) → p < shape.pages → IsLost shape image p → ⊥
   pub known : (p slot lsn : ℕ) → p < shape.pages → slot < shape.slots → copy_lsn shape image p slot ≡ Some lsn
       → IsKnown (IsUpTo top) batch p (copied shape image slot lsn)
-
--- a crash left the device so, and if the bytes are fair they hold the pages
-pub record IsLeft (shape : Shape) (top was : ℕ → Content) (batch : List Fresh) (disk : Disk) : Type 0 where
-  pub before : Disk
-  pub crashed : Crashes before disk
-  pub keeps : IsFair shape before disk.base → CrashKeeps shape top was batch disk.base
 
 -- the pages of a store as they are read
 abbrev pub read_as : Reading → ℕ → Content

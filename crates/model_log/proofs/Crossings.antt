@@ -16,9 +16,6 @@ crossing-choice b whole wholes test is = ap (λ (t : Bool). cond t (Some whole.e
 ends_in-block : (b : ℕ) (span : Span) → ends_in b span ≡ true → block_of span.end ≡ b
 ends_in-block b span is = grind (arith, nat_tests)
 
-ends_in-before : (b : ℕ) (span : Span) → ends_in b span ≡ true → block_of span.start < b
-ends_in-before b span is = grind (arith, nat_tests)
-
 not-ends_in : (b : ℕ) (span : Span) → b % 512 ≡ 0 → span.start < b → b ≤ span.end → span.end < b + 512 → ends_in b span ≡ true
 not-ends_in b span aligned before from below = grind (arith, nat_tests)
 
@@ -32,42 +29,6 @@ crosses-none s (whole ∷ wholes) b place run aligned low =
     let first : First s whole = first-of s whole wholes place run in
     crossing-choice b whole wholes false (starts-behind b (span_of whole) aligned (omega (arith, first.start)))
     ∙ crosses-none whole.end wholes b first.place (run-first run).2 aligned (omega (arith, first.rises))
-
--- The group that crosses into a block that starts below a boundary ends in it, at the place of a byte, and no later
--- than the boundary.
-pub record IsCrossing (m b end : ℕ) : Type 0 where
-  pub inside : block_of end ≡ b
-  pub place : IsDataLsn end
-  pub below : end ≤ m
-
-first-crosses : (s : ℕ) (whole : Whole) (wholes : List Whole) (m b : ℕ) → IsDataLsn s → IsRunOf s (whole ∷ wholes) → IsBoundary s (spans_of (whole ∷ wholes)) m
-    → b % 512 ≡ 0 → b ≤ m → ends_in b (span_of whole) ≡ true → IsCrossing m b whole.end
-first-crosses s whole wholes m b place run boundary aligned low crosses =
-    let first : First s whole = first-of s whole wholes place run in
-    let before : block_of whole.start < b = ends_in-before b (span_of whole) crosses in
-    record {
-      inside = ends_in-block b (span_of whole) crosses;
-      place = first.place;
-      below = ⊎_elim (λ same. let start : m ≡ s = same in absurd (omega (arith, first.start)))
-          (λ later. (boundary-reached whole.end wholes m first.place (run-first run).2 later).behind) boundary;
-    }
-
-pub crossing-found : (s : ℕ) (wholes : List Whole) (m b end : ℕ) → IsDataLsn s → IsRunOf s wholes → IsBoundary s (spans_of wholes) m
-    → b % 512 ≡ 0 → b ≤ m → crossing_end b (spans_of wholes) ≡ Some end → IsCrossing m b end
-crossing-found s [] m b end place run boundary aligned low found = absurd cc
-crossing-found s (whole ∷ wholes) m b end place run boundary aligned low found =
-    let first : First s whole = first-of s whole wholes place run in
-    let rest : IsRunOf whole.end wholes = (run-first run).2 in
-    ⊎_elim (λ crosses.
-    let one : Some whole.end ≡ Some end = sym (crossing-choice b whole wholes true crosses) ∙ found in
-    let same : whole.end ≡ end = cc in
-    subst (λ (lsn : ℕ). IsCrossing m b lsn) same (first-crosses s whole wholes m b place run boundary aligned low crosses))
-    (λ passed.
-    let others : crossing_end b (spans_of wholes) ≡ Some end = sym (crossing-choice b whole wholes false passed) ∙ found in
-    ⊎_elim (λ same.
-    let none : crossing_end b (spans_of (whole ∷ wholes)) ≡ None = crosses-none s (whole ∷ wholes) b place run aligned (subst (λ (lsn : ℕ). b ≤ lsn) same low) in
-    absurd cc)
-    (λ later. crossing-found whole.end wholes m b end first.place rest later aligned low others) boundary) (cases_Bool (ends_in b (span_of whole)))
 
 -- WHAT THE FIRST OFFSET OF A BLOCK SAYS
 

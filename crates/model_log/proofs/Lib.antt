@@ -1,6 +1,5 @@
 pub mod BlockRound
 pub mod Blocks
-pub mod Boundaries
 pub mod BoundaryLengths
 pub mod BoundaryRound
 pub mod CheckpointRound
@@ -12,4 +11,3 @@ pub mod HeadRound
 pub mod Heads
 pub mod Runs
 pub mod Sealed
-pub mod Seals

@@ -1,5 +1,5 @@
 -- Runs taken apart and joined, their boundaries, and where the groups of a run end.
-use Rattle.std.proofs.Common.{◌≡◌, ◌≤◌, ◌+◌, ◌⊎◌, ℕ, inl, inr, List, [], ◌∷◌, ◌++◌, length, refl, sym, ap, subst, ◌∙◌, ⊎_elim, append_assoc, length-append, arith}
+use Rattle.std.proofs.Common.{◌≡◌, ◌≤◌, ◌+◌, ℕ, inl, inr, List, [], ◌∷◌, ◌++◌, length, refl, sym, ap, subst, ◌∙◌, ⊎_elim, append_assoc, length-append, arith}
 use Rattle.std.specs.List.{AllByRecursion}
 use Rattle.std.proofs.lemmas.Bool.Decides.{nat_tests}
 use Rattle.model_record.specs.declared.group.Whole.{Whole}
@@ -43,12 +43,6 @@ boundary-front s (span ∷ front) back m is = ⊎_elim (λ same. inl same) (λ l
 pub boundary-back : (s : ℕ) (front back : List Span) (m : ℕ) → IsBoundary (end_of s front) back m → IsBoundary s (front ++ back) m
 boundary-back s [] back m is = is
 boundary-back s (span ∷ front) back m is = inr (boundary-back span.end front back m is)
-
-pub boundary-parts : (s : ℕ) (front back : List Span) (m : ℕ) → IsBoundary s (front ++ back) m → IsBoundary s front m ⊎ IsBoundary (end_of s front) back m
-boundary-parts s [] back m is = inr is
-boundary-parts s (span ∷ front) back m is =
-    ⊎_elim (λ same. inl (inl same))
-    (λ later. ⊎_elim (λ here. inl (inr here)) (λ behind. inr behind) (boundary-parts span.end front back m later)) is
 
 -- GROUPS
 

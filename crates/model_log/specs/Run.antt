@@ -4,7 +4,7 @@ use Rattle.std.specs.Prelude.{ℕ, ◌≡◌, ◌+◌, ◌⊎◌, List, [], ◌�
 use Rattle.std.specs.List.{AllByRecursion}
 use Rattle.model_record.specs.{group_length}
 use Rattle.model_record.specs.declared.group.Whole.{Whole}
-use Rattle.model_log.specs.Lsn.{lsn_of, sn_of, IsAtDataStart}
+use Rattle.model_log.specs.Lsn.{lsn_of, sn_of}
 
 -- the lsns between which a piece stands
 pub record Span : Type 0 where
@@ -41,9 +41,3 @@ HasItsLength whole = whole.end ≡ lsn_of (sn_of whole.start + group_length whol
 pub record IsRunOf (s : ℕ) (wholes : List Whole) : Type 0 where
   pub tiled : IsTiled s (spans_of wholes)
   pub lengths : AllByRecursion HasItsLength wholes
-
--- a run of groups from the first data byte of a block on, and one of its boundaries
-pub record IsRunTo (s : ℕ) (wholes : List Whole) (m : ℕ) : Type 0 where
-  pub starts : IsAtDataStart s
-  pub run : IsRunOf s wholes
-  pub boundary : IsBoundary s (spans_of wholes) m

@@ -1,10 +1,10 @@
 -- What is read of a store that was just formatted.
-use Rattle.std.proofs.Common.{◌≡◌, ◌≤◌, ◌<◌, ◌+◌, ◌-◌, ◌*◌, ◌%◌, ◌^◌, ◌&&◌, ◌==◌, ◌++◌, ℕ, zero, suc, inl, inr, Bool, true, false, cond, List, [], ◌∷◌, length, take, drop, replicate, Option, Some, None, refl, sym, ap, subst, ◌∙◌, ⊎_elim, arith, lit≤, lit<}
+use Rattle.std.proofs.Common.{◌≡◌, ◌≤◌, ◌<◌, ◌+◌, ◌-◌, ◌*◌, ◌%◌, ◌&&◌, ◌==◌, ◌++◌, ℕ, zero, suc, inl, inr, Bool, true, false, cond, List, [], length, take, drop, replicate, Option, Some, None, refl, sym, ap, ◌∙◌, ⊎_elim, arith, lit≤, lit<}
 use Rattle.std.proofs.Math.Seq.{take-add}
 use Rattle.std.specs.List.{slice_get}
 use Rattle.std.specs.Option.{option_map}
 use Rattle.std.specs.Prelude.{nat_le, nat_lt}
-use Rattle.std.proofs.lemmas.List.{drop-take, take-take, length-replicate, replicate-append-replicate, length-take-le}
+use Rattle.std.proofs.lemmas.List.{drop-take, take-take, length-replicate, replicate-append-replicate}
 use Rattle.model_base.specs.{IsWithinLimits}
 use Rattle.model_base.specs.declared.shape.Shape.{Shape}
 use Rattle.model_base.specs.declared.limits.TheConstants.{BLOCK_SIZE, START_LSN}
@@ -13,15 +13,15 @@ use Rattle.model_datadev.proofs.Zeros.{zeros-opened}
 use Rattle.model_datadev.proofs.Stretches.{stretch-piece}
 use Rattle.model_device.specs.{sector, settled}
 use Rattle.model_device.specs.Disk.{Disk}
-use Rattle.model_log.specs.{checkpoint_text, fits_checksum, head_text, header_block, is_checkpoint, log_block, log_device_length, newer, newest_checkpoint, offset_of, place_of, read_block, read_checkpoint, read_head}
+use Rattle.model_log.specs.{fits_checksum, header_block, log_block, newer, newest_checkpoint, offset_of, place_of, read_block, read_checkpoint, read_head}
 use Rattle.model_log.specs.declared.block.BlockView.{BlockView}
-use Rattle.model_log.specs.declared.head.Head.TheVariants.{Good, Unformatted}
+use Rattle.model_log.specs.declared.head.Head.TheVariants.{Unformatted}
 use Rattle.model_log.proofs.HeadRound.{head-reads_back}
 use Rattle.model_log.proofs.CheckpointRound.{checkpoint-reads_back}
 use Rattle.model_number.specs.{after_bit, after_byte, after_eight_bits, crc_of, field, register_after}
-use Rattle.model_page.specs.{blank_page, copy_lsn, copy_lsn_by, data_device_length, IsInPlace, page_check, place_lsn_by, slot_bytes, stretch_at, user_part}
+use Rattle.model_page.specs.{blank_page, copy_lsn, copy_lsn_by, data_device_length, IsInPlace, page_check, place_lsn_by, stretch_at, user_part}
 use Rattle.model_page.specs.declared.content.Content.{Content}
-use Rattle.model_store.specs.{HasDevices, IsOrderly, IsReading, IsReadPage, lsn_at, Refuses, Taken, taken_from, view_at}
+use Rattle.model_store.specs.{HasDevices, IsOrderly, IsReading, IsReadPage, Refuses, Taken, taken_from, view_at}
 use Rattle.model_store.specs.declared.refusal.Refusal.TheVariants.{NotFormatted}
 use Rattle.model_opening.specs.Cleared.{zero_block}
 use Rattle.model_opening.specs.Formatted.{IsFormattedLog, IsFormattedData, IsFormatted, formatted_store}

@@ -102,17 +102,3 @@ replay-again shape p q s (whole ∷ wholes) kept page place run each way is =
     (⊎_elim (λ own. omega (arith, before.0, ap (λ (c : Content). c.lsn) before.1)) (λ late. absurd (omega (arith, before.0, late.0, first.start))) way))
     (λ new. not-replayed page.lsn whole.start changed page (omega (arith, new.1, first.start))) other) (step-of p q whole kept) in
     ap (replayed p page.lsn wholes) stays ∙ replay-again shape p q whole.end wholes next page first.place later each.1 on.way is
-
--- A page whose lsn is 0 when it is read was kept so: no group is applied to it.
-pub replayed-blank : (shape : Shape) (p q s : ℕ) (wholes : List Whole) (kept : Content) → IsDataLsn s → IsRunOf s wholes
-    → AllByRecursion (IsStorable shape) (groups_of wholes) → IsOnTheWay q s kept → (replayed p q wholes kept).lsn ≡ 0 → replayed p q wholes kept ≡ kept
-replayed-blank shape p q s [] kept place run each way none = refl
-replayed-blank shape p q s (whole ∷ wholes) kept place run each way none =
-    let first : First s whole = first-of s whole wholes place run in
-    let next : Content = replayed_one p q whole kept in
-    let on : GoesOn q s whole.end kept next = goes-on p q s whole kept first way in
-    let later : IsRunOf whole.end wholes = (run-first run).2 in
-    let rises : next.lsn ≤ (replayed p q wholes next).lsn = rises-to p q whole.end wholes next first.place later on.way in
-    let ends : s < whole.end = first-ends shape s whole place first each.0 in
-    let others : replayed p q wholes next ≡ next = replayed-blank shape p q whole.end wholes next first.place later each.1 on.way none in
-    ⊎_elim (λ untouched. others ∙ untouched.1) (λ other. ⊎_elim (λ before. others ∙ before.1) (λ new. absurd (omega (arith, new.1))) other) (step-of p q whole kept)

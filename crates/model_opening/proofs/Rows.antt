@@ -1,5 +1,5 @@
 -- Rows of blocks that are read, and their data joined.
-use Rattle.std.proofs.Common.{◌≡◌, ◌≢◌, ◌&&◌, ◌≤◌, ◌<◌, ◌+◌, ◌-◌, ◌*◌, ◌%◌, ◌==◌, ℕ, suc, min, Bool, true, false, cond, List, [], ◌∷◌, ◌++◌, length, take, drop, Option, Some, None, refl, sym, ap, ◌∙◌, ⊎_elim, append_assoc, length-append, length-take, length-drop, arith}
+use Rattle.std.proofs.Common.{◌≡◌, ◌≤◌, ◌<◌, ◌+◌, ◌-◌, ◌*◌, ◌%◌, ◌==◌, ℕ, suc, min, Bool, true, false, cond, List, [], ◌∷◌, ◌++◌, length, take, drop, Option, Some, None, refl, sym, ap, ◌∙◌, ⊎_elim, append_assoc, length-append, length-take, length-drop, arith}
 use Rattle.std.specs.Prelude.{nat_lt}
 use Rattle.std.specs.List.{slice_get}
 use Rattle.std.specs.Option.{option_map}
@@ -7,7 +7,7 @@ use Rattle.std.proofs.lemmas.Bool.{cases_Bool}
 use Rattle.std.proofs.lemmas.Bool.Decides.{nat_tests}
 use Rattle.model_base.specs.declared.shape.Shape.{Shape}
 use Rattle.model_base.specs.declared.limits.TheConstants.{LSN_LIMIT}
-use Rattle.model_log.specs.{fits_checksum, fits_number, is_block_at, is_first, is_full, is_length, log_block, log_device_length, offset_of, read_block, view_of}
+use Rattle.model_log.specs.{is_full, log_block, log_device_length, offset_of, read_block}
 use Rattle.model_log.specs.declared.block.BlockView.{BlockView}
 use Rattle.model_store.specs.{bytes_of, data_at, groups_start, joined, lsn_at, Taken, taken_from, view_at}
 use Rattle.model_store.proofs.Taking.{data_at-some}

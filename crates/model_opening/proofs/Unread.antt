@@ -36,9 +36,6 @@ own-number lsn bytes view is =
     and-first (fits_number lsn bytes) (is_length (view_of bytes).length) (is_first (view_of bytes).length (view_of bytes).first) (fits_checksum bytes) test in
     grind (arith, nat_tests)
 
-zero-number : field 4 0 zero_block ≡ 0
-zero-number = refl
-
 -- no block number is 0
 pub zeros-unread : (lsn : ℕ) → read_block lsn zero_block ≡ None
 zeros-unread lsn = other-number lsn zero_block (λ is. (let same : 0 ≡ block_number lsn = is in absurd (omega arith)))

@@ -96,10 +96,6 @@ one_page_later p from origin log log' closed closed' given stable stable' w w' l
 })
 
 module _ (E : DataSide) (c : Setup) (seat_of : ℕ → ℕ) (m m' : SharedWords) (log log' : List Entry) (h h' : PageGhost) (ls ls' : ℕ → List Listed) (d d' : E.Part) where
-  -- the page's latch is held by another seat
-  abbrev Else : ℕ → ℕ → Type 0
-  Else seat p = ((page_words_at m.page_words p).latch ≡ 1) × (h.holder p ≢ seat)
-
   -- what a step of a seat leaves to all others
   pub record PageLater (seat : ℕ) : Type 0 where
     pub longer : Longer log log'

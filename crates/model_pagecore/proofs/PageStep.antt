@@ -197,21 +197,6 @@ module _ (E : DataSide) (c : Setup) (seat_of : ℕ → ℕ) (m : SharedWords) (l
       after = λ k a b. else ((change_at g.changes k).page) (group_in_hand E c m log h ls d g o.at) (Cells 0) Before AgreeBelow (λ z. apart page k a b (sym z)) (o.after k a b);
     }
 
-  -- it goes on to its next page
-  pub work_next : (g : Entry) (page : ℕ) → page < length g.changes → PagesInHand E c m log h ls d seat g page All Last IsListed → PagesInHand E c m log h ls d seat g (page + 1) (Cells 0) Before AgreeBelow
-  work_next g page pl o = record {
-    at = o.at;
-    is = o.is;
-    not_closed = o.not_closed;
-    last = o.last;
-    before = λ k a b. elim (ℕ_discrete k page) [
-      | yes e ↦ subst (λ (i : ℕ). At E c m log h ls d seat ((change_at g.changes i).page) (group_in_hand E c m log h ls d g o.at) All Last IsListed) (sym e) (o.here pl)
-      | no n ↦ o.before k (omega arith) b
-    ];
-    here = λ l. o.after (page + 1) (omega arith) l;
-    after = λ k a b. o.after k (omega arith) b;
-  }
-
   -- a list's turn word is taken or given, and what the list says of a page of the seat's may change
   module _ (i x : ℕ) (turns : ℕ → ℕ) (ls' : ℕ → List Listed) (long : length m.lists ≡ 4) (low : i < 4) (mine : (slice_index m.lists i ≡ 0) ⊎ (h.list_holder i ≡ seat)) (same : (j : ℕ) → j ≢ i → turns j ≡ h.list_holder j) where
     abbrev pub list_mem : SharedWords
@@ -219,9 +204,6 @@ module _ (E : DataSide) (c : Setup) (seat_of : ℕ → ℕ) (m : SharedWords) (l
 
     abbrev pub list_folio : PageGhost
     list_folio = record h { list_holder = turns }
-
-    pub list_here : slice_index list_mem.lists i ≡ x
-    list_here = get_or-set_same m.lists i x 0 (omega arith)
 
     pub list_at : (q : ℕ) (k : GroupInHand) (f : FrameStage) (n : NewestStage) (t : ListingStage) → listed ls' q ≡ listed ls q → At E c m log h ls d seat q k f n t → At E c list_mem log list_folio ls' d seat q k f n t
     list_at q k f n t e o = record {
@@ -267,9 +249,6 @@ module _ (E : DataSide) (c : Setup) (seat_of : ℕ → ℕ) (m : SharedWords) (l
 
     abbrev pub ring_folio : PageGhost
     ring_folio = record h { closed = closed; tail = tail }
-
-    pub ring_at : (q : ℕ) (k : GroupInHand) (f : FrameStage) (n : NewestStage) (t : ListingStage) → At E c m log h ls d seat q k f n t → At E c ring_mem log ring_folio ls d seat q k f n t
-    ring_at q k f n t o = record { there = o.there; latched = o.latched; mine = o.mine; page = o.page }
 
     pub ring_step : (b : Actor) → ClosedLinks log closed ctail tail (lsn m.sn) links → m.ctail ≤ ctail
         → ((q : ℕ) → q < c.pages → OnePage q (lsn c.base) (c.opened q) log closed h.given stable (page_words_at m.page_words q) (listed ls q) (h.kept_page q))

@@ -77,9 +77,6 @@ module _ (E : DataSide) (c : Setup) (seat_of : ℕ → ℕ) (m : SharedWords) (l
     abbrev w : PageWords
     w = page_words_at m.page_words (page_of u)
 
-    mine_at : (f : FrameStage) (n : NewestStage) (t : ListingStage) (o : PagesInHand E c m log h ls d seat g u.page f n t) → u.page < length (changes u) → At E c m log h ls d seat p (group_in_hand E c m log h ls d g o.at) f n t
-    mine_at f n t o l = o.here l
-
     mine_cells : u.page < length (changes u) → (◌≡◌ {A = List CellWrite} (cells_on p (changes u)) (cells_of u)) × (touches p (changes u) ≡ true)
     mine_cells l = cells_mine (changes u) u.page l (λ i lt. own.apart u.k i u.page lt l)
 

@@ -2,7 +2,7 @@
 use Rattle.std.proofs.Common.{Bool, List, [], ap, arith, cond, eqb, false, length, refl, set, suc, sym, true, zero, ℕ, ◌%◌, ◌*◌, ◌++◌, ◌+◌, ◌<◌, ◌∙◌, ◌∷◌, ◌≡◌}
 use Rattle.std.specs.Prelude.{None, slice_index, slice_set}
 use Rattle.model_core.proofs.Groups.{back, front}
-use Rattle.model_core.specs.{answer_of, cells_at, closed_links_at, firsts_at, flat, flat_page_words, found, index, IsSized, IsWord, list_answer, Listed, oldest_end, OpWords, page_stride, page_words_at, pages_at, PageWords, read, rows, shared_answer, shared_left, SharedWords, with_page_words, word_found, words_left, wrote}
+use Rattle.model_core.specs.{answer_of, cells_at, closed_links_at, firsts_at, flat, flat_page_words, index, IsSized, IsWord, list_answer, Listed, oldest_end, OpWords, page_stride, page_words_at, pages_at, PageWords, read, rows, shared_answer, shared_left, SharedWords, with_page_words, words_left, wrote}
 use Rattle.model_core.specs.declared.ops.Answer.{Answer}
 use Rattle.model_core.specs.declared.ops.Op.{Op}
 use Rattle.model_core.specs.declared.words.Word.{Word}
@@ -138,13 +138,6 @@ module _ (pages : ℕ) (m : SharedWords) (s : IsSized pages m) where
   flat_wrote (word.Oldest p) h x = paged_wrote (pages_at + (p * page_stride + 2)) p 2 x (record (page_words_at m.page_words p) { oldest = x }) refl h (omega arith) refl
   flat_wrote (word.Frame p i) h x = paged_wrote (pages_at + (p * page_stride + (3 + i))) p (3 + i) x (record (page_words_at m.page_words p) { frame = slice_set (page_words_at m.page_words p).frame i x }) refl h.0 (let z = h.1 in omega arith)
       (ap (λ (j : ℕ). slice_set (leaf_words (page_words_at m.page_words p)) j x) (let e : 3 + i ≡ suc (suc (suc i)) = omega arith in e))
-
-  flat_found : (o : Op) → OpWords pages o → word_found o (flat m) ≡ found o m
-  flat_found (op.Load w) h = flat_read w h
-  flat_found (op.Store w x) h = flat_read w h
-  flat_found (op.Add w k) h = flat_read w h
-  flat_found (op.Swap w a b) h = flat_read w h
-  flat_found _ h = refl
 
   take_list : (i : ℕ) → i < 4 → cond (eqb (slice_index (flat m) (8 + i)) 0) (slice_set (flat m) (8 + i) 1) (flat m) ≡ flat (cond (eqb (slice_index m.lists i) 0) (record m { lists = slice_set m.lists i 1 }) m)
   take_list i h = ap (λ (n : ℕ). cond (eqb n 0) (slice_set (flat m) (8 + i) 1) (flat m)) (flat_read (word.List i) h) ∙ ap (λ (z : List ℕ). cond (eqb (slice_index m.lists i) 0) z (flat m)) (flat_wrote (word.List i) h 1) ∙ by (eqb (slice_index m.lists i) 0)

@@ -21,20 +21,6 @@ pub view_at-is : (shape : Shape) (image : List ℕ) (lsn : ℕ)
     → view_at shape image lsn ≡ cond (ltb lsn LSN_LIMIT) (read_block lsn (log_block shape lsn image)) None
 view_at-is shape image lsn = view_of-when (ltb lsn LSN_LIMIT) (log_block shape lsn image) (read_block lsn (log_block shape lsn image))
 
--- below the limit the view is that of the block that stands there
-pub view_at-read : (shape : Shape) (image : List ℕ) (lsn : ℕ) → ltb lsn LSN_LIMIT ≡ true
-    → view_at shape image lsn ≡ read_block lsn (log_block shape lsn image)
-view_at-read shape image lsn low =
-    let bytes = log_block shape lsn image in
-    ap (λ test. option_map (λ (block : Taken). block.view) (cond test (taken_from bytes (read_block lsn bytes)) None)) low
-    ∙ view_of-taken_from bytes (read_block lsn bytes)
-
--- at the limit or above there is none
-pub view_at-none : (shape : Shape) (image : List ℕ) (lsn : ℕ) → ltb lsn LSN_LIMIT ≡ false → view_at shape image lsn ≡ None
-view_at-none shape image lsn high =
-    let bytes = log_block shape lsn image in
-    ap (λ test. option_map (λ (block : Taken). block.view) (cond test (taken_from bytes (read_block lsn bytes)) None)) high
-
 view_split : (test : Bool) (bytes : List ℕ) (o : Option BlockView) (view : BlockView)
     → option_map (λ (block : Taken). block.view) (cond test (taken_from bytes o) None) ≡ Some view → (test ≡ true) × (o ≡ Some view)
 view_split true bytes o view e = (refl, sym (view_of-taken_from bytes o) ∙ e)

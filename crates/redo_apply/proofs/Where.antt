@@ -50,12 +50,6 @@ left-other p rec rest all end held false is other = refl
 same-from : (froms : List ℕ) (p q from own : ℕ) → slice_get froms p ≡ Some from → slice_get froms q ≡ Some own → q ≡ p → own ≡ from
 same-from froms p q from own at_from at_own on = let both : Some own ≡ Some from = sym at_own ∙ ap (slice_get froms) on ∙ at_from in cc
 
-pub where-begins : (froms : List ℕ) (group : List Rec) (start end : ℕ) (old : List Content) → IsWhereUnderWay froms group start end 0 old old
-where-begins froms group start end old = record {
-  each = λ p from content at_from at. record { held = content; now_is = at; left = refl };
-  its_pages = λ shape are fits. are;
-}
-
 pub where-own : (froms : List ℕ) (group : List Rec) (start end i : ℕ) (old now new : List Content) (rec : Rec) (own : ℕ) → slice_get froms (page_of rec) ≡ Some own
     → own ≤ start → slice_get group i ≡ Some rec → IsWhereUnderWay froms group start end i old now → new ≡ applied (rec ∷ []) end now
     → IsWhereUnderWay froms group start end (i + 1) old new

@@ -5,7 +5,7 @@ use Rattle.redo_disk.specs.declared.error.DevError.{DevError}
 use Rattle.redo_disk.specs.declared.error.DevError.TheVariants.{NoMemory}
 use Rattle.redo_disk.specs.Calls.{Answer, Call, Reads, Writes, Syncs, answer_of, error_of, Request, ToSync, request_of, put_requests, EndWith, MayEndWith, Serve}
 use Rattle.redo_disk.specs.Made.{Makes, MakesCall, MakesCalls}
-use Rattle.redo_disk.proofs.Calls.{EndWith-append, MayEndWith-append, MayEndWith-ends, MayEndWith-no_memory, Serve-append, Serve-cut}
+use Rattle.redo_disk.proofs.Calls.{EndWith-append, MayEndWith-ends, MayEndWith-no_memory, Serve-append, Serve-cut}
 
 pub Makes-append : {D : Type 0} (gives : D → Call → D → Type 0) (old middle new : D) (xs ys : List Call) → Makes gives old xs middle → Makes gives middle ys new → Makes gives old (xs ++ ys) new
 Makes-append gives old middle new [] ys front back = subst (λ d. Makes gives d ys new) front back
@@ -28,10 +28,6 @@ joined_calls {D} {gives} {old} {middle} {new} joins front back = record {
 pub ends_then : {D : Type 0} {gives : D → Call → D → Type 0} {old middle new : D} {error : Option DevError}
     → MakesCalls gives old middle (EndWith None) → MakesCalls gives middle new (EndWith error) → MakesCalls gives old new (EndWith error)
 ends_then {error = error} = joined_calls (EndWith-append error)
-
-pub may_end_then : {D : Type 0} {gives : D → Call → D → Type 0} {old middle new : D} {error : Option DevError}
-    → MakesCalls gives old middle (MayEndWith None) → MakesCalls gives middle new (MayEndWith error) → MakesCalls gives old new (MayEndWith error)
-may_end_then {error = error} = joined_calls (MayEndWith-append error)
 
 pub serves_then : {D : Type 0} {gives : D → Call → D → Type 0} {old middle new : D} {first then : List Request} {error : Option DevError}
     → MakesCalls gives old middle (Serve first None) → MakesCalls gives middle new (Serve then error) → MakesCalls gives old new (Serve (first ++ then) error)

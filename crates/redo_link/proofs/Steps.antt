@@ -3,7 +3,7 @@ use Rattle.std.proofs.Common.{◌≡◌, ◌≢◌, ◌≤◌, ◌<◌, ◌+◌,
 use Rattle.std.proofs.lemmas.Bool.{cases_lt, cases_eq}
 use Rattle.std.proofs.lemmas.Nat.{mod_below}
 use Rattle.std.proofs.lemmas.List.{get_or-set_same, get_or-set_other, get_or-replicate, length-set, length-replicate}
-use Rattle.redo_link.specs.Links.{Links, IsSound, IsFree, IsAdded, IsCleared, IsFollowed, IsPath, Leads, Advances, capacity_of, link_at}
+use Rattle.redo_link.specs.Links.{Links, IsSound, IsFree, IsAdded, IsCleared, IsFollowed, IsPath, Leads, capacity_of, link_at}
 use Rattle.redo_link.proofs.Windows.{Shares, shares, slots-apart, at-inside, at-below, at-behind}
 
 -- a buffer with no link
@@ -164,13 +164,6 @@ pub record IsOnPath (old now : Links) : Type 0 where
   pub capacity : capacity_of now ≡ capacity_of old
   pub cleared : IsCleared old now.tail now
 
-pub path-begin : (links : Links) → IsOnPath links links
-path-begin links = record {
-  along = ([], refl);
-  capacity = refl;
-  cleared = record { below = λ start low. at-below links start low; others = λ start from. refl };
-}
-
 path-more : (links : Links) (from place to : ℕ) (starts : List ℕ) → IsPath links from starts place → link_at links place ≢ 0 → link_at links place ≡ to → IsPath links from (starts ++ place ∷ []) to
 path-more links from place to [] path some ends = (path, some, ends)
 path-more links from place to (start ∷ later) path some ends = (path.0, path.1, path-more links (link_at links start) place to later path.2 some ends)
@@ -189,11 +182,3 @@ path-step old now new path is =
         others = λ start from. is.cleared.others start from ∙ path.cleared.others start (omega (arith, from, is.forward));
       };
     }
-
-pub path-end : (old now : Links) → IsOnPath old now → link_at now now.tail ≡ 0 → Advances old now
-path-end old now path none = record {
-  along = path.along;
-  stops = sym (path.cleared.others now.tail (omega arith)) ∙ none;
-  capacity = path.capacity;
-  cleared = path.cleared;
-}

@@ -2,7 +2,7 @@
 ghost use Rattle.std.specs.Prelude.{◌≡◌, ◌<◌, ◌≤◌, ◌+◌, ◌==◌, if◌then◌else◌, false, length};
 ghost use Rattle.model_core.specs.Actors as actor;
 ghost use Rattle.model_core.specs.AnswerFits.{AnswerFits};
-ghost use Rattle.model_core.specs.{answer_limit, full_blocks, has_log_space, old_of, stands_outside, step_of, writer_after, writer_ending, writer_took, writer_waits};
+ghost use Rattle.model_core.specs.{answer_limit, full_blocks, has_log_space, old_of, stands_outside, step_of, writer_after, writer_took, writer_waits};
 
 use crate::writer::{KEPT_BLOCKS, KEPT_BYTES, Writer};
 use crate::writing::{drop_bytes, drop_firsts};

@@ -2,7 +2,7 @@
 ghost use Rattle.std.specs.Prelude.{◌≡◌, ◌<◌, ◌^◌, ◌==◌, if◌then◌else◌, true, List, Option};
 ghost use Rattle.model_core.specs.Actors as actor;
 ghost use Rattle.model_core.specs.AnswerFits.{AnswerFits};
-ghost use Rattle.model_core.specs.{candidate, checkpointer_after, checkpointer_checked, checkpointer_ending, checkpointer_next, checkpointer_took, has_taken, is_above, lent, lowered, oldest_in, step_of};
+ghost use Rattle.model_core.specs.{candidate, checkpointer_after, checkpointer_checked, checkpointer_ending, checkpointer_next, checkpointer_took, has_taken, is_above, lent, lowered, step_of};
 ghost use Rattle.redo_pageactors.specs.CheckpointerView.{IsAtList};
 ghost use Rattle.redo_words.specs.{Lends};
 

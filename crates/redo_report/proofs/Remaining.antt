@@ -9,13 +9,6 @@ use Rattle.model_script.specs.declared.script.ScriptLine.{ScriptLine}
 use Rattle.model_history.specs.{entries_of_user, lines_of_user}
 use Rattle.model_history.specs.declared.entry.Entry.{Entry}
 
--- a user's lines among the first ones, with one more
-pub lines-more : (user i : ℕ) (script : List ScriptLine) (line : ScriptLine) → i < length script → line ≡ get_or script i line
-    → length (lines_of_user user (take (i + 1) script)) ≡ length (lines_of_user user (take i script)) + cond (line.user == user) 1 0
-lines-more user i script line below at =
-    length-filter_more (λ (one : ScriptLine). one.user == user) script i line below
-    ∙ ap (λ (one : ScriptLine). length (lines_of_user user (take i script)) + cond (one.user == user) 1 0) (sym at)
-
 pub lines-few : (user i : ℕ) (script : List ScriptLine) → i ≤ length script → length (lines_of_user user (take i script)) ≤ i
 lines-few user zero script below = omega arith
 lines-few user (suc i) [] below = omega arith

@@ -3,7 +3,7 @@ ghost use Rattle.std.specs.Prelude.{◌≡◌, ◌≤◌, ◌<◌, ◌+◌, ◌*
 ghost use Rattle.std.specs.List.{flat_map};
 ghost use Rattle.std.specs.String.{string_bytes};
 ghost use Rattle.model_base.specs.declared.limits.TheConstants.{BLOCK_SIZE};
-ghost use Rattle.model_report.specs.{block_line, block_lines, checkpoint_line, end_line, listing_text, record_line, store_line, whole_lines};
+ghost use Rattle.model_report.specs.{block_line, block_lines, checkpoint_line, listing_text, record_line, store_line, whole_lines};
 
 use model_base::{BLOCK_SIZE, Shape};
 use model_log::BlockView;

@@ -60,10 +60,6 @@ only-misfit None = refl
 only-misfit (Some misfit) = refl
 
 -- A LINE: its user, then its operations, then its group.
-pub line-user : (shape : Shape) (line : ScriptLine) (misfit : Misfit) → user_misfit line.user ≡ Some misfit → line_misfit shape line ≡ Some misfit
-unfolding line_misfit
-line-user shape line misfit some = first-some (user_misfit line.user) misfit (map (item_misfit shape) line.items ++ group_misfit shape line ∷ []) some
-
 pub line-items : (shape : Shape) (line : ScriptLine) (misfit : Misfit) → user_misfit line.user ≡ None
     → first_misfit_of (map (item_misfit shape) line.items) ≡ Some misfit → line_misfit shape line ≡ Some misfit
 unfolding line_misfit

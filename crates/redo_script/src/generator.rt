@@ -1,6 +1,6 @@
 // The script of a seed.
 ghost use Rattle.std.specs.Prelude.{◌≡◌, ◌≤◌, ◌%◌, ◌+◌, IfOk, OnOk};
-ghost use Rattle.model_script.specs.{bytes_at, count_at, draw, generated_lines, generated_text, item_at, item_draws, items_at, line_at, state_after, state_after_items, state_after_line};
+ghost use Rattle.model_script.specs.{bytes_at, draw, generated_lines, generated_text, item_at, item_draws, items_at, line_at, state_after, state_after_items, state_after_line};
 ghost use Rattle.model_script.specs.declared.item.Item.TheVariants.{Num};
 ghost use Rattle.model_script.specs.declared.misfit.TheConstants.{MAX_USERS};
 
