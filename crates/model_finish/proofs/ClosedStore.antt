@@ -1,4 +1,4 @@
--- A store all users of which have ended is a closed run, with what its devices hold.
+-- At any moment a running store's devices hold the run that it stands for; once all users have ended it is a closed one.
 use Rattle.std.proofs.Common.{List, arith, subst, sym, ℕ, ◌∙◌, ◌≡◌}
 use Rattle.model_base.specs.declared.shape.Shape.{Shape}
 use Rattle.model_core.specs.DataSide.{DataSide}
@@ -8,34 +8,32 @@ use Rattle.model_core.specs.Setup.{Setup}
 use Rattle.model_device.specs.Disk.{Disk}
 use Rattle.model_finish.proofs.FinishedPages.{finished_pages}
 use Rattle.model_finish.proofs.FinishedStore.{finished_store, stands_for_run}
-use Rattle.model_finish.specs.ClosedStore.{ClosedStore, DataTells, LogTells}
-use Rattle.model_finish.specs.Finished.{CausesAreFailures, FinishedStore}
+use Rattle.model_finish.specs.ClosedStore.{ClosedStore, DataTells, HeldStore, LogTells}
+use Rattle.model_finish.specs.Finished.{CausesAreFailures, FinishedStore, StandsForRun}
 use Rattle.model_finish.specs.FinishedPages.{FinishedPages, HasItsPages}
 use Rattle.model_finish.specs.Script.{IsOfScript}
 use Rattle.model_history.specs.{IsLeft, wholes_of}
 use Rattle.model_log.specs.{start_after}
 use Rattle.model_logdev.specs.{LogHolds}
 use Rattle.model_record.specs.declared.group.Whole.{Whole}
-use Rattle.model_run.specs.{AreGiven, DataHolds, IsClosed}
+use Rattle.model_run.specs.{AreGiven, DataHolds, IsClosed, IsHeld}
 use Rattle.model_running.specs.{AreSeated, HaveEnded, IsRunning}
 use Rattle.model_script.specs.declared.script.ScriptLine.{ScriptLine}
 use Rattle.model_theorem.specs.{Opened}
 
-module _ (D : LogSide) (E : DataSide) (c : Setup) (script : List ScriptLine) (opened : Opened) (number failures : ℕ) (left : List (ℕ × ℕ)) (log_disk data_disk : Disk) (s : Core D E) (start : lsn c.base ≡ start_after opened.end) (given : AreGiven script opened)
+module _ (D : LogSide) (E : DataSide) (c : Setup) (script : List ScriptLine) (opened : Opened) (number : ℕ) (log_disk data_disk : Disk) (s : Core D E) (start : lsn c.base ≡ start_after opened.end) (given : AreGiven script opened)
     (log_tells : LogTells D c opened.shape number s.log_part log_disk) (data_tells : DataTells E opened s.data_part data_disk) where
-  -- the log half of a finished store and its page half
-  pub closed_run : (finished : FinishedStore D E c script opened failures left s) → FinishedPages D E script opened finished.run s → IsLeft script finished.run.entries left
-      → IsClosed failures (record {
+  -- what both parts hold of the run both devices hold
+  pub held_run : (stands : StandsForRun D E c script opened s) → FinishedPages D E script opened stands.run s
+      → IsHeld (record {
         script = script;
         opened = opened;
         number = number;
-        run = finished.run;
-        left = left;
+        run = stands.run;
         log_disk = log_disk;
         data_disk = data_disk;
       })
-  closed_run finished pages left_is =
-      let stands = finished.stands in
+  held_run stands pages =
       let shape : Shape = opened.shape in
       let wholes : List Whole = wholes_of script shape.space stands.run.entries in
       let same : lsn c.base ≡ stands.run.start = start ∙ sym stands.is_run.start in
@@ -46,8 +44,6 @@ module _ (D : LogSide) (E : DataSide) (c : Setup) (script : List ScriptLine) (op
       record {
         given = given;
         is_run = stands.is_run;
-        left_is = left_is;
-        loses = finished.loses left_is;
         log_marks = log_tells.marks;
         marks = record {
           flushed = (let a = stands.flushed in omega arith);
@@ -60,13 +56,35 @@ module _ (D : LogSide) (E : DataSide) (c : Setup) (script : List ScriptLine) (op
             (subst (λ (x : ℕ). DataHolds shape opened.pages wholes (D.stable s.log_part) x data_disk) asked kept);
       }
 
-  pub closed_store : (spare : ℕ) → IsRunning D E c spare s → AreSeated c s.actors → HaveEnded s.actors → IsOfScript c script opened.shape.space → HasItsPages c opened → CausesAreFailures D E failures s.log_part s.data_part
-      → ClosedStore D E script opened number failures left log_disk data_disk s
-  unfolding finished_store stands_for_run
-  closed_store spare running seated ended of_script pages causes =
+  -- where it is finished, the run is closed
+  pub closed_run : (failures : ℕ) (left : List (ℕ × ℕ)) (finished : FinishedStore D E c script opened failures left s) → FinishedPages D E script opened finished.run s → IsLeft script finished.run.entries left
+      → IsClosed failures (record {
+        script = script;
+        opened = opened;
+        number = number;
+        run = finished.run;
+        left = left;
+        log_disk = log_disk;
+        data_disk = data_disk;
+      })
+  closed_run failures left finished pages left_is = record { holds = held_run finished.stands pages; left_is = left_is; loses = finished.loses left_is }
+
+  pub held_store : (spare : ℕ) → IsRunning D E c spare s → IsOfScript c script opened.shape.space → HasItsPages c opened → HeldStore D E script opened number log_disk data_disk s
+  unfolding stands_for_run
+  held_store spare running of_script pages =
+      let stands = stands_for_run D E c spare script opened s running of_script start in
+      record {
+        run = stands.run;
+        marks = stands.marks;
+        holds = held_run stands (finished_pages D E c spare script opened s running given pages of_script);
+      }
+
+  pub closed_store : (failures : ℕ) (left : List (ℕ × ℕ)) (spare : ℕ) → IsRunning D E c spare s → AreSeated c s.actors → HaveEnded s.actors → IsOfScript c script opened.shape.space → HasItsPages c opened
+      → CausesAreFailures D E failures s.log_part s.data_part → ClosedStore D E script opened number failures left log_disk data_disk s
+  unfolding finished_store stands_for_run held_store
+  closed_store failures left spare running seated ended of_script pages causes =
       let finished = finished_store D E c spare script opened failures left s running seated ended of_script start causes in
       record {
-        run = finished.run;
-        marks = finished.marks;
-        closed = closed_run finished (finished_pages D E c spare script opened s running given pages of_script);
+        held = held_store spare running of_script pages;
+        closed = closed_run failures left finished (finished_pages D E c spare script opened s running given pages of_script);
       }

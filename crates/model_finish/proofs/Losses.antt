@@ -7,7 +7,7 @@ use Rattle.model_core.specs.LogSide.{LogSide}
 use Rattle.model_core.specs.Setup.{Setup}
 use Rattle.model_finish.proofs.Legality.{counts, from_log, lost_unanswered, unanswered_lost}
 use Rattle.model_finish.specs.Ended.{IsAtEnd, IsLostBy}
-use Rattle.model_finish.specs.History.{history_of, state_of}
+use Rattle.model_finish.specs.History.{history_of}
 use Rattle.model_finish.specs.Script.{HasSeats, IsOfScript}
 use Rattle.model_history.specs.{entries_of_user, IsLeft, lines_of_user}
 use Rattle.model_history.specs.declared.entry.Entry.{Entry}
@@ -106,20 +106,6 @@ module _ (D : LogSide) (c : Setup) (spare : ℕ) (m : SharedWords) (g : LogGhost
         let k = S.count pair.0 in
         let s = seats pair.0 (omega arith) in
         (left_user pair.0 s.0 s.1 s.2 s.3 (omega arith)).1
-
-    -- a user's group is lost exactly where the user has met a failure and the group is the one that it holds as not answered
-    pub lost_exactly : (marks : Marks) (seat : ℕ) (u : UserState) (i : ℕ) (e : core.Entry) → get_elem? actors seat ≡ maybe.some (actor.User u) → get_elem? g.log i ≡ maybe.some e → e.user ≡ u.user
-        → (state_of (g.answered e.user) marks e ≡ Lost) ↔ ((u.step ≡ user_step.Failed) × (e.k ≡ u.k))
-    lost_exactly marks seat u i e at is own =
-        let f : UserFits D c m g p seat u = half.each seat (actor.User u) at in
-        let a : g.answered e.user ≡ u.k = ap g.answered own ∙ f.answers in (
-          (λ lost.
-              let rank = half.global.tiled.ranks i e is in
-              let front = count_front g.log i e is in
-              let r = ended_here e.user e.k seat u at (sym own) (omega arith) (lost_unanswered (g.answered e.user) marks e lost) in
-              (r.0, r.1)),
-          (λ there. unanswered_lost (g.answered e.user) marks e (let k = there.1 in omega arith)),
-        )
 
     -- and so is an entry of the history
     pub lost_entry_exactly : (marks : Marks) (i : ℕ) (one : Entry) → slice_get (history_of g.answered marks g.log) i ≡ Some one → (one.state ≡ Lost) ↔ IsLostBy actors one.user one.k

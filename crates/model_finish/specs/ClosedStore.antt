@@ -1,4 +1,4 @@
--- What a finished store comes to, with what its devices hold: a closed run.
+-- What a running store stands for, with what its devices hold: at any moment a run that both hold, and at its end a closed one.
 use Rattle.std.specs.Prelude.{List, ℕ, ◌≡◌, ◌≤◌}
 use Rattle.model_base.specs.declared.shape.Shape.{Shape}
 use Rattle.model_core.specs.DataSide.{DataSide}
@@ -15,7 +15,7 @@ use Rattle.model_logdev.specs.{LogHolds}
 use Rattle.model_logdev.specs.declared.marks.LogMarks.{LogMarks}
 use Rattle.model_pagecore.specs.{AreApart}
 use Rattle.model_record.specs.declared.group.Whole.{Whole}
-use Rattle.model_run.specs.{DataHolds, IsClosed}
+use Rattle.model_run.specs.{DataHolds, IsClosed, IsHeld}
 use Rattle.model_script.specs.declared.script.ScriptLine.{ScriptLine}
 use Rattle.model_theorem.specs.{Opened, Ran}
 
@@ -35,11 +35,23 @@ pub record DataTells (E : DataSide) (opened : Opened) (part : E.Part) (disk : Di
   pub holds : (kept_page : ℕ → KeptPage) (unfinished : List BatchPage) (wholes : List Whole) (stable ckpt : ℕ) → E.Holds kept_page unfinished part → AreApart unfinished
       → ArePrefixes opened.pages wholes stable ckpt (contents_of kept_page) (content_in unfinished) → DataHolds opened.shape opened.pages wholes stable ckpt disk
 
--- The run that the store stands for is a closed one, behind the checkpoint of this number, with the lines that are left and
--- both devices as they are.
-pub record ClosedStore (D : LogSide) (E : DataSide) (script : List ScriptLine) (opened : Opened) (number failures : ℕ) (left : List (ℕ × ℕ)) (log_disk data_disk : Disk) (s : Core D E) : Type 0 where
+-- Both devices as they are hold the run that the store stands for, behind the checkpoint of this number.
+pub record HeldStore (D : LogSide) (E : DataSide) (script : List ScriptLine) (opened : Opened) (number : ℕ) (log_disk data_disk : Disk) (s : Core D E) : Type 0 where
   pub run : Ran
   pub marks : ◌≡◌ {A = Marks} run.marks (marks_in s.words)
+  pub holds : IsHeld (record {
+    script = script;
+    opened = opened;
+    number = number;
+    run = run;
+    log_disk = log_disk;
+    data_disk = data_disk;
+  })
+
+-- Each user has ended: with the lines that are left, that run is a closed one.
+pub record ClosedStore (D : LogSide) (E : DataSide) (script : List ScriptLine) (opened : Opened) (number failures : ℕ) (left : List (ℕ × ℕ)) (log_disk data_disk : Disk) (s : Core D E) : Type 0 where
+  pub held : HeldStore D E script opened number log_disk data_disk s
+  pub open held use *
   pub closed : IsLeft script run.entries left
       → IsClosed failures (record {
         script = script;

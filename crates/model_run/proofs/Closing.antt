@@ -1,4 +1,4 @@
--- What a closed run leaves to be read.
+-- What two devices that hold a run leave to be read.
 use Rattle.std.proofs.Common.{◌≡◌, ℕ, ◌^◌, ◌<◌, ◌≤◌, List, ◌++◌, length, Some, slice_get, arith, refl, sym, ap, ◌∙◌, subst, append_assoc}
 use Rattle.std.specs.List.{AllByRecursion}
 use Rattle.std.proofs.lemmas.Option.{slice_get_within}
@@ -27,7 +27,7 @@ use Rattle.model_logdev.specs.{CrashReads, FitsStore, LogHolds, ScansTo}
 use Rattle.model_logdev.specs.declared.marks.LogMarks.{LogMarks}
 use Rattle.model_run.specs.Kept.{DataHolds}
 use Rattle.model_run.specs.Given.{AreGiven}
-use Rattle.model_run.specs.Closed.{Closed, IsClosed, AreMarksBehind, groups_of_run}
+use Rattle.model_run.specs.Closed.{Held, IsHeld, AreMarksBehind, groups_of_run}
 use Rattle.model_store.proofs.Folding.{length-folded, get-folded}
 use Rattle.model_history.proofs.Groups.{have-lines, run-from, first-front, reached}
 use Rattle.model_run.proofs.Fitting.{good-from}
@@ -48,17 +48,17 @@ few-blocks shape limits = omega (arith, limits.few_blocks)
 pub some-blocks : (shape : Shape) → IsWithinLimits shape → 1 ≤ shape.log_blocks
 some-blocks shape limits = omega (arith, limits.many_blocks)
 
--- the groups of a closed run
-groups-good : (failures : ℕ) (closed : Closed) → IsClosed failures closed → AllByRecursion (IsStorable closed.opened.shape) (groups_of (groups_of_run closed))
-groups-good failures closed is =
-    good-from closed.opened.shape closed.script closed.run.entries is.given.fits
-    (have-lines closed.script closed.opened.shape.space closed.run.start closed.run.marks closed.run.entries is.is_run.legal)
+-- the groups of a run that is held
+groups-good : (held : Held) → IsHeld held → AllByRecursion (IsStorable held.opened.shape) (groups_of (groups_of_run held))
+groups-good held is =
+    good-from held.opened.shape held.script held.run.entries is.given.fits
+    (have-lines held.script held.opened.shape.space held.run.start held.run.marks held.run.entries is.is_run.legal)
 
-groups-run : (failures : ℕ) (closed : Closed) → IsClosed failures closed → IsRunOf closed.run.start (groups_of_run closed)
-groups-run failures closed is = run-from closed.script closed.opened.shape.space closed.run.start closed.run.marks closed.run.entries is.is_run.legal
+groups-run : (held : Held) → IsHeld held → IsRunOf held.run.start (groups_of_run held)
+groups-run held is = run-from held.script held.opened.shape.space held.run.start held.run.marks held.run.entries is.is_run.legal
 
--- what the closed run's log image gives, and the page side of it
-record IsRead (closed : Closed) (log store : List ℕ) : Type 0 where
+-- what the log image gives of a run that is held, and the page side of it
+record IsRead (held : Held) (log store : List ℕ) : Type 0 where
   number : ℕ
   ckpt : ℕ
   end : ℕ
@@ -66,41 +66,41 @@ record IsRead (closed : Closed) (log store : List ℕ) : Type 0 where
   before : List Whole
   after : List Whole
   views : List BlockView
-  parts : groups_of_run closed ≡ before ++ (middle ++ after)
-  scan : HasScan log store closed.opened.shape number ckpt views middle end
+  parts : groups_of_run held ≡ before ++ (middle ++ after)
+  scan : HasScan log store held.opened.shape number ckpt views middle end
   read_end : AllByRecursion (λ (whole : Whole). whole.end ≤ end) (before ++ middle)
   other_ends : AllByRecursion (λ (whole : Whole). end < whole.end) after
-  each : (p : ℕ) (page : Content) → slice_get closed.opened.pages p ≡ Some page
-      → IsReadPage closed.opened.shape store middle end p (page_folded p (before ++ middle) page)
-  old_copies : (p slot lsn : ℕ) (page : Content) → slot < closed.opened.shape.slots → slice_get closed.opened.pages p ≡ Some page
-      → copy_lsn closed.opened.shape store p slot ≡ Some lsn → IsNoNewerCopy closed.opened.shape store slot lsn (page_folded p (before ++ middle) page)
+  each : (p : ℕ) (page : Content) → slice_get held.opened.pages p ≡ Some page
+      → IsReadPage held.opened.shape store middle end p (page_folded p (before ++ middle) page)
+  old_copies : (p slot lsn : ℕ) (page : Content) → slot < held.opened.shape.slots → slice_get held.opened.pages p ≡ Some page
+      → copy_lsn held.opened.shape store p slot ≡ Some lsn → IsNoNewerCopy held.opened.shape store slot lsn (page_folded p (before ++ middle) page)
 
-is-read : LogLaw → (failures : ℕ) (closed : Closed) (log store : List ℕ)
-    → (is : IsClosed failures closed) → IsImage closed.log_disk log → IsFair closed.opened.shape closed.data_disk store
-    → (found : IsRead closed log store) × (is.log_marks.ckpt ≤ found.ckpt) × (is.log_marks.stable ≤ found.end)
-is-read law failures closed log store is image fair =
-    let opened : Opened = closed.opened in
-    let run : Ran = closed.run in
+is-read : LogLaw → (held : Held) (log store : List ℕ)
+    → (is : IsHeld held) → IsImage held.log_disk log → IsFair held.opened.shape held.data_disk store
+    → (found : IsRead held log store) × (is.log_marks.ckpt ≤ found.ckpt) × (is.log_marks.stable ≤ found.end)
+is-read law held log store is image fair =
+    let opened : Opened = held.opened in
+    let run : Ran = held.run in
     let shape : Shape = opened.shape in
-    let wholes : List Whole = groups_of_run closed in
+    let wholes : List Whole = groups_of_run held in
     let marks : LogMarks = is.log_marks in
-    let given : AreGiven closed.script opened = is.given in
+    let given : AreGiven held.script opened = is.given in
     let fit : AreMarksBehind run.marks marks = is.marks in
-    let holds : LogHolds shape run.start wholes marks closed.log_disk = is.log_holds in
-    let good : AllByRecursion (IsStorable shape) (groups_of wholes) = groups-good failures closed is in
+    let holds : LogHolds shape run.start wholes marks held.log_disk = is.log_holds in
+    let good : AllByRecursion (IsStorable shape) (groups_of wholes) = groups-good held is in
     let fits : FitsStore shape wholes marks = record { good = good; small = fit.small; some_blocks = some-blocks shape given.shape; few_blocks = few-blocks shape given.shape } in
-    let reads : CrashReads shape run.start wholes marks log = law shape run.start wholes marks closed.log_disk log fits holds image in
+    let reads : CrashReads shape run.start wholes marks log = law shape run.start wholes marks held.log_disk log fits holds image in
     let scan : ScansTo shape run.start wholes marks.stable marks.given reads.ckpt log = reads.scan in
     let below : reads.ckpt ≤ marks.asked = reads.up_to in
     let start : IsAtDataStart run.start = holds.order.starts in
     let cut : IsCut shape run.start scan.before scan.middle scan.after reads.ckpt scan.mark = record {
       place = (omega arith, omega arith);
-      run = subst (IsRunOf run.start) scan.parts (groups-run failures closed is);
+      run = subst (IsRunOf run.start) scan.parts (groups-run held is);
       good = subst (λ (ws : List Whole). AllByRecursion (IsStorable shape) (groups_of ws)) scan.parts good;
       starts = scan.starts;
       other_ends = scan.other_ends;
     } in
-    let pages_held : DataHolds shape opened.pages wholes marks.stable marks.asked closed.data_disk = is.data_holds in (
+    let pages_held : DataHolds shape opened.pages wholes marks.stable marks.asked held.data_disk = is.data_holds in (
       record {
         number = reads.number;
         ckpt = reads.ckpt;
@@ -136,15 +136,15 @@ is-read law failures closed log store is image fair =
       scan.from,
     )
 
-reading-of : (closed : Closed) (log store : List ℕ) → IsRead closed log store → Reading
-reading-of closed log store found = record {
-  shape = closed.opened.shape;
+reading-of : (held : Held) (log store : List ℕ) → IsRead held log store → Reading
+reading-of held log store found = record {
+  shape = held.opened.shape;
   number = found.number;
   ckpt = found.ckpt;
   views = found.views;
   wholes = found.middle;
   end = found.end;
-  pages = folded closed.opened.pages (found.before ++ found.middle);
+  pages = folded held.opened.pages (found.before ++ found.middle);
 }
 
 -- an element of a fold comes from one of the pages
@@ -164,19 +164,19 @@ flushed-end script space s i marks entries entry legal at is =
     subst (FitsMarks marks entry.end) is here.marks_say
 
 -- whatever a crash leaves is read as a prefix
-pub reads-prefix : LogLaw → (failures : ℕ) (closed : Closed) (log store : List ℕ)
-    → IsClosed failures closed → IsImage closed.log_disk log → IsFair closed.opened.shape closed.data_disk store
-    → ReadsPrefix closed.script closed.opened (Some closed.run) log store
+pub reads-prefix : LogLaw → (held : Held) (log store : List ℕ)
+    → IsHeld held → IsImage held.log_disk log → IsFair held.opened.shape held.data_disk store
+    → ReadsPrefix held.script held.opened (Some held.run) log store
 unfolding reading-of
-reads-prefix law failures closed log store is image fair =
-    let opened : Opened = closed.opened in
-    let run : Ran = closed.run in
-    let whole = is-read law failures closed log store is image fair in
-    let found : IsRead closed log store = whole.0 in
+reads-prefix law held log store is image fair =
+    let opened : Opened = held.opened in
+    let run : Ran = held.run in
+    let whole = is-read law held log store is image fair in
+    let found : IsRead held log store = whole.0 in
     let front : List Whole = found.before ++ found.middle in
-    let parts : groups_of_run closed ≡ front ++ found.after = found.parts ∙ sym (append_assoc found.before found.middle found.after) in
+    let parts : groups_of_run held ≡ front ++ found.after = found.parts ∙ sym (append_assoc found.before found.middle found.after) in
     record {
-      reading = reading-of closed log store found;
+      reading = reading-of held log store found;
       is_read = record {
         scan = found.scan;
         count = length-folded opened.pages front ∙ is.given.count;
@@ -189,10 +189,10 @@ reads-prefix law failures closed log store is image fair =
           subst (IsNoNewerCopy opened.shape store slot lsn) (sym from.2) (found.old_copies p slot lsn from.0 within from.1 copy);
       prefix = record {
         shape = refl;
-        first_groups_whole = ap (folded opened.pages) (sym (first-front closed.script opened.shape.space found.end run.entries front found.after parts found.read_end found.other_ends));
+        first_groups_whole = ap (folded opened.pages) (sym (first-front held.script opened.shape.space found.end run.entries front found.after parts found.read_end found.other_ends));
         reaching_flushed = λ i entry at state.
-            let low : entry.end ≤ run.marks.flushed = flushed-end closed.script opened.shape.space run.start i run.marks run.entries entry is.is_run.legal at state in
-            reached closed.script opened.shape.space found.end i run.entries entry front found.after parts found.read_end found.other_ends at
+            let low : entry.end ≤ run.marks.flushed = flushed-end held.script opened.shape.space run.start i run.marks run.entries entry is.is_run.legal at state in
+            reached held.script opened.shape.space found.end i run.entries entry front found.after parts found.read_end found.other_ends at
             (omega (arith, is.marks.flushed, whole.2));
         marks = record {
           flushed = omega (arith, is.marks.flushed, whole.2);

@@ -1,5 +1,5 @@
 -- What the data device holds of a run it holds of a longer one, and which contents of a page are prefixes of a run.
-use Rattle.std.proofs.Common.{◌≡◌, ℕ, ◌<◌, ◌≤◌, ◌⊎◌, inl, inr, Bool, true, false, cond, List, [], ◌∷◌, ◌++◌, Some, slice_get, arith, refl, sym, ap, ◌∙◌, subst, ⊎_elim}
+use Rattle.std.proofs.Common.{◌≡◌, ℕ, ◌<◌, ◌≤◌, ◌⊎◌, inl, inr, Bool, true, false, cond, List, [], ◌∷◌, ◌++◌, arith, refl, sym, ap, ◌∙◌, ⊎_elim}
 use Rattle.std.specs.Prelude.{nat_le}
 use Rattle.std.specs.List.{AllByRecursion}
 use Rattle.model_base.specs.declared.shape.Shape.{Shape}
@@ -9,10 +9,9 @@ use Rattle.model_device.specs.Disk.{Disk}
 use Rattle.model_log.specs.{end_of, IsDataLsn, IsRunOf, spans_of}
 use Rattle.model_page.specs.declared.content.Content.{Content}
 use Rattle.model_store.specs.{IsNoNewerCopy, IsStorable, page_after, page_folded, touches, upto, user_after}
-use Rattle.model_page.proofs.Kept.{same_kept}
 use Rattle.model_log.proofs.Runs.{First, first-of, run-first, run-front, run-back}
 use Rattle.model_logdev.proofs.Splits.{all-behind, all-from, end-reached}
-use Rattle.model_run.specs.Kept.{HasPassed, IsKeptSomewhere, IsKeptPrefix, IsPrefixOf, KeepsPrefix, DataHolds, copy_of}
+use Rattle.model_run.specs.Kept.{HasPassed, IsKeptPrefix, IsPrefixOf, KeepsPrefix, DataHolds, copy_of}
 use Rattle.model_run.proofs.Pages.{upto-append, upto-none, taken, page_after-other}
 use Rattle.model_run.proofs.Between.{good-parts, all-above}
 
@@ -107,14 +106,6 @@ folded-prefix p s (whole ∷ wholes) page place tiled low =
     folded-prefix p whole.end wholes next first.place (run-first tiled).2 (omega (arith, first.rises))
     ∙ ap (upto p q wholes) (sym (either-way (nat_le whole.end q) next page same)))
     (after-is p whole page (touches p whole.group) refl)
-
--- each content that some fair image keeps is a prefix
-pub kept-prefix : (shape : Shape) (opened : List Content) (wholes : List Whole) (stable ckpt p : ℕ) (disk : Disk) (page content : Content)
-    → DataHolds shape opened wholes stable ckpt disk → slice_get opened p ≡ Some page → IsKeptSomewhere shape disk p content
-    → IsKeptPrefix page wholes stable ckpt p content
-kept-prefix shape opened wholes stable ckpt p disk page content holds at kept =
-    let here : KeepsPrefix shape kept.image page wholes stable ckpt p = holds.keeps kept.image kept.fair p page at in
-    subst (IsKeptPrefix page wholes stable ckpt p) (same_kept shape kept.image p here.content content here.kept kept.kept) here.is_prefix
 
 -- the lsn of a prefix is at most that of the page with all groups applied
 own-lsn : (p : ℕ) (whole : Whole) (page : Content) → touches p whole.group ≡ true → (page_after p whole.group whole.end page).lsn ≡ whole.end

@@ -1,4 +1,4 @@
--- The newest checkpoint in whatever a crash leaves of the log device of a closed run.
+-- The newest checkpoint in whatever a crash leaves of a log device that holds a run.
 use Rattle.std.proofs.Common.{◌≡◌, ℕ, ◌<◌, ◌≤◌, List, Option, Some, None, refl, sym, ap, ◌∙◌, subst, ⊎_elim, arith}
 use Rattle.std.proofs.lemmas.Bool.{cases_lt}
 use Rattle.model_base.specs.declared.shape.Shape.{Shape}
@@ -11,7 +11,7 @@ use Rattle.model_logdev.specs.{LogHolds}
 use Rattle.model_logdev.specs.declared.marks.LogMarks.{LogMarks}
 use Rattle.model_logdev.proofs.Images.{header-below, place-cases, when_less, when_not_less}
 use Rattle.model_theorem.specs.{HasCheckpointFrom, HeldOlder, IsOpenedBefore}
-use Rattle.model_run.specs.Closed.{Closed, IsClosed, groups_of_run}
+use Rattle.model_run.specs.Closed.{Held, IsHeld, groups_of_run}
 
 -- this is a checkpoint, and its number isn't below that
 record IsFrom (lowest : ℕ) (found : Option (ℕ × ℕ)) : Type 0 where
@@ -75,22 +75,22 @@ holds-checkpoint shape s wholes marks disk image holds is =
     newest-from shape marks.number marks.ckpt image (holds.checkpoint (sector place image) (holds-sector disk image place is (omega (arith, holds.long)))) in
     record { number = found.number; ckpt = found.ckpt; newest = found.is; from = found.from }
 
--- and of a closed run
-pub closed-number : (failures : ℕ) (closed : Closed) (log : List ℕ) → IsClosed failures closed → IsImage closed.log_disk log
-    → HasCheckpointFrom closed.opened.shape closed.number log
-closed-number failures closed log is image =
-    let found : HasCheckpointFrom closed.opened.shape is.log_marks.number log =
-    holds-checkpoint closed.opened.shape closed.run.start (groups_of_run closed) is.log_marks closed.log_disk log is.log_holds image in
+-- and where both devices hold it
+pub held-number : (held : Held) (log : List ℕ) → IsHeld held → IsImage held.log_disk log
+    → HasCheckpointFrom held.opened.shape held.number log
+held-number held log is image =
+    let found : HasCheckpointFrom held.opened.shape is.log_marks.number log =
+    holds-checkpoint held.opened.shape held.run.start (groups_of_run held) is.log_marks held.log_disk log is.log_holds image in
     record { number = found.number; ckpt = found.ckpt; newest = found.newest; from = omega (arith, is.number_kept, found.from) }
 
 -- so opening came to its end
-pub closed-opened : (failures : ℕ) (closed : Closed) (armed_from : Disk) → IsClosed failures closed → HeldOlder closed.opened.shape closed.number armed_from
-    → IsOpenedBefore closed.opened.shape armed_from closed.log_disk (Some closed.run)
-closed-opened failures closed armed_from is held = record {
-  number = held.found;
-  ckpt = held.ckpt;
-  found = held.newest;
+pub held-opened : (held : Held) (armed_from : Disk) → IsHeld held → HeldOlder held.opened.shape held.number armed_from
+    → IsOpenedBefore held.opened.shape armed_from held.log_disk (Some held.run)
+held-opened held armed_from is older = record {
+  number = older.found;
+  ckpt = older.ckpt;
+  found = older.newest;
   moved = λ image possible.
-      (let has : HasCheckpointFrom closed.opened.shape closed.number image = closed-number failures closed image is possible in
-      record { number = has.number; ckpt = has.ckpt; newest = has.newest; from = omega (arith, held.older, has.from) });
+      (let has : HasCheckpointFrom held.opened.shape held.number image = held-number held image is possible in
+      record { number = has.number; ckpt = has.ckpt; newest = has.newest; from = omega (arith, older.older, has.from) });
 }

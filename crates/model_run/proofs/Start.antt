@@ -80,21 +80,23 @@ opened-closed failures reading script left log_disk data_disk is left_is failed 
     let given : AreGiven script (opened_as reading) = start-given reading script log_disk data_disk is in
     let later : reading.end ≤ s = end-start reading.end in
     record {
-      given = given;
-      is_run = record {
-        start = refl;
-        legal = record { tiled = tt; each = λ i entry at. absurd (cc); in_order = λ user i entry at. absurd (cc); lost_last = λ user i entry at lost. absurd (cc) };
-        wtail = refl;
-        write = refl;
-        flushed = refl;
-        write_within = omega arith;
+      holds = record {
+        given = given;
+        is_run = record {
+          start = refl;
+          legal = record { tiled = tt; each = λ i entry at. absurd (cc); in_order = λ user i entry at. absurd (cc); lost_last = λ user i entry at lost. absurd (cc) };
+          wtail = refl;
+          write = refl;
+          flushed = refl;
+          write_within = omega arith;
+        };
+        log_marks = first_marks s (reading.number + 1);
+        marks = record { flushed = omega arith; ckpt = omega arith; small = omega (arith, next.small, next.aligned) };
+        number_kept = omega arith;
+        log_holds = live.holds;
+        data_holds = unwritten-holds reading.shape reading.pages s (start_block reading) data_disk
+            (λ p page at. (let old : page.lsn ≤ reading.end = given.not_ahead p page at in omega arith)) (start-unwritten reading script log_disk data_disk is);
       };
       left_is = left_is;
       loses = record { lost = λ i entry at lost. absurd (cc); left = failed; stopped = λ none. absurd (cc) };
-      log_marks = first_marks s (reading.number + 1);
-      marks = record { flushed = omega arith; ckpt = omega arith; small = omega (arith, next.small, next.aligned) };
-      number_kept = omega arith;
-      log_holds = live.holds;
-      data_holds = unwritten-holds reading.shape reading.pages s (start_block reading) data_disk
-          (λ p page at. (let old : page.lsn ≤ reading.end = given.not_ahead p page at in omega arith)) (start-unwritten reading script log_disk data_disk is);
     }

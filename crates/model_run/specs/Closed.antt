@@ -1,4 +1,5 @@
--- What every drive owes: between the opened store and the crash, or the report, stands a closed run.
+-- What every drive owes: of a run that came so far, that both devices hold it; and where all its users have ended, that between
+-- the opened store and the crash, or the report, stands a closed run.
 use Rattle.std.specs.Prelude.{ℕ, ◌≤◌, List, Some}
 use Rattle.model_base.specs.declared.limits.TheConstants.{LSN_LIMIT}
 use Rattle.model_record.specs.declared.group.Whole.{Whole}
@@ -12,8 +13,17 @@ use Rattle.model_logdev.specs.declared.marks.LogMarks.{LogMarks}
 use Rattle.model_run.specs.Given.{AreGiven}
 use Rattle.model_run.specs.Kept.{DataHolds}
 
--- what a drive was given, with the number of the checkpoint that opening made, and what it gives back: the run, what is left
--- of the script, and what both devices mean then
+-- what a drive was given, with the number of the checkpoint that opening made; the run, as far as it came; and what both
+-- devices mean then
+pub record Held : Type 0 where
+  pub script : List ScriptLine
+  pub opened : Opened
+  pub number : ℕ
+  pub run : Ran
+  pub log_disk : Disk
+  pub data_disk : Disk
+
+-- the same of a run all users of which have ended, with what is left of the script
 pub record Closed : Type 0 where
   pub script : List ScriptLine
   pub opened : Opened
@@ -22,6 +32,16 @@ pub record Closed : Type 0 where
   pub left : List (ℕ × ℕ)
   pub log_disk : Disk
   pub data_disk : Disk
+
+abbrev pub held_of : Closed → Held
+held_of closed = record {
+  script = closed.script;
+  opened = closed.opened;
+  number = closed.number;
+  run = closed.run;
+  log_disk = closed.log_disk;
+  data_disk = closed.data_disk;
+}
 
 abbrev pub result_of : Closed → RunResult
 result_of closed = record {
@@ -34,8 +54,8 @@ result_of closed = record {
 }
 
 -- the groups of the run
-abbrev pub groups_of_run : Closed → List Whole
-groups_of_run closed = wholes_of closed.script closed.opened.shape.space closed.run.entries
+abbrev pub groups_of_run : Held → List Whole
+groups_of_run held = wholes_of held.script held.opened.shape.space held.run.entries
 
 -- The marks of the run are no further than those of its log part, and those are below the limit.
 pub record AreMarksBehind (marks : Marks) (log_marks : LogMarks) : Type 0 where
@@ -43,15 +63,19 @@ pub record AreMarksBehind (marks : Marks) (log_marks : LogMarks) : Type 0 where
   pub ckpt : marks.ckpt ≤ log_marks.ckpt
   pub small : log_marks.given ≤ LSN_LIMIT
 
--- A closed run: the run is a legal one, which loses something only where a call failed; the log device holds it, with no older
--- checkpoint than opening made, and the data device keeps of each page a prefix of it.
+-- BOTH DEVICES HOLD THE RUN, which is a legal one: the log device holds its groups, with no older checkpoint than opening
+-- made, and the data device keeps of each page a prefix of it.
+pub record IsHeld (held : Held) : Type 0 where
+  pub given : AreGiven held.script held.opened
+  pub is_run : IsRun held.script held.opened held.run
+  pub log_marks : LogMarks
+  pub marks : AreMarksBehind held.run.marks log_marks
+  pub number_kept : held.number ≤ log_marks.number
+  pub log_holds : LogHolds held.opened.shape held.run.start (groups_of_run held) log_marks held.log_disk
+  pub data_holds : DataHolds held.opened.shape held.opened.pages (groups_of_run held) log_marks.stable log_marks.asked held.data_disk
+
+-- A CLOSED RUN: both devices hold it, and it loses something only where a call failed.
 pub record IsClosed (failures : ℕ) (closed : Closed) : Type 0 where
-  pub given : AreGiven closed.script closed.opened
-  pub is_run : IsRun closed.script closed.opened closed.run
+  pub holds : IsHeld (held_of closed)
   pub left_is : IsLeft closed.script closed.run.entries closed.left
   pub loses : LosesOnlyByFailure failures (Some closed.run) closed.left
-  pub log_marks : LogMarks
-  pub marks : AreMarksBehind closed.run.marks log_marks
-  pub number_kept : closed.number ≤ log_marks.number
-  pub log_holds : LogHolds closed.opened.shape closed.run.start (groups_of_run closed) log_marks closed.log_disk
-  pub data_holds : DataHolds closed.opened.shape closed.opened.pages (groups_of_run closed) log_marks.stable log_marks.asked closed.data_disk

@@ -46,12 +46,6 @@ pub record DataHolds (shape : Shape) (opened : List Content) (wholes : List Whol
   pub keeps : (image : List ℕ) → IsFair shape disk image → (p : ℕ) (page : Content) → slice_get opened p ≡ Some page
       → KeepsPrefix shape image page wholes stable ckpt p
 
--- some fair image of the device keeps this of page p
-pub record IsKeptSomewhere (shape : Shape) (disk : Disk) (p : ℕ) (content : Content) : Type 0 where
-  pub image : List ℕ
-  pub fair : IsFair shape disk image
-  pub kept : IsKept shape image p content
-
 -- each fair image keeps the pages as they were opened, and has no copy that is ahead of one
 pub record IsUnwritten (shape : Shape) (opened : List Content) (disk : Disk) : Type 0 where
   pub long : data_device_length shape ≤ length disk.base

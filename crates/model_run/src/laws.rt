@@ -1,4 +1,4 @@
-// What holds of each closed run.
+// What holds of each run that its devices hold, and of each closed one.
 ghost use Rattle.std.specs.Prelude.{◌≡◌, ◌≢◌, ◌≤◌, ◌<◌, ◌+◌, ◌++◌, [], ℕ, List, Option, Some};
 ghost use Rattle.std.specs.List.{AllByRecursion};
 ghost use Rattle.model_base.specs.declared.shape.Shape.{Shape};
@@ -13,7 +13,7 @@ ghost use Rattle.model_store.specs.Reading.{Reading};
 ghost use Rattle.model_store.specs.declared.refusal.Refusal.{Refusal};
 ghost use Rattle.model_theorem.specs.{Account, CrashSafe, failures_of, HasCheckpointFrom, HeldOlder, IsOpenedBefore, IsPrefixRead, Opened, ReadsPrefix, RunSafe};
 ghost use Rattle.model_theorem.specs.Values.{Crash};
-ghost use Rattle.model_run.specs.Closed.{Closed, IsClosed, result_of};
+ghost use Rattle.model_run.specs.Closed.{Closed, Held, IsClosed, IsHeld, result_of};
 ghost use Rattle.model_run.specs.Crashed.{IsCrashOf, before_crash};
 ghost use Rattle.model_history.specs.{IsLeft};
 ghost use Rattle.model_script.specs.declared.script.ScriptLine.{ScriptLine};
@@ -27,18 +27,18 @@ ghost use Rattle.model_opening.specs.{start_of};
 use model_logdev::crash_reads;
 use model_store::{one_answer, one_reading};
 
-/// Whatever a crash leaves of the two devices of a closed run, of the data device a fair image, is read, in one way and
+/// Whatever a crash leaves of two devices that hold a run, of the data device a fair image, is read, in one way and
 /// without a refusal: as the opened pages with the first groups of the run applied whole, which reach every flushed one.
-pub fn closed_run_reads()
-    ensures read { (failures : ℕ) (closed : Closed) (log data_bytes : List ℕ)
-        → IsClosed failures closed → IsImage closed.log_disk log → IsFair closed.opened.shape closed.data_disk data_bytes
-        → ReadsPrefix closed.script closed.opened (Some closed.run) log data_bytes }
-    ensures each { (failures : ℕ) (closed : Closed) (log data_bytes : List ℕ)
-        → IsClosed failures closed → IsImage closed.log_disk log → IsFair closed.opened.shape closed.data_disk data_bytes
+pub fn held_run_reads()
+    ensures read { (held : Held) (log data_bytes : List ℕ)
+        → IsHeld held → IsImage held.log_disk log → IsFair held.opened.shape held.data_disk data_bytes
+        → ReadsPrefix held.script held.opened (Some held.run) log data_bytes }
+    ensures each { (held : Held) (log data_bytes : List ℕ)
+        → IsHeld held → IsImage held.log_disk log → IsFair held.opened.shape held.data_disk data_bytes
         → (reading : Reading) → IsReading log data_bytes reading
-        → IsPrefixRead closed.script closed.opened (Some closed.run) reading }
-    ensures not_refused { (failures : ℕ) (closed : Closed) (log data_bytes : List ℕ)
-        → IsClosed failures closed → IsImage closed.log_disk log → IsFair closed.opened.shape closed.data_disk data_bytes
+        → IsPrefixRead held.script held.opened (Some held.run) reading }
+    ensures not_refused { (held : Held) (log data_bytes : List ℕ)
+        → IsHeld held → IsImage held.log_disk log → IsFair held.opened.shape held.data_disk data_bytes
         → (refusal : Refusal) → Refuses log data_bytes refusal → ⊥ }
 {
     crash_reads();
@@ -50,17 +50,17 @@ pub fn closed_run_reads()
 pub fn closed_run_is_safe()
     ensures { (failures : ℕ) (closed : Closed) → IsClosed failures closed → RunSafe failures (result_of closed) }
 {
-    closed_run_reads();
+    held_run_reads();
 }
 
-/// Whatever a crash leaves of the log device of a closed run has a newest checkpoint, which isn't older than the one that
+/// Whatever a crash leaves of a log device that holds a run has a newest checkpoint, which isn't older than the one that
 /// opening made. So, where the device held an older one when its fuse was armed, it tells that opening came to its end.
-pub fn closed_run_is_opened()
-    ensures number { (failures : ℕ) (closed : Closed) (log : List ℕ) → IsClosed failures closed → IsImage closed.log_disk log
-        → HasCheckpointFrom closed.opened.shape closed.number log }
-    ensures opened { (failures : ℕ) (closed : Closed) (armed_from : Disk) → IsClosed failures closed
-        → HeldOlder closed.opened.shape closed.number armed_from
-        → IsOpenedBefore closed.opened.shape armed_from closed.log_disk (Some closed.run) }
+pub fn held_run_is_opened()
+    ensures number { (held : Held) (log : List ℕ) → IsHeld held → IsImage held.log_disk log
+        → HasCheckpointFrom held.opened.shape held.number log }
+    ensures opened { (held : Held) (armed_from : Disk) → IsHeld held
+        → HeldOlder held.opened.shape held.number armed_from
+        → IsOpenedBefore held.opened.shape armed_from held.log_disk (Some held.run) }
 {}
 
 /// The crash theorem holds of a call whose run is safe, or whose opening was stopped, and whose devices were crashed and
@@ -81,7 +81,7 @@ pub fn crash_of_closed_run()
         → HeldOlder opened.shape closed.number crash.log_device.armed_from
         → CrashSafe crash opened account }
 {
-    closed_run_is_opened();
+    held_run_is_opened();
     closed_run_is_safe();
     crash_of_safe_run();
 }
