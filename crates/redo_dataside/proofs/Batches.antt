@@ -17,11 +17,6 @@ fresh_at [] i new at = absurd cc
 fresh_at (x ∷ xs) zero new at = (x, refl, (let same : fresh_page x ≡ new = cc in same))
 fresh_at (x ∷ xs) (suc i) new at = fresh_at xs i new at
 
-pub at_fresh : (batch : List BatchPage) (i : ℕ) (x : BatchPage) → get_elem? batch i ≡ some x → slice_get (fresh_batch batch) i ≡ Some (fresh_page x)
-at_fresh [] i x at = absurd cc
-at_fresh (y ∷ ys) zero x at = (let same : ◌≡◌ {A = BatchPage} y x = cc in ap (λ (z : BatchPage). Some (fresh_page z)) same)
-at_fresh (y ∷ ys) (suc i) x at = at_fresh ys i x at
-
 pub fresh_length : (batch : List BatchPage) → length (fresh_batch batch) ≡ length batch
 fresh_length [] = refl
 fresh_length (x ∷ xs) = ap suc (fresh_length xs)

@@ -1,21 +1,17 @@
 -- Where the cleaner writes a batch, the part's condition holds.
-use Rattle.std.proofs.Common.{List, None, Some, [], ap, arith, length, subst, sym, ℕ, ◌∙◌, ◌≡◌}
-use Rattle.std.specs.List.{flat_map, slice_get}
-use Rattle.std.specs.Prelude.{map}
+use Rattle.std.proofs.Common.{List, None, Some, ap, arith, length, subst, sym, ℕ, ◌∙◌, ◌≡◌}
+use Rattle.std.specs.List.{slice_get}
 use lib.ListN.{get_elem?}
 use mathlib.Core.Option.{some}
 use native.Mathlib.Decide.{dec_le, ℕ_discrete}
 use Rattle.model_base.specs.{IsWithinLimits}
 use Rattle.model_base.specs.declared.shape.Shape.{Shape}
-use Rattle.model_core.specs.{Batch, BatchPage, KeptPage}
+use Rattle.model_core.specs.{BatchPage, KeptPage}
 use Rattle.model_datadev.proofs.Joined.{batch-at, length-batch_of}
 use Rattle.model_datadev.specs.{Fresh, IsWritable}
-use Rattle.model_page.specs.{user_part}
 use Rattle.model_pagecore.specs.{CanBatch}
 use Rattle.redo_dataside.proofs.Batches.{fresh_at, fresh_length}
-use Rattle.model_running.specs.{CanLendBatch}
 use Rattle.redo_dataside.proofs.DataPartLaws.{not_failed}
-use Rattle.redo_dataside.proofs.Lent.{lent_batch}
 use Rattle.redo_dataside.specs.DataPartSide.{HoldsPages, IsBatchOf, data_side}
 use Rattle.redo_disk.specs.Seen.{Seen}
 use Rattle.redo_store.specs.Part.{Part}
@@ -57,16 +53,3 @@ module _ {D : Type 0} (seen : D → Seen) (faults : ℕ) (shape : Shape) (Begun 
           ];
     }),
   )
-
-  -- The same of what an actor lends to the call: its batch, as pairs of page and lsn and as joined user bytes.
-  pub record MayLend (batch : List BatchPage) (pairs : List (ℕ × ℕ)) (users : List ℕ) (d : Part D) : Type 0 where
-    pub live : d.failed ≡ None
-    pub writable : IsWritable d.shape pairs users
-    pub is : IsBatchOf pairs users batch
-
-  pub may_lend : (kept_page : ℕ → KeptPage) (batch : List BatchPage) (pairs : List (ℕ × ℕ)) (users : List ℕ) (d : Part D) → IsWithinLimits shape → CanLendBatch (data_side seen faults shape Begun) shape.pages kept_page (Batch batch) d
-      → pairs ≡ map (λ (b : BatchPage). (b.page, b.lsn)) batch → users ≡ flat_map (λ (b : BatchPage). user_part b.bytes) batch → MayLend batch pairs users d
-  may_lend kept_page batch pairs users d limits ready pairs_are users_are =
-      let is : IsBatchOf pairs users batch = lent_batch batch pairs users (λ i x at. (ready.1.each i x at).whole) pairs_are users_are in
-      let may = may_write_batch kept_page [] batch pairs users d limits ready.0 ready.1 is in
-      record { live = may.0; writable = may.1; is = is }

@@ -1,5 +1,6 @@
 pub mod Asked
 pub mod Buffered
 pub mod Copies
+pub mod Entered
 pub mod Repaired
 pub mod TextWrites

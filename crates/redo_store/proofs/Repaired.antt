@@ -1,18 +1,19 @@
 -- A repair: the slots are read, and the copy that counts by what was read is put into its place.
-use Rattle.std.proofs.Common.{◌≡◌, ◌≤◌, IfSome, ◌+◌, ◌-◌, ◌*◌, ℕ, inl, inr, List, [], ◌∷◌, length, take, drop, Option, Some, None, Ok, Err, refl, sym, ap, subst, ◌∙◌, arith}
+use Rattle.std.proofs.Common.{◌≡◌, ◌+◌, ◌-◌, ◌*◌, ℕ, inl, inr, List, [], ◌∷◌, length, take, drop, Option, Some, None, Ok, Err, refl, sym, ap, subst, ◌∙◌, arith}
 use Rattle.model_base.specs.declared.shape.Shape.{Shape}
-use Rattle.model_datadev.proofs.Repairs.{same-best}
+use Rattle.model_datadev.proofs.Repairs.{HasRepaired, copy-put, copy-put_done, put-back_failed, same-best}
 use Rattle.model_datadev.proofs.Stretches.{stretch-piece}
-use Rattle.model_datadev.specs.{FailsPutBack, HasNothingPending, IsPutBack, IsRepairable, place_at, repair_write, SameSlots}
+use Rattle.model_datadev.specs.{FailsPutBack, IsPutBack, IsRepairable, KeepsAll, place_at, repair_write, SameSlots}
 use Rattle.model_device.specs.{IsPutOrNot, synced, written}
 use Rattle.model_device.specs.Disk.{Disk}
 use Rattle.model_device.specs.declared.write.Write.{Write}
-use Rattle.model_page.specs.{data_device_length, HasNoCopy, IsBestCopy, slot_bytes}
+use Rattle.model_page.specs.{HasNoCopy, IsBestCopy, slot_bytes}
 use Rattle.redo_dblwr.specs.{slots_read}
 use Rattle.redo_disk.proofs.Calls.{EndWith-append}
 use Rattle.redo_disk.proofs.Made.{EndWith-one, call_serves}
-use Rattle.redo_disk.specs.{Answer, Call, error_of, HasSize, MakesCall, MakesCalls, put_requests, Reads, Serve, ToRead, write_at}
+use Rattle.redo_disk.specs.{Answer, Call, error_of, MakesCall, MakesCalls, put_requests, Reads, Serve, ToRead, write_at}
 use Rattle.redo_disk.specs.declared.error.DevError.{DevError}
+use Rattle.redo_store.proofs.Entered.{IsReady}
 use Rattle.redo_store.specs.Requests.{RepairCalls}
 
 -- the part of the buffer that holds a slot
@@ -45,16 +46,12 @@ put-failed shape page slot lsn at slots bytes old new same best at_is bytes_is f
     let made : IsMade shape page slot lsn slots (write_at at bytes) old = made-from shape page slot lsn at slots bytes old same best at_is bytes_is in
     inr (record { slot = slot; lsn = lsn; best = made.best; calls = subst (λ (w : Write). IsPutOrNot w old new) made.is fails })
 
--- a device that is as long as the store asks, on which nothing is pending, and on which the page may be repaired
-pub record IsMendable (shape : Shape) (page : ℕ) (disk : Disk) : Type 0 where
-  pub long : data_device_length shape ≤ length disk.base
-  pub nothing : HasNothingPending disk
-  pub can : IsRepairable shape page disk
+pub back-keeps : (shape : Shape) (page : ℕ) (old new : Disk) → IsReady shape page (IsRepairable shape page) old → IsPutBack shape page old new → HasRepaired shape page old new
+back-keeps shape page old new ready done =
+    copy-put_done shape page old new ready.limits ready.below ready.long ready.nothing ready.known (copy-put shape page old new ready.known done)
 
-pub mendable : (told : Option Disk) (shape : Shape) (page size : ℕ) → data_device_length shape ≤ size → IfSome told (HasSize size) → IfSome told HasNothingPending
-    → IfSome told (IsRepairable shape page) → IfSome told (IsMendable shape page)
-mendable None shape page size enough sized nothing can = tt
-mendable (Some disk) shape page size enough sized nothing can = record { long = omega (arith, sized.base, enough); nothing = nothing; can = can }
+pub back-fails : (shape : Shape) (page : ℕ) (old new : Disk) → IsReady shape page (IsRepairable shape page) old → FailsPutBack shape page old new → KeepsAll shape old new
+back-fails shape page old new ready fails = put-back_failed shape page old new ready.limits ready.below ready.long ready.nothing ready.known fails
 
 -- THE CALLS.
 
