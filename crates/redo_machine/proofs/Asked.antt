@@ -1,5 +1,5 @@
 -- What the writing of a batch asked of the data device, as the definition of a turn has what is lent.
-use Rattle.std.proofs.Common.{List, subst, sym, ℕ, ◌≡◌}
+use Rattle.std.proofs.Common.{List, subst, sym, ℕ}
 use Rattle.model_core.specs.Actors as model
 use Rattle.model_core.specs.declared.ops.Op.TheVariants as op
 use Rattle.model_datadev.specs.{batch_of, Fresh}

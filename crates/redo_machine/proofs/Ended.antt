@@ -30,9 +30,6 @@ open_is u is ended = ⊎_elim (λ d. let z : has_ended u.step ≡ true = ap has_
 abbrev pub EndedBelow : ℕ → List Actor → Type 0
 EndedBelow seat actors = (j : ℕ) (u : UserState) → j < seat → get_elem? (views_of actors) j ≡ some (model.User u) → HasEnded u
 
-pub none_below : (actors : List Actor) → EndedBelow 0 actors
-none_below actors j u l at = absurd (omega arith)
-
 past : (actors : List model.Actor) (seat : ℕ) (u : UserState) → get_elem? actors seat ≡ some (model.User u) → seat < length actors
 past [] seat u at = absurd (some-ne-none (model.User u) (sym at))
 past (x ∷ xs) zero u at = omega arith

@@ -1,7 +1,6 @@
 pub mod Asked
 pub mod Begun
 pub mod CallsOn
-pub mod ClosedRun
 pub mod Ended
 pub mod FailedTurns
 pub mod FailureCode

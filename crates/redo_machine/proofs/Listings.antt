@@ -2,11 +2,11 @@
 use Rattle.std.proofs.Common.{Bool, List, None, Some, [], ap, arith, cond, eq-eqb, false, get_or, length, map, refl, set, suc, sym, true, zero, ℕ, ◌%◌, ◌++◌, ◌+◌, ◌<◌, ◌==◌, ◌∙◌, ◌∷◌, ◌≡◌}
 use Rattle.std.specs.Prelude.{IsSome, find, not, option_map}
 use Rattle.std.proofs.lemmas.Bool.{eqb-true}
-use Rattle.std.proofs.lemmas.List.{get_or-set_other, length-set}
+use Rattle.std.proofs.lemmas.List.{get_or-set_other}
 use Rattle.std.proofs.lemmas.Grind.{get_or-set_at}
-use Rattle.model_core.specs.{Each, joined, Listed, lists_left, oldest_end, oldest_of, without}
+use Rattle.model_core.specs.{Each, joined, Listed, lists_left, oldest_of, without}
 use Rattle.model_core.specs.declared.ops.Op.TheVariants as op
-use Rattle.redo_flushlist.specs.{first_oldest, Listing}
+use Rattle.redo_flushlist.specs.{Listing}
 use Rattle.redo_flushlist.specs.Order as own
 use Rattle.redo_flushlist.specs.declared.dirty.Dirty.{Dirty}
 use Rattle.redo_machine.specs.Lists.{AreLists, Listings, added, empty_lists, listed_of, listing_at, lists_of, no_list, removed, with_list}
@@ -52,11 +52,6 @@ left (e ∷ es) p = by (e.page == p) (left es p)
     by true rest = rest
     by false rest = ap (λ (l : List Listed). listed_of e ∷ l) rest
 
--- the oldest modification of the first page
-pub end_there : (es : List Dirty) → first_oldest es ≡ oldest_end (Listed_in es)
-end_there [] = refl
-end_there (e ∷ es) = refl
-
 -- each list after one is replaced
 list_set : (ls : List Listing) (i j : ℕ) (new : Listing) → j < length ls → listing_at (set ls j new) i ≡ cond (i == j) new (listing_at ls i)
 list_set ls i j new l = by (i == j) refl
@@ -64,9 +59,6 @@ list_set ls i j new l = by (i == j) refl
     by : (b : Bool) → (i == j) ≡ b → listing_at (set ls j new) i ≡ cond b new (listing_at ls i)
     by true is = get_or-set_at ls j i new no_list (eqb-true i j is) l
     by false is = get_or-set_other ls j i new no_list (λ same. let yes : (i == j) ≡ true = eq-eqb i j same in absurd cc)
-
-abbrev entries_by : Bool → List Dirty → Listing → List Listed
-entries_by b new old = cond b (Listed_in new) (Listed_in old.entries)
 
 listed_by : (b : Bool) (new : Listing) (old : Listing) → Listed_in (cond b new old).entries ≡ cond b (Listed_in new.entries) (Listed_in old.entries)
 listed_by true new old = refl
@@ -119,20 +111,6 @@ remove_at old new p i false are is = ap (λ (z : Listings). lists_of z i) is ∙
 pub remove_left : (old new : Listings) (word : ℕ → ℕ) (p : ℕ) → AreLists old → ◌≡◌ {A = Listings} new (cond (word (p % 4) == 0) (removed old p) old)
     → ◌≡◌ {A = ℕ → List Listed} (lists_of new) (lists_left (lists_of old) word (op.TakeRemove p))
 remove_left old new word p are is k i = remove_at old new p i (word (p % 4) == 0) are is k
-
--- a change of one list leaves lists
-pub still_lists : (listings : Listings) (j : ℕ) (entries : List Dirty) → AreLists listings → j < 4 → AreLists (with_list listings j entries)
-still_lists listings j entries are l =
-    let new : Listing = record { pages = (listing_at listings.lists j).pages; entries = entries } in
-    let n : j < length listings.lists = let c = are.count in omega arith in
-    record {
-      count = length-set listings.lists j new ∙ are.count;
-      its_pages = λ i below. ap (λ (z : Listing). z.pages) (list_set listings.lists i j new n) ∙ by i below (i == j) refl;
-    }
-  where
-    by : (i : ℕ) → i < 4 → (b : Bool) → (i == j) ≡ b → (cond b (record { pages = (listing_at listings.lists j).pages; entries = entries }) (listing_at listings.lists i)).pages ≡ listings.pages
-    by i below true is = are.its_pages j l
-    by i below false is = are.its_pages i below
 
 pub empty_are_lists : (pages : ℕ) → AreLists (empty_lists pages)
 empty_are_lists pages = record { count = refl; its_pages = by }

@@ -123,7 +123,6 @@ module _ {L D : Type 0} (log_seen : L → Seen) (data_seen : D → Seen) (opened
 
   abbrev machine : Machine L D
   machine = record {
-    start = opened.start;
     parts = record { words = own.words; log = opened.log; store = opened.store; lists = own.lists };
     actors = own.actors;
     entries = own.entries;
@@ -236,7 +235,6 @@ module _ {L D : Type 0} (log_seen : L → Seen) (data_seen : D → Seen) (opened
       none_listed = none_at;
     };
     runs = runs;
-    start = refl;
     log = refl;
     data_part = refl;
     no_entries = owns.no_entries;

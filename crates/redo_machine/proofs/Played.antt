@@ -3,7 +3,7 @@ use Rattle.std.proofs.Common.{None, ap, cond, refl, subst, sym, ℕ, ◌%◌, �
 use Rattle.std.specs.Prelude.{slice_set}
 use Rattle.model_core.specs.Actors as model
 use Rattle.model_core.specs.DataSide.{DataSide}
-use Rattle.model_core.specs.{answer_of, DataServed, list_answer, list_word, LogServed, oldest_end, OnWord, word_found, words_after, words_left}
+use Rattle.model_core.specs.{answer_of, DataServed, list_answer, list_word, OnWord, word_found, words_after, words_left}
 use Rattle.model_core.specs.declared.ops.Answer.{Answer}
 use Rattle.model_core.specs.declared.ops.Answer.TheVariants as answer
 use Rattle.model_core.specs.declared.ops.Op.{Op}
@@ -13,7 +13,7 @@ use Rattle.redo_logdev.specs.Part as log
 use Rattle.redo_logside.specs.LogPartSide as log_part
 use Rattle.redo_machine.proofs.Listings.{add_left, remove_left}
 use Rattle.redo_machine.specs.Lists.{AreLists, Listings, added, lists_of, removed}
-use Rattle.redo_machine.specs.Playing.{HasSameDevices, IsPlayed, RunOf, data_of, log_of}
+use Rattle.redo_machine.specs.Playing.{HasSameDevices, IsPlayed, RunOf, data_of}
 use Rattle.redo_machine.specs.declared.parts.Parts.{Parts}
 use Rattle.redo_store.specs.Part as store
 use Rattle.redo_words.specs.Plain.{Plain}
@@ -59,9 +59,6 @@ module _ {L D : Type 0} (log_seen : L → Seen) (data_seen : D → Seen) (run : 
   pub gave_device : (o : Op) → o ≡ op.GiveDevice → (w : Plain) (r : Answer) → r ≡ answer.Taken None → w.words ≡ slice_set old.words.words 7 0 → Played o r (with_words w)
   gave_device o is w r taken words = by_op o op.GiveDevice r (with_words w) is (record { code = 0; log_served = refl; data_served = none op.GiveDevice tt 0; words = words; lists = refl; answered = taken })
 
-  pub gave_list : (o : Op) (i : ℕ) → o ≡ op.GiveList i → (w : Plain) (r : Answer) → r ≡ answer.Taken None → w.words ≡ words_left old.words.words (op.GiveList i) → Played o r (with_words w)
-  gave_list o i is w r taken words = by_op o (op.GiveList i) r (with_words w) is (record { code = 0; log_served = refl; data_served = none (op.GiveList i) tt 0; words = words; lists = refl; answered = taken })
-
   pub rested : (o : Op) → o ≡ op.Rest → Played o answer.Rested old
   rested o is = by_op o op.Rest answer.Rested old is (record { code = 0; log_served = refl; data_served = none op.Rest tt 0; words = refl; lists = refl; answered = refl })
 
@@ -80,21 +77,3 @@ module _ {L D : Type 0} (log_seen : L → Seen) (data_seen : D → Seen) (run : 
     pub took_remove : (o : Op) (p : ℕ) → o ≡ op.TakeRemove p → AreLists old.lists → new.words.words ≡ words_left old.words.words (op.TakeRemove p)
         → ◌≡◌ {A = Listings} new.lists (cond (list_word old.words.words (p % 4) == 0) (removed old.lists p) old.lists) → r ≡ list_answer (list_word old.words.words (p % 4)) None → Played o r new
     took_remove o p is are words lists answers = by_op o (op.TakeRemove p) r new is (record { code = 0; log_served = same.log; data_served = left (op.TakeRemove p) tt; words = words; lists = remove_left old.lists new.lists (list_word old.words.words) p are lists; answered = answers })
-
-    pub took_oldest : (o : Op) (i : ℕ) → o ≡ op.TakeOldest i → new.words.words ≡ words_left old.words.words (op.TakeOldest i) → ◌≡◌ {A = Listings} new.lists old.lists
-        → r ≡ list_answer (list_word old.words.words i) (oldest_end (lists_of old.lists i)) → Played o r new
-    took_oldest o i is words lists answers = by_op o (op.TakeOldest i) r new is (record { code = 0; log_served = same.log; data_served = left (op.TakeOldest i) tt; words = words; lists = ap lists_of lists; answered = answers })
-
-  -- a call of a part, which ended with this code
-  module _ (code : ℕ) (r : Answer) where
-    pub wrote : (o : Op) (t : ℕ) (q : log.Part L) → o ≡ op.WriteTo t → LogServed (log_of log_seen data_seen run) old.log l (op.WriteTo t) code q → r ≡ cond (code == 0) (answer.Called 0) (answer.Failed code) → Played o r (with_log q)
-    wrote o t q is served answers = by_op o (op.WriteTo t) r (with_log q) is (record { code = code; log_served = served; data_served = none (op.WriteTo t) tt code; words = refl; lists = refl; answered = answers })
-
-    pub synced : (o : Op) (q : log.Part L) (mark : ℕ) → o ≡ op.Sync → log_part.LogSynced log_seen code old.log q → mark ≡ q.marks.stable → r ≡ cond (code == 0) (answer.Called mark) (answer.Failed code) → Played o r (with_log q)
-    synced o q mark is served stable answers = by_op o op.Sync r (with_log q) is (record { code = code; log_served = served; data_served = none op.Sync tt code; words = refl; lists = refl; answered = subst (λ (n : ℕ). r ≡ cond (code == 0) (answer.Called n) (answer.Failed code)) stable answers })
-
-    pub checkpointed : (o : Op) (x : ℕ) (q : log.Part L) → o ≡ op.Checkpoint x → log_part.LogCheckpointed log_seen x code old.log q → r ≡ cond (code == 0) (answer.Called 0) (answer.Failed code) → Played o r (with_log q)
-    checkpointed o x q is served answers = by_op o (op.Checkpoint x) r (with_log q) is (record { code = code; log_served = served; data_served = none (op.Checkpoint x) tt code; words = refl; lists = refl; answered = answers })
-
-    pub batched : (o : Op) (e : store.Part D) → o ≡ op.WriteBatch → DataServed (data_of log_seen data_seen run) old.store l op.WriteBatch code e → r ≡ cond (code == 0) (answer.Called 0) (answer.Failed code) → Played o r (with_store e)
-    batched o e is served answers = by_op o op.WriteBatch r (with_store e) is (record { code = code; log_served = refl; data_served = served; words = refl; lists = refl; answered = answers })

@@ -1,4 +1,5 @@
--- What a run by turns leaves is a run of its script, and, where its devices tell and the store was ready, a closed one.
+-- What a run by turns leaves is a run of its script, and, where its devices tell and the store was ready, both hold it; where
+-- all users have ended it is a closed one.
 use Rattle.std.proofs.Common.{List, None, Option, Some, ap, arith, inl, inr, refl, slice_get, subst, sym, ⊎_elim, ℕ, ◌+◌, ◌<◌, ◌∙◌, ◌≡◌}
 use Rattle.std.specs.Prelude.{IfSome}
 use Rattle.model_base.specs.declared.shape.Shape.{Shape}
@@ -7,7 +8,10 @@ use Rattle.model_core.specs.LogSide.{LogSide}
 use Rattle.model_core.specs.{lsn}
 use Rattle.model_device.specs.{synced}
 use Rattle.model_device.specs.Disk.{Disk}
+use Rattle.model_finish.proofs.ClosedStore.{held_run}
 use Rattle.model_finish.proofs.Finished.{finished_losses, finished_run, marks_same}
+use Rattle.model_finish.proofs.FinishedPages.{finished_pages}
+use Rattle.model_finish.proofs.FinishedStore.{stands_for_run}
 use Rattle.model_finish.proofs.OpenLines as open_lines
 use Rattle.model_finish.proofs.Seated.{seated_end, seated_seats}
 use Rattle.model_finish.specs.{CausesAreFailures, DataTells, HasCause, HasItsPages, IsOfScript, LeavesOpen, LogTells, run_of, word_marks}
@@ -17,8 +21,8 @@ use Rattle.model_history.specs.declared.entry.Marks.{Marks}
 use Rattle.model_log.specs.{start_after}
 use Rattle.model_page.specs.declared.content.Content.{Content}
 use Rattle.model_run.proofs.Start.{start-given}
-use Rattle.model_run.specs.{IsClosed, IsStart, opened_as}
-use Rattle.model_running.specs.{IsDone, IsSpent}
+use Rattle.model_run.specs.{IsHeld, IsStart, opened_as}
+use Rattle.model_running.specs.{IsDone, IsSpent, TakesTurns}
 use Rattle.model_script.specs.declared.script.ScriptLine.{ScriptLine}
 use Rattle.model_store.specs.Reading.{Reading}
 use Rattle.model_theorem.specs.{IsRun, LosesOnlyByFailure}
@@ -33,17 +37,18 @@ use Rattle.redo_logdev.specs.Part as log
 use Rattle.redo_logside.proofs.PartEnds.{log_tells}
 use Rattle.redo_logside.proofs.ShapeStays.{run_shape}
 use Rattle.redo_logside.specs.LogPartSide as log_part
-use Rattle.redo_machine.proofs.ClosedRun.{closed_as_told}
 use Rattle.redo_machine.proofs.SyncedParts.{data_is_synced, log_tells_synced}
 use Rattle.redo_machine.specs.Beginning.{HaveBegun, IsOpenedAs, MayBegin}
 use Rattle.redo_machine.specs.Calls.{CallOnBoth, CallsOn}
-use Rattle.redo_machine.specs.Drive.{ComesToRun, HasMemory, HasMetError, IsOwed, IsOwedSynced, RunsByTurns, failed_in, ran_of}
+use Rattle.redo_machine.specs.Drive.{ComesToRun, HasMemory, HasMetError, HoldsRun, IsOwed, IsOwedSynced, RunsByTurns, failed_in, ran_of}
 use Rattle.redo_machine.specs.Playing.{RunOf, data_of, log_of}
 use Rattle.redo_machine.specs.Running.{core_of}
 use Rattle.redo_machine.specs.Turns.{EndsAs}
 use Rattle.redo_machine.specs.Views.{views_of}
+use Rattle.redo_machine.specs.declared.actor.Actor.{Actor}
 use Rattle.redo_machine.specs.declared.drive.Driven.{Driven}
 use Rattle.redo_machine.specs.declared.drive.Turns.{Turns}
+use Rattle.redo_machine.specs.declared.parts.Parts.{Parts}
 use Rattle.redo_machine.specs.declared.running.Ran.{Ran}
 use Rattle.redo_machine.specs.declared.running.Ran.TheVariants as ended
 use Rattle.redo_pageactors.specs.declared.opened.Opened.{Opened}
@@ -61,6 +66,13 @@ as_told tells Is disk told is = subst (λ (o : Option Disk). IfSome o Is) told i
 failure_counts : (fault : DevError) (failed other : Option DevError) → failed ≡ Some fault → (failed ≡ Some NoMemory → 0 < failures failed + failures other) → 0 < failures failed + failures other
 failure_counts Failed failed other is memory = let n : failures failed ≡ 1 = ap failures is in omega arith
 failure_counts NoMemory failed other is memory = memory is
+
+-- However a run ended, turns led there.
+turns_taken : {L D : Type 0} (log_seen : L → Seen) (data_seen : D → Seen) (run : RunOf L D) (seed max : ℕ) (first : Parts L D) (actors : List Actor) (how : Ran) (last : Parts L D) (after : List Actor)
+    → EndsAs log_seen data_seen run seed max first actors how last after
+    → (count : ℕ) × TakesTurns (log_of log_seen data_seen run) (data_of log_seen data_seen run) seed max count (core_of log_seen data_seen run first actors) (core_of log_seen data_seen run last after)
+turns_taken log_seen data_seen run seed max first actors ended.Done last after ends = (ends.count, ends.turns)
+turns_taken log_seen data_seen run seed max first actors (ended.Spent user) last after ends = (max, ends.turns)
 
 module _ {L D : Type 0} (log_seen : L → Seen) (data_seen : D → Seen) (opened : Opened L D) (script : List ScriptLine) (turns : Turns) (driven : Driven L D) (by : RunsByTurns log_seen data_seen opened script turns driven) where
   abbrev run : RunOf L D
@@ -154,17 +166,18 @@ module _ {L D : Type 0} (log_seen : L → Seen) (data_seen : D → Seen) (opened
       each = λ p page at. its.each p page (subst (λ (z : List Content). slice_get z p ≡ Some page) (sym as_read.pages) at);
     }
 
-    log_shape : driven.ended ≡ ended.Done → ◌≡◌ {A = Shape} by.last.log.shape reading.shape
-    log_shape done =
-        run_shape log_seen (log_seen run.first_log.dev).faults run.first_log.marks.number (log_part.HasBegun log_seen (lsn run.setup.base) run.first_log) datas turns.seed turns.max (is_done done).count
-        (core_of log_seen data_seen run by.first.parts by.first.actors.items) (core_of log_seen data_seen run by.last by.actors) (is_done done).turns
+    log_shape : ◌≡◌ {A = Shape} by.last.log.shape reading.shape
+    log_shape =
+        let taken = turns_taken log_seen data_seen run turns.seed turns.max by.first.parts by.first.actors.items driven.ended by.last by.actors by.ends in
+        run_shape log_seen (log_seen run.first_log.dev).faults run.first_log.marks.number (log_part.HasBegun log_seen (lsn run.setup.base) run.first_log) datas turns.seed turns.max taken.0
+        (core_of log_seen data_seen run by.first.parts by.first.actors.items) (core_of log_seen data_seen run by.last by.actors) taken.1
         ∙ ap (λ (z : log.Part L). z.shape) by.begins.log ∙ may.runnable.log_shape ∙ as_read.shape
 
     -- what the log device holds of the run, and the data device
-    log_device : driven.ended ≡ ended.Done → HaveBegun log_seen data_seen run → (disk : Disk) → (log_seen driven.closed.log.dev).tells ≡ Some disk → LogTells logs run.setup reading.shape (reading.number + 1) by.last.log disk
-    log_device done begun disk told =
+    log_device : HaveBegun log_seen data_seen run → (disk : Disk) → (log_seen driven.closed.log.dev).tells ≡ Some disk → LogTells logs run.setup reading.shape (reading.number + 1) by.last.log disk
+    log_device begun disk told =
         subst (λ (n : ℕ). LogTells logs run.setup reading.shape n by.last.log disk) (ap (λ (z : log.Part L). z.marks.number) by.begins.is_run.first_log ∙ as_read.number)
-        (log_tells log_seen (log_seen run.first_log.dev).faults run.first_log.marks.number (log_part.HasBegun log_seen (lsn run.setup.base) run.first_log) run.setup reading.shape by.last.log disk begun.log (log_shape done)
+        (log_tells log_seen (log_seen run.first_log.dev).faults run.first_log.marks.number (log_part.HasBegun log_seen (lsn run.setup.base) run.first_log) run.setup reading.shape by.last.log disk begun.log log_shape
         (ap (λ (z : log.Part L). (log_seen z.dev).tells) (sym by.log) ∙ told))
 
     data_device : HaveBegun log_seen data_seen run → (disk : Disk) → (data_seen driven.closed.store.dev).tells ≡ Some disk → DataTells datas (opened_as reading) by.last.store disk
@@ -173,11 +186,11 @@ module _ {L D : Type 0} (log_seen : L → Seen) (data_seen : D → Seen) (opened
         (sym as_read.shape ∙ sym by.begins.is_run.shape) begun.data_part (ap (λ (z : store.Part D). (data_seen z.dev).tells) (sym by.data_part) ∙ told)
 
     -- and what a sync would leave of them, where no call failed
-    log_synced : driven.ended ≡ ended.Done → HaveBegun log_seen data_seen run → driven.closed.log.failed ≡ None → (disk : Disk) → (log_seen driven.closed.log.dev).tells ≡ Some disk
+    log_synced : HaveBegun log_seen data_seen run → driven.closed.log.failed ≡ None → (disk : Disk) → (log_seen driven.closed.log.dev).tells ≡ Some disk
         → LogTells logs run.setup reading.shape (reading.number + 1) by.last.log (synced disk)
-    log_synced done begun live disk told =
+    log_synced begun live disk told =
         subst (λ (n : ℕ). LogTells logs run.setup reading.shape n by.last.log (synced disk)) (ap (λ (z : log.Part L). z.marks.number) by.begins.is_run.first_log ∙ as_read.number)
-        (log_tells_synced log_seen (log_seen run.first_log.dev).faults run.first_log.marks.number (log_part.HasBegun log_seen (lsn run.setup.base) run.first_log) run.setup reading.shape by.last.log disk begun.log (log_shape done)
+        (log_tells_synced log_seen (log_seen run.first_log.dev).faults run.first_log.marks.number (log_part.HasBegun log_seen (lsn run.setup.base) run.first_log) run.setup reading.shape by.last.log disk begun.log log_shape
         (ap (λ (z : log.Part L). (log_seen z.dev).tells) (sym by.log) ∙ told) (ap (λ (z : log.Part L). z.failed) (sym by.log) ∙ live))
 
     data_synced : HaveBegun log_seen data_seen run → driven.closed.store.failed ≡ None → (disk : Disk) → (data_seen driven.closed.store.dev).tells ≡ Some disk → DataTells datas (opened_as reading) by.last.store (synced disk)
@@ -187,14 +200,21 @@ module _ {L D : Type 0} (log_seen : L → Seen) (data_seen : D → Seen) (opened
         by.runs.running.both.paged.paged.stored begun.data_part (ap (λ (z : store.Part D). (data_seen z.dev).tells) (sym by.data_part) ∙ told) (ap (λ (z : store.Part D). z.failed) (sym by.data_part) ∙ live))
         (data_device begun disk told)
 
-    closed : (left : List (ℕ × ℕ)) (log_disk data_disk log_now data_now : Disk) → driven.ended ≡ ended.Done → HasMemory driven.closed → IsLeft script driven.closed.history left
-        → IsStart reading script log_disk data_disk → LogTells logs run.setup reading.shape (reading.number + 1) by.last.log log_now → DataTells datas (opened_as reading) by.last.store data_now
-        → IsClosed (failed_in driven.closed) (record { script = script; opened = opened_as reading; number = reading.number + 1; run = ran; left = left; log_disk = log_now; data_disk = data_now })
-    closed left log_disk data_disk log_now data_now done memory left_is start log_tells_now data_tells_now =
-        subst (λ (z : theorem.Ran). IsClosed (failed_in driven.closed) (record { script = script; opened = opened_as reading; number = reading.number + 1; run = z; left = left; log_disk = log_now; data_disk = data_now })) ran_is
-        (closed_as_told logs datas run.setup script (opened_as reading) (reading.number + 1) (failed_in driven.closed) left log_now data_now (core_of log_seen data_seen run by.last by.actors) by.runs.running by.runs.seated (is_done done).ended
-        (subst (λ (z : Shape). IsOfScript run.setup script z.space) as_read.shape by.begins.is_run.of_script) (by.begins.is_run.start ∙ as_read.start) (start-given reading script log_disk data_disk start) its_pages
-        log_tells_now data_tells_now (causes memory) (left_of_run left left_is))
+    -- so both devices hold the run, as the parts tell of them
+    held : (log_disk data_disk log_now data_now : Disk) → IsStart reading script log_disk data_disk
+        → LogTells logs run.setup reading.shape (reading.number + 1) by.last.log log_now → DataTells datas (opened_as reading) by.last.store data_now
+        → IsHeld (record { script = script; opened = opened_as reading; number = reading.number + 1; run = ran; log_disk = log_now; data_disk = data_now })
+    unfolding stands_for_run
+    held log_disk data_disk log_now data_now start log_tells_now data_tells_now =
+        let core = core_of log_seen data_seen run by.last by.actors in
+        let running = by.runs.running in
+        let of_script = subst (λ (z : Shape). IsOfScript run.setup script z.space) as_read.shape by.begins.is_run.of_script in
+        let behind : lsn run.setup.base ≡ start_after reading.end = by.begins.is_run.start ∙ as_read.start in
+        let given = start-given reading script log_disk data_disk start in
+        subst (λ (z : theorem.Ran). IsHeld (record { script = script; opened = opened_as reading; number = reading.number + 1; run = z; log_disk = log_now; data_disk = data_now })) ran_is
+        (held_run logs datas run.setup script (opened_as reading) (reading.number + 1) log_now data_now core behind given log_tells_now data_tells_now
+        (stands_for_run logs datas run.setup 0 script (opened_as reading) core running of_script behind)
+        (finished_pages logs datas run.setup 0 script (opened_as reading) core running given its_pages of_script))
 
   -- both devices held what was opened, where they told
   has_begun : (reading : Reading) → IsOpenedAs reading opened → (log_disk data_disk : Disk) → (log_seen opened.log.dev).tells ≡ Some log_disk → (data_seen opened.store.dev).tells ≡ Some data_disk
@@ -203,18 +223,36 @@ module _ {L D : Type 0} (log_seen : L → Seen) (data_seen : D → Seen) (opened
       as_told (data_seen opened.store.dev).tells (λ disk. IsStart reading script log_disk disk → HaveBegun log_seen data_seen run) data_disk data_told
       (as_told (log_seen opened.log.dev).tells (λ disk. IfSome (data_seen opened.store.dev).tells (λ other. IsStart reading script disk other → HaveBegun log_seen data_seen run)) log_disk log_told (by.begins.begun reading as_read))
 
-  pub is_owed : MayBegin opened script turns.log_only → IsOwed log_seen data_seen opened script driven
-  is_owed may reading left done memory as_read left_is =
+  -- where both devices tell, then and now, and the store was ready
+  where_told : (reading : Reading) → IsOpenedAs reading opened → (Is : Disk → Disk → Type 0)
+      → ((log_disk data_disk log_now data_now : Disk) → IsStart reading script log_disk data_disk → HaveBegun log_seen data_seen run
+      → (log_seen driven.closed.log.dev).tells ≡ Some log_now → (data_seen driven.closed.store.dev).tells ≡ Some data_now → Is log_now data_now)
+      → IfSome (log_seen opened.log.dev).tells (λ log_disk. IfSome (data_seen opened.store.dev).tells (λ data_disk.
+      IsStart reading script log_disk data_disk
+      → IfSome (log_seen driven.closed.log.dev).tells (λ log_now. IfSome (data_seen driven.closed.store.dev).tells (λ data_now. Is log_now data_now))))
+  where_told reading as_read Is each =
       if_told (log_seen opened.log.dev).tells _ (λ log_disk log_told. if_told (data_seen opened.store.dev).tells _ (λ data_disk data_told start.
       if_told (log_seen driven.closed.log.dev).tells _ (λ log_now log_now_told. if_told (data_seen driven.closed.store.dev).tells _ (λ data_now data_now_told.
-      let begun = has_begun reading as_read log_disk data_disk log_told data_told start in
-      closed may reading as_read left log_disk data_disk log_now data_now done memory left_is start
-      (log_device may reading as_read done begun log_now log_now_told) (data_device may reading as_read begun data_now data_now_told)))))
+      each log_disk data_disk log_now data_now start (has_begun reading as_read log_disk data_disk log_told data_told start) log_now_told data_now_told))))
+
+  pub holds_run : MayBegin opened script turns.log_only → HoldsRun log_seen data_seen opened script driven
+  holds_run may reading as_read =
+      where_told reading as_read _ (λ log_disk data_disk log_now data_now start begun log_told data_told.
+      held may reading as_read log_disk data_disk log_now data_now start (log_device may reading as_read begun log_now log_told) (data_device may reading as_read begun data_now data_told))
+
+  pub is_owed : MayBegin opened script turns.log_only → IsOwed log_seen data_seen opened script driven
+  is_owed may reading left done memory as_read left_is =
+      where_told reading as_read _ (λ log_disk data_disk log_now data_now start begun log_told data_told. record {
+        holds = held may reading as_read log_disk data_disk log_now data_now start (log_device may reading as_read begun log_now log_told) (data_device may reading as_read begun data_now data_told);
+        left_is = left_is;
+        loses = loses left done memory left_is;
+      })
 
   pub is_owed_synced : MayBegin opened script turns.log_only → IsOwedSynced log_seen data_seen opened script driven
   is_owed_synced may log_live data_live reading left done memory as_read left_is =
-      if_told (log_seen opened.log.dev).tells _ (λ log_disk log_told. if_told (data_seen opened.store.dev).tells _ (λ data_disk data_told start.
-      if_told (log_seen driven.closed.log.dev).tells _ (λ log_now log_now_told. if_told (data_seen driven.closed.store.dev).tells _ (λ data_now data_now_told.
-      let begun = has_begun reading as_read log_disk data_disk log_told data_told start in
-      closed may reading as_read left log_disk data_disk (synced log_now) (synced data_now) done memory left_is start
-      (log_synced may reading as_read done begun log_live log_now log_now_told) (data_synced may reading as_read begun data_live data_now data_now_told)))))
+      where_told reading as_read _ (λ log_disk data_disk log_now data_now start begun log_told data_told. record {
+        holds = held may reading as_read log_disk data_disk (synced log_now) (synced data_now) start
+            (log_synced may reading as_read begun log_live log_now log_told) (data_synced may reading as_read begun data_live data_now data_told);
+        left_is = left_is;
+        loses = loses left done memory left_is;
+      })

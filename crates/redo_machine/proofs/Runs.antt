@@ -60,7 +60,6 @@ module _ {L D : Type 0} (log_seen : L → Seen) (data_seen : D → Seen) where
 pub record InTurns {L D : Type 0} (log_seen : L → Seen) (data_seen : D → Seen) (log_gives : L → Call → L → Type 0) (data_gives : D → Call → D → Type 0) (seed max turn draws seats : ℕ) (first now : Machine L D) : Type 0 where
   pub run : InRun log_seen data_seen seed max turn draws seats first now
   pub calls : CallOnBoth log_gives data_gives first.parts now.parts
-  pub start : now.start ≡ first.start
   pub entries : now.entries ≡ first.entries
 
 -- there is an actor

@@ -4,32 +4,17 @@ use Rattle.std.specs.List.{flat_map}
 use Rattle.std.specs.Prelude.{map}
 use Rattle.model_base.specs.declared.shape.Shape.{Shape}
 use Rattle.model_core.specs.Actors as model
-use Rattle.model_core.specs.{BatchPage, DataServed, LogServed}
+use Rattle.model_core.specs.{BatchPage, DataServed}
 use Rattle.model_core.specs.declared.ops.Op.TheVariants as op
 use Rattle.model_page.specs.{user_part}
 use Rattle.redo_dataside.proofs.Lent.{lent_batch}
 use Rattle.redo_dataside.specs.DataPartSide as data_part
 use Rattle.redo_disk.specs.Seen.{Seen}
-use Rattle.redo_logdev.specs.Part as log
-use Rattle.redo_logside.specs.LogPartSide as log_part
 use Rattle.redo_machine.specs.Playing.{HasWholePages}
 use Rattle.redo_store.specs.Part as store
 use Rattle.redo_words.specs.{Lends}
 use Rattle.redo_words.specs.declared.lent.Lent.{Lent}
 use Rattle.redo_words.specs.declared.lent.Lent.TheVariants as lent
-
--- what is lent is these bytes and first offsets
-abbrev pub LendsBlocks : List ℕ → List ℕ → model.Lent → Type 0
-LendsBlocks bytes firsts (model.Blocks kept offsets) = (bytes ≡ kept) × (firsts ≡ offsets)
-LendsBlocks bytes firsts _ = ⊥
-
-pub blocks_served : {L : Type 0} (seen : L → Seen) (faults number : ℕ) (Begun : Type 0) (bytes firsts : List ℕ) (mark code : ℕ) (p q : log.Part L) (l : model.Lent) → LendsBlocks bytes firsts l → log_part.LogWrote seen mark bytes firsts code p q
-    → LogServed (log_part.log_side seen faults number Begun) p l (op.WriteTo mark) code q
-blocks_served seen faults number Begun bytes firsts mark code p q model.Nothing lends wrote = absurd lends
-blocks_served seen faults number Begun bytes firsts mark code p q (model.Batch batch) lends wrote = absurd lends
-blocks_served seen faults number Begun bytes firsts mark code p q (model.Blocks kept offsets) lends wrote =
-    subst (λ (b : List ℕ). log_part.LogWrote seen mark b offsets code p q) lends.0
-    (subst (λ (f : List ℕ). log_part.LogWrote seen mark bytes f code p q) lends.1 wrote)
 
 -- what is lent is a batch of these pairs and user bytes
 abbrev pub LendsBatch : List (ℕ × ℕ) → List ℕ → model.Lent → Type 0

@@ -10,17 +10,12 @@ use Rattle.model_core.proofs.Lsns.{lsn_block, lsn_offset}
 use Rattle.model_core.specs.{blank_words, IsSized, KeptPage, lsn, page_words_at, PageWords, SharedWords}
 use Rattle.model_core.specs.Setup.{Setup}
 use Rattle.model_core.specs.declared.limits.TheConstants.{BUFFER_BLOCKS}
-use Rattle.model_log.specs.{data_before, IsAtDataStart, lsn_of, sn_of}
+use Rattle.model_log.specs.{data_before, IsAtDataStart, sn_of}
 use Rattle.model_log.specs.declared.layout.TheConstants.{BLOCK_DATA, BLOCK_HEADER}
 use Rattle.model_page.specs.declared.content.Content.{Content}
 use Rattle.redo_machine.proofs.StartWordsZero.{zero_page, zero_page_at, zero_words, zeros, zeros-length, zeros-zero}
 use Rattle.redo_machine.specs.StartWords.{AreNamed, AreStartWords, IsBlankFrame, StartsOn, opened_page, page_cells, unwritten_page, with_frame, with_log}
 use Rattle.redo_words.specs.Plain.{Plain}
-
--- the sn of a start at the first data byte of a block
-pub start_sn : (start : ℕ) → IsAtDataStart start → lsn (sn_of start) ≡ start
-unfolding lsn
-start_sn start place = ap (λ (offset : ℕ). lsn_of (start / BLOCK_SIZE * BLOCK_DATA + data_before offset)) place ∙ (let e : lsn_of (start / BLOCK_SIZE * BLOCK_DATA + 0) ≡ start = omega arith in e)
 
 -- a page that is free and in no list, with these cells
 abbrev free_page : List ℕ → PageWords

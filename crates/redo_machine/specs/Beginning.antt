@@ -70,7 +70,6 @@ pub record BeginsRun {L D : Type 0} (log_seen : L → Seen) (data_seen : D → S
   pub is_run : IsRunOfOpened opened script log_only run
   pub at_start : IsAtStart log_seen data_seen run machine
   pub runs : RunsOn log_seen data_seen run machine.parts machine.actors.items
-  pub start : machine.start ≡ opened.start
   pub log : machine.parts.log ≡ opened.log
   pub data_part : machine.parts.store ≡ opened.store
   -- there is room for the history

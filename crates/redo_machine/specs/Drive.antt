@@ -7,7 +7,7 @@ use Rattle.model_device.specs.Disk.{Disk}
 use Rattle.model_finish.specs.{history_of, LeavesOpen, marks_in, word_marks}
 use Rattle.model_history.specs.{IsLeft}
 use Rattle.model_log.specs.{start_after}
-use Rattle.model_run.specs.{IsClosed, IsStart, opened_as}
+use Rattle.model_run.specs.{IsClosed, IsHeld, IsStart, opened_as}
 use Rattle.model_script.specs.declared.script.ScriptLine.{ScriptLine}
 use Rattle.model_store.specs.Reading.{Reading}
 use Rattle.model_theorem.specs.{IsRun, LosesOnlyByFailure, Ran}
@@ -72,7 +72,23 @@ pub record ComesToRun {L D : Type 0} (log_gives : L → Call → L → Type 0) (
   pub log_calls : CallsOn log_gives opened.log.dev None driven.closed.log.dev driven.closed.log.failed
   pub data_calls : CallsOn data_gives opened.store.dev None driven.closed.store.dev driven.closed.store.failed
 
--- WHAT A DRIVE OWES, where the devices tell and the store was ready: a closed run, with what becomes so of both devices.
+-- WHAT A DRIVE LEAVES, whatever ended it, where the devices tell and the store was ready: both devices hold the run.
+abbrev pub HoldsRun : {L D : Type 0} → (L → Seen) → (D → Seen) → Opened L D → List ScriptLine → Driven L D → Type 0
+HoldsRun log_seen data_seen opened script driven =
+    (reading : Reading) → IsOpenedAs reading opened
+    → IfSome (log_seen opened.log.dev).tells (λ log_disk. IfSome (data_seen opened.store.dev).tells (λ data_disk.
+    IsStart reading script log_disk data_disk
+    → IfSome (log_seen driven.closed.log.dev).tells (λ log_now. IfSome (data_seen driven.closed.store.dev).tells (λ data_now.
+    IsHeld (record {
+      script = script;
+      opened = opened_as reading;
+      number = reading.number + 1;
+      run = ran_of opened.start driven.closed;
+      log_disk = log_now;
+      data_disk = data_now;
+    })))))
+
+-- WHAT A DRIVE OWES that came to its end, where the devices tell and the store was ready: a closed run, with what becomes so of both devices.
 abbrev pub IsOwedWith : {L D : Type 0} → (Disk → Disk) → (L → Seen) → (D → Seen) → Opened L D → List ScriptLine → Driven L D → Type 0
 IsOwedWith becomes log_seen data_seen opened script driven =
     (reading : Reading) (left : List (ℕ × ℕ)) → driven.ended ≡ ended.Done → HasMemory driven.closed

@@ -14,4 +14,4 @@ pub mod Turns
 pub mod Views
 pub use Rattle.redo_machine.specs.Asking.{AskOfBoth}
 pub use Rattle.redo_machine.specs.Beginning.{IsOpenedAs, room_from}
-pub use Rattle.redo_machine.specs.Drive.{ComesToRun, HasMemory, IsOwed, IsOwedSynced, IsOwedWith, RunsByTurns, ran_of}
+pub use Rattle.redo_machine.specs.Drive.{ComesToRun, HasMemory, HoldsRun, IsOwed, IsOwedSynced, IsOwedWith, RunsByTurns, ran_of}

@@ -1,7 +1,7 @@
 // The drive by turns.
 ghost use Rattle.std.specs.Prelude.{◌≡◌, IfErr, IfOk};
 ghost use Rattle.redo_machine.specs.Beginning.{MayBegin};
-ghost use Rattle.redo_machine.specs.Drive.{ComesToRun, IsOwed, IsOwedSynced, RunsByTurns};
+ghost use Rattle.redo_machine.specs.Drive.{ComesToRun, HoldsRun, IsOwed, IsOwedSynced, RunsByTurns};
 
 use crate::machine::Machine;
 use crate::running::Ran;
@@ -38,6 +38,7 @@ pub fn run_by_turns<L: Sectors, D: Sectors>(
     ensures err { IfErr result (λ error. (error.1 ≡ opened.log.dev) × (error.2 ≡ opened.store.dev)) }
     ensures turns { IfOk result (λ driven. RunsByTurns L.seen D.seen opened script.now turns.now driven) }
     ensures comes_to { IfOk result (λ driven. ComesToRun L.gives D.gives opened script.now driven) }
+    ensures holds { IfOk result (λ driven. HoldsRun L.seen D.seen opened script.now driven) }
     ensures owed { IfOk result (λ driven. IsOwed L.seen D.seen opened script.now driven) }
     ensures owed_synced { IfOk result (λ driven. IsOwedSynced L.seen D.seen opened script.now driven) }
 {

@@ -1,6 +1,6 @@
 // A store behind its run.
 ghost use Rattle.std.specs.Prelude.{◌≡◌, ◌≤◌, [], length, slice_index, vec_capacity};
-ghost use Rattle.model_core.specs.{index, IsWord, lsn};
+ghost use Rattle.model_core.specs.{index, IsWord};
 ghost use Rattle.model_core.specs.declared.words.Word.TheVariants as word_is;
 ghost use Rattle.model_finish.specs.{history_of, marks_in, word_marks};
 ghost use Rattle.redo_machine.specs.Playing.{RunOf};
@@ -46,7 +46,7 @@ impl<L: Sectors, D: Sectors> Machine<L, D> {
         ensures data_part { result.store ≡ self.parts.store }
         ensures code { result.code ≡ slice_index self.parts.words.words (index word_is.Failed) }
         ensures marks { result.marks ≡ marks_in self.parts.words.words }
-        ensures history { (run : RunOf L D) (runs : RunsOn L.seen D.seen run self.parts self.actors.items) → lsn run.setup.base ≡ self.start
+        ensures history { (run : RunOf L D) (runs : RunsOn L.seen D.seen run self.parts self.actors.items)
             → self.entries.items ≡ [] → length runs.running.log_ghost.log ≤ vec_capacity self.entries
             → result.history ≡ history_of runs.running.log_ghost.answered (word_marks runs.running.shared) runs.running.log_ghost.log }
     {
@@ -54,7 +54,6 @@ impl<L: Sectors, D: Sectors> Machine<L, D> {
             parts,
             actors,
             entries,
-            ..
         } = self;
         let Parts {
             mut words,

@@ -8,7 +8,6 @@ use redo_disk::Sectors;
 /// then, unless the log runs alone, the closer, the cleaner and the checkpointer.
 #[derive(Drop)]
 pub struct Machine<L: Sectors, D: Sectors> {
-    pub(crate) start: u64,
     pub(crate) parts: Parts<L, D>,
     pub(crate) actors: Vec<Actor>,
     // room for an entry of each line

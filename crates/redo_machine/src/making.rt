@@ -101,7 +101,6 @@ impl<L: Sectors, D: Sectors> Machine<L, D> {
                     lists,
                 };
                 Ok(Machine {
-                    start,
                     parts,
                     actors,
                     entries,

@@ -43,7 +43,6 @@ impl<L: Sectors, D: Sectors> Machine<L, D> {
         ensures ends { (run : RunOf L D) → RunsOn L.seen D.seen run self.old.parts self.old.actors.items
             → EndsAs L.seen D.seen run seed max self.old.parts self.old.actors.items result self.new.parts self.new.actors.items }
         ensures calls { CallOnBoth L.gives D.gives self.old.parts self.new.parts }
-        ensures start { self.new.start ≡ self.old.start }
         ensures entries { self.new.entries ≡ self.old.entries }
     {
         let seats = self.seats() as u64;

@@ -68,7 +68,6 @@ impl<L: Sectors, D: Sectors> Machine<L, D> {
         ensures seats { length self.new.actors.items ≡ length self.old.actors.items }
         ensures asked { IfSome (slice_get self.old.actors.items seat) (λ actor. AskOfBoth L.gives D.gives (lent (view_of actor)) (next (view_of actor)) self.old.parts self.new.parts) }
         ensures calls { CallOnBoth L.gives D.gives self.old.parts self.new.parts }
-        ensures start { self.new.start ≡ self.old.start }
         ensures entries { self.new.entries ≡ self.old.entries }
     {
         self.parts.turn(&mut self.actors, seat)

@@ -1,7 +1,7 @@
 -- The machine begins the run, its turns lead to the end, and what `finish` tells of that end is what the run comes to.
-use Rattle.std.proofs.Common.{arith, rules, sym, ◌∙◌}
+use Rattle.std.proofs.Common.{arith, rules}
 use Rattle.redo_machine.proofs.LogCount.{log_within_script}
-use Rattle.redo_machine.proofs.RunLeft.{comes_to_run, is_owed, is_owed_synced}
+use Rattle.redo_machine.proofs.RunLeft.{comes_to_run, holds_run, is_owed, is_owed_synced}
 use Rattle.redo_machine.proofs.drive.run_by_turns.Goals as goal
 
 pub run-ended-requires : goal.run-ended-requires
@@ -29,13 +29,17 @@ returns-clause-turns g c =
       data_part = c.finish-closed.ensures.data_part;
       marks = c.finish-closed.ensures.marks;
       code = c.finish-closed.ensures.code;
-      history = c.finish-closed.ensures.history B.run R (B.is_run.start ∙ sym B.start ∙ sym c.run-ended.ensures.start) (rw c.run-ended.ensures.entries B.no_entries) (rw c.run-ended.ensures.entries (omega arith));
+      history = c.finish-closed.ensures.history B.run R (rw c.run-ended.ensures.entries B.no_entries) (rw c.run-ended.ensures.entries (omega arith));
     }
 
 pub returns-clause-comes_to : goal.returns-clause-comes_to
 unfolding returns-clause-turns
 returns-clause-comes_to g c =
     comes_to_run g.L.Sectors.seen g.D.Sectors.seen c.args.opened c.args.script.now c.args.turns.now _ (returns-clause-turns g c) g.L.Sectors.gives g.D.Sectors.gives c.requires c.run-ended.ensures.calls
+
+pub returns-clause-holds : goal.returns-clause-holds
+returns-clause-holds g c =
+    holds_run g.L.Sectors.seen g.D.Sectors.seen c.args.opened c.args.script.now c.args.turns.now _ (returns-clause-turns g c) c.requires
 
 pub returns-clause-owed : goal.returns-clause-owed
 returns-clause-owed g c =

@@ -25,7 +25,7 @@ history_of-history-requires g c = let R = c.requires in
     (have_groups g.L.Sectors.seen g.D.Sectors.seen R.run c.args.self.parts c.args.self.actors.items R.runs)
 
 pub returns-clause-history : goal.returns-clause-history
-returns-clause-history g c = λ run runs start empty room.
+returns-clause-history g c = λ run runs empty room.
     let actors = c.args.self.actors.items in
     let marks : Marks = word_marks runs.running.shared in
     let marks_are : ◌≡◌ {A = Marks} c.marks_in-marks.result marks = c.marks_in-marks.ensures.marks ∙ marks_same c.args.self.parts.words.words runs.running.shared runs.running.flat_is in

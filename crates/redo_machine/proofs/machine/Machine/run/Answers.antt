@@ -14,7 +14,6 @@ loop-turn-init g c = record {
   run = subst (λ (draws : ℕ). InRun g.L.Sectors.seen g.D.Sectors.seen c.args.seed c.args.max 0 draws c.seats-seats.result c.args.self.now c.args.self.now) (sym c.new-draws.ensures)
       (starts_run g.L.Sectors.seen g.D.Sectors.seen c.args.seed c.args.max c.seats-seats.result c.args.self.now c.requires (sym c.seats-seats.ensures));
   calls = none_called g.L.Sectors.gives g.D.Sectors.gives c.args.self.now.parts;
-  start = refl;
   entries = refl;
 }
 
@@ -28,7 +27,6 @@ loop-turn-preserved g c =
           (c.seat_of-seat.ensures.seat c.args.seed I.run.drawn) (c.seat_of-seat.ensures.drawn c.args.seed I.run.drawn)
           c.turn.ensures.turn c.turn.ensures.runs c.turn.ensures.seats;
       calls = both_then g.L.Sectors.gives g.D.Sectors.gives c.args.self.now.parts c.loop-turn.self.parts c.turn.new.self.parts I.calls c.turn.ensures.calls;
-      start = c.turn.ensures.start ∙ I.start;
       entries = c.turn.ensures.entries ∙ I.entries;
     }
 
