@@ -1,5 +1,5 @@
 -- The header is read and judged, and then the log is scanned.
-use Rattle.std.proofs.Common.{◌≡◌, ◌≤◌, ◌<◌, ◌+◌, ◌++◌, ◌⊎◌, ℕ, suc, List, [], ◌∷◌, length, slice_get, Option, Some, None, Result, Ok, Err, inl, inr, refl, sym, subst, arith}
+use Rattle.std.proofs.Common.{◌≡◌, ◌≤◌, ◌+◌, ◌++◌, ◌⊎◌, ℕ, suc, List, [], ◌∷◌, length, slice_get, Option, Some, None, Result, Ok, Err, inl, inr, refl, sym, subst, arith}
 use Rattle.std.specs.Prelude.{IfErr}
 use Rattle.model_base.specs.declared.shape.Shape.{Shape}
 use Rattle.model_device.specs.Disk.{Disk}
@@ -11,7 +11,7 @@ use Rattle.redo_disk.specs.{Answer, Call, error_of, MakesCall, MakesCalls, Reads
 use Rattle.redo_disk.specs.Seen.{Seen}
 use Rattle.redo_disk.specs.declared.error.DevError.{DevError}
 use Rattle.redo_disk.specs.declared.error.DevError.TheVariants as device
-use Rattle.redo_disk.proofs.Made.{joined_calls, no_calls, one_call, weaker_calls}
+use Rattle.redo_disk.proofs.Made.{joined_calls, one_call, weaker_calls}
 use Rattle.redo_recover.specs.Calls.{AreBegun, AreBytesRead, BeginWithHeader, IsInStretch, IsOfHeader, ReadsFrom, ReadsWhere, log_error_of}
 use Rattle.redo_recover.specs.Devices.{IsUnchanged, OnContent, log_fault_of}
 use Rattle.redo_recover.specs.Header.{AnswersBy, IsOfHead, IsStartIn, JudgesHeader, JudgesStart, ReadsHeader, StartsBy, recovered_from}
@@ -24,7 +24,7 @@ use Rattle.redo_recover.specs.declared.piece.TheConstants.{PIECE}
 use Rattle.redo_recover.specs.declared.recovered.Recovered.{Recovered}
 use Rattle.redo_recover.specs.declared.start.Start.{Start}
 use Rattle.redo_recover.proofs.Contents.{content-any}
-use Rattle.redo_recover.proofs.Once.{MayBeOwn, bytes-append, none-where, where-append, where-one, where-own, where-weaker}
+use Rattle.redo_recover.proofs.Once.{MayBeOwn, bytes-append, where-append, where-one, where-own, where-weaker}
 
 -- THE HEADER IS READ.
 
@@ -33,13 +33,6 @@ header-one : (before : List ℕ) (answer : Answer) (after : List ℕ) → length
 header-one before answer after long =
     where-weaker (IsInStretch 0 (length before)) IsOfHeader (error_of answer) (λ at is. omega (arith, is.1, long)) (Reads 0 before answer after ∷ [])
     (where-one 0 before answer after (subst (λ (n : ℕ). n ≤ PIECE) (sym long) (omega arith)))
-
--- the device has no room for one
-pub no_header : {D : Type 0} (gives : D → Call → D → Type 0) (device : D) (log_size data_size : ℕ) → log_size < HEADER_BYTES
-    → MakesCalls gives device device (ReadsHeader log_size data_size (Err (SmallLog HEADER_BYTES)))
-no_header gives device log_size data_size short =
-    no_calls gives device (ReadsHeader log_size data_size (Err (SmallLog HEADER_BYTES)))
-    (record { reads = none-where IsOfHeader; header = λ room. absurd (omega (arith, short, room)); judged = (short, refl) })
 
 -- it was read, and this is answered by it
 pub header_judged : {D : Type 0} {gives : D → Call → D → Type 0} {old new : D} {before header : List ℕ} {done : Unit {0}} (log_size data_size : ℕ)
@@ -197,9 +190,11 @@ log-begins : (told : Option Disk) (log_size data_size : ℕ) (start : Start) (xs
     → JudgesStart log_size data_size (Ok start) xs → AreBegun (BeginsBlock start.shape start.ckpt told) ys → OnContent told (AreBegunBehind (xs ++ ys))
 log-begins None log_size data_size start xs ys starts front back = tt
 log-begins (Some disk) log_size data_size start xs ys starts front back =
-    λ i at before after answer there.
-    (let one = back i at before after answer (behind-one log_size data_size start xs ys i (Reads at before answer after) front there) in
-    record { start = start; starts = starts; number = one.number; few = one.few; place = one.place; reached = one.reached })
+    λ i at before after answer there. record {
+      start = start;
+      starts = starts;
+      reached = back i at before after answer (behind-one log_size data_size start xs ys i (Reads at before answer after) front there);
+    }
 
 pub log_then : {D : Type 0} {gives : D → Call → D → Type 0} {old middle new : D} (log read : Seen) (data_size : ℕ) (start : Start)
     (result : Result Recovered RecFault) → IsBehindStart start result

@@ -22,7 +22,8 @@ user-size shape page size long = omega (arith, length-take (length page - 8 - 38
 room : (slots n size : ℕ) → n < slots → n * size + size ≤ slots * size
 room slots n size h = grind arith
 
-slot-same : (shape : Shape) (slots image : List ℕ) (n : ℕ) → HoldsSlots shape slots image → n < shape.slots → slot_bytes shape n slots ≡ slot_bytes shape n image
+-- a slot, as all slots were read and as it stands on the device
+pub slot-same : (shape : Shape) (slots image : List ℕ) (n : ℕ) → HoldsSlots shape slots image → n < shape.slots → slot_bytes shape n slots ≡ slot_bytes shape n image
 unfolding stretch_at
 slot-same shape slots image n is h =
     let size = shape.page_size in

@@ -6,7 +6,7 @@ mod Starting
 mod Unchanged
 mod Grouping
 mod Judging
-mod Keeping
+pub mod Keeping
 mod Fronts
 mod Naming
 mod Paging

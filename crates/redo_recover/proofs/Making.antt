@@ -9,7 +9,7 @@ use Rattle.redo_disk.specs.declared.error.DevError.{DevError}
 use Rattle.redo_disk.specs.declared.error.DevError.TheVariants as device
 use Rattle.redo_disk.proofs.Made.{joined_calls, weaker_calls}
 use Rattle.redo_recover.specs.Calls.{IsInStretch, IsOfPlace, IsOfPlaces, IsOfStore, ReadsWhere, log_error, data_error}
-use Rattle.redo_recover.specs.Devices.{data_fault_of, log_fault_of}
+use Rattle.redo_recover.specs.Devices.{data_fault_of}
 use Rattle.redo_recover.proofs.Once.{MayBeOwn, where-append, where-no_memory, where-weaker}
 use Rattle.redo_recover.specs.Start.{IsHeadFault, IsLengthFault}
 use Rattle.redo_recover.specs.declared.fault.RecFault.{RecFault}
@@ -74,13 +74,6 @@ slots_then shape front back =
     (λ at other. omega (arith, store-end shape, other.1))
 
 -- WHAT A FAULT SAYS of a device's error.
-
-pub log_fault_made : {D : Type 0} {gives : D → Call → D → Type 0} {old new : D} (Are : Option DevError → List Call → Type 0) (error : DevError) (fault : RecFault)
-    → fault ≡ log_fault_of error → MakesCalls gives old new (Are (Some error)) → MakesCalls gives old new (Are (log_error fault))
-log_fault_made {gives = gives} {old = old} {new = new} Are device.Failed fault is made =
-    subst (λ (f : RecFault). MakesCalls gives old new (Are (log_error f))) (sym is) made
-log_fault_made {gives = gives} {old = old} {new = new} Are device.NoMemory fault is made =
-    subst (λ (f : RecFault). MakesCalls gives old new (Are (log_error f))) (sym is) made
 
 pub data_fault_made : {D : Type 0} {gives : D → Call → D → Type 0} {old new : D} (Are : Option DevError → List Call → Type 0) (error : DevError) (fault : RecFault)
     → fault ≡ data_fault_of error → MakesCalls gives old new (Are (Some error)) → MakesCalls gives old new (Are (data_error fault))

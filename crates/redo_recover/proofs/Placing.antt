@@ -95,9 +95,7 @@ found-above wholes kept new shape count found behind with replay p one page at p
 pub places-of : (shape : Shape) (places : Places) (wholes : List Whole) (kept new : List Content) → length places.slots.items ≡ shape.slots * shape.page_size
     → EndBehindStarts wholes → AreFoundWith shape shape.pages places.found.items kept → AreReplayed wholes kept new → ArePlacesOf shape places new
 places-of shape places wholes kept new room behind with replay = record {
-  room = room;
-  count = with.many;
-  below = with.slots;
+  have_slots = record { room = room; count = with.many; below = with.slots };
   risen = λ p one page at page_at.
       ⊎_elim (λ same. (let lsn = with.lsns p one page at same in omega (arith, lsn))) (λ above. omega (arith, above))
       (found-above wholes kept new shape shape.pages places.found.items behind with replay p one page at page_at);

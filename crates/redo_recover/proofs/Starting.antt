@@ -1,5 +1,5 @@
 -- What the header of a log device says, where the device is read by its front.
-use Rattle.std.proofs.Common.{◌≡◌, ℕ, ◌+◌, ◌-◌, ◌*◌, ◌≤◌, ◌<◌, List, length, take, drop, Option, Some, None, inl, inr, sym, ap, ap₂, ◌∙◌, refl, arith}
+use Rattle.std.proofs.Common.{◌≡◌, ℕ, ◌+◌, ◌-◌, ◌*◌, ◌≤◌, List, length, take, drop, Option, Some, None, inr, sym, ap, ap₂, ◌∙◌, arith}
 use Rattle.std.proofs.lemmas.List.{drop-take, take-take, drop-drop}
 use Rattle.model_base.specs.declared.limits.TheConstants.{BLOCK_SIZE}
 use Rattle.model_base.specs.declared.shape.Shape.{Shape}
@@ -55,12 +55,6 @@ header-of told size header known is =
     (λ content long front. record { front = front; sized = long }) (sized told size known) is
 
 -- WHY NO SCAN STARTS
-
-pub short-cause : (log data_told : Option Disk) (size : ℕ) → OnContent log (λ content. length content ≡ size) → size < HEADER_BYTES
-    → HasCauseIn log data_told (SmallLog HEADER_BYTES)
-short-cause log data_told size known short =
-    contents-from log data_told (λ content. length content ≡ size) (λ content. Unit {0}) (λ log_bytes data_bytes. Refuses log_bytes data_bytes (refusal.SmallLog HEADER_BYTES))
-    (λ log_bytes data_bytes long any. inl (omega (arith, long), refl)) known (content-any data_told (λ content. Unit {0}) (λ content. tt))
 
 pub head-cause : (log data_told : Option Disk) (size : ℕ) (header : List ℕ) (fault : RecFault) → OnContent log (IsHeaderOf size header) → HEADER_BYTES ≤ size
     → IsHeadFault header fault → HasCauseIn log data_told fault

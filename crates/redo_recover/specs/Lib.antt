@@ -16,7 +16,7 @@ pub use Rattle.redo_recover.specs.Groups.{IsEndOf}
 pub use Rattle.redo_recover.specs.Header.{AnswersBy, IsByHeader, IsStartIn, JudgesHeader}
 pub use Rattle.redo_recover.specs.Order.{IsLogRead, ReadsBehindLog}
 pub use Rattle.redo_recover.specs.Pages.{AreNotAhead}
-pub use Rattle.redo_recover.specs.Places.{AreFoundOn, ArePlacesOf, IsFoundAt}
+pub use Rattle.redo_recover.specs.Places.{AreFoundOn, ArePlacesOf, HaveSlots, IsFoundAt}
 pub use Rattle.redo_recover.specs.Reach.{BeginsInScan, IsNear, IsNearScan, IsReached, ReadsLog, ReadsPages}
 pub use Rattle.redo_recover.specs.Reading.{IsOfDevices, reading_of}
 pub use Rattle.redo_recover.specs.Start.{IsLengthFault}

@@ -20,12 +20,19 @@ pub record AreFoundOn (shape : Shape) (places : Places) (pages : List Content) (
   pub same : (p : ℕ) (found : Found) (page : Content) → slice_get places.found.items p ≡ Some found
       → slice_get pages p ≡ Some page → found.lsn ≡ page.lsn → IsKept shape image p page
 
--- What is known of them whatever the device tells: all slots, each of the pages, no slot that the store doesn't have, and no
--- page whose lsn has fallen since it was found.
-pub record ArePlacesOf (shape : Shape) (places : Places) (pages : List Content) : Type 0 where
+-- the slot is one that the store has, where a slot is named
+abbrev pub HasItsSlot : Shape → Found → Type 0
+HasItsSlot shape found = IfSome found.slot (λ slot. slot < shape.slots)
+
+-- These are all slots, and each of the pages is in its place or in one of them.
+pub record HaveSlots (shape : Shape) (places : Places) : Type 0 where
   pub room : length places.slots.items ≡ shape.slots * shape.page_size
   pub count : length places.found.items ≡ shape.pages
-  pub below : (p : ℕ) (found : Found) → slice_get places.found.items p ≡ Some found → IfSome found.slot (λ slot. slot < shape.slots)
+  pub below : (p : ℕ) (found : Found) → slice_get places.found.items p ≡ Some found → HasItsSlot shape found
+
+-- What is known of them whatever the device tells: the slots are there, and no page's lsn has fallen since it was found.
+pub record ArePlacesOf (shape : Shape) (places : Places) (pages : List Content) : Type 0 where
+  pub have_slots : HaveSlots shape places
   pub risen : (p : ℕ) (found : Found) (page : Content) → slice_get places.found.items p ≡ Some found
       → slice_get pages p ≡ Some page → found.lsn ≤ page.lsn
 
@@ -34,10 +41,6 @@ pub record ArePlacesOf (shape : Shape) (places : Places) (pages : List Content) 
 -- each of the pages was found there
 abbrev pub AreFoundAt : Shape → List Found → List ℕ → Type 0
 AreFoundAt shape found image = (p : ℕ) (one : Found) → slice_get found p ≡ Some one → IsFoundAt shape image p one
-
--- the slot is one that the store has, where a slot is named
-abbrev pub HasItsSlot : Shape → Found → Type 0
-HasItsSlot shape found = IfSome found.slot (λ slot. slot < shape.slots)
 
 -- one page is put among the others, with the lsn with which it was found
 pub record PutsFound (p : ℕ) (old new : List Content) (found : Found) : Type 0 where

@@ -63,10 +63,7 @@ pub record IsNearScan (data_size : ℕ) (content : List ℕ) (at : ℕ) : Type 0
 pub record BeginsInScan (content : List ℕ) (at : ℕ) : Type 0 where
   pub start : Start
   pub starts : IsLogStart content start
-  pub number : ℕ
-  pub few : number < start.shape.log_blocks
-  pub place : at ≡ block_place start.shape start.ckpt number
-  pub reached : IsReached start.shape start.ckpt number content
+  pub reached : IsReachedAt start.shape start.ckpt at content
 
 -- The calls of a log device, beside a data device of this size, are reads of pieces, and read no byte twice. All but the
 -- last answered Ok, and the last one answered this error, if any did; where memory ran out they may all have answered Ok.

@@ -10,7 +10,6 @@ ghost use Rattle.redo_disk.specs.declared.error.DevError.{DevError};
 ghost use Rattle.redo_recover.specs.Blocks.{AreBlocksOf, AreFew, HasFirst, HaveFirsts};
 ghost use Rattle.redo_recover.specs.Calls.{ReadsFrom};
 ghost use Rattle.redo_recover.specs.Devices.{IsUnchanged, OnContent};
-ghost use Rattle.redo_recover.specs.Piece.{HasSector};
 ghost use Rattle.redo_recover.specs.Reach.{BeginsBlock, IsOfScan};
 
 use crate::piece::Piece;

@@ -2,7 +2,6 @@
 ghost use Rattle.std.specs.Prelude.{◌≡◌, ◌+◌, ◌-◌, ◌≤◌, ◌<◌, ◌*◌, ◌%◌, length, drop, IfOk, IfErr};
 ghost use Rattle.model_base.specs.{IsWithinLimits};
 ghost use Rattle.model_base.specs.declared.limits.TheConstants.{LSN_LIMIT};
-ghost use Rattle.model_record.specs.{group_text};
 ghost use Rattle.model_log.specs.{sn_of};
 ghost use Rattle.model_store.specs.{groups_start};
 ghost use Rattle.redo_recover.specs.Blocks.{AreFew, HaveFirsts};
