@@ -209,7 +209,7 @@ within-opened : {L D : Type 0} (recovered : Recovered) (result : Opens L D) (cal
     → IfOk result (IsOpenedAs (reading_of recovered)) → AreNeeded recovered calls → IfOk result (λ store. WritesWithin store calls)
 within-opened recovered (Ok store) calls places opened needed = λ i write answer at.
     subst (λ (shape : Shape). IsWriteFor shape (λ p. p < shape.pages) write) (sym opened.shape)
-    (for-pages recovered.shape recovered.places.found.items recovered.pages places.count write (needed i write answer at))
+    (for-pages recovered.shape recovered.places.found.items recovered.pages places.have_slots.count write (needed i write answer at))
 within-opened recovered (Err error) calls places opened needed = tt
 
 pub data_opened : {L D : Type 0} {gives : D → Call → D → Type 0} {old middle : D} {recovered : Recovered} (log_told data_told : Option Disk) (result : Opens L D)

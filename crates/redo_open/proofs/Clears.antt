@@ -2,7 +2,7 @@
 use Rattle.std.proofs.Common.{◌≡◌, ◌≤◌, ◌<◌, ◌+◌, ◌-◌, ◌*◌, ◌/◌, ◌%◌, ℕ, inl, inr, List, length, take, drop, refl, sym, ap, subst, ◌∙◌, ⊎_elim, arith}
 use Rattle.std.specs.Prelude.{replicate}
 use Rattle.std.proofs.lemmas.Bool.{cases_lt}
-use Rattle.std.proofs.lemmas.List.{take-replicate, drop-replicate, length-replicate}
+use Rattle.std.proofs.lemmas.List.{take-replicate, drop-replicate}
 use Rattle.model_base.specs.declared.shape.Shape.{Shape}
 use Rattle.model_device.specs.{Adds, after_write, Covers, FailsWrite, IsImage, IsSectorWrite, sector, settled, synced, written, written_sector}
 use Rattle.model_device.specs.Disk.{Disk}
@@ -17,6 +17,7 @@ use Rattle.model_logdev.proofs.Images.{sector-log_block}
 use Rattle.model_logdev.proofs.Places.{HasBlocks, sector-place, place-within, place-from, place-on, one-place_each}
 use Rattle.model_opening.specs.{HasSameHeaders, IsAtRest, IsClearing, IsOutside, zero_block}
 use Rattle.model_opening.proofs.Next.{cleared-clearing}
+use Rattle.redo_open.proofs.Rows.{length-zeros}
 use Rattle.redo_open.specs.Clear.{MayStart, IsPiece, ClearsBlocks, HasCleared, MayKeep, IsClearedTo, IsClearingTo}
 
 pub has-blocks : (shape : Shape) (ckpt start : ℕ) → MayStart shape ckpt start → HasBlocks shape
@@ -34,9 +35,6 @@ record IsOf (shape : Shape) (ckpt start at count k : ℕ) : Type 0 where
   from : at ≤ b
   below : b < at + count
   is : sector_of shape b ≡ k
-
-length-zeros : (count : ℕ) → length (replicate {A = ℕ} count 0) ≡ count
-length-zeros count = length-replicate count 0
 
 sector-of_piece : (shape : Shape) (ckpt start at count k : ℕ) → MayStart shape ckpt start → IsPiece shape ckpt start at count
     → Covers (zeros_at shape at count) k → IsOf shape ckpt start at count k

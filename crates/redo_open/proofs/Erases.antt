@@ -1,7 +1,7 @@
 -- Writes of zeros, one behind the other.
 use Rattle.std.proofs.Common.{◌≡◌, ◌≤◌, ◌+◌, ◌-◌, ◌*◌, ◌⊎◌, ℕ, inl, inr, List, length, take, refl, ap, ◌∙◌, ⊎_elim, arith}
 use Rattle.std.specs.Prelude.{replicate}
-use Rattle.std.proofs.lemmas.List.{take-replicate, drop-replicate, length-replicate}
+use Rattle.std.proofs.lemmas.List.{take-replicate, drop-replicate}
 use Rattle.std.proofs.lemmas.Bool.{cases_lt}
 use Rattle.model_device.specs.{Adds, Covers, FailsWrite, IsSectorWrite, written, written_sector}
 use Rattle.model_device.specs.Disk.{Disk}
@@ -13,6 +13,7 @@ use Rattle.model_device.proofs.MayHold.{adds-written, adds-failed}
 use Rattle.model_opening.specs.{zero_block}
 use Rattle.redo_disk.specs.{HasSize, IsRange, write_at}
 use Rattle.redo_disk.proofs.Sizes.{HasSize-written, HasSize-FailsWrite}
+use Rattle.redo_open.proofs.Rows.{length-zeros}
 use Rattle.redo_open.specs.Erase.{IsIn, Erases, HasErased}
 
 -- the write of so many zeros
@@ -24,9 +25,6 @@ pub record IsPart (size from end at count : ℕ) : Type 0 where
   pub low : from ≤ at
   pub high : at + count ≤ end
   pub range : IsRange size at count
-
-length-zeros : (count : ℕ) → length (replicate {A = ℕ} count 0) ≡ count
-length-zeros count = length-replicate count 0
 
 covers-in : (size from end at count k : ℕ) → IsPart size from end at count → Covers (zeros_write at count) k → IsIn from end k
 covers-in size from end at count k part covers =

@@ -8,8 +8,7 @@ pub zeros-is : (count : ℕ) → zeros count ≡ replicate count 0
 unfolding zeros
 zeros-is count = refl
 
-pub length-zeros : (count : ℕ) → length (zeros count) ≡ count
-unfolding zeros
+pub length-zeros : (count : ℕ) → length (replicate {A = ℕ} count 0) ≡ count
 length-zeros count = length-replicate count 0
 
 pub front-zeros : (count all : ℕ) → count ≤ all → take count (zeros all) ≡ replicate count 0
@@ -21,4 +20,4 @@ pub front-of : (count all : ℕ) (piece : List ℕ) → piece ≡ zeros all → 
 front-of count all piece is few = ap (take count) is ∙ front-zeros count all few
 
 pub length-front : (count all : ℕ) (piece : List ℕ) → piece ≡ zeros all → count ≤ all → length (take count piece) ≡ count
-length-front count all piece is few = ap length (front-of count all piece is few) ∙ length-replicate count 0
+length-front count all piece is few = ap length (front-of count all piece is few) ∙ length-zeros count

@@ -2,18 +2,17 @@
 use Rattle.std.proofs.Common.{◌≡◌, ◌≢◌, ◌≤◌, ◌<◌, ◌+◌, ◌-◌, ◌*◌, ◌∙◌, ℕ, List, take, drop, Option, Some, None, sym, ap, subst, arith}
 use Rattle.std.specs.Prelude.{IfSome, MatchOption}
 use Rattle.std.specs.List.{slice_get}
-use Rattle.std.proofs.lemmas.List.{drop-take, take-take}
 use Rattle.std.proofs.lemmas.Option.{slice_get_within}
 use Rattle.model_base.specs.declared.shape.Shape.{Shape}
 use Rattle.model_datadev.proofs.Kept.{same-place_lsn}
 use Rattle.model_datadev.proofs.Repairs.{same-best}
 use Rattle.model_datadev.specs.{SameSlots}
 use Rattle.model_device.specs.Disk.{Disk}
-use Rattle.model_page.specs.{IsBestCopy, place_bytes, place_lsn, slot_bytes, stretch_at}
+use Rattle.model_page.specs.{IsBestCopy, place_bytes, place_lsn, slot_bytes}
 use Rattle.model_page.specs.declared.content.Content.{Content}
-use Rattle.redo_open.specs.Mend.{AreMended, HaveSlots, IsSettledData, StandFrom}
-use Rattle.redo_recover.specs.{AreFoundOn, ArePlacesOf}
-use Rattle.redo_recover.specs.Pages.{HoldsSlots}
+use Rattle.redo_open.specs.Mend.{AreMended, IsSettledData, StandFrom}
+use Rattle.redo_recover.proofs.Keeping.{slot-same}
+use Rattle.redo_recover.specs.{AreFoundOn, HaveSlots}
 use Rattle.redo_recover.specs.declared.places.Found.{Found}
 use Rattle.redo_recover.specs.declared.places.Places.{Places}
 use Rattle.redo_store.proofs.Repaired.{slot-part}
@@ -21,29 +20,11 @@ use Rattle.redo_store.specs.{IsCopyToPut}
 
 -- AT FIRST.
 
-room : (slots n size : ℕ) → n < slots → n * size + size ≤ slots * size
-room slots n size below = grind arith
-
-slot-held : (shape : Shape) (slots image : List ℕ) (n : ℕ) → HoldsSlots shape slots image → n < shape.slots → slot_bytes shape n slots ≡ slot_bytes shape n image
-unfolding stretch_at
-slot-held shape slots image n is below =
-    let size = shape.page_size in
-    let all = shape.slots * size in
-    let inside : n * size + size ≤ all = room shape.slots n size below in
-    let rest : all ≡ n * size + (all - n * size) = omega (arith, inside) in
-    ap (λ bytes. take size (drop (n * size) bytes)) is
-    ∙ ap (λ k. take size (drop (n * size) (take k image))) rest
-    ∙ ap (take size) (drop-take (n * size) (all - n * size) image)
-    ∙ take-take size (all - n * size) (drop (n * size) image) (omega (arith, inside))
-
 pub stand-first : (shape : Shape) (places : Places) (pages : List Content) (disk : Disk) → AreFoundOn shape places pages disk.base → StandFrom shape places 0 disk
 stand-first shape places pages disk are = record {
-  slots = λ slot below. slot-held shape places.slots.items disk.base slot are.slots below;
+  slots = λ slot below. slot-same shape places.slots.items disk.base slot are.slots below;
   each = λ p found from at. are.each p found at;
 }
-
-pub have-slots : (shape : Shape) (places : Places) (pages : List Content) → ArePlacesOf shape places pages → HaveSlots shape places
-have-slots shape places pages are = record { room = are.room; count = are.count; below = are.below }
 
 -- WHILE OTHERS ARE REPAIRED.
 

@@ -9,13 +9,14 @@ use Rattle.model_record.proofs.Several.{one_group}
 use Rattle.model_store.specs.{IsOrderly, IsReading}
 use Rattle.model_store.specs.Reading.{Reading}
 use Rattle.model_store.specs.declared.refusal.Refusal.{Refusal}
+use Rattle.model_store.proofs.OneAnswer.{read-not_refused}
 use Rattle.model_store.proofs.OneReading.{same_reading}
 use Rattle.redo_disk.specs.{HasCause, OnTold}
 use Rattle.redo_disk.specs.Seen.{Seen}
 use Rattle.redo_disk.specs.declared.error.DevError.{DevError}
 use Rattle.redo_disk.specs.declared.error.DevError.TheVariants as device
 use Rattle.redo_open.specs.Devices.{IsFrom, IsOpenFault, IsSameDevice, WhereBothTell}
-use Rattle.redo_open.specs.Opening.{Answer, HasFaultCause, log_left, data_left}
+use Rattle.redo_open.specs.Opening.{Answer, HasFaultCause, WhereRefused, log_left, data_left}
 use Rattle.redo_disk.proofs.Told.{told-step}
 use Rattle.redo_open.proofs.Both.{openable-both}
 use Rattle.redo_open.proofs.Told.{risen-since}
@@ -92,34 +93,40 @@ no-length log_size data_size LogDev own = tt
 no-length log_size data_size DataDev own = tt
 no-length log_size data_size NoMemory own = tt
 
--- a store that is refused was only read
-pub kept-same : {C : Type 0} (cause : Option C) (log data_told log_new data_new : Option Disk) → log_new ≡ log → data_new ≡ data_told
-    → IfSome cause (λ _. WhereBothTell log data_told (λ l d. (log_new ≡ Some l) × (data_new ≡ Some d)))
-kept-same None log data_told log_new data_new log_same data_same = tt
-kept-same (Some cause) None data_told log_new data_new log_same data_same = tt
-kept-same (Some cause) (Some l) None log_new data_new log_same data_same = tt
-kept-same (Some cause) (Some l) (Some d) log_new data_new log_same data_same = (log_same, data_same)
+on-contents : (log data_told : Option Disk) {P Q : List ℕ → List ℕ → Type 0} → ((log_bytes data_bytes : List ℕ) → P log_bytes data_bytes → Q log_bytes data_bytes)
+    → OnContents log data_told P → OnContents log data_told Q
+on-contents None data_told leads holds = tt
+on-contents (Some l) None leads holds = tt
+on-contents (Some l) (Some d) leads holds = leads l.reads d.reads holds
 
--- what is so of both, whether they tell or not
-pub where-refused : {C : Type 0} (cause : Option C) (log data_told : Option Disk) {P Q : Type 0} → P → Q
-    → IfSome cause (λ _. WhereBothTell log data_told (λ _ _. P × Q))
-where-refused None log data_told first second = tt
-where-refused (Some cause) None data_told first second = tt
-where-refused (Some cause) (Some l) None first second = tt
-where-refused (Some cause) (Some l) (Some d) first second = (first, second)
+all-contents : (log data_told : Option Disk) {P : List ℕ → List ℕ → Type 0} → ((log_bytes data_bytes : List ℕ) → P log_bytes data_bytes) → OnContents log data_told P
+all-contents None data_told each = tt
+all-contents (Some l) None each = tt
+all-contents (Some l) (Some d) each = each l.reads d.reads
 
-pub opening-cause : {L D : Type 0} (log_seen : L → Seen) (data_seen : D → Seen) (log data_device log_mid data_mid : Seen) (result : Answer L D)
+-- what is so anyway is so of a store that is refused
+pub also-refused : (log data_device : Seen) {P Q : Type 0} → P → Q → WhereRefused log data_device (P × Q)
+also-refused log data_device first second refusal = all-contents log.tells data_device.tells (λ log_bytes data_bytes refused. (first, second))
+
+-- and of one that was read anything, since it isn't refused
+pub read-unrefused : (log data_device : Seen) (P : Type 0) (reading : Reading)
+    → OnContents log.tells data_device.tells (λ log_bytes data_bytes. IsReading log_bytes data_bytes reading) → WhereRefused log data_device P
+read-unrefused log data_device P reading reads refusal =
+    on-contents log.tells data_device.tells
+    (λ log_bytes data_bytes read refused. absurd (read-not_refused one_group log_bytes data_bytes reading refusal read refused)) reads
+
+pub opening-cause : {L D : Type 0} (log_seen : L → Seen) (data_seen : D → Seen) (log data_device log_mid data_mid : Seen) (result : Answer L D) (reading : Reading)
+    → OnContents log.tells data_device.tells (λ log_bytes data_bytes. IsReading log_bytes data_bytes reading)
     → log.faults ≤ log_mid.faults → data_device.faults ≤ data_mid.faults → IfErr result (λ error. IsOpenFault error.0)
     → IfErr result (λ error. error.0 ≡ LogDev → HasRisen log_mid.faults (log_seen error.1).faults)
     → IfErr result (λ error. error.0 ≡ DataDev → HasRisen data_mid.faults (data_seen error.2).faults)
     → IfErr result (λ error. IsSameDevice log_mid (log_seen error.1) × IsSameDevice data_mid (data_seen error.2))
     → IfErr result (λ error. HasFaultCause log data_device (log_seen error.1) (data_seen error.2) error.0)
-opening-cause log_seen data_seen log data_device log_mid data_mid (Ok store) log_later data_later fault log_failed data_failed same = tt
-opening-cause log_seen data_seen log data_device log_mid data_mid (Err error) log_later data_later fault log_failed data_failed same = record {
+opening-cause log_seen data_seen log data_device log_mid data_mid (Ok store) reading reads log_later data_later fault log_failed data_failed same = tt
+opening-cause log_seen data_seen log data_device log_mid data_mid (Err error) reading reads log_later data_later fault log_failed data_failed same = record {
   refused = unrefused error.0 _ fault;
   lengths = no-length log.size data_device.size error.0 fault;
-  kept = unrefused error.0 _ fault;
-  kept_crashes = unrefused error.0 _ fault;
+  kept = read-unrefused log data_device _ reading reads;
   log_failed = λ failed. risen-since _ _ _ log_later same.0.later (log_failed failed);
   data_failed = λ failed. risen-since _ _ _ data_later same.1.later (data_failed failed);
 }
@@ -131,11 +138,12 @@ both-err log_seen data_seen log data_device (Ok store) first second = tt
 both-err log_seen data_seen log data_device (Err error) first second = (first, second)
 
 -- the sync of the data device failed
-pub sync-cause : (log data_device log_after data_after : Seen) (error : DevError) (fault : RecFault) → fault ≡ data_fault_of error
+pub sync-cause : (log data_device log_after data_after : Seen) (error : DevError) (fault : RecFault) (reading : Reading) → fault ≡ data_fault_of error
+    → OnContents log.tells data_device.tells (λ log_bytes data_bytes. IsReading log_bytes data_bytes reading)
     → HasCause {T = Unit {0}} data_device.faults data_after.faults (Err error) → HasFaultCause log data_device log_after data_after fault
-sync-cause log data_device log_after data_after device.Failed fault is cause =
+sync-cause log data_device log_after data_after device.Failed fault reading is reads cause =
     subst (HasFaultCause log data_device log_after data_after) (sym is)
-    (record { refused = tt; lengths = tt; kept = tt; kept_crashes = tt; log_failed = λ other. absurd cc; data_failed = λ same. cause.failed refl })
-sync-cause log data_device log_after data_after device.NoMemory fault is cause =
+    (record { refused = tt; lengths = tt; kept = read-unrefused log data_device _ reading reads; log_failed = λ other. absurd cc; data_failed = λ same. cause.failed refl })
+sync-cause log data_device log_after data_after device.NoMemory fault reading is reads cause =
     subst (HasFaultCause log data_device log_after data_after) (sym is)
-    (record { refused = tt; lengths = tt; kept = tt; kept_crashes = tt; log_failed = λ other. absurd cc; data_failed = λ other. absurd cc })
+    (record { refused = tt; lengths = tt; kept = read-unrefused log data_device _ reading reads; log_failed = λ other. absurd cc; data_failed = λ other. absurd cc })

@@ -1,5 +1,5 @@
 -- The data device while the places that didn't pass are repaired.
-use Rattle.std.specs.Prelude.{ℕ, ◌≡◌, ◌≢◌, ◌≤◌, ◌<◌, ◌*◌, length, slice_get, Some, None, IfSome}
+use Rattle.std.specs.Prelude.{ℕ, ◌≡◌, ◌≢◌, ◌≤◌, ◌<◌, length, slice_get, Some, None}
 use Rattle.model_base.specs.declared.shape.Shape.{Shape}
 use Rattle.model_device.specs.{settled}
 use Rattle.model_device.specs.Disk.{Disk}
@@ -13,12 +13,6 @@ use Rattle.redo_recover.specs.declared.places.Places.{Places}
 pub record IsSettledData (shape : Shape) (disk : Disk) : Type 0 where
   pub nothing_pending : disk ≡ settled disk.base
   pub long : data_device_length shape ≤ length disk.base
-
--- These are all slots, and each of the pages is in its place or in one of them.
-pub record HaveSlots (shape : Shape) (places : Places) : Type 0 where
-  pub room : length places.slots.items ≡ shape.slots * shape.page_size
-  pub count : length places.found.items ≡ shape.pages
-  pub below : (p : ℕ) (found : Found) → slice_get places.found.items p ≡ Some found → IfSome found.slot (λ slot. slot < shape.slots)
 
 -- the slots hold what was read, and the pages from this one on stand where they were found
 pub record StandFrom (shape : Shape) (places : Places) (from : ℕ) (disk : Disk) : Type 0 where

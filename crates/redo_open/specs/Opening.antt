@@ -1,13 +1,14 @@
 -- Opening a store off two devices that are handed in: what is opened, and what is left of the devices.
-use Rattle.std.specs.Prelude.{ℕ, ◌≡◌, ◌≢◌, ◌<◌, ◌+◌, ◌-◌, List, Option, Some, None, Result, Ok, Err, IfOk, IfErr, IfSome}
+use Rattle.std.specs.Prelude.{ℕ, ◌≡◌, ◌≢◌, ◌<◌, ◌+◌, ◌-◌, List, Option, None, Result, Ok, Err, IfOk, IfErr, IfSome}
 use Rattle.model_base.specs.{HasRisen}
 use Rattle.model_base.specs.declared.limits.TheConstants.{LSN_LIMIT}
 use Rattle.model_log.specs.declared.layout.TheConstants.{BLOCK_HEADER}
 use Rattle.model_logdev.specs.{first_marks, next_number}
 use Rattle.model_device.specs.{settled}
 use Rattle.model_opening.specs.{IsReady, KeepsOpened, start_of}
-use Rattle.model_store.specs.{IsOrderly, IsReading}
+use Rattle.model_store.specs.{IsOrderly, IsReading, Refuses}
 use Rattle.model_store.specs.Reading.{Reading}
+use Rattle.model_store.specs.declared.refusal.Refusal.{Refusal}
 use Rattle.redo_disk.specs.{Call, MakesCalls}
 use Rattle.redo_disk.specs.Seen.{Seen}
 use Rattle.redo_disk.specs.declared.error.DevError.{DevError}
@@ -16,7 +17,8 @@ use Rattle.redo_open.specs.Devices.{HasSameCheckpoint, IsFrom, IsOpenFault, IsSa
 use Rattle.redo_open.specs.Mark.{EndWithMark}
 use Rattle.redo_pageactors.specs.{IsRunnable}
 use Rattle.redo_pageactors.specs.declared.opened.Opened.{Opened}
-use Rattle.redo_recover.specs.{data_error, HasCauseIn, HasLengthCause, log_error, refusal_of}
+use Rattle.redo_recover.specs.{data_error, HasCauseIn, HasLengthCause, log_error, OnContents}
+use Rattle.redo_recover.specs.Devices.{IsUnchanged}
 use Rattle.redo_recover.specs.declared.recovered.Recovered.{Recovered}
 use Rattle.redo_recover.specs.declared.fault.RecFault.{RecFault}
 use Rattle.redo_recover.specs.declared.fault.RecFault.TheVariants.{LogDev, DataDev, NoMemory}
@@ -54,16 +56,17 @@ pub record IsOpenedReady {L D : Type 0} (log_seen : L → Seen) (data_seen : D �
   pub small : store.start < LSN_LIMIT
   pub ready : WhereBothTell (log_seen store.log.dev).tells (data_seen store.store.dev).tells (IsReady reading)
 
--- A fault has its cause: the store is refused for it, and nothing was written, a device is too short, or that device has
--- failed.
+-- this is so where both devices tell, and what reads give is refused
+abbrev pub WhereRefused : Seen → Seen → Type 0 → Type 0
+WhereRefused log data_device P = (refusal : Refusal)
+    → OnContents log.tells data_device.tells (λ log_bytes data_bytes. Refuses log_bytes data_bytes refusal → P)
+
+-- A fault has its cause: the store is refused for it, a device is too short, or that device has failed. A store that is refused
+-- was only read, whatever is answered.
 pub record HasFaultCause (log data_device log_after data_after : Seen) (fault : RecFault) : Type 0 where
   pub refused : HasCauseIn log.tells data_device.tells fault
   pub lengths : HasLengthCause log.size data_device.size fault
-  pub kept : IfSome (refusal_of fault) (λ _. WhereBothTell log.tells data_device.tells
-      (λ log_disk data_disk. (log_after.tells ≡ Some log_disk) × (data_after.tells ≡ Some data_disk)))
-  -- also just before their last crash
-  pub kept_crashes : IfSome (refusal_of fault) (λ _. WhereBothTell log.tells data_device.tells
-      (λ _ _. (log_after.crashed_from ≡ log.crashed_from) × (data_after.crashed_from ≡ data_device.crashed_from)))
+  pub kept : WhereRefused log data_device (IsUnchanged log log_after × IsUnchanged data_device data_after)
   pub log_failed : fault ≡ LogDev → HasRisen log.faults log_after.faults
   pub data_failed : fault ≡ DataDev → HasRisen data_device.faults data_after.faults
 

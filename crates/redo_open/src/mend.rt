@@ -2,10 +2,11 @@
 ghost use Rattle.std.specs.Prelude.{◌≡◌, ◌<◌, None, IfSome};
 ghost use Rattle.model_base.specs.declared.limits.TheConstants.{PAGE_SIZE};
 ghost use Rattle.redo_disk.specs.{error_of, MakesCalls};
-ghost use Rattle.redo_open.specs.Mend.{IsSettledData, HaveSlots, StandFrom, IsMended, AreMended};
+ghost use Rattle.redo_open.specs.Mend.{IsSettledData, StandFrom, IsMended, AreMended};
 ghost use Rattle.redo_open.specs.Needed.{IsWriteFor, WasBroken};
 ghost use Rattle.redo_open.specs.Puts.{PutsWhere};
 ghost use Rattle.redo_open.specs.Store.{MendStep};
+ghost use Rattle.redo_recover.specs.{HaveSlots};
 
 use model_base::{PAGE_SIZE, Shape};
 use redo_disk::{DevError, Sectors};

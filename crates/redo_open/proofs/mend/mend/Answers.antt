@@ -4,7 +4,7 @@ use Rattle.std.proofs.lemmas.Result.{err_from_is_err_and}
 use Rattle.std.specs.Prelude.{IfSome}
 use Rattle.model_base.specs.declared.shape.Shape.{Shape}
 use Rattle.model_datadev.specs.{KeepsAll}
-use Rattle.redo_open.specs.Mend.{HaveSlots, IsSettledData, IsMended, AreMended, StandFrom}
+use Rattle.redo_open.specs.Mend.{IsSettledData, IsMended, AreMended, StandFrom}
 use Rattle.redo_open.specs.Store.{MendStep}
 use Rattle.redo_open.proofs.Endings.{mend-behind}
 use Rattle.redo_open.proofs.Mends.{settled-keeps, mended-none, mended-more, keeps-behind, settled-behind}
@@ -13,6 +13,7 @@ use Rattle.redo_open.proofs.Puts.{put_nothing, puts_then}
 use Rattle.redo_open.proofs.Standing.{stand-behind}
 use Rattle.redo_disk.proofs.Told.{OnTold-then, OnTold-weaker, told-as, told-step}
 use Rattle.redo_open.proofs.Told.{told-known}
+use Rattle.redo_recover.specs.{HaveSlots}
 use Rattle.redo_open.proofs.mend.mend.Goals as goal
 
 pub mend_page-requires-clause-slots : goal.mend_page-requires-clause-slots

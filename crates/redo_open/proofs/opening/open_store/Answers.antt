@@ -11,9 +11,9 @@ use Rattle.redo_open.proofs.Called.{data_opened, data_refused, log_opened, log_r
 use Rattle.redo_open.proofs.Causes.{places-cause}
 use Rattle.redo_open.proofs.Endings.{device-own}
 use Rattle.redo_open.proofs.Puts.{may_put, may_put_then, put_nothing, put_one}
-use Rattle.redo_open.proofs.Stores.{openable-same, opened-read, opening-cause, both-err, kept-same, sync-cause, synced-holds, where-refused}
+use Rattle.redo_open.proofs.Stores.{also-refused, openable-same, opened-read, opening-cause, both-err, sync-cause, synced-holds}
 use Rattle.redo_open.proofs.Told.{cause-since}
-use Rattle.redo_recover.specs.{AreFoundOn, reading_of, refusal_of}
+use Rattle.redo_recover.specs.{AreFoundOn, reading_of}
 use Rattle.redo_recover.specs.declared.fault.RecFault.{RecFault}
 use Rattle.redo_recover.specs.declared.fault.RecFault.TheVariants.{NoMemory}
 use Rattle.redo_open.proofs.opening.open_store.Goals as goal
@@ -52,7 +52,7 @@ open_recovered-requires-clause-found g c =
 pub returns-clause-cause : goal.returns-clause-cause
 returns-clause-cause g c =
     opening-cause g.L.Sectors.seen g.D.Sectors.seen (g.L.Sectors.seen c.args.log) (g.D.Sectors.seen c.args.data_device)
-    (g.L.Sectors.seen c.recover.new.log) (g.D.Sectors.seen c.sync.new.self) c.open_recovered.result c.in-Ok.ensures.log.later
+    (g.L.Sectors.seen c.recover.new.log) (g.D.Sectors.seen c.sync.new.self) c.open_recovered.result (reading_of c.in-Ok.recovered) c.in-Ok.ensures.read c.in-Ok.ensures.log.later
     (omega (arith, c.in-Ok.ensures.data_device.later, c.in-Ok-sync.ensures.step.cause.later))
     c.open_recovered.ensures.step.fault c.open_recovered.ensures.step.log_failed c.open_recovered.ensures.step.data_failed
     (both-err g.L.Sectors.seen g.D.Sectors.seen (g.L.Sectors.seen c.recover.new.log) (g.D.Sectors.seen c.sync.new.self) c.open_recovered.result c.open_recovered.ensures.step.log c.open_recovered.ensures.step.data_device)
@@ -61,8 +61,7 @@ pub returns-in-Err-clause-cause : goal.returns-in-Err-clause-cause
 returns-in-Err-clause-cause g c = record {
   refused = c.in-Err.ensures.cause;
   lengths = c.in-Err.ensures.lengths;
-  kept = kept-same (refusal_of c.in-Err.fault) _ _ _ _ c.in-Err.ensures.log.tells c.in-Err.ensures.data_device.tells;
-  kept_crashes = where-refused (refusal_of c.in-Err.fault) _ _ c.in-Err.ensures.log.crashed_from c.in-Err.ensures.data_device.crashed_from;
+  kept = also-refused (g.L.Sectors.seen c.args.log) (g.D.Sectors.seen c.args.data_device) c.in-Err.ensures.log c.in-Err.ensures.data_device;
   log_failed = λ is. c.in-Err.ensures.log_failed (ap (λ (f : RecFault). Err f) is);
   data_failed = λ is. c.in-Err.ensures.data_failed (ap (λ (f : RecFault). Err f) is);
 }
@@ -70,7 +69,7 @@ returns-in-Err-clause-cause g c = record {
 pub returns-in-Err-sync-clause-cause : goal.returns-in-Err-sync-clause-cause
 returns-in-Err-sync-clause-cause g c =
     sync-cause (g.L.Sectors.seen c.args.log) (g.D.Sectors.seen c.args.data_device) (g.L.Sectors.seen c.recover.new.log) (g.D.Sectors.seen c.sync.new.self)
-    c.in-Err-sync.error c.data_fault.result c.data_fault.ensures
+    c.in-Err-sync.error c.data_fault.result (reading_of c.in-Ok.recovered) c.data_fault.ensures c.in-Ok.ensures.read
     (cause-since _ _ _ (Err c.in-Err-sync.error) c.in-Ok.ensures.data_device.later c.in-Err-sync.ensures.step.cause)
 
 pub returns-in-Err-clause-log_calls : goal.returns-in-Err-clause-log_calls

@@ -13,7 +13,7 @@ use Rattle.redo_open.proofs.Endings.{device-own, device-failed}
 use Rattle.redo_open.proofs.Needs.{for_broken, for_changed}
 use Rattle.redo_open.proofs.Opens.{repair-keeps, mended-may_write, unchanged-keeps, write-keeps, all-written}
 use Rattle.redo_open.proofs.Puts.{may_put, put_nothing, puts_no_memory, puts_then}
-use Rattle.redo_open.proofs.Standing.{have-slots, stand-first}
+use Rattle.redo_open.proofs.Standing.{stand-first}
 use Rattle.redo_open.proofs.Told.{risen-since}
 use Rattle.redo_open.specs.Mend.{IsSettledData, StandFrom}
 use Rattle.redo_open.specs.Places.{KeepsPlaces, MayBeWritten, PlacesStep}
@@ -24,7 +24,7 @@ use Rattle.redo_store.specs.Part.{Part}
 use Rattle.redo_open.proofs.places.open_places.Goals as goal
 
 pub mend-requires-clause-slots : goal.mend-requires-clause-slots
-mend-requires-clause-slots g c = have-slots c.args.shape.now c.args.places.now c.args.pages.now c.requires.places
+mend-requires-clause-slots g c = c.requires.places.have_slots
 
 pub mend-requires-clause-stand : goal.mend-requires-clause-stand
 mend-requires-clause-stand g c =
