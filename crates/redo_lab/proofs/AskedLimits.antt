@@ -1,20 +1,18 @@
 -- The numbers of a command that is asked for are within its limits.
-use Rattle.std.proofs.Common.{ℕ, ◌≡◌, ◌≤◌, ◌<◌, ◌-◌, ◌^◌, ◌&&◌, Bool, true, false, nat_le, if◌then◌else◌, List, [], ◌∷◌, codes, Option, Some, None, refl, subst, arith, lit≤}
+use Rattle.std.proofs.Common.{ℕ, ◌≡◌, ◌≤◌, ◌-◌, ◌^◌, ◌&&◌, Bool, true, false, nat_le, if◌then◌else◌, List, [], ◌∷◌, codes, Option, Some, None, refl, subst, arith, lit≤}
 use Rattle.std.specs.Option.{option_map, option_and_then}
 use Rattle.std.specs.Str.{bytes_eq}
-use Rattle.model_base.specs.{IsWithinLimits, space_limit}
 use Rattle.model_base.specs.declared.limits.TheConstants.{DEFAULT_LOG_BLOCKS, DEFAULT_PAGES, DEFAULT_SPACE, MAX_LOG_BLOCKS, MAX_PAGES, MIN_LOG_BLOCKS}
 use Rattle.model_command.specs.Commands as commands
 use Rattle.model_command.specs.{are_among, are_different, asked_of, crash_of, drive_names, drive_of, format_of, gen_of, given_number, number_or, number_within, plain_command, said_from, where_allowed}
 use Rattle.model_command.specs.declared.asked.Asked.{Asked}
 use Rattle.model_command.specs.declared.asked.Command.{Command}
-use Rattle.model_command.specs.declared.asked.Command.TheVariants.{Format, Run, Recover, Dump}
+use Rattle.model_command.specs.declared.asked.Command.TheVariants.{Run, Recover, Dump}
 use Rattle.model_command.specs.declared.words.Given.{Given}
 use Rattle.model_command.specs.declared.words.Name.{Name}
 use Rattle.model_command.specs.declared.words.Name.TheVariants as name
 use Rattle.model_command.specs.declared.words.Expected.TheVariants.{Any}
 use Rattle.model_script.specs.declared.misfit.TheConstants.{MAX_USERS}
-use Rattle.redo_lab.specs.Answer.{shape_of}
 use Rattle.redo_lab.specs.Asked.{IsWithin, command_of, where_served}
 use borrow.Author.Tests.{leb-true}
 
@@ -144,16 +142,3 @@ pub command-of-within : (words : List (List ℕ)) (command : Command) → comman
 command-of-within words command is =
     let asked = and_then-some where_served (asked_of words) command is in
     subst IsWithin (where-served _ asked.0.command command asked.2) (asked-within words asked.0 asked.1)
-
--- the sizes that are asked for are within the limits of a store
-pub format-limits : (pages space log_blocks : ℕ) → IsWithin (Format pages space log_blocks) → space < space_limit
-    → IsWithinLimits (shape_of pages space log_blocks)
-format-limits pages space log_blocks within small = record {
-  page_size = refl;
-  some_pages = within.0;
-  few_pages = within.1;
-  space = small;
-  many_blocks = within.2;
-  few_blocks = within.3;
-  slots = refl;
-}

@@ -16,7 +16,7 @@ use Rattle.redo_lab.specs.Took.{TookPlace}
 use Rattle.redo_lab.specs.Course.{ArePlayed, AreStopped, AreUnderWay, ran_of}
 use Rattle.redo_lab.specs.declared.playing.Played.{Played}
 use Rattle.redo_lab.specs.declared.playing.Stops.{Stops}
-use Rattle.redo_lab.proofs.RunPlayed.{ClosedLaws, WasFound, closed-as, opened-before, safe-as, stopped-on}
+use Rattle.redo_lab.proofs.RunPlayed.{ClosedLaws, WasFound, closed-as, held-closed, opened-before, safe-as, stopped-on}
 use Rattle.redo_lab.proofs.Told.{both-told}
 
 -- a run on this store, and what is left of the script, with what both devices mean
@@ -121,7 +121,7 @@ before-played call stops log_only script played log_failed data_failed log_old d
       log_disk data_disk log_is data_is in
       record {
         same = closed.0;
-        opened_first = opened-before script played left (log_failed + data_failed) was.way.log_found was.way.data_found was.opened store log_disk data_disk laws.opened closed.0 found closed.1;
+        opened_first = opened-before script (ran_of played) was.way.log_found was.way.data_found was.opened store log_disk data_disk laws.opened closed.0 found (held-closed closed.1);
         safe = safe-as script (found.reading.number + 1) played left (log_failed + data_failed) (log_failed + data_failed) was.opened store log_disk data_disk laws.safe refl closed.0 closed.1;
       });
 }

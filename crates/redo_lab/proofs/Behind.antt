@@ -28,11 +28,6 @@ pieces-are-reads (Syncs answer ∷ calls) pieces = absurd pieces.0
 pub reads-of-pieces : (error : Option DevError) (calls : List Call) → ReadsPieces error calls → ReadsMayEndWith error calls
 reads-of-pieces error calls pieces = record { reads = pieces-are-reads calls pieces.pieces; ends = pieces.ends }
 
--- the device behind a fuse that isn't armed, before any call
-pub plain-unarmed : {D : Type 0} (seen : D → Seen) (device : D) (old : Fused D) → inner_of old ≡ device → fuse_of old ≡ fresh
-    → IsUnarmed (seen device) 0 (guarded seen old)
-plain-unarmed seen device old inner fuse = unarmed-fresh seen device old inner fuse
-
 -- after reads it means what it meant
 pub kept-behind : {D : Type 0} {seen : D → Seen} {gives : D → Call → D → Type 0} {device : D} {old new : Fused D} {error : Option DevError}
     → inner_of old ≡ device → MakesCalls (CallsThrough seen gives) old new (ReadsMayEndWith error) → IsKept (seen device) (guarded seen new)

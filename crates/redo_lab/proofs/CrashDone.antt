@@ -9,20 +9,21 @@ use Rattle.model_report.specs.declared.fault.Fault.TheVariants as fault
 use Rattle.model_script.specs.declared.script.ScriptLine.{ScriptLine}
 use Rattle.model_store.specs.{IsFair}
 use Rattle.model_store.specs.declared.refusal.Refusal.{Refusal}
-use Rattle.model_theorem.specs.{entries_of, IsOpenedBefore, LosesOnlyByFailure, Ran}
+use Rattle.model_theorem.specs.{entries_of, IsOpenedBefore, LosesOnlyByFailure, Opened, Ran}
 use Rattle.model_history.specs.{IsLeft}
 use Rattle.redo_disk.specs.Seen.{Seen}
 use Rattle.redo_lab.specs.Answer.{AreUnfailedAside, IsCrashText}
 use Rattle.redo_lab.specs.Call.{Call, Guarded}
-use Rattle.redo_lab.specs.Cause.{IsLeftRefused}
+use Rattle.redo_lab.specs.Cause.{IsLeftRefused, LeavesCrash}
 use Rattle.redo_lab.specs.Complete.{CanCrash}
 use Rattle.redo_lab.specs.Course.{IsPlayedBy, IsStoppedBy, ran_of}
 use Rattle.redo_lab.specs.Crashed.{AreCrashedSince, AreReadBack, ReadsBack}
-use Rattle.redo_lab.specs.Devices.{IsCrashedAs, IsOpenedFirst, IsToldAtMost}
+use Rattle.redo_lab.specs.Devices.{IsCrashedAs, IsLeftAsPrefix, IsOpenedFirst, IsToldAtMost}
 use Rattle.redo_lab.specs.Outcome.{EndsCommand, IsDoneOrKeptFrom, IsOutcome, IsSafeOutcome}
 use Rattle.redo_lab.specs.Reread.{AreRefusedSince}
 use Rattle.redo_lab.specs.Script.{IsScriptRead}
 use Rattle.redo_lab.specs.Stages.{IsCrashedWith}
+use Rattle.redo_lab.specs.Took.{TookPlace}
 use Rattle.redo_lab.specs.declared.outcome.Outcome.{Outcome}
 use Rattle.redo_lab.specs.declared.outcome.Outcome.TheVariants as outcome
 use Rattle.redo_lab.specs.declared.playing.Played.{Played}
@@ -86,13 +87,27 @@ crash-first : (call : Call) (stops : Stops) (log_only : Bool) (script : List Scr
     → (before : IsBeforeCrash call stops log_only script run log_failed data_failed log_old data_old) → (left : List (ℕ × ℕ)) → IsLeft script (entries_of run) left
     → call.log_device_now.armed_from ≡ before.way.log_found.seen.tells → call.log_device_now.seen.crashed_from ≡ log_old.seen.tells
     → IsOpenedFirst call call.log_device_now.seen.crashed_from run
-crash-first call stops log_only script run log_failed data_failed log_old data_old laws before left left_is armed_found crashed log data_disk opened log_is data_is log_fresh data_fresh opens armed_from disk armed_is met_is =
+crash-first call stops log_only script run log_failed data_failed log_old data_old laws before left left_is armed_found crashed opened log data_disk log_is data_is log_fresh data_fresh opens armed_from disk armed_is met_is =
     let way = before.way in
     let found = was-found call.log_device call.data_device way.log_found way.data_found log data_disk call.log_device.faults call.data_device.faults
     opened laws.one_answer laws.formatted way.prepared log_is data_is log_fresh data_fresh opens in
     let data_met = told-still call.data_device.tells data_old.seen.tells data_disk way.data_device.same.tells data_is in
     subst (λ (armed_from : Disk). IsOpenedBefore opened.shape armed_from disk run) (armed-same _ _ found.log armed_from armed_found found.log_is armed_is)
     (before.safe opened found left left_is disk data_met.0 (sym crashed ∙ met_is) data_met.1).opened_first
+
+-- WHAT IT LEFT is read as a prefix of the run, where the data device's image is fair.
+left-reads : (call : Call) (stops : Stops) (log_only : Bool) (pick : ℕ) (script : List ScriptLine) (run : Option Ran) (log_failed data_failed log_since data_since : ℕ) (log_old data_old : Guarded) → CrashLaws
+    → IsBeforeCrash call stops log_only script run log_failed data_failed log_old data_old
+    → AreCrashedSince pick log_since data_since log_old data_old call.log_device_now call.data_device_now
+    → IsLeftAsPrefix call script run
+left-reads call stops log_only pick script run log_failed data_failed log_since data_since log_old data_old laws before since opened log data_disk log_is data_is log_fresh data_fresh opens crashed_from from_is log_left data_left log_left_is data_left_is fair =
+    let found = was-found call.log_device call.data_device before.way.log_found before.way.data_found log data_disk call.log_device.faults call.data_device.faults
+    opened laws.one_answer laws.formatted before.way.prepared log_is data_is log_fresh data_fresh opens in
+    let log_met = told-still call.log_device.tells log_old.seen.tells log before.way.log_device.same.tells log_is in
+    let left = some-left script (entries_of run) in
+    let on = before.safe opened found left.0 left.1 log_met.0 crashed_from log_met.1 (sym since.data_device.from ∙ from_is) in
+    let crashes = crashes-told log_old.seen.tells call.log_device_now.seen.tells log_met.0 log_left since.log_device.left log_met.1 log_left_is in
+    on.safe.every_image log_left.reads data_left.reads (left-image log_met.0 log_left crashes) fair
 
 -- THE REPORT.
 crash-text : (call : Call) (stops : Stops) (drive : Drive) (pick : ℕ) (script : List ScriptLine) (run : Option Ran) (text : List ℕ) (log_failed data_failed : ℕ) (log_old data_old : Guarded)
@@ -123,6 +138,7 @@ crash-text call stops drive pick script run text log_failed data_failed log_old 
       opened_first = crash-first call stops drive.log_only script run log_failed data_failed log_old data_old laws before back.report.left back.report.left_is
           both.log_device.armed_from back.crashed.log_device.from;
       is_read = back.is_read;
+      left = left-reads call stops drive.log_only pick script run log_failed data_failed 0 0 log_old data_old laws before back.crashed;
     }
 
 unfailed-aside : (call : Call) (stops : Stops) (pick log_failed data_failed : ℕ) (log_found data_found : Guarded)
@@ -134,6 +150,35 @@ unfailed-aside call stops pick log_failed data_failed log_found data_found both 
   data_late = both.data_device.late;
 }
 
+took-place : (call : Call) (log_only : Bool) (opened : Opened) (script : List ScriptLine) (run : Option Ran) → IfSome run (TookPlace call log_only opened script)
+    → IfSome run (λ run. (opened : Opened) × TookPlace call log_only opened script run)
+took-place call log_only opened script None place = tt
+took-place call log_only opened script (Some run) place = (opened, place)
+
+leaves-crash : (call : Call) (stops : Stops) (drive : Drive) (pick : ℕ) (script : List ScriptLine) (run : Option Ran) (log_failed data_failed log_since data_since : ℕ) (log_old data_old : Guarded)
+    → IsScriptRead call.source call.source_now script → CrashLaws → (before : IsBeforeCrash call stops drive.log_only script run log_failed data_failed log_old data_old)
+    → AreBothCrashed call stops pick log_failed data_failed log_since data_since before.way.log_found before.way.data_found
+    → AreCrashedSince pick log_since data_since log_old data_old call.log_device_now call.data_device_now
+    → LeavesCrash call (Crash drive stops.log stops.store pick)
+leaves-crash call stops drive pick script run log_failed data_failed log_since data_since log_old data_old read laws before both since =
+    let left = some-left script (entries_of run) in
+    record {
+      pick = pick;
+      picked = refl;
+      log_crashed = crashed-as _ _ _ _ _ _ _ both.log_device;
+      data_crashed = crashed-as _ _ _ _ _ _ _ both.data_device;
+      drive = drive;
+      asked = refl;
+      script = script;
+      run = run;
+      is_script = read;
+      took_place = took-place call drive.log_only before.opened script run before.took_place;
+      found = are-found call before.way.log_found before.way.data_found laws.formatted before.way.prepared both.log_device.armed_from both.data_device.armed_from;
+      opened_first = crash-first call stops drive.log_only script run log_failed data_failed log_old data_old laws before left.0 left.1
+          both.log_device.armed_from since.log_device.from;
+      left = left-reads call stops drive.log_only pick script run log_failed data_failed log_since data_since log_old data_old laws before since;
+    }
+
 -- A STORE THAT CAN BE RUN ON is not refused behind the crash.
 possible-read-back : (call : Call) (stops : Stops) (log_only : Bool) (pick : ℕ) (script : List ScriptLine) (run : Option Ran) (refusal : Refusal) (log_failed data_failed : ℕ) (log_old data_old : Guarded)
     → CrashLaws → (before : IsBeforeCrash call stops log_only script run log_failed data_failed log_old data_old)
@@ -141,20 +186,14 @@ possible-read-back : (call : Call) (stops : Stops) (log_only : Bool) (pick : ℕ
     → AreRefusedSince (AreCrashedSince pick 0 0 log_old data_old call.log_device_now call.data_device_now) refusal call.log_device_now call.data_device_now → CanCrash call log_only → ⊥
 possible-read-back call stops log_only pick script run refusal log_failed data_failed log_old data_old laws before both back crash =
     let can = crash.can.plays in
-    let found = was-found call.log_device call.data_device before.way.log_found before.way.data_found can.log can.data_disk
-    call.log_device.faults call.data_device.faults can.opened laws.one_answer laws.formatted before.way.prepared can.log_fresh.tells can.data_fresh.tells
-    can.log_fresh.fresh can.data_fresh.fresh can.opens in
-    let log_met = told-still call.log_device.tells log_old.seen.tells can.log before.way.log_device.same.tells can.log_fresh.tells in
     let data_met = told-still call.data_device.tells data_old.seen.tells can.data_disk before.way.data_device.same.tells can.data_fresh.tells in
     let log_left = told-still call.log_device.tells call.log_device_now.seen.tells can.log both.log_device.same.tells can.log_fresh.tells in
     let data_left = told-still call.data_device.tells call.data_device_now.seen.tells can.data_disk both.data_device.same.tells can.data_fresh.tells in
-    let left = some-left script (entries_of run) in
-    let on = before.safe can.opened found left.0 left.1 log_met.0 data_met.0 log_met.1 data_met.1 in
-    let log_crash = crashes-told log_old.seen.tells call.log_device_now.seen.tells log_met.0 log_left.0 back.since.log_device.left log_met.1 log_left.1 in
+    let from = back.since.data_device.from ∙ data_met.1 in
     let fair = both-told call.data_device_now.seen.crashed_from call.data_device_now.seen.tells
-    (λ (from : Disk) (left : Disk). IsFair can.opened.shape from left.reads) crash.fair data_met.0 data_left.0
-    (back.since.data_device.from ∙ data_met.1) data_left.1 in
-    let kept = on.safe.every_image log_left.0.reads data_left.0.reads (left-image log_met.0 log_left.0 log_crash) fair in
+    (λ (from : Disk) (left : Disk). IsFair can.opened.shape from left.reads) crash.fair data_met.0 data_left.0 from data_left.1 in
+    let kept = left-reads call stops log_only pick script run log_failed data_failed 0 0 log_old data_old laws before back.since can.opened can.log can.data_disk
+    can.log_fresh.tells can.data_fresh.tells can.log_fresh.fresh can.data_fresh.fresh can.opens data_met.0 from log_left.0 data_left.0 log_left.1 data_left.1 fair in
     laws.one_answer log_left.0.reads data_left.0.reads kept.reading refusal kept.is_read (back.refused log_left.0 data_left.0 log_left.1 data_left.1)
 
 left-refused : (call : Call) (stops : Stops) (pick : ℕ) (refusal : Refusal) (log_failed data_failed : ℕ) (log_found data_found log_old data_old : Guarded)
@@ -180,8 +219,9 @@ crash-done call stops drive pick script run log_failed data_failed log_old data_
     (crash-theorem call stops drive pick script run text log_failed data_failed log_old data_old laws (record { read = read; before = before; back = back }))
 crash-done call stops drive pick script run log_failed data_failed log_old data_old (outcome.Report text f) read laws before back = absurd back
 crash-done call stops drive pick script run log_failed data_failed log_old data_old (outcome.Fault fault.Memory) read laws before back =
-    ends-crash call stops drive pick log_failed data_failed 0 0 _ _ (outcome.Fault fault.Memory)
-    (both-crashed call stops drive.log_only pick script run log_failed data_failed 0 0 log_old data_old before back) (tt, tt) (λ can unfailed. tt) tt
+    let both = both-crashed call stops drive.log_only pick script run log_failed data_failed 0 0 log_old data_old before back in
+    ends-crash call stops drive pick log_failed data_failed 0 0 _ _ (outcome.Fault fault.Memory) both
+    (tt, inr (inr (leaves-crash call stops drive pick script run log_failed data_failed 0 0 log_old data_old read laws before both back))) (λ can unfailed. tt) tt
 crash-done call stops drive pick script run log_failed data_failed log_old data_old (outcome.Fault fault.LogDevice) read laws before back =
     let both = both-crashed call stops drive.log_only pick script run log_failed data_failed 1 0 log_old data_old before back in
     ends-crash call stops drive pick log_failed data_failed 1 0 _ _ (outcome.Fault fault.LogDevice) both (
@@ -190,7 +230,7 @@ crash-done call stops drive pick script run log_failed data_failed log_old data_
         past-crash call script drive stops.log stops.store pick read,
         (both.log_device.risen (omega arith), inr (omega (arith, both.log_device.late), crashed-as _ _ _ _ _ _ _ both.log_device)),
       ),
-      tt,
+      inr (leaves-crash call stops drive pick script run log_failed data_failed 1 0 log_old data_old read laws before both back),
     )
     (λ can unfailed. absurd (omega (arith, both.log_device.late, unfailed.log_late))) tt
 crash-done call stops drive pick script run log_failed data_failed log_old data_old (outcome.Fault fault.DataDevice) read laws before back =
@@ -202,7 +242,7 @@ crash-done call stops drive pick script run log_failed data_failed log_old data_
         (both.log_device.early, both.log_device.late),
         (both.data_device.risen (omega arith), inr (omega (arith, both.data_device.late), crashed-as _ _ _ _ _ _ _ both.data_device)),
       ),
-      tt,
+      inr (leaves-crash call stops drive pick script run log_failed data_failed 0 1 log_old data_old read laws before both back),
     )
     (λ can unfailed. absurd (omega (arith, both.data_device.late, unfailed.data_late))) tt
 crash-done call stops drive pick script run log_failed data_failed log_old data_old (outcome.Fault (fault.Store refusal)) read laws before back =
@@ -212,7 +252,7 @@ crash-done call stops drive pick script run log_failed data_failed log_old data_
         past-crash call script drive stops.log stops.store pick read,
         inr (left-refused call stops pick refusal log_failed data_failed _ _ log_old data_old both back),
       ),
-      tt,
+      inr (leaves-crash call stops drive pick script run log_failed data_failed 0 0 log_old data_old read laws before both back.since),
     )
     (λ can unfailed. absurd (possible-read-back call stops drive.log_only pick script run refusal log_failed data_failed log_old data_old laws before both back can)) tt
 crash-done call stops drive pick script run log_failed data_failed log_old data_old (outcome.Fault f) read laws before back = absurd back

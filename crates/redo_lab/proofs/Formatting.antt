@@ -62,12 +62,15 @@ blank-of shape log data_disk openable log_bytes data_bytes log_image data_image 
     subst (λ (bytes : List ℕ). IsOrderly bytes data_bytes (formatted_store shape)) (sym (openable.log_rests.one_image log_bytes log_image))
     (subst (λ (bytes : List ℕ). IsOrderly log.reads bytes (formatted_store shape)) (sym (openable.data_rests.one_image data_bytes data_image)) openable.orderly)
 
-blank-now : (call : Call) (shape : Shape) → IsWithinLimits shape → FormattedLaw
+-- what formatting wrote stands there, and is a new store
+formatted-now : (call : Call) (shape : Shape)
     → IfSome call.log_device_now.seen.tells (λ log. IfSome call.data_device_now.seen.tells (λ data_disk. opening.IsFormatted shape log data_disk))
-    → WhereToldNow call (AreBlank shape)
-blank-now call shape limits law formatted log data_disk log_is data_is =
-    blank-of shape log data_disk (law shape log data_disk limits
-    (both-told call.log_device_now.seen.tells call.data_device_now.seen.tells (opening.IsFormatted shape) formatted log data_disk log_is data_is))
+    → WhereToldNow call (opening.IsFormatted shape)
+formatted-now call shape formatted = both-told call.log_device_now.seen.tells call.data_device_now.seen.tells (opening.IsFormatted shape) formatted
+
+blank-now : (call : Call) (shape : Shape) → IsWithinLimits shape → FormattedLaw → WhereToldNow call (opening.IsFormatted shape) → WhereToldNow call (AreBlank shape)
+blank-now call shape limits law written log data_disk log_is data_is =
+    blank-of shape log data_disk (law shape log data_disk limits (written log data_disk log_is data_is))
 
 -- formatting keeps no store but the new one
 abbrev pub FormatKeeps : Shape → (log_entry data_entry log_now data_now : Seen) → Type 0
@@ -105,7 +108,8 @@ format-ends call pages space log_blocks (Ok text) unread both limits law formatt
     record { log_device = unfailed-unarmed _ _ both.log_device; data_device = unfailed-unarmed _ _ both.data_device },
     record {
       unread = unread;
-      blank = blank-now call (shape_of pages space log_blocks) limits law formatted;
+      written = formatted-now call (shape_of pages space log_blocks) formatted;
+      blank = blank-now call (shape_of pages space log_blocks) limits law (formatted-now call (shape_of pages space log_blocks) formatted);
       text_is = is;
     },
   );

@@ -7,9 +7,8 @@ use Rattle.model_opening.proofs.Formatted.{zeros-refused}
 use Rattle.model_store.specs.Reading.{Reading}
 use Rattle.model_store.specs.declared.refusal.Refusal.TheVariants.{NotFormatted}
 use Rattle.model_theorem.specs.{IsFresh, Opened}
-use Rattle.redo_disk.specs.Seen.{Seen}
 use Rattle.redo_open.specs.{WhereBothTell}
-use Rattle.redo_lab.specs.Call.{AreKept, Call, Guarded}
+use Rattle.redo_lab.specs.Call.{AreKept, Call}
 use Rattle.redo_lab.specs.Cause.{KeepsStore}
 use Rattle.redo_lab.specs.Course.{AreUnderWay, KeepsFound}
 use Rattle.redo_lab.specs.Prepared.{BothKept, EndUnprepared, WasUnused}
@@ -69,10 +68,6 @@ keeps-unprepared call log_failed data_failed one law ends = ⊎_elim
     (λ begun. keeps-unused call one begun.unused)
     (λ untouched. keeps-store call law (kept-both call untouched.kept))
     ends.begun_or_untouched
-
--- what was found in use when the fuses were armed is what was handed in
-found-told : (found : Guarded) (entry : Seen) (disk : Disk) → found.seen.tells ≡ entry.tells → entry.tells ≡ Some disk → found.seen.tells ≡ Some disk
-found-told found entry disk same is = same ∙ is
 
 -- a store in use that is read with its pages behind an opening that ended early
 pub keeps-under_way : (call : Call) (stops : Stops) (log_failed data_failed : ℕ) → OneAnswer

@@ -52,11 +52,14 @@ pub plays-called : {L D : Type 0} (log_seen : L → Seen) (log_gives : L → Cal
     → Plays see_log (CallsThrough log_seen log_gives) see_data (CallsThrough data_seen data_gives) opened turns script c log_now data_now
     → IsCalled log_seen log_gives opened.log.dev log_now × IsCalled data_seen data_gives opened.store.dev data_now
 plays-called log_seen log_gives data_seen data_gives opened turns script see_log see_data (course.Ended fault.Memory) log_now data_now plays =
-    (called-by plays.log, called-by plays.data_part)
+    ⊎_elim
+    (λ unplayed. (uncalled log_seen log_gives opened.log.dev log_now unplayed.log_same, uncalled data_seen data_gives opened.store.dev data_now unplayed.data_same))
+    (λ run_out. (called-by run_out.so_far.calls.log, called-by run_out.so_far.calls.data_part))
+    plays
 plays-called log_seen log_gives data_seen data_gives opened turns script see_log see_data (course.Ended (fault.Fit misfit)) log_now data_now plays =
     (uncalled log_seen log_gives opened.log.dev log_now plays.log_same, uncalled data_seen data_gives opened.store.dev data_now plays.data_same)
 plays-called log_seen log_gives data_seen data_gives opened turns script see_log see_data (course.Ended (fault.Turns count user)) log_now data_now plays =
-    (called-by plays.calls.log, called-by plays.calls.data_part)
+    (called-by plays.so_far.calls.log, called-by plays.so_far.calls.data_part)
 plays-called log_seen log_gives data_seen data_gives opened turns script see_log see_data (course.Ended f) log_now data_now plays = absurd plays
 plays-called log_seen log_gives data_seen data_gives opened turns script see_log see_data (course.Stopped f) log_now data_now plays = absurd plays
 plays-called log_seen log_gives data_seen data_gives opened turns script see_log see_data (course.Played played None) log_now data_now plays =

@@ -13,6 +13,7 @@ pub mod Formatting
 pub mod Found
 pub mod GenDone
 pub mod Keeping
+pub mod Leaving
 pub mod Led
 pub mod LinesRun
 pub mod Once

@@ -1,19 +1,19 @@
 -- Whether opening came to its end, as the log device tells it: on a store that could be opened when the fuses were armed.
-use Rattle.std.proofs.Common.{ℕ, ◌+◌, Some, None, inl, refl, ap, ◌∙◌, arith}
+use Rattle.std.proofs.Common.{◌+◌, Some, None, inl, refl, ap, ◌∙◌, arith}
 use Rattle.model_device.specs.{IsImage}
 use Rattle.model_device.specs.Disk.{Disk}
 use Rattle.model_log.specs.{newest_checkpoint}
 use Rattle.model_opening.specs.{IsOpenable}
-use Rattle.model_run.specs.{IsClosed}
-use Rattle.model_run.specs.Closed.{Closed}
+use Rattle.model_run.specs.{IsHeld}
+use Rattle.model_run.specs.Closed.{Held}
 use Rattle.model_store.specs.Reading.{Reading}
 use Rattle.model_theorem.specs.{HeldOlder, IsOpenedBefore}
 use Rattle.redo_open.specs.{HasSameCheckpoint}
 
--- the log device of a closed run tells that opening came to its end
+-- a log device that holds a run tells that opening came to its end
 abbrev pub OpenedLaw : Type 0
-OpenedLaw = (failures : ℕ) (closed : Closed) (armed_from : Disk) → IsClosed failures closed → HeldOlder closed.opened.shape closed.number armed_from
-    → IsOpenedBefore closed.opened.shape armed_from closed.log_disk (Some closed.run)
+OpenedLaw = (held : Held) (armed_from : Disk) → IsHeld held → HeldOlder held.opened.shape held.number armed_from
+    → IsOpenedBefore held.opened.shape armed_from held.log_disk (Some held.run)
 
 -- what stood there at the last good sync is an image
 base-image : (disk : Disk) → IsImage disk disk.base

@@ -7,12 +7,11 @@ use Rattle.model_base.specs.declared.limits.TheConstants.{BLOCK_SIZE}
 use Rattle.model_base.specs.declared.shape.Shape.{Shape}
 use Rattle.model_device.specs.{synced}
 use Rattle.model_device.specs.Disk.{Disk}
-use Rattle.model_history.specs.{IsLeft}
 use Rattle.model_log.specs.{block_of, IsAtDataStart, start_after}
 use Rattle.model_log.specs.declared.layout.TheConstants.{BLOCK_HEADER}
 use Rattle.model_opening.specs.{formatted_store, IsFormatted, IsOpenable, IsReady, KeepsOpened}
 use Rattle.model_report.specs.declared.fault.Fault.TheVariants as fault
-use Rattle.model_run.specs.{IsClosed, IsStart, opened_as}
+use Rattle.model_run.specs.{IsClosed, IsHeld, IsStart, opened_as}
 use Rattle.model_script.specs.{first_misfit, LineFits, ScriptFits}
 use Rattle.model_script.specs.declared.misfit.Misfit.{Misfit}
 use Rattle.model_script.specs.declared.script.ScriptLine.{ScriptLine}
@@ -32,9 +31,10 @@ use Rattle.redo_pageactors.specs.declared.opened.Opened.{Opened}
 use Rattle.redo_recover.specs.{OnContents}
 use Rattle.redo_lab.specs.Call.{Guarded, guarded}
 use Rattle.redo_machine.specs.{room_from}
+use Rattle.redo_machine.specs.Beginning.{IsOpenedAs as IsStartedAs}
 use Rattle.redo_machine.specs.declared.drive.Turns.{Turns}
-use Rattle.redo_lab.specs.Course.{AreMisfitted, ArePlayed, ArePlayedThrough, AreSpent, ClosesRun, ComesTo, ran_of}
-use Rattle.redo_lab.specs.Playing.{AreArmed, AreRun, AreSpentOn, OwesRun, Plays}
+use Rattle.redo_lab.specs.Course.{AreMisfitted, ArePlayed, ArePlayedThrough, AreSpent, AreUnstarted, CameSoFar, ClosesRun, ComesTo, HasRunOut, HoldsRun, ran_of}
+use Rattle.redo_lab.specs.Playing.{AreArmed, AreRun, AreRunSoFar, AreSpentOn, HasRunOutOn, HoldsRunOn, OwesRun, Plays}
 use Rattle.redo_lab.specs.Prepared.{ArePrepared, WhereTold}
 use Rattle.redo_lab.specs.Store.{IsOpenedAs}
 use Rattle.redo_lab.specs.Turned.{opened_at}
@@ -42,7 +42,7 @@ use Rattle.redo_lab.specs.declared.playing.Course.{Course}
 use Rattle.redo_lab.specs.declared.playing.Course.TheVariants as course
 use Rattle.redo_lab.specs.declared.playing.Played.{Played}
 use Rattle.redo_lab.specs.declared.playing.Stops.{Stops}
-use Rattle.redo_lab.proofs.Told.{both-told, on-contents}
+use Rattle.redo_lab.proofs.Told.{both-told, kept-opened, on-contents}
 use Rattle.redo_lab.proofs.Telling.{calls-go_on}
 use Rattle.redo_lab.proofs.UnderWay.{AreCounted, counted-more, counted-opening, formatted-read, goes-on, HeaderFirst, keeps-found, ReadingLaws, same-both, told-some, way-of}
 
@@ -137,43 +137,43 @@ one-failure None = omega arith
 one-failure (Some device.Failed) = omega arith
 one-failure (Some device.NoMemory) = omega arith
 
--- on a store that could be opened when the fuses were armed the run is a closed one, with what becomes so of both devices
-closed-told : {L D : Type 0} {log_seen : L → Seen} {log_gives : L → Call → L → Type 0} {data_seen : D → Seen} {data_gives : D → Call → D → Type 0}
-    (laws : ReadingLaws) (log : Fused L) (data_device : Fused D) (store : Opened (Fused L) (Fused D)) (end : ℕ) (script : List ScriptLine) (played : Played)
-    (log_now : Fused L) (data_now : Fused D) (becomes : Disk → Disk) (failed : ℕ) (reading : Reading) (left : List (ℕ × ℕ)) (log_told data_told : Option Disk)
+-- on a store that could be opened when the fuses were armed this is so of both devices behind the run, of which it is so where the
+-- opened store was ready
+run-told : {L D : Type 0} {log_seen : L → Seen} {log_gives : L → Call → L → Type 0} {data_seen : D → Seen} {data_gives : D → Call → D → Type 0}
+    (laws : ReadingLaws) (log : Fused L) (data_device : Fused D) (store : Opened (Fused L) (Fused D)) (end : ℕ) (script : List ScriptLine)
+    (log_after data_after : Option Disk) (P : values.Opened → Disk → Disk → Type 0) (reading : Reading) (log_told data_told : Option Disk)
     → IsOpened log_seen log_gives data_seen data_gives log data_device store
     → AllByRecursion (LineFits store.shape) script
-    → OwesRun becomes (seen_through log_seen) (seen_through data_seen) store script played failed log_now data_now
-    → IsLeft script played.history left → (log_seen log.inner).tells ≡ log_told → (data_seen data_device.inner).tells ≡ data_told
+    → (IsStartedAs reading store → WhereBothTell (log_seen store.log.dev.inner).tells (data_seen store.store.dev.inner).tells (λ log_disk data_disk.
+    IsStart reading script log_disk data_disk → WhereBothTell log_after data_after (P (opened_as reading))))
+    → (log_seen log.inner).tells ≡ log_told → (data_seen data_device.inner).tells ≡ data_told
     → OnContents log_told data_told (IsReadOff store end)
     → WhereBothTell log_told data_told (λ log_disk data_disk. IsOpenable reading log_disk data_disk → IsOpenedReady (seen_through log_seen) (seen_through data_seen) reading store)
     → WhereBothTell log_told data_told (λ log_disk data_disk. IsOpenable reading log_disk data_disk
-    → (opened_at store end ≡ opened_as reading) × WhereBothTell (log_seen log_now.inner).tells (data_seen data_now.inner).tells (λ log_after data_after.
-    IsClosed failed (record { script = script; opened = opened_at store end; number = reading.number + 1; run = ran_of played; left = left; log_disk = becomes log_after; data_disk = becomes data_after })))
-closed-told laws log data_device store end script played log_now data_now becomes failed reading left None data_told opened lines owes left_is log_is data_is read ready = tt
-closed-told laws log data_device store end script played log_now data_now becomes failed reading left (Some log_disk) None opened lines owes left_is log_is data_is read ready = tt
-closed-told {log_seen = log_seen} {log_gives = log_gives} {data_seen = data_seen} {data_gives = data_gives} laws log data_device store end script played log_now data_now becomes failed reading left (Some log_disk) (Some data_disk) opened lines owes left_is log_is data_is read ready = λ openable.
+    → (opened_at store end ≡ opened_as reading) × WhereBothTell log_after data_after (P (opened_at store end)))
+run-told laws log data_device store end script log_after data_after P reading None data_told opened lines owes log_is data_is read ready = tt
+run-told laws log data_device store end script log_after data_after P reading (Some log_disk) None opened lines owes log_is data_is read ready = tt
+run-told {log_seen = log_seen} {log_gives = log_gives} {data_seen = data_seen} {data_gives = data_gives} laws log data_device store end script log_after data_after P reading (Some log_disk) (Some data_disk) opened lines owes log_is data_is read ready = λ openable.
     let is : IsOpenedReady (seen_through log_seen) (seen_through data_seen) reading store = ready openable in
     let same : opened_at store end ≡ opened_as reading =
     read.same ∙ ap opened_as (laws.one_reading log_disk.reads data_disk.reads read.reading reading read.is_read openable.orderly.reads) in
-    let log_after = told-some (log_seen store.log.dev.inner).tells
+    let log_there = told-some (log_seen store.log.dev.inner).tells
     (calls-go_on log_seen log_gives log store.log.dev opened.log_calls.calls opened.log_calls.made (λ none. let e = sym log_is ∙ none in cc)) in
-    let data_after = told-some (data_seen store.store.dev.inner).tells
+    let data_there = told-some (data_seen store.store.dev.inner).tells
     (calls-go_on data_seen data_gives data_device store.store.dev opened.data_calls.calls opened.data_calls.made (λ none. let e = sym data_is ∙ none in cc)) in
-    let start : IsStart reading script log_after.0 data_after.0 = record {
+    let start : IsStart reading script log_there.0 data_there.0 = record {
       log_bytes = log_disk.reads;
       data_bytes = data_disk.reads;
       orderly = openable.orderly;
-      ready = both-told _ _ (IsReady reading) is.ready log_after.0 data_after.0 log_after.1 data_after.1;
+      ready = both-told _ _ (IsReady reading) is.ready log_there.0 data_there.0 log_there.1 data_there.1;
       fits = subst (λ (shape : Shape). AllByRecursion (LineFits shape) script) is.opened.shape lines;
     } in
-    let After : values.Opened → Type 0 = λ opened. WhereBothTell (log_seen log_now.inner).tells (data_seen data_now.inner).tells (λ log_after data_after.
-    IsClosed failed (record { script = script; opened = opened; number = reading.number + 1; run = ran_of played; left = left; log_disk = becomes log_after; data_disk = becomes data_after })) in
-    let closed : After (opened_as reading) = both-told (log_seen store.log.dev.inner).tells (data_seen store.store.dev.inner).tells
+    let After : values.Opened → Type 0 = λ opened. WhereBothTell log_after data_after (P opened) in
+    let owed : After (opened_as reading) = both-told (log_seen store.log.dev.inner).tells (data_seen store.store.dev.inner).tells
     (λ log_disk data_disk. IsStart reading script log_disk data_disk → After (opened_as reading))
-    (owes reading left (record { shape = is.opened.shape; pages = is.opened.pages; start = is.opened.start; number = is.number }) left_is)
-    log_after.0 data_after.0 log_after.1 data_after.1 start in
-    (same, subst After (sym same) closed)
+    (owes (record { shape = is.opened.shape; pages = is.opened.pages; start = is.opened.start; number = is.number }))
+    log_there.0 data_there.0 log_there.1 data_there.1 start in
+    (same, subst After (sym same) owed)
 
 -- THE RUN ON IT
 -- what stands between the arming and the opened store
@@ -206,7 +206,35 @@ pub end-found : {L D : Type 0} {log_seen : L → Seen} {log_gives : L → Call �
 end-found {log_found = log_found} {data_found = data_found} {store = store} is =
     has-end log_found.seen.tells data_found.seen.tells store is.opened.runnable (read-found is)
 
--- the run on it is closed
+-- what was opened, as the two devices were handed in
+pub opens-found : {L D : Type 0} {log_seen : L → Seen} {log_gives : L → Call → L → Type 0} {data_seen : D → Seen} {data_gives : D → Call → D → Type 0}
+    {log_entry data_entry : Seen} {stops : Stops} {log_found data_found : Guarded} {log : Fused L} {data_device : Fused D} {store : Opened (Fused L) (Fused D)}
+    → (is : IsOpenedUnderWay log_seen log_gives data_seen data_gives log_entry data_entry stops log_found data_found log data_device store)
+    → WhereTold log_entry data_entry (IsOpenedAs (opened_at store (end-found is).end))
+opens-found {log_entry = log_entry} {data_entry = data_entry} {log_found = log_found} {data_found = data_found} {store = store} is =
+    let ends : HasEnd log_found.seen.tells data_found.seen.tells store = end-found is in
+    opens-as is.laws log_entry data_entry log_found data_found store ends.end is.armed.prepared ends.read
+
+-- what is so behind the run on it
+run-on : {L D : Type 0} {log_seen : L → Seen} {log_gives : L → Call → L → Type 0} {data_seen : D → Seen} {data_gives : D → Call → D → Type 0}
+    {log_entry data_entry : Seen} {stops : Stops} {log_found data_found : Guarded} {log : Fused L} {data_device : Fused D} {store : Opened (Fused L) (Fused D)}
+    (script : List ScriptLine) (log_after data_after : Option Disk) (P : values.Opened → Disk → Disk → Type 0) (reading : Reading)
+    (is : IsOpenedUnderWay log_seen log_gives data_seen data_gives log_entry data_entry stops log_found data_found log data_device store)
+    → AllByRecursion (LineFits store.shape) script
+    → (IsStartedAs reading store → WhereBothTell (log_seen store.log.dev.inner).tells (data_seen store.store.dev.inner).tells (λ log_disk data_disk.
+    IsStart reading script log_disk data_disk → WhereBothTell log_after data_after (P (opened_as reading))))
+    → WhereBothTell log_found.seen.tells data_found.seen.tells (λ log_disk data_disk. IsOpenable reading log_disk data_disk
+    → (opened_at store (end-found is).end ≡ opened_as reading) × WhereBothTell log_after data_after (P (opened_at store (end-found is).end)))
+run-on {log_seen = log_seen} {data_seen = data_seen} {log_found = log_found} {data_found = data_found} {log = log} {data_device = data_device} {store = store} script log_after data_after P reading is lines owes =
+    let ends : HasEnd log_found.seen.tells data_found.seen.tells store = end-found is in
+    let log_tells : (log_seen log.inner).tells ≡ log_found.seen.tells = ap (λ (seen : Seen). seen.tells) is.armed.log_same in
+    let data_tells : (data_seen data_device.inner).tells ≡ data_found.seen.tells = ap (λ (seen : Seen). seen.tells) is.armed.data_same in
+    run-told is.laws log data_device store ends.end script log_after data_after P reading log_found.seen.tells data_found.seen.tells
+    is.opened lines owes log_tells data_tells ends.read
+    (same-both (λ log_disk data_disk. IsOpenable reading log_disk data_disk → IsOpenedReady (seen_through log_seen) (seen_through data_seen) reading store)
+    log_found.seen.tells data_found.seen.tells (log_seen log.inner).tells (data_seen data_device.inner).tells log_tells data_tells (is.opened.ready reading))
+
+-- the run is closed
 closes-on : {L D : Type 0} {log_seen : L → Seen} {log_gives : L → Call → L → Type 0} {data_seen : D → Seen} {data_gives : D → Call → D → Type 0}
     {log_entry data_entry : Seen} {stops : Stops} {log_found data_found : Guarded} {log : Fused L} {data_device : Fused D} {store : Opened (Fused L) (Fused D)}
     {script : List ScriptLine} (played : Played) (log_now : Fused L) (data_now : Fused D)
@@ -214,14 +242,54 @@ closes-on : {L D : Type 0} {log_seen : L → Seen} {log_gives : L → Call → L
     → AllByRecursion (LineFits store.shape) script → (becomes : Disk → Disk) (failed : ℕ)
     → OwesRun becomes (seen_through log_seen) (seen_through data_seen) store script played failed log_now data_now
     → ClosesRun becomes log_found data_found (opened_at store (end-found is).end) script played failed (guarded log_seen log_now) (guarded data_seen data_now)
-closes-on {log_seen = log_seen} {data_seen = data_seen} {log_found = log_found} {data_found = data_found} {log = log} {data_device = data_device} {store = store} {script = script} played log_now data_now is lines becomes failed owes reading left left_is =
+closes-on {log_seen = log_seen} {data_seen = data_seen} {script = script} played log_now data_now is lines becomes failed owes reading left left_is =
+    run-on script (log_seen log_now.inner).tells (data_seen data_now.inner).tells (λ opened log_after data_after. IsClosed failed (record {
+      script = script;
+      opened = opened;
+      number = reading.number + 1;
+      run = ran_of played;
+      left = left;
+      log_disk = becomes log_after;
+      data_disk = becomes data_after;
+    }))
+    reading is lines (λ started. owes reading left started left_is)
+
+-- both devices hold it
+holds-on : {L D : Type 0} {log_seen : L → Seen} {log_gives : L → Call → L → Type 0} {data_seen : D → Seen} {data_gives : D → Call → D → Type 0}
+    {log_entry data_entry : Seen} {stops : Stops} {log_found data_found : Guarded} {log : Fused L} {data_device : Fused D} {store : Opened (Fused L) (Fused D)}
+    (script : List ScriptLine) (played : Played) (log_now : Fused L) (data_now : Fused D)
+    (is : IsOpenedUnderWay log_seen log_gives data_seen data_gives log_entry data_entry stops log_found data_found log data_device store)
+    → AllByRecursion (LineFits store.shape) script
+    → HoldsRunOn (seen_through log_seen) (seen_through data_seen) store script played log_now data_now
+    → HoldsRun log_found data_found script (opened_at store (end-found is).end) (ran_of played) (guarded log_seen log_now) (guarded data_seen data_now)
+holds-on {log_seen = log_seen} {data_seen = data_seen} script played log_now data_now is lines holds reading =
+    run-on script (log_seen log_now.inner).tells (data_seen data_now.inner).tells (λ opened log_after data_after. IsHeld (record {
+      script = script;
+      opened = opened;
+      number = reading.number + 1;
+      run = ran_of played;
+      log_disk = log_after;
+      data_disk = data_after;
+    }))
+    reading is lines (holds reading)
+
+-- a run came so far on it
+abbrev came-so-far : {L D : Type 0} {log_seen : L → Seen} {log_gives : L → Call → L → Type 0} {data_seen : D → Seen} {data_gives : D → Call → D → Type 0}
+    {log_entry data_entry : Seen} {stops : Stops} {log_found data_found : Guarded} {log : Fused L} {data_device : Fused D} {store : Opened (Fused L) (Fused D)}
+    {turns : Turns} {script : List ScriptLine} {played : Played} (log_error data_error : Option DevError) {log_now : Fused L} {data_now : Fused D}
+    → IsOpenedUnderWay log_seen log_gives data_seen data_gives log_entry data_entry stops log_found data_found log data_device store
+    → AreRunSoFar (CallsThrough log_seen log_gives) (CallsThrough data_seen data_gives) store turns script played log_error data_error log_now data_now
+    → CameSoFar log_entry data_entry stops turns.log_only script (ran_of played) (failures log_error) (failures data_error) (guarded log_seen log_now) (guarded data_seen data_now)
+came-so-far {log_found = log_found} {data_found = data_found} {store = store} {turns = turns} {script = script} log_error data_error is run =
     let ends : HasEnd log_found.seen.tells data_found.seen.tells store = end-found is in
-    let log_tells : (log_seen log.inner).tells ≡ log_found.seen.tells = ap (λ (seen : Seen). seen.tells) is.armed.log_same in
-    let data_tells : (data_seen data_device.inner).tells ≡ data_found.seen.tells = ap (λ (seen : Seen). seen.tells) is.armed.data_same in
-    closed-told is.laws log data_device store ends.end script played log_now data_now becomes failed reading left log_found.seen.tells data_found.seen.tells
-    is.opened lines owes left_is log_tells data_tells ends.read
-    (same-both (λ log_disk data_disk. IsOpenable reading log_disk data_disk → IsOpenedReady (seen_through log_seen) (seen_through data_seen) reading store)
-    log_found.seen.tells data_found.seen.tells (log_seen log.inner).tells (data_seen data_device.inner).tells log_tells data_tells (is.opened.ready reading))
+    record {
+      way = way-of log_found data_found is.armed.prepared (counted-more (counted-opened is) run.calls.log run.calls.data_part);
+      opened = opened_at store ends.end;
+      opens = opens-found is;
+      limits = is.opened.runnable.limits;
+      fits = subst (λ start. ScriptFits store.shape start (room_from turns.log_only store.shape start) script) ends.start run.fits;
+      is_run = run.is_run ends.end ends.start;
+    }
 
 played-on : {L D : Type 0} {log_seen : L → Seen} {log_gives : L → Call → L → Type 0} {data_seen : D → Seen} {data_gives : D → Call → D → Type 0}
     {log_entry data_entry : Seen} {stops : Stops} {log_found data_found : Guarded} {log : Fused L} {data_device : Fused D} {store : Opened (Fused L) (Fused D)}
@@ -229,18 +297,11 @@ played-on : {L D : Type 0} {log_seen : L → Seen} {log_gives : L → Call → L
     → IsOpenedUnderWay log_seen log_gives data_seen data_gives log_entry data_entry stops log_found data_found log data_device store
     → AreRun (seen_through log_seen) (CallsThrough log_seen log_gives) (seen_through data_seen) (CallsThrough data_seen data_gives) store turns script played log_error data_error log_now data_now
     → ArePlayed log_entry data_entry stops turns.log_only script played (failures log_error) (failures data_error) (guarded log_seen log_now) (guarded data_seen data_now)
-played-on {log_seen = log_seen} {log_gives = log_gives} {data_seen = data_seen} {data_gives = data_gives} {log_entry = log_entry} {data_entry = data_entry} {log_found = log_found} {data_found = data_found} {log = log} {data_device = data_device} {store = store} {turns = turns} {script = script} {played = played} log_error data_error {log_now = log_now} {data_now = data_now} is run =
-    let ends : HasEnd log_found.seen.tells data_found.seen.tells store = end-found is in
-    record {
-      way = way-of log_found data_found is.armed.prepared (counted-more (counted-opened is) run.calls.log run.calls.data_part);
-      opened = opened_at store ends.end;
-      opens = opens-as is.laws log_entry data_entry log_found data_found store ends.end is.armed.prepared ends.read;
-      limits = is.opened.runnable.limits;
-      fits = subst (λ start. ScriptFits store.shape start (room_from turns.log_only store.shape start) script) ends.start run.fits;
-      is_run = run.is_run ends.end ends.start;
-      loses = run.loses;
-      closed = closes-on played log_now data_now is run.fits.lines (λ disk. disk) (failures log_error + failures data_error) run.owed;
-    }
+played-on {played = played} log_error data_error {log_now = log_now} {data_now = data_now} is run = record {
+  so_far = came-so-far log_error data_error is run.so_far;
+  loses = run.loses;
+  closed = closes-on played log_now data_now is run.fits.lines (λ disk. disk) (failures log_error + failures data_error) run.owed;
+}
 
 -- no call answered an error
 played-through : {L D : Type 0} {log_seen : L → Seen} {log_gives : L → Call → L → Type 0} {data_seen : D → Seen} {data_gives : D → Call → D → Type 0}
@@ -255,6 +316,19 @@ played-through {played = played} {log_now = log_now} {data_now = data_now} is ru
   if_synced = closes-on played log_now data_now is run.fits.lines synced 0 (run.owed_synced refl refl);
 }
 
+-- no line was run on it
+unstarted : {L D : Type 0} {log_seen : L → Seen} {log_gives : L → Call → L → Type 0} {data_seen : D → Seen} {data_gives : D → Call → D → Type 0}
+    {log_entry data_entry : Seen} {stops : Stops} {log_found data_found : Guarded} {log : Fused L} {data_device : Fused D} {store : Opened (Fused L) (Fused D)}
+    → IsOpenedUnderWay log_seen log_gives data_seen data_gives log_entry data_entry stops log_found data_found log data_device store
+    → AreUnstarted log_entry data_entry stops (guarded log_seen store.log.dev) (guarded data_seen store.store.dev)
+unstarted {log_seen = log_seen} {data_seen = data_seen} {log_entry = log_entry} {data_entry = data_entry} {log_found = log_found} {data_found = data_found} {log = log} {data_device = data_device} {store = store} is = record {
+  way = way-of log_found data_found is.armed.prepared (counted-opened is);
+  keeps = keeps-found log_found data_found (guarded log_seen log) (guarded data_seen data_device) (guarded log_seen store.log.dev) (guarded data_seen store.store.dev)
+      is.armed.log_same is.armed.data_same is.opened.keeps;
+  kept = kept-opened is.laws.one_answer log_entry data_entry (guarded log_seen store.log.dev) (guarded data_seen store.store.dev)
+      (opened_at store (end-found is).end) (opens-found is);
+}
+
 -- a script that doesn't fit
 misfitted : {L D : Type 0} {log_seen : L → Seen} {log_gives : L → Call → L → Type 0} {data_seen : D → Seen} {data_gives : D → Call → D → Type 0}
     {log_entry data_entry : Seen} {stops : Stops} {log_found data_found : Guarded} {log : Fused L} {data_device : Fused D} {store : Opened (Fused L) (Fused D)}
@@ -262,14 +336,14 @@ misfitted : {L D : Type 0} {log_seen : L → Seen} {log_gives : L → Call → L
     → IsOpenedUnderWay log_seen log_gives data_seen data_gives log_entry data_entry stops log_found data_found log data_device store
     → first_misfit store.shape store.start (room_from turns.log_only store.shape store.start) script ≡ Some misfit
     → AreMisfitted log_entry data_entry stops turns.log_only script misfit (guarded log_seen store.log.dev) (guarded data_seen store.store.dev)
-misfitted {log_seen = log_seen} {data_seen = data_seen} {log_entry = log_entry} {data_entry = data_entry} {log_found = log_found} {data_found = data_found} {log = log} {data_device = data_device} {store = store} {script = script} {misfit = misfit} turns is first =
+misfitted {log_found = log_found} {data_found = data_found} {store = store} {script = script} {misfit = misfit} turns is first =
     let ends : HasEnd log_found.seen.tells data_found.seen.tells store = end-found is in
+    let before = unstarted is in
     record {
-      way = way-of log_found data_found is.armed.prepared (counted-opened is);
-      keeps = keeps-found log_found data_found (guarded log_seen log) (guarded data_seen data_device) (guarded log_seen store.log.dev) (guarded data_seen store.store.dev)
-          is.armed.log_same is.armed.data_same is.opened.keeps;
+      way = before.way;
+      keeps = before.keeps;
       opened = opened_at store ends.end;
-      opens = opens-as is.laws log_entry data_entry log_found data_found store ends.end is.armed.prepared ends.read;
+      opens = opens-found is;
       limits = is.opened.runnable.limits;
       first = subst (λ start. first_misfit store.shape start (room_from turns.log_only store.shape start) script ≡ Some misfit) ends.start first;
     }
@@ -279,23 +353,30 @@ spent-on : {L D : Type 0} {log_seen : L → Seen} {log_gives : L → Call → L 
     {log_entry data_entry : Seen} {stops : Stops} {log_found data_found : Guarded} {log : Fused L} {data_device : Fused D} {store : Opened (Fused L) (Fused D)}
     {turns : Turns} {script : List ScriptLine} {count user : ℕ} {log_now : Fused L} {data_now : Fused D}
     → IsOpenedUnderWay log_seen log_gives data_seen data_gives log_entry data_entry stops log_found data_found log data_device store
-    → AreSpentOn (CallsThrough log_seen log_gives) (CallsThrough data_seen data_gives) store turns script count user log_now data_now
+    → AreSpentOn (seen_through log_seen) (CallsThrough log_seen log_gives) (seen_through data_seen) (CallsThrough data_seen data_gives) store turns script count user log_now data_now
     → AreSpent log_entry data_entry stops turns script count user (guarded log_seen log_now) (guarded data_seen data_now)
-spent-on {log_entry = log_entry} {data_entry = data_entry} {log_found = log_found} {data_found = data_found} {store = store} {turns = turns} {script = script} is spent =
-    let ends : HasEnd log_found.seen.tells data_found.seen.tells store = end-found is in
-    record {
-      log_error = spent.log_error;
-      data_error = spent.data_error;
-      way = way-of log_found data_found is.armed.prepared (counted-more (counted-opened is) spent.calls.log spent.calls.data_part);
-      count_is = spent.count_is;
-      opened = opened_at store ends.end;
-      opens = opens-as is.laws log_entry data_entry log_found data_found store ends.end is.armed.prepared ends.read;
-      limits = is.opened.runnable.limits;
-      fits = subst (λ start. ScriptFits store.shape start (room_from turns.log_only store.shape start) script) ends.start spent.fits;
-      run = ran_of spent.played;
-      is_run = spent.is_run ends.end ends.start;
-      leaves = spent.leaves;
-    }
+spent-on {script = script} {log_now = log_now} {data_now = data_now} is spent = record {
+  count_is = spent.count_is;
+  run = ran_of spent.played;
+  log_error = spent.log_error;
+  data_error = spent.data_error;
+  so_far = came-so-far spent.log_error spent.data_error is spent.so_far;
+  holds = holds-on script spent.played log_now data_now is spent.so_far.fits.lines spent.holds;
+  leaves = spent.leaves;
+}
+
+-- a device that had no memory
+run-out : {L D : Type 0} {log_seen : L → Seen} {log_gives : L → Call → L → Type 0} {data_seen : D → Seen} {data_gives : D → Call → D → Type 0}
+    {log_entry data_entry : Seen} {stops : Stops} {log_found data_found : Guarded} {log : Fused L} {data_device : Fused D} {store : Opened (Fused L) (Fused D)}
+    {turns : Turns} {script : List ScriptLine} {log_now : Fused L} {data_now : Fused D}
+    → IsOpenedUnderWay log_seen log_gives data_seen data_gives log_entry data_entry stops log_found data_found log data_device store
+    → HasRunOutOn (seen_through log_seen) (CallsThrough log_seen log_gives) (seen_through data_seen) (CallsThrough data_seen data_gives) store turns script log_now data_now
+    → HasRunOut log_entry data_entry stops turns.log_only script (guarded log_seen log_now) (guarded data_seen data_now)
+run-out {script = script} {log_now = log_now} {data_now = data_now} is out = record {
+  run = ran_of out.played;
+  so_far = came-so-far (Some device.NoMemory) (Some device.NoMemory) is out.so_far;
+  holds = holds-on script out.played log_now data_now is out.so_far.fits.lines out.holds;
+}
 
 -- WHAT A RUN COMES TO whose store was opened.
 pub opened-comes : {L D : Type 0} {log_seen : L → Seen} {log_gives : L → Call → L → Type 0} {data_seen : D → Seen} {data_gives : D → Call → D → Type 0}
@@ -304,8 +385,12 @@ pub opened-comes : {L D : Type 0} {log_seen : L → Seen} {log_gives : L → Cal
     → IsOpenedUnderWay log_seen log_gives data_seen data_gives log_entry data_entry stops log_found data_found log data_device store
     → Plays (seen_through log_seen) (CallsThrough log_seen log_gives) (seen_through data_seen) (CallsThrough data_seen data_gives) store turns script c log_now data_now
     → ComesTo log_entry data_entry stops turns script c (guarded log_seen log_now) (guarded data_seen data_now)
-opened-comes {log_found = log_found} {data_found = data_found} turns script (course.Ended fault.Memory) log_now data_now is plays =
-    inr (way-of log_found data_found is.armed.prepared (counted-more (counted-opened is) plays.log plays.data_part))
+opened-comes {L} {D} {log_seen = log_seen} {data_seen = data_seen} {log_entry = log_entry} {data_entry = data_entry} {stops = stops} {store = store} turns script (course.Ended fault.Memory) log_now data_now is plays =
+    inr (⊎_elim
+    (λ unplayed. inl (subst (λ (one : Fused L). AreUnstarted log_entry data_entry stops (guarded log_seen one) (guarded data_seen data_now)) (sym unplayed.log_same)
+    (subst (λ (one : Fused D). AreUnstarted log_entry data_entry stops (guarded log_seen store.log.dev) (guarded data_seen one)) (sym unplayed.data_same) (unstarted is))))
+    (λ out. inr (run-out is out))
+    plays)
 opened-comes {L} {D} {log_seen = log_seen} {data_seen = data_seen} {log_entry = log_entry} {data_entry = data_entry} {stops = stops} {store = store} turns script (course.Ended (fault.Fit misfit)) log_now data_now is plays =
     subst (λ (one : Fused L). AreMisfitted log_entry data_entry stops turns.log_only script misfit (guarded log_seen one) (guarded data_seen data_now)) (sym plays.log_same)
     (subst (λ (one : Fused D). AreMisfitted log_entry data_entry stops turns.log_only script misfit (guarded log_seen store.log.dev) (guarded data_seen one)) (sym plays.data_same)

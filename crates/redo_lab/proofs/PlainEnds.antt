@@ -19,6 +19,7 @@ use Rattle.redo_recover.specs.declared.fault.RecFault.{RecFault}
 use Rattle.redo_recover.specs.declared.fault.RecFault.TheVariants.{SmallLog, NotFormatted, BadFormat, SmallData, NoCheckpoint, BadRecord, PageLost, PageAhead, LogDev, DataDev, NoMemory}
 use Rattle.redo_lab.specs.Answer.{AreUnfailed, IsReadOff}
 use Rattle.redo_lab.specs.Call.{AreKept, AreLeftAlone, Call, Guarded, IsUnread}
+use Rattle.redo_lab.specs.Cause.{LeavesStore}
 use Rattle.redo_lab.specs.Complete.{AreUnfailedFor, CanRead, IsPossible}
 use Rattle.redo_lab.specs.Devices.{HasFailed, IsToldAtMost, IsUnfailed, WhereToldAtEntry}
 use Rattle.redo_lab.specs.Faults.{fault_of}
@@ -76,10 +77,10 @@ gen-ends call seed users groups max (Err e) alone unread is =
     alone-end call (Gen seed users groups false max) (outcome.Fault fault.Memory) alone unread (tt, tt) (λ possible source unfailed. tt) tt
 
 -- where memory ran out over its script, there is no run
-pub gen-unscripted : (call : Call) (seed users groups max : ℕ) → AreLeftAlone call → IsUnread call
+pub gen-unscripted : (call : Call) (seed users groups max : ℕ) → AreLeftAlone call → IsUnread call → LeavesStore call
     → EndsCommand call (Gen seed users groups true max) (outcome.Fault fault.Memory)
-gen-unscripted call seed users groups max alone unread =
-    alone-end call (Gen seed users groups true max) (outcome.Fault fault.Memory) alone unread (tt, tt) (λ possible source unfailed. tt) tt
+gen-unscripted call seed users groups max alone unread left =
+    alone-end call (Gen seed users groups true max) (outcome.Fault fault.Memory) alone unread (tt, inl left) (λ possible source unfailed. tt) tt
 
 -- what the stage before the arming says of a fuse
 pub told-unarmed : (entry : Seen) (failed : ℕ) (now : Guarded) (limit pick : Option ℕ) → IsUnarmed entry failed now → IsToldAtMost limit pick now.fuse

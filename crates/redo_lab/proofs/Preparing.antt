@@ -1,5 +1,5 @@
 -- The two devices while a run prepares them.
-use Rattle.std.proofs.Common.{ℕ, ◌≡◌, ◌≤◌, ◌<◌, ◌↔◌, true, false, IsTrue, length, Option, Some, None, Ok, Err, IfSome, refl, sym, ap, subst, ◌∙◌, inl, inr, ⊎_elim, arith}
+use Rattle.std.proofs.Common.{ℕ, ◌≡◌, ◌≤◌, ◌↔◌, true, false, IsTrue, length, Option, Some, None, Ok, Err, IfSome, refl, sym, ap, subst, ◌∙◌, inl, inr, ⊎_elim, arith}
 use Rattle.std.proofs.lemmas.Bool.{cases_lt, false≢true}
 use Rattle.model_base.specs.{default_shape}
 use Rattle.model_device.specs.Disk.{Disk}
@@ -101,31 +101,6 @@ unprepared-read log_seen data_seen log_entry data_entry log store device.Failed 
     record { log_device = first.log_device; data_device = first.data_device; begun_or_untouched = inr (read-untouched first) }
 unprepared-read log_seen data_seen log_entry data_entry log store device.NoMemory first =
     record { log_device = first.log_device; data_device = first.data_device; begun_or_untouched = inr (read-untouched first) }
-
--- THE LOG DEVICE HAS NO ROOM FOR A HEADER.
-pub unprepared-short : {L D : Type 0} (log_seen : L → Seen) (data_seen : D → Seen) (log : Fused L) (store : Fused D) → fuse_of log ≡ fresh → fuse_of store ≡ fresh
-    → (log_seen log.inner).size < HEADER_BYTES → IfSome (log_seen log.inner).tells (HasSize (log_seen log.inner).size)
-    → IsUnpreparedBy (log_seen (inner_of log)) (data_seen (inner_of store)) (SmallLog HEADER_BYTES) (guarded log_seen log) (guarded data_seen store)
-unprepared-short log_seen data_seen log store log_fresh data_fresh short sized =
-    let kept : BothKept (log_seen (inner_of log)) (data_seen (inner_of store)) (guarded log_seen log) (guarded data_seen store) = record {
-      log_device = record { tells = refl; crashed_from = refl };
-      data_device = record { tells = refl; crashed_from = refl };
-    } in
-    record {
-      ends = record {
-        log_device = unarmed-fresh log_seen (inner_of log) log refl log_fresh;
-        data_device = unarmed-fresh data_seen (inner_of store) store refl data_fresh;
-        begun_or_untouched = inr (record {
-          kept = kept;
-          log_calls = omega (arith, ap (λ (fuse : Fuse). fuse.early_calls) log_fresh);
-          data_calls = ap (λ (fuse : Fuse). fuse.early_calls) data_fresh;
-          data_unfailed = ap (λ (fuse : Fuse). fuse.early) data_fresh;
-        });
-      };
-      kept = kept;
-      sized = sized;
-      short = inl (short, refl);
-    }
 
 was-unused : (log_entry data_entry : Seen) → IfSome log_entry.tells (λ disk. IsTrue true ↔ IsUnused disk.reads) → WasUnused log_entry data_entry
 was-unused log_entry data_entry unused log_disk data_disk log_is data_is =

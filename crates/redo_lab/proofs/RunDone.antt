@@ -1,5 +1,5 @@
 -- What the command `run` comes to.
-use Rattle.std.proofs.Common.{ℕ, ◌≤◌, Bool, List, Option, Some, None, refl, sym, subst, ⊎_elim, arith}
+use Rattle.std.proofs.Common.{ℕ, ◌≤◌, Bool, List, Option, Some, None, refl, sym, subst, inr, ⊎_elim, arith}
 use Rattle.std.proofs.lemmas.Bool.{false≢true}
 use Rattle.model_base.specs.{HasRisen}
 use Rattle.model_command.specs.declared.asked.Command.TheVariants.{Run}
@@ -11,6 +11,7 @@ use Rattle.redo_disk.specs.Seen.{Seen}
 use Rattle.redo_lab.specs.Answer.{AreUnfailed}
 use Rattle.redo_lab.specs.Asked.{turns_of}
 use Rattle.redo_lab.specs.Call.{Call, Guarded}
+use Rattle.redo_lab.specs.Cause.{LeavesRun}
 use Rattle.redo_lab.specs.Complete.{CanRun}
 use Rattle.redo_lab.specs.Course.{ArePlayed, IsEndedBy, IsPlayedBy, IsStoppedBy, ran_of}
 use Rattle.redo_lab.specs.Devices.{HasFailed}
@@ -24,6 +25,7 @@ use Rattle.redo_lab.specs.declared.outcome.Outcome.TheVariants as outcome
 use Rattle.redo_lab.specs.declared.playing.Played.{Played}
 use Rattle.redo_lab.proofs.Found.{leaves-stopped}
 use Rattle.redo_lab.proofs.Keeping.{OpenableLaw}
+use Rattle.redo_lab.proofs.Leaving.{leaves-played}
 use Rattle.redo_lab.proofs.RunEnds.{AreSteady, aside-way, past-read, run-ended, steady-ended, steady-way, unfailed-armed, unfailed-way}
 use Rattle.redo_lab.proofs.RunPlayed.{ClosedLaws, FormattedLaw}
 use Rattle.redo_lab.proofs.RunPossible.{OneReading, UnfitLaw, can-play, ended-kept}
@@ -73,13 +75,13 @@ run-stopped call drive script f read one formatted stopped = absurd stopped
 pub run-early : (call : Call) (drive : Drive) (script : List ScriptLine) (f : Fault) → IsScriptRead call.source call.source_now script → RunLaws
     → IsEndedBy call.log_device call.data_device no_stops (turns_of drive) script f call.log_device_now call.data_device_now → EndsCommand call (Run drive) (outcome.Fault f)
 run-early call drive script f read laws ended = run-ends-with call drive _ (steady-ended call no_stops None (turns_of drive) script f ended)
-    (run-ended call no_stops drive script f read laws.one laws.openable laws.formatted ended)
+    (run-ended call no_stops drive script f read laws.one laws.openable laws.formatted laws.closed ended)
     (λ possible unfailed. ended-kept call (Run drive) no_stops (turns_of drive) script f refl laws.one laws.same laws.unfit (can-play call script read drive.log_only possible)
     unfailed.log_device.early unfailed.data_device.early ended)
 
 -- MEMORY RAN OUT over the report.
-run-unreported : (call : Call) (drive : Drive) → AreSteady call no_stops None → EndsCommand call (Run drive) (outcome.Fault fault.Memory)
-run-unreported call drive steady = run-ends-with call drive _ steady (tt, tt) (λ possible unfailed. tt)
+run-unreported : (call : Call) (drive : Drive) → AreSteady call no_stops None → LeavesRun call (Run drive) → EndsCommand call (Run drive) (outcome.Fault fault.Memory)
+run-unreported call drive steady left = run-ends-with call drive _ steady (tt, inr left) (λ possible unfailed. tt)
 
 -- THE LINES WERE RUN, all of them.
 run-whole : (call : Call) (drive : Drive) (script : List ScriptLine) (played : Played) (text : List ℕ) → IsScriptRead call.source call.source_now script → RunLaws
@@ -133,6 +135,7 @@ pub run-played : (call : Call) (drive : Drive) (script : List ScriptLine) (playe
     → RunLaws → IsPlayedBy call.log_device call.data_device no_stops drive.log_only script played f call.log_device_now call.data_device_now
     → IsRunPrinted script (ran_of played) f o → EndsCommand call (Run drive) o
 run-played call drive script played f o read laws was printed = ⊎_elim
-    (λ memory. subst (EndsCommand call (Run drive)) (sym memory) (run-unreported call drive (steady-played call drive.log_only script played f was)))
+    (λ memory. subst (EndsCommand call (Run drive)) (sym memory) (run-unreported call drive (steady-played call drive.log_only script played f was)
+    (leaves-played call (Run drive) drive no_stops script played f refl read laws.one laws.formatted laws.closed was)))
     (λ told. subst (EndsCommand call (Run drive)) (sym told.2) (run-printed call drive script played f told.0 read laws was told.1))
     printed

@@ -21,10 +21,11 @@ use Rattle.redo_lab.specs.Prepared.{AreTooShort, EndUnprepared}
 use Rattle.redo_lab.specs.Script.{IsScriptFor, IsScriptRead}
 use Rattle.redo_lab.specs.Stages.{IsArmed}
 use Rattle.redo_lab.specs.declared.playing.Stops.{Stops}
-use Rattle.redo_lab.proofs.Found.{leaves-refused, leaves-short, leaves-unprepared, leaves-unstarted}
+use Rattle.redo_lab.proofs.Found.{leaves-misfit, leaves-unopened, leaves-unprepared, uncrashed-way}
 use Rattle.redo_lab.proofs.Keeping.{OpenableLaw, kept-both}
+use Rattle.redo_lab.proofs.Leaving.{leaves-memory, leaves-run}
 use Rattle.redo_lab.proofs.PlainEnds.{failed-unarmed, told-unarmed, unfailed-unarmed}
-use Rattle.redo_lab.proofs.RunPlayed.{FormattedLaw}
+use Rattle.redo_lab.proofs.RunPlayed.{ClosedLaws, FormattedLaw}
 use Rattle.redo_lab.proofs.Told.{OneAnswer}
 
 -- what an armed fuse was told
@@ -63,7 +64,10 @@ steady-way call stops pick log_failed data_failed way = record {
 
 pub steady-ended : (call : Call) (stops : Stops) (pick : Option ℕ) (turns : Turns) (script : List ScriptLine) (f : Fault)
     → IsEndedBy call.log_device call.data_device stops turns script f call.log_device_now call.data_device_now → AreSteady call stops pick
-steady-ended call stops pick turns script fault.Memory ended = ⊎_elim (steady-unprepared call stops pick 0 0) (steady-way call stops pick 0 0) ended
+steady-ended call stops pick turns script fault.Memory ended = ⊎_elim
+    (steady-unprepared call stops pick 0 0)
+    (⊎_elim (λ unstarted. steady-way call stops pick 0 0 unstarted.way) (λ out. steady-way call stops pick 0 0 out.so_far.way))
+    ended
 steady-ended call stops pick turns script fault.LogDevice ended = steady-unprepared call stops pick 1 0 ended
 steady-ended call stops pick turns script fault.DataDevice ended = steady-unprepared call stops pick 0 1 ended
 steady-ended call stops pick turns script (fault.Store cause) ended =
@@ -74,7 +78,7 @@ steady-ended call stops pick turns script (fault.Script n) ended = absurd ended
 steady-ended call stops pick turns script fault.Source ended = absurd ended
 steady-ended call stops pick turns script fault.Sink ended = absurd ended
 steady-ended call stops pick turns script (fault.Turns count user) ended =
-    steady-way call stops pick (failures ended.log_error) (failures ended.data_error) ended.way
+    steady-way call stops pick (failures ended.log_error) (failures ended.data_error) ended.so_far.way
 
 pub unfailed-armed : (limit : Option ℕ) (entry : Seen) (found now : Guarded) → IsArmed limit entry found 0 now → IsUnfailed now.fuse
 unfailed-armed limit entry found now was = record { early = was.early; mid = was.mid; late = was.late }
@@ -107,33 +111,27 @@ misfit-cause call command drive stops script misfit asked is_script ended = reco
   opens = ended.opens;
   limits = ended.limits;
   unfailed = unfailed-way call stops ended.way;
-  log_uncrashed = ended.way.log_device.pick;
-  data_uncrashed = ended.way.data_device.pick;
+  uncrashed = uncrashed-way call stops 0 0 ended.way;
   first = ended.first;
 }
 
 -- turns that were spent
 pub spent-cause : (call : Call) (command : Command) (drive : Drive) (stops : Stops) (script : List ScriptLine) (count user : ℕ) → drive_of command ≡ Some drive
-    → IsScriptFor command call.source call.source_now script
+    → IsScriptFor command call.source call.source_now script → OneAnswer → FormattedLaw → ClosedLaws
     → AreSpent call.log_device call.data_device stops (turns_of drive) script count user call.log_device_now call.data_device_now → AreTurnsSpent call command count user
-spent-cause call command drive stops script count user asked is_script ended = record {
-  drive = drive;
-  asked = asked;
-  turns_are = ended.count_is;
-  script = script;
-  opened = ended.opened;
-  run = ended.run;
-  is_script = is_script;
-  took_place = record { opens = ended.opens; limits = ended.limits; fits = ended.fits; in_lsn_order = ended.is_run };
-  log_error = ended.log_error;
-  data_error = ended.data_error;
-  leaves = ended.leaves;
-  log_failures = ended.way.log_device.mid;
-  data_failures = ended.way.data_device.mid;
-  unfailed_aside = aside-way call stops (failures ended.log_error) (failures ended.data_error) ended.way;
-  log_uncrashed = ended.way.log_device.pick;
-  data_uncrashed = ended.way.data_device.pick;
-}
+spent-cause call command drive stops script count user asked is_script one formatted laws ended =
+    let way = ended.so_far.way in
+    record {
+      leaves_run = leaves-run call command drive stops script ended.run (failures ended.log_error) (failures ended.data_error) asked is_script one formatted laws
+          ended.so_far ended.holds;
+      turns_are = ended.count_is;
+      log_error = ended.log_error;
+      data_error = ended.data_error;
+      leaves = ended.leaves;
+      log_failures = way.log_device.mid;
+      data_failures = way.data_device.mid;
+      unfailed_aside = aside-way call stops (failures ended.log_error) (failures ended.data_error) way;
+    }
 
 -- a store that is refused
 short-cause : (call : Call) (cause : Refusal) → AreTooShort call.log_device call.data_device cause call.log_device_now call.data_device_now → IsOpeningRefused call cause
@@ -152,11 +150,9 @@ refused-cause call stops cause ended = record {
   unopenable = inr (inr (
     ended.way.prepared.header,
     ended.short,
-    λ log data_disk log_is data_is. (
-      kept-both call (ended.kept log data_disk log_is data_is),
-      (ended.refused log data_disk log_is data_is).0,
-      (ended.refused log data_disk log_is data_is).1,
-    ),
+    λ log data_disk log_is data_is.
+        (let refused = ended.refused log data_disk log_is data_is in
+        (kept-both call (ended.kept cause log data_disk log_is data_is refused.0 refused.1), refused.0, refused.1)),
   ));
 }
 
@@ -170,22 +166,23 @@ past-read call script drive read = inl (refl, read.text, script, read.of_text)
 
 -- WHY RUN ENDS so, and what it leaves
 pub run-ended : (call : Call) (stops : Stops) (drive : Drive) (script : List ScriptLine) (f : Fault) → IsScriptRead call.source call.source_now script
-    → OneAnswer → OpenableLaw → FormattedLaw → IsEndedBy call.log_device call.data_device stops (turns_of drive) script f call.log_device_now call.data_device_now
+    → OneAnswer → OpenableLaw → FormattedLaw → ClosedLaws
+    → IsEndedBy call.log_device call.data_device stops (turns_of drive) script f call.log_device_now call.data_device_now
     → IsCauseOf call (Run drive) f × LeavesBehind call (Run drive) f
-run-ended call stops drive script fault.Memory read one law formatted ended = (tt, tt)
-run-ended call stops drive script fault.LogDevice read one law formatted ended =
+run-ended call stops drive script fault.Memory read one law formatted laws ended = (tt, leaves-memory call (Run drive) drive stops script refl read one law formatted laws ended)
+run-ended call stops drive script fault.LogDevice read one law formatted laws ended =
     ((refl, past-read call script drive read, failed-unarmed _ _ ended.log_device), leaves-unprepared call 1 0 one law ended)
-run-ended call stops drive script fault.DataDevice read one law formatted ended =
+run-ended call stops drive script fault.DataDevice read one law formatted laws ended =
     ((refl, past-read call script drive read, unfailed-unarmed _ _ ended.log_device, failed-unarmed _ _ ended.data_device), leaves-unprepared call 0 1 one law ended)
-run-ended call stops drive script (fault.Store cause) read one law formatted ended = (
+run-ended call stops drive script (fault.Store cause) read one law formatted laws ended = (
   (past-read call script drive read, store-cause call stops cause ended),
-  ⊎_elim (leaves-short call cause law) (leaves-refused call stops cause one formatted) ended,
+  leaves-unopened call stops cause one law formatted ended,
 )
-run-ended call stops drive script (fault.Fit misfit) read one law formatted ended =
-    (inr (misfit-cause call (Run drive) drive stops script misfit refl read ended), leaves-unstarted call stops 0 0 one formatted ended.way ended.keeps)
-run-ended call stops drive script fault.Words read one law formatted ended = absurd ended
-run-ended call stops drive script (fault.Script n) read one law formatted ended = absurd ended
-run-ended call stops drive script fault.Source read one law formatted ended = absurd ended
-run-ended call stops drive script fault.Sink read one law formatted ended = absurd ended
-run-ended call stops drive script (fault.Turns count user) read one law formatted ended =
-    (spent-cause call (Run drive) drive stops script count user refl read ended, tt)
+run-ended call stops drive script (fault.Fit misfit) read one law formatted laws ended =
+    (inr (misfit-cause call (Run drive) drive stops script misfit refl read ended), leaves-misfit call stops drive.log_only script misfit one formatted ended)
+run-ended call stops drive script fault.Words read one law formatted laws ended = absurd ended
+run-ended call stops drive script (fault.Script n) read one law formatted laws ended = absurd ended
+run-ended call stops drive script fault.Source read one law formatted laws ended = absurd ended
+run-ended call stops drive script fault.Sink read one law formatted laws ended = absurd ended
+run-ended call stops drive script (fault.Turns count user) read one law formatted laws ended =
+    (spent-cause call (Run drive) drive stops script count user refl read one formatted laws ended, tt)

@@ -2,20 +2,21 @@
 use Rattle.std.proofs.Common.{ℕ, ◌≡◌, ◌≢◌, ◌+◌, Bool, List, [], Option, Some, None, IfSome, refl, sym, ap, subst, ◌∙◌, ⊎_elim, arith}
 use Rattle.model_base.specs.{default_shape, IsWithinLimits}
 use Rattle.model_base.specs.declared.shape.Shape.{Shape}
+use Rattle.model_device.specs.{IsImage}
 use Rattle.model_device.specs.Disk.{Disk}
 use Rattle.model_history.specs.{IsLeft}
 use Rattle.model_opening.specs.{formatted_store, IsFormatted, IsOpenable}
 use Rattle.model_page.specs.declared.content.Content.{Content}
-use Rattle.model_run.specs.{IsClosed, opened_as, result_of}
-use Rattle.model_run.specs.Closed.{Closed}
+use Rattle.model_run.specs.{IsClosed, IsHeld, opened_as, result_of}
+use Rattle.model_run.specs.Closed.{Closed, Held}
 use Rattle.model_script.specs.declared.script.ScriptLine.{ScriptLine}
-use Rattle.model_store.specs.{Opens, OpensOrderly, OpensUnused}
+use Rattle.model_store.specs.{IsFair, Opens, OpensOrderly, OpensUnused}
 use Rattle.model_store.specs.Reading.{Reading}
-use Rattle.model_theorem.specs.{AreUnopened, HeldOlder, IsFresh, IsOpenedBefore, IsWholeScript, Opened, RunSafe}
+use Rattle.model_theorem.specs.{AreUnopened, HeldOlder, IsFresh, IsOpenedBefore, IsWholeScript, Opened, Ran, ReadsPrefix, RunSafe}
 use Rattle.redo_disk.specs.Seen.{Seen}
 use Rattle.redo_open.specs.{HasSameCheckpoint, WhereBothTell}
 use Rattle.redo_lab.specs.Call.{Call, Guarded}
-use Rattle.redo_lab.specs.Course.{ArePlayed, ClosesRun, KeepsCheckpoint, ran_of}
+use Rattle.redo_lab.specs.Course.{ArePlayed, ClosesRun, HoldsRun, KeepsCheckpoint, ran_of}
 use Rattle.redo_lab.specs.Devices.{AreFound, WhereToldAtEntry}
 use Rattle.redo_lab.specs.Prepared.{ArePrepared}
 use Rattle.redo_lab.specs.Script.{IsScriptRead}
@@ -23,7 +24,8 @@ use Rattle.redo_lab.specs.declared.playing.Played.{Played}
 use Rattle.redo_lab.specs.declared.playing.Stops.{Stops}
 use Rattle.redo_lab.proofs.Keeping.{openable-fresh, unused-unread}
 use Rattle.redo_lab.proofs.OpenedFirst.{OpenedLaw, held-older, stopped-before}
-use Rattle.redo_lab.proofs.Told.{OneAnswer, both-told}
+use Rattle.redo_lab.proofs.SomeLeft.{some-left}
+use Rattle.redo_lab.proofs.Told.{OneAnswer, both-told, weaker-both}
 
 -- a store that was just formatted may be opened
 abbrev pub FormattedLaw : Type 0
@@ -34,9 +36,15 @@ FormattedLaw = (shape : Shape) (log_disk data_disk : Disk) → IsWithinLimits sh
 abbrev pub SafeLaw : Type 0
 SafeLaw = (failures : ℕ) (closed : Closed) → IsClosed failures closed → RunSafe failures (result_of closed)
 
--- and its log device tells that opening came to its end
+-- of devices that hold a run every image is read as a prefix of it
+abbrev pub ReadsLaw : Type 0
+ReadsLaw = (held : Held) (log data_bytes : List ℕ) → IsHeld held → IsImage held.log_disk log → IsFair held.opened.shape held.data_disk data_bytes
+    → ReadsPrefix held.script held.opened (Some held.run) log data_bytes
+
+-- and the log device tells that opening came to its end
 pub record ClosedLaws : Type 0 where
   pub safe : SafeLaw
+  pub reads : ReadsLaw
   pub opened : OpenedLaw
 
 pub default-within : IsWithinLimits default_shape
@@ -186,6 +194,32 @@ pub record IsClosedAs (script : List ScriptLine) (opened : Opened) (number : ℕ
     data_disk = data_left;
   })
 
+-- BOTH DEVICES HOLD THE RUN, on such a store.
+pub record IsHeldAs (script : List ScriptLine) (opened : Opened) (number : ℕ) (run : Ran) (log_left data_left : Disk) : Type 0 where
+  pub held : IsHeld (record {
+    script = script;
+    opened = opened;
+    number = number;
+    run = run;
+    log_disk = log_left;
+    data_disk = data_left;
+  })
+
+pub held-closed : {script : List ScriptLine} {opened : Opened} {number : ℕ} {played : Played} {left : List (ℕ × ℕ)} {failed : ℕ} {log_left data_left : Disk}
+    → IsClosedAs script opened number played left failed log_left data_left → IsHeldAs script opened number (ran_of played) log_left data_left
+held-closed is = record { held = is.closed.holds }
+
+-- what is so of both devices where the store was found so
+found-so : (P : Disk → Disk → Type 0) (log_found data_found : Guarded) (was opened : Opened) (log_now data_now : Guarded) → (found : WasFound log_found data_found opened)
+    → WhereBothTell log_found.seen.tells data_found.seen.tells (λ log data_disk. IsOpenable found.reading log data_disk
+    → (was ≡ opened_as found.reading) × WhereBothTell log_now.seen.tells data_now.seen.tells P)
+    → (log_left data_left : Disk) → log_now.seen.tells ≡ Some log_left → data_now.seen.tells ≡ Some data_left → (was ≡ opened) × P log_left data_left
+found-so P log_found data_found was opened log_now data_now found holds log_left data_left log_is data_is =
+    let Finds : Disk → Disk → Type 0 = λ log data_disk. IsOpenable found.reading log data_disk
+    → (was ≡ opened_as found.reading) × WhereBothTell log_now.seen.tells data_now.seen.tells P in
+    let so = both-told log_found.seen.tells data_found.seen.tells Finds holds found.log found.data_disk found.log_is found.data_is found.openable in
+    (so.0 ∙ sym found.same, both-told log_now.seen.tells data_now.seen.tells P so.1 log_left data_left log_is data_is)
+
 -- with what becomes so of both devices
 pub closed-with : (becomes : Disk → Disk) (log_found data_found : Guarded) (script : List ScriptLine) (played : Played) (failed : ℕ) (was opened : Opened) (log_now data_now : Guarded)
     → ClosesRun becomes log_found data_found was script played failed log_now data_now
@@ -202,12 +236,37 @@ closed-with becomes log_found data_found script played failed was opened log_now
       log_disk = becomes log_disk;
       data_disk = becomes data_disk;
     }) in
-    let Finds : Disk → Disk → Type 0 = λ log data_disk. IsOpenable found.reading log data_disk
-    → (was ≡ opened_as found.reading) × WhereBothTell log_now.seen.tells data_now.seen.tells Closes in
-    let closed = both-told log_found.seen.tells data_found.seen.tells Finds (closes found.reading left left_is)
-    found.log found.data_disk found.log_is found.data_is found.openable in
-    let now = both-told log_now.seen.tells data_now.seen.tells Closes closed.1 log_left data_left log_is data_is in
-    (closed.0 ∙ sym found.same, record { closed = now })
+    let so = found-so Closes log_found data_found was opened log_now data_now found (closes found.reading left left_is) log_left data_left log_is data_is in
+    (so.0, record { closed = so.1 })
+
+pub held-with : (log_found data_found : Guarded) (script : List ScriptLine) (run : Ran) (was opened : Opened) (log_now data_now : Guarded)
+    → HoldsRun log_found data_found script was run log_now data_now → (found : WasFound log_found data_found opened)
+    → (log_left data_left : Disk) → log_now.seen.tells ≡ Some log_left → data_now.seen.tells ≡ Some data_left
+    → (was ≡ opened) × IsHeldAs script was (found.reading.number + 1) run log_left data_left
+held-with log_found data_found script run was opened log_now data_now holds found log_left data_left log_is data_is =
+    let Holds : Disk → Disk → Type 0 = λ log_disk data_disk. IsHeld (record {
+      script = script;
+      opened = was;
+      number = found.reading.number + 1;
+      run = run;
+      log_disk = log_disk;
+      data_disk = data_disk;
+    }) in
+    let so = found-so Holds log_found data_found was opened log_now data_now found (holds found.reading) log_left data_left log_is data_is in
+    (so.0, record { held = so.1 })
+
+-- devices of a run that was closed hold it
+pub holds-closed : (log_found data_found : Guarded) (script : List ScriptLine) (played : Played) (failed : ℕ) (was : Opened) (log_now data_now : Guarded)
+    → ClosesRun (λ disk. disk) log_found data_found was script played failed log_now data_now
+    → HoldsRun log_found data_found script was (ran_of played) log_now data_now
+holds-closed log_found data_found script played failed was log_now data_now closes reading =
+    let left = some-left script played.history in
+    weaker-both log_found.seen.tells data_found.seen.tells
+    (λ log data_disk closed openable. (
+      (closed openable).0,
+      weaker-both log_now.seen.tells data_now.seen.tells (λ log_disk data_disk is. is.holds) (closed openable).1,
+    ))
+    (closes reading left.0 left.1)
 
 pub closed-as : (log_entry data_entry : Seen) (stops : Stops) (log_only : Bool) (script : List ScriptLine) (played : Played) (log_failed data_failed : ℕ) (log_now data_now : Guarded)
     → (was : ArePlayed log_entry data_entry stops log_only script played log_failed data_failed log_now data_now) (opened : Opened)
@@ -237,15 +296,15 @@ safe-as script number played left failed failures found opened log_left data_lef
     subst (λ (o : Opened). Safe failures o) same (subst (λ (n : ℕ). Safe n found) counted (safe failed _ closed.closed))
 
 -- OPENING CAME TO ITS END before a run.
-pub opened-before : (script : List ScriptLine) (played : Played) (left : List (ℕ × ℕ)) (failed : ℕ) (log_found data_found : Guarded) (was opened : Opened) (log_left data_left : Disk)
+pub opened-before : (script : List ScriptLine) (run : Ran) (log_found data_found : Guarded) (was opened : Opened) (log_left data_left : Disk)
     → OpenedLaw → was ≡ opened → (found : WasFound log_found data_found opened)
-    → IsClosedAs script was (found.reading.number + 1) played left failed log_left data_left → IsOpenedBefore opened.shape found.log log_left (Some (ran_of played))
-opened-before script played left failed log_found data_found was opened log_left data_left law same found closed =
+    → IsHeldAs script was (found.reading.number + 1) run log_left data_left → IsOpenedBefore opened.shape found.log log_left (Some run)
+opened-before script run log_found data_found was opened log_left data_left law same found holds =
     let older : HeldOlder found.reading.shape (found.reading.number + 1) found.log = held-older found.reading found.log found.data_disk found.openable in
     let shape : found.reading.shape ≡ was.shape = sym (ap (λ (opened : Opened). opened.shape) (same ∙ found.same)) in
-    let on : IsOpenedBefore was.shape found.log log_left (Some (ran_of played)) =
-    law failed _ found.log closed.closed (subst (λ (shape : Shape). HeldOlder shape (found.reading.number + 1) found.log) shape older) in
-    subst (λ (one : Opened). IsOpenedBefore one.shape found.log log_left (Some (ran_of played))) same on
+    let on : IsOpenedBefore was.shape found.log log_left (Some run) =
+    law _ found.log holds.held (subst (λ (shape : Shape). HeldOlder shape (found.reading.number + 1) found.log) shape older) in
+    subst (λ (one : Opened). IsOpenedBefore one.shape found.log log_left (Some run)) same on
 
 -- OPENING WAS STOPPED on it.
 pub stopped-on : (log_found data_found log_now : Guarded) (opened : Opened) → (found : WasFound log_found data_found opened)

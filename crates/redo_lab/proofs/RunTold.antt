@@ -4,10 +4,11 @@ use Rattle.model_command.specs.declared.asked.Drive.{Drive}
 use Rattle.model_device.specs.Disk.{Disk}
 use Rattle.model_history.specs.{IsLeft}
 use Rattle.model_script.specs.declared.script.ScriptLine.{ScriptLine}
-use Rattle.model_theorem.specs.{AreUnopened, FitsOpened, IsOpenedBefore, LosesOnlyByFailure, Opened, RunDevice, RunSafe}
+use Rattle.model_theorem.specs.{AreUnopened, FitsOpened, IsOpenedBefore, LosesOnlyByFailure, Opened, Ran, RunDevice, RunSafe}
+use Rattle.redo_disk.specs.Seen.{Seen}
 use Rattle.redo_lab.specs.Answer.{IsRunSafe, IsRunText}
-use Rattle.redo_lab.specs.Call.{Call}
-use Rattle.redo_lab.specs.Course.{ArePlayed, ran_of}
+use Rattle.redo_lab.specs.Call.{Call, Guarded}
+use Rattle.redo_lab.specs.Course.{ArePlayed, CameSoFar, HoldsRun, ran_of}
 use Rattle.redo_lab.specs.Devices.{IsOpenedFirst, IsRunDevice}
 use Rattle.redo_lab.specs.Reported.{IsReportOf}
 use Rattle.redo_lab.specs.Script.{IsScriptRead}
@@ -15,7 +16,7 @@ use Rattle.redo_lab.specs.Took.{IsToldOf}
 use Rattle.redo_lab.specs.declared.playing.Played.{Played}
 use Rattle.redo_lab.specs.declared.playing.Stops.{Stops}
 use Rattle.redo_lab.proofs.OpenedFirst.{OpenedLaw}
-use Rattle.redo_lab.proofs.RunPlayed.{ClosedLaws, FormattedLaw, WasFound, are-found, armed-same, closed-as, opened-before, safe-as, told-still, unopened-as, was-found, whole-script}
+use Rattle.redo_lab.proofs.RunPlayed.{ClosedLaws, FormattedLaw, WasFound, are-found, armed-same, closed-as, held-closed, held-with, holds-closed, opened-before, safe-as, told-still, unopened-as, was-found, whole-script}
 use Rattle.redo_lab.proofs.Told.{OneAnswer}
 
 -- THE PROMISE: the run is a safe one on the store that its devices opened.
@@ -49,7 +50,7 @@ played-on call stops log_only script played log_failed data_failed left law laws
           (sym was.way.log_device.armed_from ∙ is_log.armed_from) (sym was.way.data_device.armed_from ∙ is_data.armed_from);
       opened_first = subst (λ (armed_from : Disk). IsOpenedBefore opened.shape armed_from log_device.left (Some (ran_of played)))
           (armed-same _ _ found.log log_device.armed_from was.way.log_device.armed_from found.log_is is_log.armed_from)
-          (opened-before script played left (log_failed + data_failed) was.way.log_found was.way.data_found was.opened opened log_device.left data_device.left laws.opened closed.0 found closed.1);
+          (opened-before script (ran_of played) was.way.log_found was.way.data_found was.opened opened log_device.left data_device.left laws.opened closed.0 found (held-closed closed.1));
       safe = safe-as script (found.reading.number + 1) played left (log_failed + data_failed) _ was.opened opened log_device.left data_device.left laws.safe failures closed.0 closed.1;
     }
 
@@ -75,19 +76,26 @@ played-safe call stops log_only script played log_failed data_failed text one la
       },
     )
 
--- on the log device that is left
-pub played-first : (call : Call) (stops : Stops) (log_only : Bool) (script : List ScriptLine) (played : Played) (log_failed data_failed : ℕ) (left : List (ℕ × ℕ)) → OneAnswer → FormattedLaw → OpenedLaw
-    → ArePlayed call.log_device call.data_device stops log_only script played log_failed data_failed call.log_device_now call.data_device_now → IsLeft script played.history left
-    → IsOpenedFirst call call.log_device_now.seen.tells (Some (ran_of played))
-played-first call stops log_only script played log_failed data_failed left one law opened_law was left_is log data_disk opened log_is data_is log_fresh data_fresh opens armed_from disk armed_is now_is =
-    let found = was-found call.log_device call.data_device was.way.log_found was.way.data_found log data_disk call.log_device.faults call.data_device.faults
-    opened one law was.way.prepared log_is data_is log_fresh data_fresh opens in
-    let data_now = told-still call.data_device.tells call.data_device_now.seen.tells data_disk was.way.data_device.same.tells data_is in
-    let closed = closed-as call.log_device call.data_device stops log_only script played log_failed data_failed call.log_device_now call.data_device_now was opened found
-    left left_is disk data_now.0 now_is data_now.1 in
-    subst (λ (armed_from : Disk). IsOpenedBefore opened.shape armed_from disk (Some (ran_of played)))
-    (armed-same _ _ found.log armed_from was.way.log_device.armed_from found.log_is armed_is)
-    (opened-before script played left (log_failed + data_failed) was.way.log_found was.way.data_found was.opened opened disk data_now.0 opened_law closed.0 found closed.1)
+-- both devices hold it
+pub holds-played : {log_entry data_entry : Seen} {stops : Stops} {log_only : Bool} {script : List ScriptLine} {played : Played} {log_failed data_failed : ℕ} {log_now data_now : Guarded}
+    → (was : ArePlayed log_entry data_entry stops log_only script played log_failed data_failed log_now data_now)
+    → HoldsRun was.way.log_found was.way.data_found script was.opened (ran_of played) log_now data_now
+holds-played {script = script} {played = played} {log_failed = log_failed} {data_failed = data_failed} {log_now = log_now} {data_now = data_now} was =
+    holds-closed was.way.log_found was.way.data_found script played (log_failed + data_failed) was.opened log_now data_now was.closed
+
+-- on the log device that is left, of a run that both hold
+pub run-first : (call : Call) (stops : Stops) (log_only : Bool) (script : List ScriptLine) (run : Ran) (log_failed data_failed : ℕ) → OneAnswer → FormattedLaw → OpenedLaw
+    → (has : CameSoFar call.log_device call.data_device stops log_only script run log_failed data_failed call.log_device_now call.data_device_now)
+    → HoldsRun has.way.log_found has.way.data_found script has.opened run call.log_device_now call.data_device_now
+    → IsOpenedFirst call call.log_device_now.seen.tells (Some run)
+run-first call stops log_only script run log_failed data_failed one law opened_law has holds opened log data_disk log_is data_is log_fresh data_fresh opens armed_from disk armed_is now_is =
+    let found = was-found call.log_device call.data_device has.way.log_found has.way.data_found log data_disk call.log_device.faults call.data_device.faults
+    opened one law has.way.prepared log_is data_is log_fresh data_fresh opens in
+    let data_now = told-still call.data_device.tells call.data_device_now.seen.tells data_disk has.way.data_device.same.tells data_is in
+    let held = held-with has.way.log_found has.way.data_found script run has.opened opened call.log_device_now call.data_device_now holds found disk data_now.0 now_is data_now.1 in
+    subst (λ (armed_from : Disk). IsOpenedBefore opened.shape armed_from disk (Some run))
+    (armed-same _ _ found.log armed_from has.way.log_device.armed_from found.log_is armed_is)
+    (opened-before script run has.way.log_found has.way.data_found has.opened opened disk data_now.0 opened_law held.0 found held.1)
 
 -- what is told of it
 pub played-told : (call : Call) (stops : Stops) (log_only : Bool) (script : List ScriptLine) (played : Played) (log_failed data_failed : ℕ) (left : List (ℕ × ℕ)) → log_failed ≤ 1 → data_failed ≤ 1 → FormattedLaw
@@ -119,6 +127,6 @@ played-text call stops drive script played log_failed data_failed text log_once 
         told = played-told call stops drive.log_only script played log_failed data_failed report.left log_once data_once law was report.left_is;
         text_is = report.text_is;
       };
-      opened_first = played-first call stops drive.log_only script played log_failed data_failed report.left one law laws.opened was report.left_is;
+      opened_first = run-first call stops drive.log_only script (ran_of played) log_failed data_failed one law laws.opened was.so_far (holds-played was);
       safe = played-safe call stops drive.log_only script played log_failed data_failed text one law laws read was report;
     }

@@ -1,20 +1,18 @@
 -- A run that no call kept from its end, and behind which both devices were read: its summary.
-use Rattle.std.proofs.Common.{ℕ, ◌≡◌, ◌<◌, ◌+◌, Bool, false, List, Option, Some, refl, sym, subst, arith}
+use Rattle.std.proofs.Common.{ℕ, ◌≡◌, ◌<◌, ◌+◌, Bool, false, List, Some, refl, sym, subst, arith}
 use Rattle.model_base.specs.declared.shape.Shape.{Shape}
 use Rattle.model_device.specs.{synced}
 use Rattle.model_device.specs.Disk.{Disk}
-use Rattle.model_opening.specs.{IsOpenable}
-use Rattle.model_run.specs.{IsClosed, opened_as}
 use Rattle.model_script.specs.declared.script.ScriptLine.{ScriptLine}
 use Rattle.model_store.specs.{IsFair}
 use Rattle.model_store.specs.declared.refusal.Refusal.{Refusal}
-use Rattle.model_theorem.specs.{IsPrefixRead, Opened, ReadsPrefix}
+use Rattle.model_theorem.specs.{IsPrefixRead, Opened, Ran, ReadsPrefix}
 use Rattle.redo_disk.specs.Seen.{Seen}
 use Rattle.redo_open.specs.{WhereBothTell}
 use Rattle.redo_lab.specs.Behind.{AreReadBehind, AreReadSince}
 use Rattle.redo_lab.specs.Call.{Call, Guarded, IsUnread}
 use Rattle.redo_lab.specs.Complete.{CanPlay}
-use Rattle.redo_lab.specs.Course.{ArePlayedThrough, AreUnderWay, ClosesRun, ran_of}
+use Rattle.redo_lab.specs.Course.{ArePlayedThrough, AreUnderWay, CameSoFar, ClosesRun, HoldsRun, ran_of}
 use Rattle.redo_lab.specs.Devices.{WhereToldNow}
 use Rattle.redo_lab.specs.Prepared.{ArePrepared}
 use Rattle.redo_lab.specs.Store.{AreRefused}
@@ -23,9 +21,10 @@ use Rattle.redo_lab.specs.declared.playing.Played.{Played}
 use Rattle.redo_lab.specs.declared.playing.Stops.{Stops}
 use Rattle.redo_lab.proofs.RunPlayed.{ClosedLaws, FormattedLaw, WasFound, closed-with, safe-as, told-still, was-found}
 use Rattle.redo_lab.proofs.RunPossible.{OneReading}
-use Rattle.redo_lab.proofs.RunTold.{played-first, played-on, played-told}
+use Rattle.redo_lab.proofs.RunTold.{holds-played, played-on, played-told, run-first}
 use Rattle.redo_lab.proofs.SomeLeft.{some-left}
-use Rattle.redo_lab.proofs.Told.{OneAnswer}
+use Rattle.redo_lab.proofs.Told.{OneAnswer, weaker-both}
+use Rattle.redo_lab.proofs.UnderWay.{same-both}
 
 -- what stood on a device at its last good sync is a fair image of it
 abbrev pub FairLaw : Type 0
@@ -47,23 +46,33 @@ read-way way since = record {
     some-counted : (passed mid passed_now mid_now : ℕ) → 0 < passed + mid → mid ≡ 0 → (0 < passed → 0 < passed_now) → 0 < passed_now + mid_now
     some-counted passed mid passed_now mid_now counted none later = let some = later (omega arith) in omega arith
 
+-- of the run that came so far
+abbrev pub read-run : {log_entry data_entry : Seen} {stops : Stops} {log_only : Bool} {script : List ScriptLine} {run : Ran} {log_failed data_failed : ℕ} {log_old data_old log_now data_now : Guarded}
+    → CameSoFar log_entry data_entry stops log_only script run 0 0 log_old data_old → AreReadSince log_failed data_failed log_old data_old log_now data_now
+    → CameSoFar log_entry data_entry stops log_only script run log_failed data_failed log_now data_now
+read-run has since = record { way = read-way has.way since; opened = has.opened; opens = has.opens; limits = has.limits; fits = has.fits; is_run = has.is_run }
+
+-- what is so of the two that tell
+same-told : (R : Disk → Disk → Type 0) (log_old data_old log_now data_now : Guarded) → log_now.seen.tells ≡ log_old.seen.tells → data_now.seen.tells ≡ data_old.seen.tells
+    → WhereBothTell log_old.seen.tells data_old.seen.tells R → WhereBothTell log_now.seen.tells data_now.seen.tells R
+same-told R log_old data_old log_now data_now log_same data_same =
+    same-both R log_now.seen.tells data_now.seen.tells log_old.seen.tells data_old.seen.tells (sym log_same) (sym data_same)
+
 closes-read : (becomes : Disk → Disk) (log_found data_found : Guarded) (opened : Opened) (script : List ScriptLine) (played : Played) (failed : ℕ) (log_old data_old log_now data_now : Guarded)
     → log_now.seen.tells ≡ log_old.seen.tells → data_now.seen.tells ≡ data_old.seen.tells
     → ClosesRun becomes log_found data_found opened script played failed log_old data_old → ClosesRun becomes log_found data_found opened script played failed log_now data_now
 closes-read becomes log_found data_found opened script played failed log_old data_old log_now data_now log_same data_same closes reading left left_is =
-    let Closes : Option Disk → Option Disk → Type 0 = λ log data_told.
-    WhereBothTell log_found.seen.tells data_found.seen.tells (λ log_disk data_disk. IsOpenable reading log_disk data_disk
-    → (opened ≡ opened_as reading) × WhereBothTell log data_told (λ log_disk data_disk. IsClosed failed (record {
-      script = script;
-      opened = opened;
-      number = reading.number + 1;
-      run = ran_of played;
-      left = left;
-      log_disk = becomes log_disk;
-      data_disk = becomes data_disk;
-    }))) in
-    subst (λ (log : Option Disk). Closes log data_now.seen.tells) (sym log_same)
-    (subst (Closes log_old.seen.tells) (sym data_same) (closes reading left left_is))
+    weaker-both log_found.seen.tells data_found.seen.tells
+    (λ log data_disk closed openable. ((closed openable).0, same-told _ log_old data_old log_now data_now log_same data_same (closed openable).1))
+    (closes reading left left_is)
+
+pub holds-read : (log_found data_found : Guarded) (opened : Opened) (script : List ScriptLine) (run : Ran) (log_old data_old log_now data_now : Guarded)
+    → log_now.seen.tells ≡ log_old.seen.tells → data_now.seen.tells ≡ data_old.seen.tells
+    → HoldsRun log_found data_found script opened run log_old data_old → HoldsRun log_found data_found script opened run log_now data_now
+holds-read log_found data_found opened script run log_old data_old log_now data_now log_same data_same holds reading =
+    weaker-both log_found.seen.tells data_found.seen.tells
+    (λ log data_disk held openable. ((held openable).0, same-told _ log_old data_old log_now data_now log_same data_same (held openable).1))
+    (holds reading)
 
 pub read-played : (log_entry data_entry : Seen) (stops : Stops) (log_only : Bool) (script : List ScriptLine) (played : Played) (log_old data_old log_now data_now : Guarded)
     → ArePlayedThrough log_entry data_entry stops log_only script played log_old data_old → AreReadSince 0 0 log_old data_old log_now data_now
@@ -74,16 +83,7 @@ read-played log_entry data_entry stops log_only script played log_old data_old l
     let closes : (becomes : Disk → Disk) → Closes becomes log_old data_old → Closes becomes log_now data_now = λ becomes.
     closes-read becomes was.are.way.log_found was.are.way.data_found was.are.opened script played 0 log_old data_old log_now data_now since.log_device.tells since.data_device.tells in
     record {
-      are = record {
-        way = read-way was.are.way since;
-        opened = was.are.opened;
-        opens = was.are.opens;
-        limits = was.are.limits;
-        fits = was.are.fits;
-        is_run = was.are.is_run;
-        loses = was.are.loses;
-        closed = closes (λ disk. disk) was.are.closed;
-      };
+      are = record { so_far = read-run was.are.so_far since; loses = was.are.loses; closed = closes (λ disk. disk) was.are.closed };
       if_synced = closes synced was.if_synced;
     }
 
@@ -139,7 +139,7 @@ summed-up call stops script played text log_old data_old unread one same law law
       left = left.0;
       reading = behind.reading;
       told = played-told call stops false script played 0 0 left.0 (omega arith) (omega arith) law was.are left.1;
-      opened_first = played-first call stops false script played 0 0 left.0 one law laws.opened was.are left.1;
+      opened_first = run-first call stops false script (ran_of played) 0 0 one law laws.opened was.are.so_far (holds-played was.are);
       is_read = behind.is_read;
       text_is = behind.text_is;
       safe = summary-safe call stops script played text log_old data_old one same law laws fair was behind;

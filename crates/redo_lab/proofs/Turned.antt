@@ -22,8 +22,6 @@ use Rattle.redo_pageactors.specs.declared.opened.Opened.{Opened}
 use Rattle.redo_recover.specs.declared.fault.RecFault.{RecFault}
 use Rattle.redo_recover.specs.declared.fault.RecFault.TheVariants.{SmallLog, NotFormatted, BadFormat, SmallData, NoCheckpoint, BadRecord, PageLost, PageAhead, LogDev, DataDev}
 use Rattle.redo_recover.specs.declared.fault.RecFault.TheVariants as rec
-use Rattle.redo_script.specs.declared.unfit.Unfit.{Unfit}
-use Rattle.redo_script.specs.declared.unfit.Unfit.TheVariants as unfit
 use Rattle.redo_lab.specs.Answer.{shape_of}
 use Rattle.redo_lab.specs.Asked.{command_of, drive_of_seed, reads_script}
 use Rattle.redo_lab.specs.Behind.{ReadsBehind}
@@ -31,8 +29,7 @@ use Rattle.redo_lab.specs.Call as lab
 use Rattle.redo_lab.specs.Call.{AreLeftAlone, IsLeftAlone, guarded}
 use Rattle.redo_lab.specs.Course.{ran_of}
 use Rattle.redo_lab.specs.Crashed.{ReadsBack}
-use Rattle.redo_lab.specs.Faults.{fault_of}
-use Rattle.redo_lab.specs.Playing.{Plays, course_done, course_of, ended_by, fault_of_unfit, played_of, unopened}
+use Rattle.redo_lab.specs.Playing.{course_done, course_of, ended_by, played_of, unopened}
 use Rattle.redo_lab.specs.Outcome.{EndsCommand, IsOutcome, IsOutcomePrinted, IsUnasked, call_of}
 use Rattle.redo_lab.specs.Reported.{IsReportOf, IsRunPrinted, report_outcome}
 use Rattle.redo_lab.specs.Script.{IsScriptFault}
@@ -47,6 +44,8 @@ use Rattle.redo_lab.specs.declared.playing.Stops.{Stops}
 use Rattle.redo_lab.proofs.Behind.{alone-behind}
 use Rattle.redo_lab.proofs.Called.{Printed, lab_of}
 use Rattle.redo_lab.proofs.Formatting.{alone-no-store}
+use Rattle.redo_lab.proofs.Found.{leaves-alone}
+use Rattle.redo_lab.proofs.Keeping.{OpenableLaw}
 use Rattle.redo_lab.proofs.LinesRun.{none-lacks, some-failed}
 
 -- ON AN OPENED STORE
@@ -99,15 +98,7 @@ module _ {L D : Type 0} (log_seen : L → Seen) (log_gives : L → Call → L �
       driven.closed.log.dev driven.closed.store.dev
   driven-to = driven-by driven.ended refl
 
--- no run was begun on a store that the script doesn't fit
-pub unfit-undriven : {L D : Type 0} (log_seen : L → Seen) (log_gives : L → Call → L → Type 0) (data_seen : D → Seen) (data_gives : D → Call → D → Type 0)
-    (opened : Opened L D) (turns : Turns) (script : List ScriptLine) (u : Unfit) (log_now : L) (data_now : D)
-    → Plays log_seen log_gives data_seen data_gives opened turns script (course.Ended (fault_of_unfit u)) log_now data_now
-    → IsDrivenTo log_seen log_gives data_seen data_gives opened turns script (course.Ended (fault_of_unfit u)) log_now data_now
-unfit-undriven log_seen log_gives data_seen data_gives opened turns script (unfit.Misfit misfit) log_now data_now plays = plays
-unfit-undriven log_seen log_gives data_seen data_gives opened turns script unfit.NoMemory log_now data_now plays = tt
-
--- ON THE TWO DEVICES: none was begun on a store that wasn't opened, or whose devices weren't prepared
+-- ON THE TWO DEVICES: none was begun on a store that wasn't opened
 module _ {L D : Type 0} (log_seen : L → Seen) (log_gives : L → Call → L → Type 0) (data_seen : D → Seen) (data_gives : D → Call → D → Type 0) (log_entry data_entry : Seen) (stops : Stops) (turns : Turns) (script : List ScriptLine) (log_now : Fused L) (data_now : Fused D) where
   pub unopened-comes-not : (f : RecFault) → ComesByTurnsTo log_seen log_gives data_seen data_gives log_entry data_entry stops turns script (unopened f) log_now data_now
   unopened-comes-not (SmallLog n) = tt
@@ -121,19 +112,6 @@ module _ {L D : Type 0} (log_seen : L → Seen) (log_gives : L → Call → L �
   unopened-comes-not LogDev = tt
   unopened-comes-not DataDev = tt
   unopened-comes-not rec.NoMemory = tt
-
-  pub unprepared-comes-not : (f : RecFault) → ComesByTurnsTo log_seen log_gives data_seen data_gives log_entry data_entry stops turns script (course.Ended (fault_of f)) log_now data_now
-  unprepared-comes-not (SmallLog n) = tt
-  unprepared-comes-not NotFormatted = tt
-  unprepared-comes-not (BadFormat n) = tt
-  unprepared-comes-not (SmallData n) = tt
-  unprepared-comes-not NoCheckpoint = tt
-  unprepared-comes-not (BadRecord lsn) = tt
-  unprepared-comes-not (PageLost p) = tt
-  unprepared-comes-not (PageAhead p lsn) = tt
-  unprepared-comes-not LogDev = tt
-  unprepared-comes-not DataDev = tt
-  unprepared-comes-not rec.NoMemory = tt
 
 -- WHAT IS TOLD
 -- nothing was done since
@@ -325,13 +303,14 @@ memory-untold log_seen log_gives data_seen data_gives source source_now log_entr
 memory-untold log_seen log_gives data_seen data_gives source source_now log_entry data_entry (Gen seed users groups false max) log_now data_now = tt
 
 -- and that is what it means, where no device was called
-memory-means : (call : lab.Call) (command : Command) → AreLeftAlone call → IsOutcome call command (outcome.Fault fault.Memory)
-memory-means call (Format pages space log_blocks) alone = (tt, alone-no-store call (shape_of pages space log_blocks) alone)
-memory-means call (Run drive) alone = (tt, tt)
-memory-means call (Crash drive stop_log stop_data pick) alone = (tt, tt)
-memory-means call Recover alone = (tt, tt)
-memory-means call Dump alone = (tt, tt)
-memory-means call (Gen seed users groups run max) alone = (tt, tt)
+memory-means : (call : lab.Call) (command : Command) → OpenableLaw → AreLeftAlone call → IsOutcome call command (outcome.Fault fault.Memory)
+memory-means call (Format pages space log_blocks) law alone = (tt, alone-no-store call (shape_of pages space log_blocks) alone)
+memory-means call (Run drive) law alone = (tt, inl (leaves-alone call law alone))
+memory-means call (Crash drive stop_log stop_data pick) law alone = (tt, inl (leaves-alone call law alone))
+memory-means call Recover law alone = (tt, tt)
+memory-means call Dump law alone = (tt, tt)
+memory-means call (Gen seed users groups true max) law alone = (tt, inl (leaves-alone call law alone))
+memory-means call (Gen seed users groups false max) law alone = (tt, tt)
 
 pub command-by-turns : {L D : Type 0} (log_seen : L → Seen) (log_gives : L → Call → L → Type 0) (data_seen : D → Seen) (data_gives : D → Call → D → Type 0) (words : List (List ℕ)) (source left source_now : SourceSeen)
     (log : L) (store : D) (done given : Done L D) (printed : Printed) (command : Command) → source_now ≡ left → given ≡ done → command_of words ≡ Some command
@@ -350,10 +329,10 @@ command-by-turns {L} {D} log_seen log_gives data_seen data_gives words source le
 
 pub nothing-by-turns : {L D : Type 0} (log_seen : L → Seen) (log_gives : L → Call → L → Type 0) (data_seen : D → Seen) (data_gives : D → Call → D → Type 0) (words : List (List ℕ)) (source source_now : SourceSeen)
     (log : L) (store : D) (done given : Done L D) (printed : Printed) (f : Fault) → given ≡ done
-    → ((command_of words ≡ None) × (f ≡ fault.Words)) ⊎ (f ≡ fault.Memory) → IsUnasked f log store done
+    → ((command_of words ≡ None) × (f ≡ fault.Words)) ⊎ (f ≡ fault.Memory) → IsUnasked f log store done → OpenableLaw
     → IsOutcomePrinted given.outcome printed.status printed.sink printed.sink_now
     → IsByTurns log_seen log_gives data_seen data_gives (lab_of log_seen data_seen words source source_now log store given printed) given.log given.store
-nothing-by-turns {L} {D} log_seen log_gives data_seen data_gives words source source_now log store done given printed f same why unasked is_printed command asked = ⊎_elim
+nothing-by-turns {L} {D} log_seen log_gives data_seen data_gives words source source_now log store done given printed f same why unasked law is_printed command asked = ⊎_elim
     (λ other. let none = other.0 in absurd (cc))
     (λ memory.
     let is : given.outcome ≡ outcome.Fault fault.Memory = ap (λ (found : Done L D). found.outcome) same ∙ unasked.outcome_is ∙ ap (λ (f : Fault). outcome.Fault f) memory in
@@ -364,7 +343,7 @@ nothing-by-turns {L} {D} log_seen log_gives data_seen data_gives words source so
       given.outcome,
       is_printed,
       subst (λ (o : Outcome). IsOutcome (call_of log_seen data_seen words source source_now log store given) command o) (sym is)
-          (memory-means (call_of log_seen data_seen words source source_now log store given) command alone),
+          (memory-means (call_of log_seen data_seen words source source_now log store given) command law alone),
       subst (λ (o : Outcome). TellsByTurns log_seen log_gives data_seen data_gives source source_now (log_seen log) (data_seen store) command o given.log given.store) (sym is)
           (memory-untold log_seen log_gives data_seen data_gives source source_now (log_seen log) (data_seen store) command given.log given.store),
     ))

@@ -1,5 +1,5 @@
 -- Two devices from the arming of their fuses on, and a store that wasn't opened on them.
-use Rattle.std.proofs.Common.{ℕ, ◌≡◌, ◌≢◌, ◌≤◌, ◌<◌, ◌+◌, List, [], ◌∷◌, length, Option, Some, None, IfSome, refl, sym, ap, subst, ◌∙◌, inr, ⊎_elim, arith, lit<, lit≤}
+use Rattle.std.proofs.Common.{ℕ, ◌≡◌, ◌≢◌, ◌≤◌, ◌<◌, ◌+◌, List, [], ◌∷◌, length, Option, Some, None, IfSome, refl, sym, ap, subst, ◌∙◌, inl, inr, ⊎_elim, arith, lit<, lit≤}
 use Rattle.model_base.specs.{default_shape, IsWithinLimits}
 use Rattle.model_device.specs.Disk.{Disk}
 use Rattle.model_log.specs.declared.layout.TheConstants.{HEADER_BYTES}
@@ -18,19 +18,20 @@ use Rattle.redo_memdisk.specs.declared.fused.Fused.{Fused}
 use Rattle.redo_memdisk.proofs.Behind.{counts-calls}
 use Rattle.redo_open.specs.{HasFaultCause, HasSameCheckpoint, WhereBothTell}
 use Rattle.redo_recover.specs.{BeginWithHeader, data_error, log_error, OnContents, refusal_of}
+use Rattle.redo_recover.specs.Devices.{IsUnchanged}
 use Rattle.redo_recover.specs.declared.fault.RecFault.{RecFault}
 use Rattle.redo_recover.specs.declared.fault.RecFault.TheVariants.{SmallLog, NotFormatted, BadFormat, SmallData, NoCheckpoint, BadRecord, PageLost, PageAhead, LogDev, DataDev, NoMemory}
 use Rattle.redo_machine.specs.declared.drive.Turns.{Turns}
-use Rattle.redo_lab.specs.Call.{Guarded, guarded}
-use Rattle.redo_lab.specs.Course.{AreRefusedOpened, AreStopped, AreUnderWay, ComesTo, KeepsCheckpoint, KeepsFound}
+use Rattle.redo_lab.specs.Call.{Guarded, guarded, IsKept}
+use Rattle.redo_lab.specs.Course.{AreRefusedOpened, AreStopped, AreUnderWay, AreUnstarted, ComesTo, KeepsCheckpoint, KeepsFound, KeepsRefused}
 use Rattle.redo_lab.specs.Playing.{AreArmed, unopened}
-use Rattle.redo_lab.specs.Prepared.{ArePrepared, BothKept, WhereTold}
+use Rattle.redo_lab.specs.Prepared.{ArePrepared, WhereTold}
 use Rattle.redo_lab.specs.Stages.{IsArmed}
 use Rattle.redo_lab.specs.Store.{AreRefused, IsShorter}
 use Rattle.redo_lab.specs.declared.playing.Stops.{Stops}
 use Rattle.redo_lab.proofs.Formatting.{FormattedLaw}
 use Rattle.redo_lab.proofs.Stages.{armed-calls}
-use Rattle.redo_lab.proofs.Told.{OneAnswer, both-told, on-contents}
+use Rattle.redo_lab.proofs.Told.{OneAnswer, both-told, on-contents, weaker-both}
 
 -- what is known of the calls since the fuses were armed
 pub record AreCounted (log_entry data_entry : Seen) (stops : Stops) (log_found data_found : Guarded) (log_failed data_failed : ℕ) (log_now data_now : Guarded) : Type 0 where
@@ -103,13 +104,6 @@ pub same-both : (R : Disk → Disk → Type 0) (log data_told log_same data_same
     → WhereBothTell log_same data_same R → WhereBothTell log data_told R
 same-both R log data_told log_same data_same log_is data_is holds =
     subst (λ (o : Option Disk). WhereBothTell log o R) data_is (subst (λ (o : Option Disk). WhereBothTell o data_same R) log_is holds)
-
--- and what is so, told in a weaker way
-weaker-both : {P Q : Disk → Disk → Type 0} (log data_told : Option Disk) → ((log data_disk : Disk) → P log data_disk → Q log data_disk)
-    → WhereBothTell log data_told P → WhereBothTell log data_told Q
-weaker-both None data_told weaker holds = tt
-weaker-both (Some log) None weaker holds = tt
-weaker-both (Some log) (Some data_told) weaker holds = weaker log data_told holds
 
 pub same-shorter : (cause : Refusal) (log_size data_size log_entry data_entry : ℕ) → log_size ≡ log_entry → data_size ≡ data_entry
     → IsShorter log_size data_size cause → IsShorter log_entry data_entry cause
@@ -193,31 +187,6 @@ refused-found laws log_entry data_entry log_found data_found cause prepared refu
     ))
     prepared.which
 
--- what a refusal leaves: both devices mean what they meant when the fuses were armed
-pub record LeavesFound (log_found data_found log_now data_now : Guarded) : Type 0 where
-  pub tells : WhereBothTell log_found.seen.tells data_found.seen.tells (λ log data_disk. (log_now.seen.tells ≡ Some log) × (data_now.seen.tells ≡ Some data_disk))
-  pub crashed : WhereBothTell log_found.seen.tells data_found.seen.tells
-      (λ log data_disk. (log_now.seen.crashed_from ≡ log_found.seen.crashed_from) × (data_now.seen.crashed_from ≡ data_found.seen.crashed_from))
-
-kept-found : ReadingLaws → (log_entry data_entry : Seen) (log_found data_found log_now data_now : Guarded) (cause : Refusal)
-    → ArePrepared log_entry data_entry log_found data_found
-    → OnContents log_found.seen.tells data_found.seen.tells (λ log_bytes data_bytes. Refuses log_bytes data_bytes cause)
-    → LeavesFound log_found data_found log_now data_now
-    → WhereTold log_entry data_entry (λ log data_disk. BothKept log_entry data_entry log_now data_now)
-kept-found laws log_entry data_entry log_found data_found log_now data_now cause prepared refused leaves log data_disk log_is data_is = ⊎_elim
-    (λ both. absurd (unrefused laws log_entry data_entry log_found data_found cause prepared both.formatted refused log data_disk log_is data_is))
-    (λ both.
-    let log_told = both.kept.log_device.tells ∙ log_is in
-    let data_told = both.kept.data_device.tells ∙ data_is in
-    let tells = both-told _ _ (λ l d. (log_now.seen.tells ≡ Some l) × (data_now.seen.tells ≡ Some d)) leaves.tells log data_disk log_told data_told in
-    let crashed = both-told _ _ (λ l d. (log_now.seen.crashed_from ≡ log_found.seen.crashed_from) × (data_now.seen.crashed_from ≡ data_found.seen.crashed_from))
-    leaves.crashed log data_disk log_told data_told in
-    record {
-      log_device = record { tells = tells.0 ∙ sym log_is; crashed_from = crashed.0 ∙ both.kept.log_device.crashed_from };
-      data_device = record { tells = tells.1 ∙ sym data_is; crashed_from = crashed.1 ∙ both.kept.data_device.crashed_from };
-    })
-    prepared.which
-
 -- WHAT A RUN COMES TO whose store wasn't opened, for this fault
 pub record IsUnopened {L D : Type 0} (log_seen : L → Seen) (log_gives : L → Call → L → Type 0) (data_seen : D → Seen) (data_gives : D → Call → D → Type 0)
     (log_entry data_entry : Seen) (stops : Stops) (log_found data_found : Guarded) (log : Fused L) (data_device : Fused D) (f : RecFault)
@@ -232,6 +201,33 @@ pub record IsUnopened {L D : Type 0} (log_seen : L → Seen) (log_gives : L → 
   pub log_calls : MakesCalls (CallsThrough log_seen log_gives) log log_now (HeaderFirst (log_seen log.inner).size (log_error f))
   pub data_calls : MakesCalls (CallsThrough data_seen data_gives) data_device data_now (MayEndWith (data_error f))
 
+-- a store in use that is refused was only read
+still-kept : {entry : Seen} {found old : Guarded} → old.seen ≡ found.seen → IsKept entry found → IsKept entry old
+still-kept same kept = record {
+  tells = ap (λ (seen : Seen). seen.tells) same ∙ kept.tells;
+  crashed_from = ap (λ (seen : Seen). seen.crashed_from) same ∙ kept.crashed_from;
+}
+
+kept-refused : {L D : Type 0} {log_seen : L → Seen} {log_gives : L → Call → L → Type 0} {data_seen : D → Seen} {data_gives : D → Call → D → Type 0}
+    {log_entry data_entry : Seen} {stops : Stops} {log_found data_found : Guarded} {log : Fused L} {data_device : Fused D} {f : RecFault} {log_now : Fused L} {data_now : Fused D}
+    → IsUnopened log_seen log_gives data_seen data_gives log_entry data_entry stops log_found data_found log data_device f log_now data_now
+    → KeepsRefused log_entry data_entry (guarded log_seen log_now) (guarded data_seen data_now)
+kept-refused {log_seen = log_seen} {data_seen = data_seen} {log = log} {data_device = data_device} {log_now = log_now} {data_now = data_now} is refusal log_disk data_disk log_is data_is used refused = ⊎_elim
+    (λ formatted. absurd (used (formatted.unused log_disk data_disk log_is data_is)))
+    (λ in_use.
+    let log_kept = still-kept {old = guarded log_seen log} is.armed.log_same in_use.kept.log_device in
+    let data_kept = still-kept {old = guarded data_seen data_device} is.armed.data_same in_use.kept.data_device in
+    let AreRead : Type 0 = IsUnchanged (seen_through log_seen log) (seen_through log_seen log_now)
+    × IsUnchanged (seen_through data_seen data_device) (seen_through data_seen data_now) in
+    let unchanged = on-contents (log_seen log.inner).tells (data_seen data_device.inner).tells
+    (λ log_bytes data_bytes. Refuses log_bytes data_bytes refusal → AreRead)
+    (is.cause.kept refusal) log_disk data_disk (log_kept.tells ∙ log_is) (data_kept.tells ∙ data_is) refused in
+    record {
+      log_device = record { tells = unchanged.0.tells ∙ log_kept.tells; crashed_from = unchanged.0.crashed_from ∙ log_kept.crashed_from };
+      data_device = record { tells = unchanged.1.tells ∙ data_kept.tells; crashed_from = unchanged.1.crashed_from ∙ data_kept.crashed_from };
+    })
+    is.armed.prepared.which
+
 -- a device failed
 stopped : {L D : Type 0} {log_seen : L → Seen} {log_gives : L → Call → L → Type 0} {data_seen : D → Seen} {data_gives : D → Call → D → Type 0}
     {log_entry data_entry : Seen} {stops : Stops} {log_found data_found : Guarded} {log : Fused L} {data_device : Fused D} {f : RecFault} {log_now : Fused L} {data_now : Fused D}
@@ -241,10 +237,23 @@ stopped {log_seen = log_seen} {data_seen = data_seen} {log_found = log_found} {d
   way = way-of log_found data_found is.armed.prepared (counted-opening is.armed is.log_calls is.data_calls);
   keeps = keeps-found log_found data_found (guarded log_seen log) (guarded data_seen data_device) (guarded log_seen log_now) (guarded data_seen data_now)
       is.armed.log_same is.armed.data_same is.keeps;
+  kept = kept-refused is;
   unmoved = keeps-checkpoint log_found data_found (guarded log_seen log) (guarded data_seen data_device) (guarded log_seen log_now)
       is.armed.log_same is.armed.data_same
       (λ reading. weaker-both {Q = λ log_disk data_disk. IsOpenable reading log_disk data_disk → IfSome (log_seen log_now.inner).tells (HasSameCheckpoint reading)} _ _
       (λ log_disk data_disk unmoved openable. unmoved openable failed) (is.unmoved reading));
+}
+
+-- memory ran out
+out-of-memory : {L D : Type 0} {log_seen : L → Seen} {log_gives : L → Call → L → Type 0} {data_seen : D → Seen} {data_gives : D → Call → D → Type 0}
+    {log_entry data_entry : Seen} {stops : Stops} {log_found data_found : Guarded} {log : Fused L} {data_device : Fused D} {log_now : Fused L} {data_now : Fused D}
+    → IsUnopened log_seen log_gives data_seen data_gives log_entry data_entry stops log_found data_found log data_device NoMemory log_now data_now
+    → AreUnstarted log_entry data_entry stops (guarded log_seen log_now) (guarded data_seen data_now)
+out-of-memory {log_seen = log_seen} {data_seen = data_seen} {log_found = log_found} {data_found = data_found} {log = log} {data_device = data_device} {log_now = log_now} {data_now = data_now} is = record {
+  way = way-of log_found data_found is.armed.prepared (counted-opening is.armed is.log_calls is.data_calls);
+  keeps = keeps-found log_found data_found (guarded log_seen log) (guarded data_seen data_device) (guarded log_seen log_now) (guarded data_seen data_now)
+      is.armed.log_same is.armed.data_same is.keeps;
+  kept = kept-refused is;
 }
 
 -- the store was refused
@@ -253,9 +262,6 @@ refuses-cause : (f : RecFault) (cause : Refusal) (log data_told : Option Disk) �
     → OnContents log data_told (λ log_bytes data_bytes. Refuses log_bytes data_bytes cause)
 refuses-cause f cause log data_told is holds =
     subst (λ (o : Option Refusal). IfSome o (λ cause. OnContents log data_told (λ log_bytes data_bytes. Refuses log_bytes data_bytes cause))) is holds
-
-where-cause : (f : RecFault) (cause : Refusal) (P : Type 0) → refusal_of f ≡ Some cause → IfSome (refusal_of f) (λ _. P) → P
-where-cause f cause P is holds = subst (λ (o : Option Refusal). IfSome o (λ _. P)) is holds
 
 refused-opened : {L D : Type 0} {log_seen : L → Seen} {log_gives : L → Call → L → Type 0} {data_seen : D → Seen} {data_gives : D → Call → D → Type 0}
     {log_entry data_entry : Seen} {stops : Stops} {log_found data_found : Guarded} {log : Fused L} {data_device : Fused D} {f : RecFault} {log_now : Fused L} {data_now : Fused D}
@@ -269,18 +275,6 @@ refused-opened {log_seen = log_seen} {data_seen = data_seen} {log_entry = log_en
     same-both (λ log_disk data_disk. Refuses log_disk.reads data_disk.reads cause) log_found.seen.tells data_found.seen.tells
     (log_seen log.inner).tells (data_seen data_device.inner).tells log_tells data_tells
     (refuses-cause f cause (log_seen log.inner).tells (data_seen data_device.inner).tells is_cause is.cause.refused) in
-    let tells = where-cause f cause _ is_cause is.cause.kept in
-    let crashed = where-cause f cause _ is_cause is.cause.kept_crashes in
-    let log_crashed : (log_seen log.inner).crashed_from ≡ log_found.seen.crashed_from = ap (λ (seen : Seen). seen.crashed_from) is.armed.log_same in
-    let data_crashed : (data_seen data_device.inner).crashed_from ≡ data_found.seen.crashed_from = ap (λ (seen : Seen). seen.crashed_from) is.armed.data_same in
-    let leaves : LeavesFound log_found data_found (guarded log_seen log_now) (guarded data_seen data_now) = record {
-      tells = same-both (λ l d. ((log_seen log_now.inner).tells ≡ Some l) × ((data_seen data_now.inner).tells ≡ Some d))
-          log_found.seen.tells data_found.seen.tells (log_seen log.inner).tells (data_seen data_device.inner).tells log_tells data_tells tells;
-      crashed = weaker-both log_found.seen.tells data_found.seen.tells
-          (λ _ _ both. (both.0 ∙ log_crashed, both.1 ∙ data_crashed))
-          (same-both (λ l d. ((log_seen log_now.inner).crashed_from ≡ (log_seen log.inner).crashed_from) × ((data_seen data_now.inner).crashed_from ≡ (data_seen data_device.inner).crashed_from))
-          log_found.seen.tells data_found.seen.tells (log_seen log.inner).tells (data_seen data_device.inner).tells log_tells data_tells crashed);
-    } in
     let counted = counted-opening is.armed is.log_calls is.data_calls in
     let unfailed : AreCounted log_entry data_entry stops log_found data_found 0 0 (guarded log_seen log_now) (guarded data_seen data_now) =
     subst (λ n. AreCounted log_entry data_entry stops log_found data_found 0 n (guarded log_seen log_now) (guarded data_seen data_now)) (ap failures data_none)
@@ -291,7 +285,7 @@ refused-opened {log_seen = log_seen} {data_seen = data_seen} {log_entry = log_en
           is.armed.log_same is.armed.data_same is.keeps;
       short = same-shorter cause _ _ _ _ is.armed.log_device.same.size is.armed.data_device.same.size short;
       refused = refused-found is.laws log_entry data_entry log_found data_found cause is.armed.prepared refused;
-      kept = kept-found is.laws log_entry data_entry log_found data_found (guarded log_seen log_now) (guarded data_seen data_now) cause is.armed.prepared refused leaves;
+      kept = kept-refused is;
     }
 
 pub unopened-comes : {L D : Type 0} {log_seen : L → Seen} {log_gives : L → Call → L → Type 0} {data_seen : D → Seen} {data_gives : D → Call → D → Type 0}
@@ -301,8 +295,8 @@ pub unopened-comes : {L D : Type 0} {log_seen : L → Seen} {log_gives : L → C
     → ComesTo log_entry data_entry stops turns script (unopened f) (guarded log_seen log_now) (guarded data_seen data_now)
 unopened-comes turns script LogDev log_now data_now is = stopped is (λ same. cc)
 unopened-comes turns script DataDev log_now data_now is = stopped is (λ same. cc)
-unopened-comes {log_found = log_found} {data_found = data_found} turns script NoMemory log_now data_now is =
-    inr (way-of log_found data_found is.armed.prepared (counted-opening is.armed is.log_calls is.data_calls))
+unopened-comes turns script NoMemory log_now data_now is =
+    inr (inl (out-of-memory is))
 unopened-comes turns script (SmallLog n) log_now data_now is = inr (refused-opened (refusal.SmallLog n) refl refl refl is.cause.lengths is)
 unopened-comes turns script NotFormatted log_now data_now is = inr (refused-opened refusal.NotFormatted refl refl refl tt is)
 unopened-comes turns script (BadFormat n) log_now data_now is = inr (refused-opened (refusal.BadFormat n) refl refl refl tt is)

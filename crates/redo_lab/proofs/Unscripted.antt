@@ -37,7 +37,7 @@ no-long-script call log_only misfit can long =
 pub run-unscripted : (call : Call) (drive : Drive) (f : Fault) → AreLeftAlone call → IsScriptFault call.source call.source_now f → OpenableLaw
     → EndsCommand call (Run drive) (outcome.Fault f)
 run-unscripted call drive fault.Memory alone cause law = record {
-  means = (tt, tt);
+  means = (tt, inl (leaves-alone call law alone));
   unread = λ plain. absurd (false≢true (sym plain));
   kept = λ leaves. absurd (false≢true leaves);
   told = record { log_device = told-fresh _ _ _ alone.log_device.fuse; data_device = told-fresh _ _ _ alone.data_device.fuse };
@@ -86,7 +86,7 @@ run-unscripted call drive (fault.Turns turns user) alone cause law = absurd caus
 pub crash-unscripted : (call : Call) (drive : Drive) (stop_log stop_data : Option ℕ) (pick : ℕ) (f : Fault) → AreLeftAlone call → IsScriptFault call.source call.source_now f → OpenableLaw
     → EndsCommand call (Crash drive stop_log stop_data pick) (outcome.Fault f)
 crash-unscripted call drive stop_log stop_data pick fault.Memory alone cause law = record {
-  means = (tt, tt);
+  means = (tt, inl (leaves-alone call law alone));
   unread = λ plain. absurd (false≢true (sym plain));
   kept = λ leaves. absurd (false≢true leaves);
   told = record { log_device = told-fresh _ _ _ alone.log_device.fuse; data_device = told-fresh _ _ _ alone.data_device.fuse };
@@ -96,7 +96,7 @@ crash-unscripted call drive stop_log stop_data pick fault.Memory alone cause law
   safe = tt;
 }
 crash-unscripted call drive stop_log stop_data pick (fault.Script n) alone cause law = record {
-  means = ((refl, cause, alone), tt);
+  means = ((refl, cause, alone), inl (leaves-alone call law alone));
   unread = λ plain. absurd (false≢true (sym plain));
   kept = λ leaves. absurd (false≢true leaves);
   told = record { log_device = told-fresh _ _ _ alone.log_device.fuse; data_device = told-fresh _ _ _ alone.data_device.fuse };
@@ -106,7 +106,7 @@ crash-unscripted call drive stop_log stop_data pick (fault.Script n) alone cause
   safe = tt;
 }
 crash-unscripted call drive stop_log stop_data pick fault.Source alone cause law = record {
-  means = ((refl, cause, alone), tt);
+  means = ((refl, cause, alone), inl (leaves-alone call law alone));
   unread = λ plain. absurd (false≢true (sym plain));
   kept = λ leaves. absurd (false≢true leaves);
   told = record { log_device = told-fresh _ _ _ alone.log_device.fuse; data_device = told-fresh _ _ _ alone.data_device.fuse };
@@ -116,7 +116,7 @@ crash-unscripted call drive stop_log stop_data pick fault.Source alone cause law
   safe = tt;
 }
 crash-unscripted call drive stop_log stop_data pick (fault.Fit misfit) alone cause law = record {
-  means = (inl (refl, cause, alone), leaves-alone call law alone);
+  means = (inl (refl, cause, alone), inl (leaves-alone call law alone));
   unread = λ plain. absurd (false≢true (sym plain));
   kept = λ leaves. absurd (false≢true leaves);
   told = record { log_device = told-fresh _ _ _ alone.log_device.fuse; data_device = told-fresh _ _ _ alone.data_device.fuse };

@@ -5,6 +5,7 @@ use Rattle.model_base.specs.declared.shape.Shape.{Shape}
 use Rattle.model_command.specs.declared.asked.Command.{Command}
 use Rattle.model_command.specs.declared.asked.Command.TheVariants.{Format, Run, Crash, Recover, Dump, Gen}
 use Rattle.model_command.specs.declared.asked.Drive.{Drive}
+use Rattle.model_opening.specs as opening
 use Rattle.model_page.specs.declared.content.Content.{Content}
 use Rattle.model_report.specs.{dump_text, format_text, recover_text, report_text}
 use Rattle.model_script.specs.{generated_lines, generated_text}
@@ -13,7 +14,7 @@ use Rattle.model_store.specs.{IsReading}
 use Rattle.model_store.specs.Reading.{Reading}
 use Rattle.model_theorem.specs.{entries_of, marks_of, Opened, Ran, RunAccount, RunCall, RunPremises, RunPromise, start_of}
 use Rattle.redo_lab.specs.Call.{AreKept, AreLeftAlone, Call, IsUnread}
-use Rattle.redo_lab.specs.Devices.{IsCrashedAs, IsOpenedFirst, IsRunDevice, IsUnfailed, WhereToldAtEntry, WhereToldNow}
+use Rattle.redo_lab.specs.Devices.{IsCrashedAs, IsLeftAsPrefix, IsOpenedFirst, IsRunDevice, IsUnfailed, WhereToldAtEntry, WhereToldNow}
 use Rattle.redo_lab.specs.Script.{IsScriptRead}
 use Rattle.redo_lab.specs.Store.{AreBlank}
 use Rattle.redo_lab.specs.Summary.{IsSummary}
@@ -23,9 +24,10 @@ use Rattle.redo_lab.specs.Took.{IsToldOf}
 abbrev pub shape_of : (pages space log_blocks : ℕ) → Shape
 shape_of pages space log_blocks = record default_shape { pages = pages; space = space; log_blocks = log_blocks }
 
--- Both devices were formatted.
+-- Both devices were formatted: they hold what formatting writes, and whatever a crash would leave is a new store.
 pub record IsFormatted (call : Call) (shape : Shape) (text : List ℕ) : Type 0 where
   pub unread : IsUnread call
+  pub written : WhereToldNow call (opening.IsFormatted shape)
   pub blank : WhereToldNow call (AreBlank shape)
   pub text_is : text ≡ format_text
 
@@ -92,6 +94,7 @@ pub record IsCrashText (call : Call) (drive : Drive) (stop_log stop_data : Optio
   pub report : IsReport call drive.log_only opened run (Some reading) text
   pub opened_first : IsOpenedFirst call call.log_device_now.seen.crashed_from run
   pub is_read : WhereToldNow call (λ log data_disk. IsReading log.reads data_disk.reads reading)
+  pub left : IsLeftAsPrefix call report.script run
 
 -- no call failed before the fuses were armed or after the crash
 pub record AreUnfailedAside (call : Call) : Type 0 where

@@ -1,7 +1,7 @@
 -- Why a call ends without the text that it was asked for. The first cause that holds decides: the words, the source and its
 -- script, formatting or opening, the fit, the run, the crash and the reading behind it. Want of memory decides where it is
 -- met.
-use Rattle.std.specs.Prelude.{ℕ, ◌≡◌, ◌≢◌, ◌≤◌, ◌<◌, ◌⊎◌, true, false, List, Option, Some, None, ⊤}
+use Rattle.std.specs.Prelude.{ℕ, ◌≡◌, ◌≢◌, ◌≤◌, ◌<◌, ◌⊎◌, true, false, List, Option, Some, None, IfSome, ⊤}
 use Rattle.model_base.specs.{default_shape, HasRisen, IsWithinLimits}
 use Rattle.model_base.specs.declared.shape.Shape.{Shape}
 use Rattle.model_command.specs.declared.asked.Command.{Command}
@@ -27,11 +27,11 @@ use Rattle.redo_disk.specs.declared.error.DevError.{DevError}
 use Rattle.redo_memdisk.specs.declared.fuse.Fuse.{Fuse}
 use Rattle.redo_memdisk.specs.declared.fuse.Stage.TheVariants.{Before}
 use Rattle.redo_lab.specs.Answer.{AreUnfailed, AreUnfailedAside, shape_of}
-use Rattle.redo_lab.specs.Asked.{calls_devices, command_of, drive_of, leaves_devices, reads_script, stops_of}
+use Rattle.redo_lab.specs.Asked.{calls_devices, command_of, drive_of, leaves_devices, pick_of, reads_script, stops_of}
 use Rattle.redo_lab.specs.Call.{AreKept, AreLeftAlone, Call, Guarded, IsUnread}
-use Rattle.redo_lab.specs.Devices.{AreFound, HasFailed, IsCrashedAs, IsOpenedFirst, IsUnfailed, WhereToldAtEntry, WhereToldNow}
+use Rattle.redo_lab.specs.Devices.{AreFound, AreUncrashed, HasFailed, IsCrashedAs, IsLeftAsPrefix, IsOpenedFirst, IsUnfailed, WhereOpened, WhereToldAtEntry, WhereToldNow}
 use Rattle.redo_lab.specs.Script.{IsBadLine, IsLongScript, IsScriptFor, IsScriptOf}
-use Rattle.redo_lab.specs.Store.{AreReadAsOpened, AreRefused, HasNoHeader, IsOpenedAs, IsShorter, IsTooShort}
+use Rattle.redo_lab.specs.Store.{AreReadAsOpened, AreReadAsPrefix, AreRefused, HasNoHeader, IsOpenedAs, IsShorter, IsTooShort}
 use Rattle.redo_lab.specs.Took.{TookPlace}
 
 -- the script of a command that reads one was read; of any other command the source was left alone
@@ -115,13 +115,24 @@ pub record IsLeftRefused (call : Call) (stop_log stop_data : Option ℕ) (pick :
   pub shorter : IsShorter call.log_device.size call.data_device.size refusal
   pub refused : WhereToldNow call (AreRefused refusal)
 
--- the store that a run of the script left is refused when it is read behind it, and no call of a device failed
-pub record IsRunRefused (call : Call) (command : Command) (refusal : Refusal) : Type 0 where
+-- WHAT A RUN LEAVES that isn't reported: the fuses were armed before opening, it took place on the store that was opened, and of a
+-- store that is new or in order, on fresh devices, whatever a crash would leave is read as a prefix of it.
+pub record LeavesRun (call : Call) (command : Command) : Type 0 where
+  pub drive : Drive
+  pub asked : drive_of command ≡ Some drive
   pub script : List ScriptLine
   pub opened : Opened
   pub run : Ran
   pub is_script : IsScriptFor command call.source call.source_now script
-  pub took_place : TookPlace call false opened script run
+  pub took_place : TookPlace call drive.log_only opened script run
+  pub found : WhereToldAtEntry call (AreFound call)
+  pub opened_first : IsOpenedFirst call call.log_device_now.seen.tells (Some run)
+  pub uncrashed : AreUncrashed call
+  pub reads : (store : Opened) → WhereOpened call store (WhereToldNow call (AreReadAsPrefix script store run))
+
+-- the store that a run of the script left is refused when it is read behind it, and no call of a device failed
+pub record IsRunRefused (call : Call) (command : Command) (refusal : Refusal) : Type 0 where
+  pub leaves : LeavesRun call command
   pub unfailed : AreUnfailed call
   pub shorter : IsShorter call.log_device.size call.data_device.size refusal
   pub refused : WhereToldNow call (AreRefused refusal)
@@ -151,8 +162,7 @@ pub record IsScriptMisfit (call : Call) (command : Command) (misfit : Misfit) : 
   pub opens : WhereToldAtEntry call (IsOpenedAs opened)
   pub limits : IsWithinLimits opened.shape
   pub unfailed : AreUnfailed call
-  pub log_uncrashed : call.log_device_now.fuse.pick ≡ None
-  pub data_uncrashed : call.data_device_now.fuse.pick ≡ None
+  pub uncrashed : AreUncrashed call
   pub first : first_misfit opened.shape (start_after opened.end) (room_of drive.log_only opened) script ≡ Some misfit
 
 -- a quantity doesn't fit
@@ -162,16 +172,11 @@ IsMisfit call command misfit =
 
 -- The turns were spent: so many were allowed; a run of the script on the store that was opened, which it fits, leaves a line
 -- of this user that isn't answered, and it is the least user of those that met no error. No call failed before the fuses were
--- armed, and nothing was crashed.
+-- armed.
 pub record AreTurnsSpent (call : Call) (command : Command) (turns user : ℕ) : Type 0 where
-  pub drive : Drive
-  pub asked : drive_of command ≡ Some drive
+  pub leaves_run : LeavesRun call command
+  pub open leaves_run use *
   pub turns_are : turns ≡ drive.max
-  pub script : List ScriptLine
-  pub opened : Opened
-  pub run : Ran
-  pub is_script : IsScriptFor command call.source call.source_now script
-  pub took_place : TookPlace call drive.log_only opened script run
   -- which error a call of each device answered, if one did; of these want of memory isn't seen from outside
   pub log_error : Option DevError
   pub data_error : Option DevError
@@ -179,8 +184,6 @@ pub record AreTurnsSpent (call : Call) (command : Command) (turns user : ℕ) : 
   pub log_failures : call.log_device_now.fuse.mid ≡ failures log_error
   pub data_failures : call.data_device_now.fuse.mid ≡ failures data_error
   pub unfailed_aside : AreUnfailedAside call
-  pub log_uncrashed : call.log_device_now.fuse.pick ≡ None
-  pub data_uncrashed : call.data_device_now.fuse.pick ≡ None
 
 -- why the command isn't done
 abbrev pub IsCauseOf : Call → Command → Fault → Type 0
@@ -207,10 +210,16 @@ KeepsStore call =
     → OpensOrderly log.reads data_disk.reads opened.shape opened.pages opened.end
     → WhereToldNow call (AreReadAsOpened opened)
 
+-- A store in use that is refused is as it was.
+abbrev pub KeepsRefused : Call → Type 0
+KeepsRefused call = (refusal : Refusal) → WhereToldAtEntry call (λ log data_disk.
+    (IsUnused log.reads → ⊥) → AreRefused refusal log data_disk → AreKept call)
+
 -- The store that was found when the fuses were armed is kept, also a new one: what could be opened then is read with its
--- pages, whatever a crash would leave.
+-- pages, whatever a crash would leave. Nothing was crashed.
 pub record IsFoundKept (call : Call) : Type 0 where
   pub found : WhereToldAtEntry call (AreFound call)
+  pub uncrashed : AreUncrashed call
   pub keeps : (log data_disk : Disk) (opened : Reading) → call.log_device_now.armed_from ≡ Some log
       → call.data_device_now.armed_from ≡ Some data_disk → IsOpenable opened log data_disk → WhereToldNow call (KeepsOpened opened)
 
@@ -222,23 +231,53 @@ pub record AreNotArmed (call : Call) : Type 0 where
 
 -- what is left where a run ended before its first line
 abbrev pub LeavesStore : Call → Type 0
-LeavesStore call = KeepsStore call × (AreNotArmed call ⊎ IsFoundKept call)
+LeavesStore call = KeepsStore call × KeepsRefused call × (AreNotArmed call ⊎ IsFoundKept call)
 
 -- and where a device ended it: opening didn't come to its end
 abbrev pub LeavesStopped : Call → Type 0
 LeavesStopped call =
-    KeepsStore call × (AreNotArmed call ⊎ (IsFoundKept call × IsOpenedFirst call call.log_device_now.seen.tells None))
+    KeepsStore call × KeepsRefused call
+    × (AreNotArmed call ⊎ (IsFoundKept call × IsOpenedFirst call call.log_device_now.seen.tells None))
 
--- what a fault leaves beside its cause: spent turns come behind a run, and want of memory may
+-- WHAT A CRASH LEAVES that isn't reported. The fuses were armed before opening; where that came to its end a run took place, and
+-- else none; and what was left is read as a prefix of it.
+pub record LeavesCrash (call : Call) (command : Command) : Type 0 where
+  pub pick : ℕ
+  pub picked : pick_of command ≡ Some pick
+  pub log_crashed : IsCrashedAs (stops_of command).0 pick call.log_device_now.fuse
+  pub data_crashed : IsCrashedAs (stops_of command).1 pick call.data_device_now.fuse
+  pub drive : Drive
+  pub asked : drive_of command ≡ Some drive
+  pub script : List ScriptLine
+  pub run : Option Ran
+  pub is_script : IsScriptFor command call.source call.source_now script
+  pub took_place : IfSome run (λ run. (opened : Opened) × TookPlace call drive.log_only opened script run)
+  pub found : WhereToldAtEntry call (AreFound call)
+  pub opened_first : IsOpenedFirst call call.log_device_now.seen.crashed_from run
+  pub left : IsLeftAsPrefix call script run
+
+-- WHAT A FAULT LEAVES beside its cause: of `format` no store but the new one; of a command that runs a script, by how far it
+-- came, the store that was found, or a prefix of the run. Spent turns and a refusal behind a run say so themselves. The other
+-- commands leave both devices as they were.
 abbrev pub LeavesBehind : Call → Command → Fault → Type 0
 LeavesBehind call (Format pages space log_blocks) fault = LeavesNoStore call (shape_of pages space log_blocks)
-LeavesBehind call (Run drive) Memory = ⊤
 LeavesBehind call (Run drive) (Turns turns user) = ⊤
+LeavesBehind call (Run drive) Memory = LeavesStore call ⊎ LeavesRun call (Run drive)
 LeavesBehind call (Run drive) LogDevice = LeavesStopped call
 LeavesBehind call (Run drive) DataDevice = LeavesStopped call
 LeavesBehind call (Run drive) fault = LeavesStore call
-LeavesBehind call (Crash drive stop_log stop_data pick) (Fit misfit) = LeavesStore call
-LeavesBehind call (Gen seed users groups run max) (Fit misfit) = LeavesStore call
+LeavesBehind call (Crash drive stop_log stop_data pick) (Turns turns user) = ⊤
+LeavesBehind call (Crash drive stop_log stop_data pick) Memory =
+    LeavesStore call ⊎ LeavesRun call (Crash drive stop_log stop_data pick) ⊎ LeavesCrash call (Crash drive stop_log stop_data pick)
+LeavesBehind call (Crash drive stop_log stop_data pick) fault =
+    LeavesStore call ⊎ LeavesCrash call (Crash drive stop_log stop_data pick)
+LeavesBehind call (Gen seed users groups true max) (Turns turns user) = ⊤
+LeavesBehind call (Gen seed users groups true max) Memory = LeavesStore call ⊎ LeavesRun call (Gen seed users groups true max)
+LeavesBehind call (Gen seed users groups true max) LogDevice = LeavesStopped call ⊎ LeavesRun call (Gen seed users groups true max)
+LeavesBehind call (Gen seed users groups true max) DataDevice = LeavesStopped call ⊎ LeavesRun call (Gen seed users groups true max)
+LeavesBehind call (Gen seed users groups true max) (Store refusal) =
+    LeavesStore call ⊎ IsRunRefused call (Gen seed users groups true max) refusal
+LeavesBehind call (Gen seed users groups true max) fault = LeavesStore call
 LeavesBehind call command fault = ⊤
 
 -- the words ask for no command that is served, and nothing was done

@@ -9,7 +9,7 @@ use Rattle.model_log.specs.{start_after}
 use Rattle.model_opening.specs.{IsOpenable, KeepsOpened}
 use Rattle.model_report.specs.declared.fault.Fault.{Fault}
 use Rattle.model_report.specs.declared.fault.Fault.TheVariants as fault
-use Rattle.model_run.specs.{IsClosed, opened_as}
+use Rattle.model_run.specs.{IsClosed, IsHeld, opened_as}
 use Rattle.model_script.specs.{first_misfit}
 use Rattle.model_script.specs.declared.misfit.Misfit.{Misfit}
 use Rattle.model_script.specs.declared.script.ScriptLine.{ScriptLine}
@@ -52,10 +52,16 @@ KeepsCheckpoint log_found data_found log_now =
     (reading : Reading) → WhereBothTell log_found.seen.tells data_found.seen.tells (λ log data_disk. IsOpenable reading log data_disk
     → IfSome log_now.seen.tells (HasSameCheckpoint reading))
 
+-- a store that was in use and is refused is as it was, where both devices told
+abbrev pub KeepsRefused : (log_entry data_entry : Seen) → (log_now data_now : Guarded) → Type 0
+KeepsRefused log_entry data_entry log_now data_now = (refusal : Refusal) → WhereTold log_entry data_entry (λ log data_disk.
+    (IsUnused log.reads → ⊥) → AreRefused refusal log data_disk → BothKept log_entry data_entry log_now data_now)
+
 -- OPENING WAS STOPPED by a device.
 pub record AreStopped (log_entry data_entry : Seen) (stops : Stops) (log_failed data_failed : ℕ) (log_now data_now : Guarded) : Type 0 where
   pub way : AreUnderWay log_entry data_entry stops log_failed data_failed log_now data_now
   pub keeps : KeepsFound way.log_found way.data_found log_now data_now
+  pub kept : KeepsRefused log_entry data_entry log_now data_now
   pub unmoved : KeepsCheckpoint way.log_found way.data_found log_now
 
 abbrev pub IsStoppedBy : Seen → Seen → Stops → Fault → Guarded → Guarded → Type 0
@@ -69,7 +75,7 @@ pub record AreRefusedOpened (log_entry data_entry : Seen) (stops : Stops) (cause
   pub keeps : KeepsFound way.log_found way.data_found log_now data_now
   pub short : IsShorter log_entry.size data_entry.size cause
   pub refused : WhereTold log_entry data_entry (λ log data_disk. (IsUnused log.reads → ⊥) × AreRefused cause log data_disk)
-  pub kept : WhereTold log_entry data_entry (λ log data_disk. BothKept log_entry data_entry log_now data_now)
+  pub kept : KeepsRefused log_entry data_entry log_now data_now
 
 -- THE SCRIPT DOESN'T FIT the store that was opened.
 pub record AreMisfitted (log_entry data_entry : Seen) (stops : Stops) (log_only : Bool) (script : List ScriptLine) (misfit : Misfit)
@@ -81,31 +87,66 @@ pub record AreMisfitted (log_entry data_entry : Seen) (stops : Stops) (log_only 
   pub limits : IsWithinLimits opened.shape
   pub first : first_misfit opened.shape (start_after opened.end) (room_of log_only opened) script ≡ Some misfit
 
--- THE TURNS WERE SPENT: a run of the script on the opened store leaves this user with a line that isn't answered. A call of
--- each device may have answered an error.
-pub record AreSpent (log_entry data_entry : Seen) (stops : Stops) (turns : Turns) (script : List ScriptLine) (count user : ℕ)
-    (log_now data_now : Guarded) : Type 0 where
-  pub log_error : Option DevError
-  pub data_error : Option DevError
-  pub way : AreUnderWay log_entry data_entry stops (failures log_error) (failures data_error) log_now data_now
-  pub count_is : count ≡ turns.max
+-- on a store that could be opened when the fuses were armed, both devices hold the run
+abbrev pub HoldsRun : (log_found data_found : Guarded) → List ScriptLine → Opened → Ran → (log_now data_now : Guarded) → Type 0
+HoldsRun log_found data_found script opened run log_now data_now =
+    (reading : Reading) → WhereBothTell log_found.seen.tells data_found.seen.tells (λ log data_disk. IsOpenable reading log data_disk
+    → (opened ≡ opened_as reading) × WhereBothTell log_now.seen.tells data_now.seen.tells (λ log_disk data_disk.
+    IsHeld (record {
+      script = script;
+      opened = opened;
+      number = reading.number + 1;
+      run = run;
+      log_disk = log_disk;
+      data_disk = data_disk;
+    })))
+
+-- A RUN CAME SO FAR, of the script on the opened store, and so many calls of the two devices failed.
+pub record CameSoFar (log_entry data_entry : Seen) (stops : Stops) (log_only : Bool) (script : List ScriptLine) (run : Ran)
+    (log_failed data_failed : ℕ) (log_now data_now : Guarded) : Type 0 where
+  pub way : AreUnderWay log_entry data_entry stops log_failed data_failed log_now data_now
   pub opened : Opened
   pub opens : WhereTold log_entry data_entry (IsOpenedAs opened)
   pub limits : IsWithinLimits opened.shape
-  pub fits : FitsOpened turns.log_only opened script
-  pub run : Ran
+  pub fits : FitsOpened log_only opened script
   pub is_run : IsRun script opened run
+
+-- THE TURNS WERE SPENT: a run of the script leaves this user with a line that isn't answered. A call of each device may have
+-- answered an error.
+pub record AreSpent (log_entry data_entry : Seen) (stops : Stops) (turns : Turns) (script : List ScriptLine) (count user : ℕ)
+    (log_now data_now : Guarded) : Type 0 where
+  pub count_is : count ≡ turns.max
+  pub run : Ran
+  pub log_error : Option DevError
+  pub data_error : Option DevError
+  pub so_far : CameSoFar log_entry data_entry stops turns.log_only script run (failures log_error) (failures data_error) log_now data_now
+  pub holds : HoldsRun so_far.way.log_found so_far.way.data_found script so_far.opened run log_now data_now
   pub leaves : LeavesOpen script run.entries ((log_error ≢ None) ⊎ (data_error ≢ None)) user
 
+-- MEMORY RAN OUT before the first line, once opening was begun.
+pub record AreUnstarted (log_entry data_entry : Seen) (stops : Stops) (log_now data_now : Guarded) : Type 0 where
+  pub way : AreUnderWay log_entry data_entry stops 0 0 log_now data_now
+  pub keeps : KeepsFound way.log_found way.data_found log_now data_now
+  pub kept : KeepsRefused log_entry data_entry log_now data_now
+
+-- MEMORY RAN OUT over a run: a call of a device had none.
+pub record HasRunOut (log_entry data_entry : Seen) (stops : Stops) (log_only : Bool) (script : List ScriptLine)
+    (log_now data_now : Guarded) : Type 0 where
+  pub run : Ran
+  pub so_far : CameSoFar log_entry data_entry stops log_only script run 0 0 log_now data_now
+  pub holds : HoldsRun so_far.way.log_found so_far.way.data_found script so_far.opened run log_now data_now
+
 -- memory ran out, where no call of a device had failed
-abbrev pub AreWithoutMemory : Seen → Seen → Stops → Guarded → Guarded → Type 0
-AreWithoutMemory log_entry data_entry stops log_now data_now =
-    EndUnprepared log_entry data_entry 0 0 log_now data_now ⊎ AreUnderWay log_entry data_entry stops 0 0 log_now data_now
+abbrev pub AreWithoutMemory : Seen → Seen → Stops → Bool → List ScriptLine → Guarded → Guarded → Type 0
+AreWithoutMemory log_entry data_entry stops log_only script log_now data_now =
+    EndUnprepared log_entry data_entry 0 0 log_now data_now
+    ⊎ AreUnstarted log_entry data_entry stops log_now data_now
+    ⊎ HasRunOut log_entry data_entry stops log_only script log_now data_now
 
 -- THE RUN ENDED before its first line, or its turns were spent, or a device had no memory.
 abbrev pub IsEndedBy : Seen → Seen → Stops → Turns → List ScriptLine → Fault → Guarded → Guarded → Type 0
 IsEndedBy log_entry data_entry stops turns script fault.Memory log_now data_now =
-    AreWithoutMemory log_entry data_entry stops log_now data_now
+    AreWithoutMemory log_entry data_entry stops turns.log_only script log_now data_now
 IsEndedBy log_entry data_entry stops turns script fault.LogDevice log_now data_now =
     EndUnprepared log_entry data_entry 1 0 log_now data_now
 IsEndedBy log_entry data_entry stops turns script fault.DataDevice log_now data_now =
@@ -143,12 +184,8 @@ ClosesRun becomes log_found data_found opened script played failed log_now data_
 -- THE LINES WERE RUN, and so many calls of the two devices failed.
 pub record ArePlayed (log_entry data_entry : Seen) (stops : Stops) (log_only : Bool) (script : List ScriptLine) (played : Played)
     (log_failed data_failed : ℕ) (log_now data_now : Guarded) : Type 0 where
-  pub way : AreUnderWay log_entry data_entry stops log_failed data_failed log_now data_now
-  pub opened : Opened
-  pub opens : WhereTold log_entry data_entry (IsOpenedAs opened)
-  pub limits : IsWithinLimits opened.shape
-  pub fits : FitsOpened log_only opened script
-  pub is_run : IsRun script opened (ran_of played)
+  pub so_far : CameSoFar log_entry data_entry stops log_only script (ran_of played) log_failed data_failed log_now data_now
+  pub open so_far use *
   pub loses : (left : List (ℕ × ℕ)) → IsLeft script played.history left
       → LosesOnlyByFailure (log_failed + data_failed) (Some (ran_of played)) left
   pub closed : ClosesRun (λ disk. disk) way.log_found way.data_found opened script played (log_failed + data_failed) log_now data_now

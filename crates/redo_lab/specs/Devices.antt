@@ -1,10 +1,11 @@
 -- What a call says of its two devices, where both told what they mean when they were handed in.
-use Rattle.std.specs.Prelude.{ℕ, ◌≡◌, ◌≤◌, ◌<◌, ◌+◌, ◌⊎◌, Option, Some, None, IfSome}
+use Rattle.std.specs.Prelude.{ℕ, ◌≡◌, ◌≤◌, ◌<◌, ◌+◌, ◌⊎◌, List, Option, Some, None, IfSome}
 use Rattle.model_base.specs.{default_shape}
 use Rattle.model_device.specs.Disk.{Disk}
 use Rattle.model_opening.specs.{formatted_store, IsOpenable}
-use Rattle.model_store.specs.{IsUnused, Opens}
-use Rattle.model_theorem.specs.{IsFresh, IsOpenedBefore, Opened, Ran, RunDevice}
+use Rattle.model_script.specs.declared.script.ScriptLine.{ScriptLine}
+use Rattle.model_store.specs.{IsFair, IsUnused, Opens}
+use Rattle.model_theorem.specs.{IsFresh, IsOpenedBefore, Opened, Ran, ReadsPrefix, RunDevice}
 use Rattle.redo_disk.specs.Seen.{Seen}
 use Rattle.redo_memdisk.specs.declared.fuse.Fuse.{Fuse}
 use Rattle.redo_lab.specs.Call.{Call, Guarded}
@@ -19,6 +20,26 @@ abbrev pub WhereToldNow : Call → (Disk → Disk → Type 0) → Type 0
 WhereToldNow call P =
     (log data_disk : Disk) → call.log_device_now.seen.tells ≡ Some log → call.data_device_now.seen.tells ≡ Some data_disk
     → P log data_disk
+
+-- this is so where both devices told what they mean when they were handed in, were fresh, and open this store, which is new or in
+-- order
+abbrev pub WhereOpened : Call → Opened → Type 0 → Type 0
+WhereOpened call opened P = WhereToldAtEntry call (λ log data_disk.
+    IsFresh log call.log_device.faults → IsFresh data_disk call.data_device.faults
+    → Opens log.reads data_disk.reads opened.shape opened.pages opened.end → P)
+
+-- WHAT A CRASH LEFT is read as a prefix of this run of the script, or with the opened pages, where there was none; so it is of
+-- fresh devices that opened a store, where the image of the data device is fair
+abbrev pub IsLeftAsPrefix : Call → List ScriptLine → Option Ran → Type 0
+IsLeftAsPrefix call script run = (opened : Opened) → WhereOpened call opened
+    ((crashed_from : Disk) → call.data_device_now.seen.crashed_from ≡ Some crashed_from
+    → WhereToldNow call (λ log data_disk. IsFair opened.shape crashed_from data_disk.reads
+    → ReadsPrefix script opened run log.reads data_disk.reads))
+
+-- neither device was crashed
+pub record AreUncrashed (call : Call) : Type 0 where
+  pub log_device : call.log_device_now.fuse.pick ≡ None
+  pub data_device : call.data_device_now.fuse.pick ≡ None
 
 -- no call answered that the device failed
 pub record IsUnfailed (fuse : Fuse) : Type 0 where
@@ -66,8 +87,6 @@ pub record AreFound (call : Call) (log data_disk : Disk) : Type 0 where
 -- told what they mean when they were handed in, and that open a store.
 abbrev pub IsOpenedFirst : Call → Option Disk → Option Ran → Type 0
 IsOpenedFirst call left run =
-    (log data_disk : Disk) (opened : Opened) → call.log_device.tells ≡ Some log → call.data_device.tells ≡ Some data_disk
-    → IsFresh log call.log_device.faults → IsFresh data_disk call.data_device.faults
-    → Opens log.reads data_disk.reads opened.shape opened.pages opened.end
-    → (armed_from disk : Disk) → call.log_device_now.armed_from ≡ Some armed_from → left ≡ Some disk
-    → IsOpenedBefore opened.shape armed_from disk run
+    (opened : Opened) → WhereOpened call opened
+    ((armed_from disk : Disk) → call.log_device_now.armed_from ≡ Some armed_from → left ≡ Some disk
+    → IsOpenedBefore opened.shape armed_from disk run)

@@ -8,7 +8,7 @@ use Rattle.model_history.specs.{IsLeft}
 use Rattle.model_log.specs.{start_after}
 use Rattle.model_report.specs.declared.fault.Fault.{Fault}
 use Rattle.model_report.specs.declared.fault.Fault.TheVariants as fault
-use Rattle.model_run.specs.{IsClosed, IsStart, opened_as}
+use Rattle.model_run.specs.{IsClosed, IsHeld, IsStart, opened_as}
 use Rattle.model_script.specs.{first_misfit, ScriptFits}
 use Rattle.model_script.specs.declared.misfit.Misfit.{Misfit}
 use Rattle.model_script.specs.declared.script.ScriptLine.{ScriptLine}
@@ -83,12 +83,17 @@ abbrev pub course_of : ℕ → Ran → Played → Option Fault → Course
 course_of max (ended.Spent user) played cause = course.Ended (fault.Turns max user)
 course_of max ended.Done played cause = course_done played cause
 
+-- no call of the opened store's devices was made
+pub record IsUnplayed {L D : Type 0} (opened : Opened L D) (log_now : L) (data_now : D) : Type 0 where
+  pub log_same : log_now ≡ opened.log.dev
+  pub data_same : data_now ≡ opened.store.dev
+
 -- The script doesn't fit the opened store; no call of its devices was made.
 pub record IsUnfit {L D : Type 0} (opened : Opened L D) (turns : Turns) (script : List ScriptLine) (misfit : Misfit)
     (log_now : L) (data_now : D) : Type 0 where
   pub first : first_misfit opened.shape opened.start (room_from turns.log_only opened.shape opened.start) script ≡ Some misfit
-  pub log_same : log_now ≡ opened.log.dev
-  pub data_same : data_now ≡ opened.store.dev
+  pub unplayed : IsUnplayed opened log_now data_now
+  pub open unplayed use *
 
 -- The two devices went from the opened store to here by calls of which the last one of each alone may have answered an error,
 -- this one.
@@ -116,41 +121,65 @@ OwesRun becomes log_seen data_seen opened script played failed log_now data_now 
       data_disk = becomes data_disk;
     })))
 
--- The lines were run on the opened store, which the script fits, until all users had ended; a call of each device may have
--- answered an error.
-pub record AreRun {L D : Type 0} (log_seen : L → Seen) (log_gives : L → Call → L → Type 0)
-    (data_seen : D → Seen) (data_gives : D → Call → D → Type 0)
+-- where the devices tell, and the store was ready, both devices hold the run
+abbrev pub HoldsRunOn : {L D : Type 0} → (L → Seen) → (D → Seen) → Opened L D → List ScriptLine → Played → L → D → Type 0
+HoldsRunOn log_seen data_seen opened script played log_now data_now =
+    (reading : Reading) → IsOpenedAs reading opened
+    → WhereBothTell (log_seen opened.log.dev).tells (data_seen opened.store.dev).tells (λ log data_disk.
+    IsStart reading script log data_disk
+    → WhereBothTell (log_seen log_now).tells (data_seen data_now).tells (λ log_disk data_disk.
+    IsHeld (record {
+      script = script;
+      opened = opened_as reading;
+      number = reading.number + 1;
+      run = ran_of played;
+      log_disk = log_disk;
+      data_disk = data_disk;
+    })))
+
+-- The lines were run so far on the opened store, which the script fits; a call of each device may have answered an error.
+pub record AreRunSoFar {L D : Type 0} (log_gives : L → Call → L → Type 0) (data_gives : D → Call → D → Type 0)
     (opened : Opened L D) (turns : Turns) (script : List ScriptLine) (played : Played)
     (log_error data_error : Option DevError) (log_now : L) (data_now : D) : Type 0 where
   pub fits : ScriptFits opened.shape opened.start (room_from turns.log_only opened.shape opened.start) script
   -- the run is one, for any end behind which it starts
   pub is_run : (end : ℕ) → opened.start ≡ start_after end
       → IsRun script (record { shape = opened.shape; pages = opened.pages; end = end }) (ran_of played)
+  pub calls : MakeCalls log_gives data_gives opened log_error data_error log_now data_now
+
+-- They were run until all users had ended.
+pub record AreRun {L D : Type 0} (log_seen : L → Seen) (log_gives : L → Call → L → Type 0)
+    (data_seen : D → Seen) (data_gives : D → Call → D → Type 0)
+    (opened : Opened L D) (turns : Turns) (script : List ScriptLine) (played : Played)
+    (log_error data_error : Option DevError) (log_now : L) (data_now : D) : Type 0 where
+  pub so_far : AreRunSoFar log_gives data_gives opened turns script played log_error data_error log_now data_now
+  pub open so_far use *
   pub loses : (left : List (ℕ × ℕ)) → IsLeft script played.history left
       → LosesOnlyByFailure (failures log_error + failures data_error) (Some (ran_of played)) left
   pub owed : OwesRun (λ disk. disk) log_seen data_seen opened script played (failures log_error + failures data_error) log_now data_now
   -- and where no call answered an error, with what a sync would leave of both devices
   pub owed_synced : log_error ≡ None → data_error ≡ None
       → OwesRun synced log_seen data_seen opened script played (failures log_error + failures data_error) log_now data_now
-  pub calls : MakeCalls log_gives data_gives opened log_error data_error log_now data_now
 
 -- The turns were spent, so many, before each user had ended; this is the least of those that hadn't.
-pub record AreSpentOn {L D : Type 0} (log_gives : L → Call → L → Type 0) (data_gives : D → Call → D → Type 0)
+pub record AreSpentOn {L D : Type 0} (log_seen : L → Seen) (log_gives : L → Call → L → Type 0)
+    (data_seen : D → Seen) (data_gives : D → Call → D → Type 0)
     (opened : Opened L D) (turns : Turns) (script : List ScriptLine) (count user : ℕ) (log_now : L) (data_now : D) : Type 0 where
   pub count_is : count ≡ turns.max
-  pub fits : ScriptFits opened.shape opened.start (room_from turns.log_only opened.shape opened.start) script
   pub played : Played
-  pub is_run : (end : ℕ) → opened.start ≡ start_after end
-      → IsRun script (record { shape = opened.shape; pages = opened.pages; end = end }) (ran_of played)
   pub log_error : Option DevError
   pub data_error : Option DevError
+  pub so_far : AreRunSoFar log_gives data_gives opened turns script played log_error data_error log_now data_now
+  pub holds : HoldsRunOn log_seen data_seen opened script played log_now data_now
   pub leaves : LeavesOpen script played.history ((log_error ≢ None) ⊎ (data_error ≢ None)) user
-  pub calls : MakeCalls log_gives data_gives opened log_error data_error log_now data_now
 
--- Memory ran out, of the program or of a device; no call failed for another reason.
-abbrev pub IsWithoutMemory : {L D : Type 0} → (L → Call → L → Type 0) → (D → Call → D → Type 0) → Opened L D → L → D → Type 0
-IsWithoutMemory log_gives data_gives opened log_now data_now =
-    MakeCalls log_gives data_gives opened (Some device.NoMemory) (Some device.NoMemory) log_now data_now
+-- A device had no memory, and no call failed for another reason.
+pub record HasRunOutOn {L D : Type 0} (log_seen : L → Seen) (log_gives : L → Call → L → Type 0)
+    (data_seen : D → Seen) (data_gives : D → Call → D → Type 0)
+    (opened : Opened L D) (turns : Turns) (script : List ScriptLine) (log_now : L) (data_now : D) : Type 0 where
+  pub played : Played
+  pub so_far : AreRunSoFar log_gives data_gives opened turns script played (Some device.NoMemory) (Some device.NoMemory) log_now data_now
+  pub holds : HoldsRunOn log_seen data_seen opened script played log_now data_now
 
 -- the log device failed, and the data device may have met an error too
 pub record AreRunToFault {L D : Type 0} (log_seen : L → Seen) (log_gives : L → Call → L → Type 0)
@@ -166,10 +195,11 @@ module _ {L D : Type 0} (log_seen : L → Seen) (log_gives : L → Call → L �
     (data_seen : D → Seen) (data_gives : D → Call → D → Type 0)
     (opened : Opened L D) (turns : Turns) (script : List ScriptLine) where
   abbrev pub Plays : Course → L → D → Type 0
-  Plays (course.Ended fault.Memory) log_now data_now = IsWithoutMemory log_gives data_gives opened log_now data_now
+  Plays (course.Ended fault.Memory) log_now data_now =
+      IsUnplayed opened log_now data_now ⊎ HasRunOutOn log_seen log_gives data_seen data_gives opened turns script log_now data_now
   Plays (course.Ended (fault.Fit misfit)) log_now data_now = IsUnfit opened turns script misfit log_now data_now
   Plays (course.Ended (fault.Turns count user)) log_now data_now =
-      AreSpentOn log_gives data_gives opened turns script count user log_now data_now
+      AreSpentOn log_seen log_gives data_seen data_gives opened turns script count user log_now data_now
   Plays (course.Ended _) log_now data_now = ⊥
   Plays (course.Stopped _) log_now data_now = ⊥
   Plays (course.Played played None) log_now data_now =

@@ -1,5 +1,5 @@
 -- The store that a call opens, and why its devices are refused.
-use Rattle.std.specs.Prelude.{ℕ, ◌≡◌, ◌<◌, ◌≤◌, ◌⊎◌, List, ⊤}
+use Rattle.std.specs.Prelude.{ℕ, ◌≡◌, ◌<◌, ◌≤◌, ◌⊎◌, List, Some, ⊤}
 use Rattle.model_base.specs.declared.shape.Shape.{Shape}
 use Rattle.model_device.specs.{IsImage}
 use Rattle.model_device.specs.Disk.{Disk}
@@ -11,7 +11,8 @@ use Rattle.model_store.specs.{IsFair, IsOrderly, IsReading, IsUnused, OpensUnuse
 use Rattle.model_store.specs.Reading.{Reading}
 use Rattle.model_store.specs.declared.refusal.Refusal.{Refusal}
 use Rattle.model_store.specs.declared.refusal.Refusal.TheVariants.{SmallLog, SmallData}
-use Rattle.model_theorem.specs.{Opened}
+use Rattle.model_script.specs.declared.script.ScriptLine.{ScriptLine}
+use Rattle.model_theorem.specs.{Opened, Ran, ReadsPrefix}
 
 -- the store is read as what is opened
 pub record IsReadAs (log_bytes data_bytes : List ℕ) (opened : Opened) : Type 0 where
@@ -62,3 +63,10 @@ abbrev pub AreReadAsOpened : Opened → Disk → Disk → Type 0
 AreReadAsOpened opened log data_disk =
     (log_bytes data_bytes : List ℕ) → IsImage log log_bytes → IsFair opened.shape data_disk data_bytes
     → (reading : Reading) × IsReading log_bytes data_bytes reading × (reading.pages ≡ opened.pages)
+
+-- every image of the log device with every fair image of the data device is read as the opened pages with the first groups of
+-- this run of the script, which reach every flushed one
+abbrev pub AreReadAsPrefix : List ScriptLine → Opened → Ran → Disk → Disk → Type 0
+AreReadAsPrefix script opened run log data_disk =
+    (log_bytes data_bytes : List ℕ) → IsImage log log_bytes → IsFair opened.shape data_disk data_bytes
+    → ReadsPrefix script opened (Some run) log_bytes data_bytes

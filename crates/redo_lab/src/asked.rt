@@ -1,7 +1,6 @@
 // What the words ask for, as far as it is served.
 ghost use Rattle.std.specs.Prelude.{◌≡◌, ◌⊎◌, Some, None, IfOk, IfErr, map};
 ghost use Rattle.std.specs.String.{string_bytes};
-ghost use Rattle.model_report.specs.declared.fault.Fault.{Fault};
 ghost use Rattle.model_report.specs.declared.fault.Fault.TheVariants.{Memory, Words};
 ghost use Rattle.redo_lab.specs.Asked.{command_of, is_by_turns, is_served, turns_of};
 

@@ -20,8 +20,8 @@ use crate::playing::{Course, Played, Ran, Stops, run_lines};
 use crate::reading::contents;
 use crate::reporting::report_of;
 use model_command::Drive;
-use model_opening::formatted_is_openable;
-use model_run::{closed_run_is_opened, closed_run_is_safe, crash_of_safe_run};
+use model_opening::{formatted_is_openable, openable_reads};
+use model_run::{closed_run_is_safe, crash_of_safe_run, held_run_is_opened, held_run_reads};
 use model_script::{Script, unfit_is_misfit};
 use model_store::{one_answer, one_reading};
 use redo_disk::Sectors;
@@ -93,8 +93,10 @@ pub(crate) fn crash_command<L: Sectors, D: Sectors>(
 {
     one_answer();
     one_reading();
+    openable_reads();
     formatted_is_openable();
-    closed_run_is_opened();
+    held_run_reads();
+    held_run_is_opened();
     closed_run_is_safe();
     crash_of_safe_run();
     unfit_is_misfit();

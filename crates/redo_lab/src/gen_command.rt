@@ -20,9 +20,9 @@ use crate::faults::fault_of;
 use crate::outcome::{Done, Outcome, unasked};
 use crate::playing::{Course, Played, Ran, Stops, run_lines};
 use crate::reading::contents;
-use model_opening::formatted_is_openable;
+use model_opening::{formatted_is_openable, openable_reads};
 use model_report::Fault;
-use model_run::{closed_run_is_opened, closed_run_is_safe};
+use model_run::{closed_run_is_safe, held_run_is_opened, held_run_reads};
 use model_script::{Script, unfit_is_misfit};
 use model_store::{base_is_fair, one_answer, one_reading};
 use redo_disk::Sectors;
@@ -122,8 +122,10 @@ fn run_script<L: Sectors, D: Sectors>(
 {
     one_answer();
     one_reading();
+    openable_reads();
     formatted_is_openable();
-    closed_run_is_opened();
+    held_run_reads();
+    held_run_is_opened();
     closed_run_is_safe();
     base_is_fair();
     unfit_is_misfit();
@@ -169,6 +171,7 @@ fn run_seed<L: Sectors, D: Sectors>(
     ensures log_device { IsLedFrom L.seen L.gives L.crash_gives log result.log }
     ensures data_device { IsLedFrom D.seen D.gives D.crash_gives store result.store }
 {
+    openable_reads();
     generated_lines_are_ranged();
     match generate_lines(alloc, seed, users, groups) {
         Ok(script) => run_script(alloc, &script, seed, max, log, store),

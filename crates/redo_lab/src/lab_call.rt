@@ -157,6 +157,7 @@ pub fn lab<S: Source, O: Sink, L: Sectors, D: Sectors>(
     ensures log_device { IsLedFrom L.seen L.gives L.crash_gives log result.log }
     ensures data_device { IsLedFrom D.seen D.gives D.crash_gives store result.store }
 {
+    openable_reads();
     let Done {
         outcome,
         log,

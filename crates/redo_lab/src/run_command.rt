@@ -18,7 +18,7 @@ use crate::reporting::report_of;
 use model_command::Drive;
 use model_opening::{formatted_is_openable, openable_reads};
 use model_report::Fault;
-use model_run::{closed_run_is_opened, closed_run_is_safe};
+use model_run::{closed_run_is_safe, held_run_is_opened, held_run_reads};
 use model_script::{Script, unfit_is_misfit};
 use model_store::{one_answer, one_reading};
 use redo_disk::Sectors;
@@ -55,7 +55,8 @@ pub(crate) fn run_command<L: Sectors, D: Sectors>(
     one_reading();
     openable_reads();
     formatted_is_openable();
-    closed_run_is_opened();
+    held_run_reads();
+    held_run_is_opened();
     closed_run_is_safe();
     unfit_is_misfit();
     let stops = Stops {

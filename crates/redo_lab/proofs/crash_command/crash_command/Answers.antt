@@ -11,7 +11,9 @@ returns-clause-ends g c = λ words source source_now read.
     elim c.match-course.branch [
       | in-Ended w ↦ rw (w.outcome-is, w.log-is, w.store-is)
           (crash-ends-early _ c.args.stops c.args.drive.now c.args.pick c.args.script.now w.in-Ended.fault read
-          c.one_answer.ensures.read c.one_reading.ensures c.formatted_is_openable.ensures c.unfit_is_misfit.ensures
+          c.one_answer.ensures.read c.one_reading.ensures c.openable_reads.ensures c.formatted_is_openable.ensures
+          (record { safe = c.closed_run_is_safe.ensures; reads = c.held_run_reads.ensures.read; opened = c.held_run_is_opened.ensures.opened })
+          c.unfit_is_misfit.ensures
           (rw (w.in-Ended.is, c.turns_of.ensures) at c.run_lines-course.ensures.comes_to))
       | in-Stopped w ↦ rw (w.outcome-is, w.log-is, w.store-is)
           (crash-stopped _ c.args.stops c.args.drive.now c.args.pick c.args.script.now w.in-Stopped.field-0 _ _ _ read
@@ -30,7 +32,7 @@ returns-clause-ends g c = λ words source source_now read.
             formatted = c.formatted_is_openable.ensures;
             crash = c.crash_of_safe_run.ensures;
           })
-          (record { safe = c.closed_run_is_safe.ensures; opened = c.closed_run_is_opened.ensures.opened })
+          (record { safe = c.closed_run_is_safe.ensures; reads = c.held_run_reads.ensures.read; opened = c.held_run_is_opened.ensures.opened })
           (rw (w.in-Played.is, c.turns_of.ensures) at c.run_lines-course.ensures.comes_to) w.crash_and_read-outcome-in-Played.ensures.reads)
     ]
 

@@ -10,8 +10,9 @@ returns-clause-ends g c = λ words source users groups is.
     let laws : SeedLaws = record {
       one = c.one_answer.ensures.read;
       same = c.one_reading.ensures;
+      openable = c.openable_reads.ensures;
       formatted = c.formatted_is_openable.ensures;
-      closed = record { safe = c.closed_run_is_safe.ensures; opened = c.closed_run_is_opened.ensures.opened };
+      closed = record { safe = c.closed_run_is_safe.ensures; reads = c.held_run_reads.ensures.read; opened = c.held_run_is_opened.ensures.opened };
       fair = c.base_is_fair.ensures;
       unfit = c.unfit_is_misfit.ensures;
     } in

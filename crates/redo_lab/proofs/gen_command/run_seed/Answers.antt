@@ -1,4 +1,7 @@
 use Rattle.std.proofs.Common.{inl, ap, refl}
+use Rattle.redo_lab.specs.Call.{AreLeftAlone}
+use Rattle.redo_lab.specs.Outcome.{call_of}
+use Rattle.redo_lab.proofs.Found.{leaves-alone}
 use Rattle.redo_lab.proofs.Led.{alone-from}
 use Rattle.redo_lab.proofs.PlainEnds.{gen-unscripted}
 use Rattle.redo_lab.proofs.gen_command.run_seed.Goals as goal
@@ -16,12 +19,12 @@ returns-in-Ok-clause-turns g c = λ source. c.run_script.ensures.turns source c.
 pub returns-in-Err-clause-ends : goal.returns-in-Err-clause-ends
 returns-in-Err-clause-ends g c = λ words source.
     let unasked = c.unasked.ensures in
-    rw unasked.outcome_is (gen-unscripted _ c.args.seed c.args.users c.args.groups c.args.max
-    (record {
+    let alone : AreLeftAlone (call_of g.L.Sectors.seen g.D.Sectors.seen words source source c.args.log c.args.store c.unasked.result) = record {
       log_device = record { seen = ap g.L.Sectors.seen unasked.log_inner; fuse = unasked.log_fuse };
       data_device = record { seen = ap g.D.Sectors.seen unasked.data_inner; fuse = unasked.data_fuse };
-    })
-    refl)
+    } in
+    rw unasked.outcome_is
+    (gen-unscripted _ c.args.seed c.args.users c.args.groups c.args.max alone refl (leaves-alone _ c.openable_reads.ensures alone))
 
 pub returns-in-Err-clause-turns : goal.returns-in-Err-clause-turns
 returns-in-Err-clause-turns g c = λ source. rw c.unasked.ensures.outcome_is tt

@@ -13,7 +13,7 @@ returns-in-Ok-run_by_turns-clause-plays g c =
     rw (c.close.ensures.course, c.close.ensures.log, c.close.ensures.store)
     (lines-run (seen_through g.L.Sectors.seen) (CallsThrough g.L.Sectors.seen g.L.Sectors.gives) (seen_through g.D.Sectors.seen)
     (CallsThrough g.D.Sectors.seen g.D.Sectors.gives) c.args.opened c.args.turns.now c.args.script.now c.in-Ok-run_by_turns.driven fits
-    c.in-Ok-run_by_turns.ensures.comes_to c.in-Ok-run_by_turns.ensures.owed c.in-Ok-run_by_turns.ensures.owed_synced)
+    c.in-Ok-run_by_turns.ensures.comes_to c.in-Ok-run_by_turns.ensures.holds c.in-Ok-run_by_turns.ensures.owed c.in-Ok-run_by_turns.ensures.owed_synced)
 
 pub returns-in-Ok-run_by_turns-clause-turns : goal.returns-in-Ok-run_by_turns-clause-turns
 returns-in-Ok-run_by_turns-clause-turns g c =

@@ -11,7 +11,7 @@ returns-clause-ends g c = λ words source source_now read.
       same = c.one_reading.ensures;
       openable = c.openable_reads.ensures;
       formatted = c.formatted_is_openable.ensures;
-      closed = record { safe = c.closed_run_is_safe.ensures; opened = c.closed_run_is_opened.ensures.opened };
+      closed = record { safe = c.closed_run_is_safe.ensures; reads = c.held_run_reads.ensures.read; opened = c.held_run_is_opened.ensures.opened };
       unfit = c.unfit_is_misfit.ensures;
     } in
     elim c.match-course.branch [
