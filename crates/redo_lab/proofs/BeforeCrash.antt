@@ -13,11 +13,11 @@ use Rattle.model_theorem.specs.{entries_of, IsOpenedBefore, LosesOnlyByFailure, 
 use Rattle.redo_open.specs.{WhereBothTell}
 use Rattle.redo_lab.specs.Call.{Call, Guarded}
 use Rattle.redo_lab.specs.Took.{TookPlace}
-use Rattle.redo_lab.specs.Course.{ArePlayed, AreStopped, AreUnderWay, ran_of}
+use Rattle.redo_lab.specs.Course.{ArePlayed, AreStopped, AreUnderWay, KeepsRefusedStore, ran_of}
 use Rattle.redo_lab.specs.declared.playing.Played.{Played}
 use Rattle.redo_lab.specs.declared.playing.Stops.{Stops}
 use Rattle.redo_lab.proofs.RunPlayed.{ClosedLaws, WasFound, closed-as, held-closed, opened-before, safe-as, stopped-on}
-use Rattle.redo_lab.proofs.Told.{both-told}
+use Rattle.redo_lab.proofs.Told.{OneAnswer, both-told, kept-opened}
 
 -- a run on this store, and what is left of the script, with what both devices mean
 abbrev pub result_on : List ScriptLine → Opened → Option Ran → List (ℕ × ℕ) → (log_disk data_disk : Disk) → RunResult
@@ -38,7 +38,7 @@ pub record IsSafeOn (script : List ScriptLine) (opened store : Opened) (run : Op
   pub safe : RunSafe failed (result_on script store run left log_disk data_disk)
 
 -- WHAT A CRASH MEETS: both devices are under way, and so many calls failed, one of each device at the most; a run of the script took place on
--- the opened store, or none did; and it is a safe one.
+-- the opened store, or none did; and it is a safe one. A store in use that is refused is as it was.
 pub record IsBeforeCrash (call : Call) (stops : Stops) (log_only : Bool) (script : List ScriptLine) (run : Option Ran) (log_failed data_failed : ℕ) (log_old data_old : Guarded) : Type 0 where
   pub way : AreUnderWay call.log_device call.data_device stops log_failed data_failed log_old data_old
   pub log_once : log_failed ≤ 1
@@ -49,6 +49,7 @@ pub record IsBeforeCrash (call : Call) (stops : Stops) (log_only : Bool) (script
   pub safe : (store : Opened) → (found : WasFound way.log_found way.data_found store) → (left : List (ℕ × ℕ)) → IsLeft script (entries_of run) left
       → (log_disk data_disk : Disk) → log_old.seen.tells ≡ Some log_disk → data_old.seen.tells ≡ Some data_disk
       → IsSafeOn script opened store run (log_failed + data_failed) left found.log log_disk data_disk
+  pub kept : KeepsRefusedStore call.log_device call.data_device log_old data_old
 
 -- where no line was run something is lost only if a call failed
 lost-stopped : (failed : ℕ) (left : List (ℕ × ℕ)) → 0 < failed → LosesOnlyByFailure failed None left
@@ -103,13 +104,14 @@ before-stopped call stops log_only script log_failed data_failed log_old data_ol
         safe = subst (λ (o : Opened). RunSafe (log_failed + data_failed) (result_on script o None left log_disk data_disk)) (sym found.same)
             (safe-stopped script found.reading (log_failed + data_failed) left log_disk data_disk (omega arith) left_is keeps_now);
       });
+  kept = was.kept;
 }
 
 -- THE LINES WERE RUN.
-pub before-played : (call : Call) (stops : Stops) (log_only : Bool) (script : List ScriptLine) (played : Played) (log_failed data_failed : ℕ) (log_old data_old : Guarded) → ClosedLaws
+pub before-played : (call : Call) (stops : Stops) (log_only : Bool) (script : List ScriptLine) (played : Played) (log_failed data_failed : ℕ) (log_old data_old : Guarded) → OneAnswer → ClosedLaws
     → log_failed ≤ 1 → data_failed ≤ 1 → ArePlayed call.log_device call.data_device stops log_only script played log_failed data_failed log_old data_old
     → IsBeforeCrash call stops log_only script (Some (ran_of played)) log_failed data_failed log_old data_old
-before-played call stops log_only script played log_failed data_failed log_old data_old laws log_once data_once was = record {
+before-played call stops log_only script played log_failed data_failed log_old data_old one laws log_once data_once was = record {
   way = was.way;
   log_once = log_once;
   data_once = data_once;
@@ -124,4 +126,5 @@ before-played call stops log_only script played log_failed data_failed log_old d
         opened_first = opened-before script (ran_of played) was.way.log_found was.way.data_found was.opened store log_disk data_disk laws.opened closed.0 found (held-closed closed.1);
         safe = safe-as script (found.reading.number + 1) played left (log_failed + data_failed) (log_failed + data_failed) was.opened store log_disk data_disk laws.safe refl closed.0 closed.1;
       });
+  kept = kept-opened one call.log_device call.data_device log_old data_old was.opened was.opens;
 }

@@ -14,7 +14,7 @@ use Rattle.model_history.specs.{IsLeft}
 use Rattle.redo_disk.specs.Seen.{Seen}
 use Rattle.redo_lab.specs.Answer.{AreUnfailedAside, IsCrashText}
 use Rattle.redo_lab.specs.Call.{Call, Guarded}
-use Rattle.redo_lab.specs.Cause.{IsLeftRefused, LeavesCrash}
+use Rattle.redo_lab.specs.Cause.{IsLeftRefused, KeepsRefusedCrashed, LeavesCrash}
 use Rattle.redo_lab.specs.Complete.{CanCrash}
 use Rattle.redo_lab.specs.Course.{IsPlayedBy, IsStoppedBy, ran_of}
 use Rattle.redo_lab.specs.Crashed.{AreCrashedSince, AreReadBack, ReadsBack}
@@ -155,6 +155,17 @@ took-place : (call : Call) (log_only : Bool) (opened : Opened) (script : List Sc
 took-place call log_only opened script None place = tt
 took-place call log_only opened script (Some run) place = (opened, place)
 
+-- A STORE IN USE THAT IS REFUSED was as it had been handed in.
+kept-crashed : (call : Call) (stops : Stops) (log_only : Bool) (pick : ℕ) (script : List ScriptLine) (run : Option Ran) (log_failed data_failed log_since data_since : ℕ) (log_old data_old : Guarded)
+    → IsBeforeCrash call stops log_only script run log_failed data_failed log_old data_old
+    → AreCrashedSince pick log_since data_since log_old data_old call.log_device_now call.data_device_now → KeepsRefusedCrashed call
+kept-crashed call stops log_only pick script run log_failed data_failed log_since data_since log_old data_old before since refusal log data_disk log_is data_is used refused =
+    let kept = before.kept refusal log data_disk log_is data_is used refused in
+    record {
+      log_device = since.log_device.from ∙ (kept.log_device.tells ∙ log_is);
+      data_device = since.data_device.from ∙ (kept.data_device.tells ∙ data_is);
+    }
+
 leaves-crash : (call : Call) (stops : Stops) (drive : Drive) (pick : ℕ) (script : List ScriptLine) (run : Option Ran) (log_failed data_failed log_since data_since : ℕ) (log_old data_old : Guarded)
     → IsScriptRead call.source call.source_now script → CrashLaws → (before : IsBeforeCrash call stops drive.log_only script run log_failed data_failed log_old data_old)
     → AreBothCrashed call stops pick log_failed data_failed log_since data_since before.way.log_found before.way.data_found
@@ -177,6 +188,7 @@ leaves-crash call stops drive pick script run log_failed data_failed log_since d
       opened_first = crash-first call stops drive.log_only script run log_failed data_failed log_old data_old laws before left.0 left.1
           both.log_device.armed_from since.log_device.from;
       left = left-reads call stops drive.log_only pick script run log_failed data_failed log_since data_since log_old data_old laws before since;
+      kept = kept-crashed call stops drive.log_only pick script run log_failed data_failed log_since data_since log_old data_old before since;
     }
 
 -- A STORE THAT CAN BE RUN ON is not refused behind the crash.
@@ -274,11 +286,11 @@ pub crash-played : (call : Call) (stops : Stops) (drive : Drive) (pick : ℕ) (s
     → EndsCommand call (Crash drive stops.log stops.store pick) o
 crash-played call stops drive pick script played None log_old data_old o read laws safe run back =
     crash-done call stops drive pick script (Some (ran_of played)) 0 0 log_old data_old o read laws
-    (before-played call stops drive.log_only script played 0 0 log_old data_old safe (omega arith) (omega arith) run.are) back
+    (before-played call stops drive.log_only script played 0 0 log_old data_old laws.one_answer safe (omega arith) (omega arith) run.are) back
 crash-played call stops drive pick script played (Some fault.LogDevice) log_old data_old o read laws safe run back =
     crash-done call stops drive pick script (Some (ran_of played)) 1 run.data_failed log_old data_old o read laws
-    (before-played call stops drive.log_only script played 1 run.data_failed log_old data_old safe (omega arith) run.once run.are) back
+    (before-played call stops drive.log_only script played 1 run.data_failed log_old data_old laws.one_answer safe (omega arith) run.once run.are) back
 crash-played call stops drive pick script played (Some fault.DataDevice) log_old data_old o read laws safe run back =
     crash-done call stops drive pick script (Some (ran_of played)) 0 1 log_old data_old o read laws
-    (before-played call stops drive.log_only script played 0 1 log_old data_old safe (omega arith) (omega arith) run) back
+    (before-played call stops drive.log_only script played 0 1 log_old data_old laws.one_answer safe (omega arith) (omega arith) run) back
 crash-played call stops drive pick script played (Some f) log_old data_old o read laws safe run back = absurd run

@@ -11,7 +11,7 @@ use Rattle.redo_memdisk.specs.declared.fuse.Fuse.{Fuse}
 use Rattle.redo_open.specs.{WhereBothTell}
 use Rattle.redo_lab.specs.Call.{AreKept, AreLeftAlone, Call}
 use Rattle.redo_lab.specs.Cause.{AreUntouched, IsBegunOrUntouched, IsFoundKept, KeepsRefused, KeepsStore, LeavesStopped, LeavesStore}
-use Rattle.redo_lab.specs.Course.{AreMisfitted, AreRefusedOpened, AreStopped, AreUnderWay, KeepsFound, KeepsRefused as KeepsRefusedOf}
+use Rattle.redo_lab.specs.Course.{AreMisfitted, AreRefusedOpened, AreStopped, AreUnderWay, KeepsFound, KeepsRefusedStore}
 use Rattle.redo_lab.specs.Devices.{AreFound, AreUncrashed, IsOpenedFirst, WhereToldAtEntry}
 use Rattle.redo_lab.specs.Prepared.{AreTooShort, EndUnprepared}
 use Rattle.redo_lab.specs.declared.playing.Stops.{Stops}
@@ -50,7 +50,7 @@ found-kept call stops log_failed data_failed law way keeps = record {
 refused-kept : (call : Call) → AreKept call → KeepsRefused call
 refused-kept call kept refusal log data_disk log_is data_is used refused = kept
 
-refused-as : (call : Call) → KeepsRefusedOf call.log_device call.data_device call.log_device_now call.data_device_now → KeepsRefused call
+refused-as : (call : Call) → KeepsRefusedStore call.log_device call.data_device call.log_device_now call.data_device_now → KeepsRefused call
 refused-as call keeps refusal log data_disk log_is data_is used refused = kept-both call (keeps refusal log data_disk log_is data_is used refused)
 
 refused-unprepared : (call : Call) (log_failed data_failed : ℕ)
@@ -117,7 +117,7 @@ leaves-short call cause law short = (
 pub leaves-unstarted : (call : Call) (stops : Stops) (log_failed data_failed : ℕ) → OneAnswer → FormattedLaw
     → (way : AreUnderWay call.log_device call.data_device stops log_failed data_failed call.log_device_now call.data_device_now)
     → KeepsFound way.log_found way.data_found call.log_device_now call.data_device_now
-    → KeepsRefusedOf call.log_device call.data_device call.log_device_now call.data_device_now → LeavesStore call
+    → KeepsRefusedStore call.log_device call.data_device call.log_device_now call.data_device_now → LeavesStore call
 leaves-unstarted call stops log_failed data_failed one law way keeps kept = (
   keeps-under_way call stops log_failed data_failed one way keeps,
   refused-as call kept,

@@ -36,4 +36,5 @@ pub mod Telling
 pub mod Told
 pub mod Turned
 pub mod UnderWay
+pub mod Unopened
 pub mod Unscripted

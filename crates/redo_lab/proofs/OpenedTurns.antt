@@ -13,6 +13,7 @@ use Rattle.redo_open.specs.{IsOpenedReady}
 use Rattle.redo_pageactors.specs.declared.opened.Opened.{Opened}
 use Rattle.redo_lab.specs.Call.{Guarded}
 use Rattle.redo_lab.specs.Led.{IsAtArming}
+use Rattle.redo_lab.specs.Playing.{Plays}
 use Rattle.redo_lab.specs.Turned.{AreCountedFailures, ComesByTurnsTo, IsDrivenTo, IsOpenedOn, MakePartCalls}
 use Rattle.redo_lab.specs.declared.playing.Course.{Course}
 use Rattle.redo_lab.specs.declared.playing.Course.TheVariants as course
@@ -64,26 +65,30 @@ pub driven-comes : {L D : Type 0} {log_seen : L → Seen} {log_gives : L → Cal
     (turns : Turns) (script : List ScriptLine) (c : Course) (log_now : Fused L) (data_now : Fused D)
     → IsOpenedUnderWay log_seen log_gives data_seen data_gives log_entry data_entry stops log_found data_found log data_device store
     → IsAtArming stops.log log_found.fuse log → IsAtArming stops.store data_found.fuse data_device
+    → Plays (seen_through log_seen) (CallsThrough log_seen log_gives) (seen_through data_seen) (CallsThrough data_seen data_gives) store turns script c log_now data_now
     → IsDrivenTo (seen_through log_seen) (CallsThrough log_seen log_gives) (seen_through data_seen) (CallsThrough data_seen data_gives) store turns script c log_now data_now
     → ComesByTurnsTo log_seen log_gives data_seen data_gives log_entry data_entry stops turns script c log_now data_now
-driven-comes {store = store} turns script (course.Played played f) log_now data_now is log_at data_at driven = record {
+driven-comes {store = store} turns script (course.Played played f) log_now data_now is log_at data_at plays driven = record {
   opened = store;
   is_opened = opened-on is log_at data_at;
   done = driven.0;
   calls = driven.1;
   counted = counted-failures driven.0.is_driven.driven log_now data_now is driven.1;
 }
-driven-comes {store = store} turns script (course.Ended (fault.Turns count user)) log_now data_now is log_at data_at driven = record {
+driven-comes {store = store} turns script (course.Ended (fault.Turns count user)) log_now data_now is log_at data_at plays driven = record {
   opened = store;
   is_opened = opened-on is log_at data_at;
   spent = driven.0;
   calls = driven.1;
   counted = counted-failures driven.0.is_driven.driven log_now data_now is driven.1;
 }
-driven-comes {store = store} turns script (course.Ended (fault.Fit misfit)) log_now data_now is log_at data_at driven = record {
+driven-comes {store = store} turns script (course.Ended (fault.Fit misfit)) log_now data_now is log_at data_at plays driven = record {
   opened = store;
   is_opened = opened-on is log_at data_at;
   unfit = driven;
 }
-driven-comes turns script (course.Ended f) log_now data_now is log_at data_at driven = tt
-driven-comes turns script (course.Stopped f) log_now data_now is log_at data_at driven = tt
+driven-comes turns script (course.Ended fault.LogDevice) log_now data_now is log_at data_at plays driven = absurd plays
+driven-comes turns script (course.Ended fault.DataDevice) log_now data_now is log_at data_at plays driven = absurd plays
+driven-comes turns script (course.Ended (fault.Store refusal)) log_now data_now is log_at data_at plays driven = absurd plays
+driven-comes turns script (course.Ended f) log_now data_now is log_at data_at plays driven = tt
+driven-comes turns script (course.Stopped f) log_now data_now is log_at data_at plays driven = absurd plays

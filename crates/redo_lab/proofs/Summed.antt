@@ -13,7 +13,7 @@ use Rattle.redo_lab.specs.Behind.{AreReadBehind, AreReadSince}
 use Rattle.redo_lab.specs.Call.{Call, Guarded, IsUnread}
 use Rattle.redo_lab.specs.Complete.{CanPlay}
 use Rattle.redo_lab.specs.Course.{ArePlayedThrough, AreUnderWay, CameSoFar, ClosesRun, HoldsRun, ran_of}
-use Rattle.redo_lab.specs.Devices.{WhereToldNow}
+use Rattle.redo_lab.specs.Devices.{WhereOpened, WhereToldNow}
 use Rattle.redo_lab.specs.Prepared.{ArePrepared}
 use Rattle.redo_lab.specs.Store.{AreRefused}
 use Rattle.redo_lab.specs.Summary.{IsSummary, IsSummarySafe}
@@ -99,6 +99,23 @@ reads-prefix call stops log_only script played laws fair was opened found log_le
     found left.0 left.1 log_left data_left log_is data_is in
     let safe = safe-as script (found.reading.number + 1) played left.0 0 0 was.are.opened opened (synced log_left) (synced data_left) laws.safe refl closed.0 closed.1 in
     safe.every_image log_left.reads data_left.reads (fair opened.shape (synced log_left)).possible (fair opened.shape (synced data_left))
+
+-- So is what was read behind it, on fresh devices that open a store.
+pub reading-prefix : (call : Call) (stops : Stops) (log_only : Bool) (script : List ScriptLine) (played : Played) (text : List ℕ) (log_old data_old : Guarded)
+    → OneAnswer → OneReading → FormattedLaw → ClosedLaws → FairLaw
+    → ArePlayedThrough call.log_device call.data_device stops log_only script played log_old data_old
+    → (behind : AreReadBehind (ran_of played) text log_old data_old call.log_device_now call.data_device_now)
+    → (opened : Opened) → WhereOpened call opened (IsPrefixRead script opened (Some (ran_of played)) behind.reading)
+reading-prefix call stops log_only script played text log_old data_old one same law laws fair was behind opened log data_disk log_is data_is log_fresh data_fresh opens =
+    let now = read-played call.log_device call.data_device stops log_only script played log_old data_old call.log_device_now call.data_device_now was behind.read_since in
+    let found = was-found call.log_device call.data_device now.are.way.log_found now.are.way.data_found log data_disk call.log_device.faults call.data_device.faults
+    opened one law now.are.way.prepared log_is data_is log_fresh data_fresh opens in
+    let log_left = told-still call.log_device.tells call.log_device_now.seen.tells log now.are.way.log_device.same.tells log_is in
+    let data_left = told-still call.data_device.tells call.data_device_now.seen.tells data_disk now.are.way.data_device.same.tells data_is in
+    let kept = reads-prefix call stops log_only script played laws fair now opened found log_left.0 data_left.0 log_left.1 data_left.1 in
+    let is_read = behind.is_read log_left.0 data_left.0 log_left.1 data_left.1 in
+    subst (IsPrefixRead script opened (Some (ran_of played)))
+    (same log_left.0.reads data_left.0.reads kept.reading behind.reading kept.is_read is_read) kept.prefix
 
 -- THE PROMISE OF THE SUMMARY.
 summary-safe : (call : Call) (stops : Stops) (script : List ScriptLine) (played : Played) (text : List ℕ) (log_old data_old : Guarded)

@@ -1,5 +1,5 @@
 -- A run that is told is the run by the turns of its drive.
-use Rattle.std.proofs.Common.{ℕ, ◌≡◌, ◌⊎◌, true, false, List, Option, Some, None, refl, sym, ap, subst, ◌∙◌, inl, inr, ⊎_elim, arith}
+use Rattle.std.proofs.Common.{ℕ, ◌≡◌, ◌⊎◌, true, false, List, [], Option, Some, None, refl, sym, ap, subst, ◌∙◌, inl, inr, ⊎_elim, arith}
 use Rattle.model_command.specs.declared.asked.Command.{Command}
 use Rattle.model_command.specs.declared.asked.Command.TheVariants.{Format, Run, Crash, Recover, Dump, Gen}
 use Rattle.model_command.specs.declared.asked.Drive.{Drive}
@@ -19,9 +19,6 @@ use Rattle.redo_machine.specs.declared.running.Ran as running
 use Rattle.redo_machine.specs.declared.running.Ran.TheVariants as ended
 use Rattle.redo_memdisk.specs.declared.fused.Fused.{Fused}
 use Rattle.redo_pageactors.specs.declared.opened.Opened.{Opened}
-use Rattle.redo_recover.specs.declared.fault.RecFault.{RecFault}
-use Rattle.redo_recover.specs.declared.fault.RecFault.TheVariants.{SmallLog, NotFormatted, BadFormat, SmallData, NoCheckpoint, BadRecord, PageLost, PageAhead, LogDev, DataDev}
-use Rattle.redo_recover.specs.declared.fault.RecFault.TheVariants as rec
 use Rattle.redo_lab.specs.Answer.{shape_of}
 use Rattle.redo_lab.specs.Asked.{command_of, drive_of_seed, reads_script}
 use Rattle.redo_lab.specs.Behind.{ReadsBehind}
@@ -29,11 +26,11 @@ use Rattle.redo_lab.specs.Call as lab
 use Rattle.redo_lab.specs.Call.{AreLeftAlone, IsLeftAlone, guarded}
 use Rattle.redo_lab.specs.Course.{ran_of}
 use Rattle.redo_lab.specs.Crashed.{ReadsBack}
-use Rattle.redo_lab.specs.Playing.{course_done, course_of, ended_by, played_of, unopened}
+use Rattle.redo_lab.specs.Playing.{course_done, course_of, ended_by, played_of}
 use Rattle.redo_lab.specs.Outcome.{EndsCommand, IsOutcome, IsOutcomePrinted, IsUnasked, call_of}
 use Rattle.redo_lab.specs.Reported.{IsReportOf, IsRunPrinted, report_outcome}
 use Rattle.redo_lab.specs.Script.{IsScriptFault}
-use Rattle.redo_lab.specs.Turned.{ComesAsHanded, ComesByTurnsTo, EndsThere, FailsSince, Handed, IsByTurns, IsDriven, IsDrivenTo, MakePartCalls, RunsAsHanded, TellsByTurns, TellsFault, handed_as, no_stops}
+use Rattle.redo_lab.specs.Turned.{AreLedByCalls, AreLedByCrash, ComesAsHanded, EndsThere, FailsSince, Handed, IsByTurns, IsDriven, IsDrivenTo, MakePartCalls, RunsAsHanded, TellsByTurns, TellsFault, handed_as, no_stops}
 use Rattle.redo_lab.specs.declared.outcome.Done.{Done}
 use Rattle.redo_lab.specs.declared.outcome.Outcome.{Outcome}
 use Rattle.redo_lab.specs.declared.outcome.Outcome.TheVariants as outcome
@@ -46,7 +43,9 @@ use Rattle.redo_lab.proofs.Called.{Printed, lab_of}
 use Rattle.redo_lab.proofs.Formatting.{alone-no-store}
 use Rattle.redo_lab.proofs.Found.{leaves-alone}
 use Rattle.redo_lab.proofs.Keeping.{OpenableLaw}
+use Rattle.redo_lab.proofs.GenDone.{SeedLaws}
 use Rattle.redo_lab.proofs.LinesRun.{none-lacks, some-failed}
+use Rattle.redo_lab.proofs.Summed.{reading-prefix}
 
 -- ON AN OPENED STORE
 module _ {L D : Type 0} (log_seen : L → Seen) (log_gives : L → Call → L → Type 0) (data_seen : D → Seen) (data_gives : D → Call → D → Type 0)
@@ -98,21 +97,6 @@ module _ {L D : Type 0} (log_seen : L → Seen) (log_gives : L → Call → L �
       driven.closed.log.dev driven.closed.store.dev
   driven-to = driven-by driven.ended refl
 
--- ON THE TWO DEVICES: none was begun on a store that wasn't opened
-module _ {L D : Type 0} (log_seen : L → Seen) (log_gives : L → Call → L → Type 0) (data_seen : D → Seen) (data_gives : D → Call → D → Type 0) (log_entry data_entry : Seen) (stops : Stops) (turns : Turns) (script : List ScriptLine) (log_now : Fused L) (data_now : Fused D) where
-  pub unopened-comes-not : (f : RecFault) → ComesByTurnsTo log_seen log_gives data_seen data_gives log_entry data_entry stops turns script (unopened f) log_now data_now
-  unopened-comes-not (SmallLog n) = tt
-  unopened-comes-not NotFormatted = tt
-  unopened-comes-not (BadFormat n) = tt
-  unopened-comes-not (SmallData n) = tt
-  unopened-comes-not NoCheckpoint = tt
-  unopened-comes-not (BadRecord lsn) = tt
-  unopened-comes-not (PageLost p) = tt
-  unopened-comes-not (PageAhead p lsn) = tt
-  unopened-comes-not LogDev = tt
-  unopened-comes-not DataDev = tt
-  unopened-comes-not rec.NoMemory = tt
-
 -- WHAT IS TOLD
 -- nothing was done since
 there : {L D : Type 0} (f : Fault) (log_now : Fused L) (data_now : Fused D) → EndsThere log_now log_now data_now data_now f f
@@ -123,14 +107,14 @@ abbrev is-unspent : Fault → Type 0
 is-unspent (fault.Turns count user) = ⊥
 is-unspent f = Unit {0}
 
-module _ {L D : Type 0} (log_seen : L → Seen) (log_gives : L → Call → L → Type 0) (data_seen : D → Seen) (data_gives : D → Call → D → Type 0) (handed : Handed) where
+module _ {L D : Type 0} (log_seen : L → Seen) (log_gives : L → Call → L → Type 0) (log_crash_gives : L → ℕ → L → Type 0) (data_seen : D → Seen) (data_gives : D → Call → D → Type 0) (data_crash_gives : D → ℕ → D → Type 0) (handed : Handed) where
   abbrev runs-handed : (played : Played) (f : Option Fault) (log_then : Fused L) (data_then : Fused D) → ComesAsHanded log_seen log_gives data_seen data_gives handed (course.Played played f) log_then data_then
       → RunsAsHanded log_seen log_gives data_seen data_gives handed f log_then data_then
   runs-handed played f log_then data_then comes = record { script = comes.script; is_script = comes.is_script; played = played; comes = comes.by_turns }
 
   -- a run that came so far
   told-met : (so_far : Course) (f : Fault) (log_then log_now : Fused L) (data_then data_now : Fused D) → is-unspent f → ComesAsHanded log_seen log_gives data_seen data_gives handed so_far log_then data_then
-      → FailsSince log_seen data_seen log_then log_now data_then data_now handed.command so_far f → TellsFault log_seen log_gives data_seen data_gives handed f log_now data_now
+      → FailsSince log_seen log_gives log_crash_gives data_seen data_gives data_crash_gives log_then log_now data_then data_now handed.command so_far f → TellsFault log_seen log_gives log_crash_gives data_seen data_gives data_crash_gives handed f log_now data_now
   told-met so_far (fault.Turns count user) log_then log_now data_then data_now unspent comes fails = absurd unspent
   told-met so_far fault.LogDevice log_then log_now data_then data_now unspent comes fails =
       record { so_far = so_far; log_then = log_then; data_then = data_then; comes = comes; fails = fails }
@@ -144,14 +128,14 @@ module _ {L D : Type 0} (log_seen : L → Seen) (log_gives : L → Call → L �
 
   -- one that ended before its first line, or whose turns were spent
   ended-told : (f : Fault) (log_now : Fused L) (data_now : Fused D) → ComesAsHanded log_seen log_gives data_seen data_gives handed (course.Ended f) log_now data_now
-      → TellsFault log_seen log_gives data_seen data_gives handed f log_now data_now
+      → TellsFault log_seen log_gives log_crash_gives data_seen data_gives data_crash_gives handed f log_now data_now
   ended-told (fault.Turns count user) log_now data_now comes = record { script = comes.script; is_script = comes.is_script; comes = comes.by_turns }
   ended-told f log_now data_now comes = told-met (course.Ended f) f log_now log_now data_now data_now tt comes (there f log_now data_now)
 
   -- no script was read for it, and no device was called
   unscripted-told : (f : Fault) (log_now : Fused L) (data_now : Fused D) → reads_script handed.command ≡ true → IsScriptFault handed.source handed.source_now f
       → IsLeftAlone handed.log_entry (guarded log_seen log_now) → IsLeftAlone handed.data_entry (guarded data_seen data_now)
-      → TellsFault log_seen log_gives data_seen data_gives handed f log_now data_now
+      → TellsFault log_seen log_gives log_crash_gives data_seen data_gives data_crash_gives handed f log_now data_now
   unscripted-told fault.Memory log_now data_now reads cause log_alone data_alone = tt
   unscripted-told fault.Source log_now data_now reads cause log_alone data_alone = tt
   unscripted-told (fault.Script n) log_now data_now reads cause log_alone data_alone = tt
@@ -159,15 +143,18 @@ module _ {L D : Type 0} (log_seen : L → Seen) (log_gives : L → Call → L �
       inl (record { reads = reads; long = cause; log_device = log_alone; data_device = data_alone })
   unscripted-told f log_now data_now reads cause log_alone data_alone = absurd cause
 
-module _ {L D : Type 0} (log_seen : L → Seen) (log_gives : L → Call → L → Type 0) (data_seen : D → Seen) (data_gives : D → Call → D → Type 0) (source source_now : SourceSeen) (log_entry data_entry : Seen) where
+module _ {L D : Type 0} (log_seen : L → Seen) (log_gives : L → Call → L → Type 0) (log_crash_gives : L → ℕ → L → Type 0) (data_seen : D → Seen) (data_gives : D → Call → D → Type 0) (data_crash_gives : D → ℕ → D → Type 0) (source source_now : SourceSeen) (log_entry data_entry : Seen) where
   abbrev handed : Command → Stops → Drive → Handed
-  handed = handed_as log_seen log_gives data_seen data_gives source source_now log_entry data_entry
+  handed = handed_as log_seen log_gives log_crash_gives data_seen data_gives data_crash_gives source source_now log_entry data_entry
 
   abbrev Tells : Command → Outcome → Fused L → Fused D → Type 0
-  Tells = TellsByTurns log_seen log_gives data_seen data_gives source source_now log_entry data_entry
+  Tells = TellsByTurns log_seen log_gives log_crash_gives data_seen data_gives data_crash_gives source source_now log_entry data_entry
 
   abbrev Comes : Handed → Course → Fused L → Fused D → Type 0
   Comes = ComesAsHanded log_seen log_gives data_seen data_gives
+
+  abbrev ByCrash : ℕ → (log_then log_now : Fused L) → (data_then data_now : Fused D) → Type 0
+  ByCrash = AreLedByCrash log_seen log_gives log_crash_gives data_seen data_gives data_crash_gives
 
   -- of `run`
   abbrev run : Drive → Handed
@@ -175,19 +162,19 @@ module _ {L D : Type 0} (log_seen : L → Seen) (log_gives : L → Call → L �
 
   pub run-ended-told : (drive : Drive) (f : Fault) (log_now : Fused L) (data_now : Fused D) → Comes (run drive) (course.Ended f) log_now data_now
       → Tells (Run drive) (outcome.Fault f) log_now data_now
-  run-ended-told drive f log_now data_now comes = ended-told log_seen log_gives data_seen data_gives (run drive) f log_now data_now comes
+  run-ended-told drive f log_now data_now comes = ended-told log_seen log_gives log_crash_gives data_seen data_gives data_crash_gives (run drive) f log_now data_now comes
 
   pub run-stopped-told : (drive : Drive) (f : Fault) (log_now : Fused L) (data_now : Fused D) → Comes (run drive) (course.Stopped f) log_now data_now
       → Tells (Run drive) (outcome.Fault f) log_now data_now
   run-stopped-told drive (fault.Turns count user) log_now data_now comes = absurd comes.comes_to
-  run-stopped-told drive f log_now data_now comes = told-met log_seen log_gives data_seen data_gives (run drive) (course.Stopped f) f log_now log_now data_now data_now tt comes (there f log_now data_now)
+  run-stopped-told drive f log_now data_now comes = told-met log_seen log_gives log_crash_gives data_seen data_gives data_crash_gives (run drive) (course.Stopped f) f log_now log_now data_now data_now tt comes (there f log_now data_now)
 
   run-text-told : (drive : Drive) (played : Played) (f : Option Fault) (text : List ℕ) (log_now : Fused L) (data_now : Fused D)
       → (comes : Comes (run drive) (course.Played played f) log_now data_now) → IsReportOf comes.script (Some (ran_of played)) None text
       → Tells (Run drive) (report_outcome text f) log_now data_now
-  run-text-told drive played None text log_now data_now comes report = record { runs = runs-handed log_seen log_gives data_seen data_gives (run drive) played None log_now data_now comes; report = report }
+  run-text-told drive played None text log_now data_now comes report = record { runs = runs-handed log_seen log_gives log_crash_gives data_seen data_gives data_crash_gives (run drive) played None log_now data_now comes; report = report }
   run-text-told drive played (Some (fault.Turns count user)) text log_now data_now comes report = absurd comes.comes_to
-  run-text-told drive played (Some f) text log_now data_now comes report = record { runs = runs-handed log_seen log_gives data_seen data_gives (run drive) played (Some f) log_now data_now comes; report = report }
+  run-text-told drive played (Some f) text log_now data_now comes report = record { runs = runs-handed log_seen log_gives log_crash_gives data_seen data_gives data_crash_gives (run drive) played (Some f) log_now data_now comes; report = report }
 
   pub run-played-told : (drive : Drive) (played : Played) (f : Option Fault) (o : Outcome) (log_now : Fused L) (data_now : Fused D)
       → (comes : Comes (run drive) (course.Played played f) log_now data_now) → IsRunPrinted comes.script (ran_of played) f o → Tells (Run drive) o log_now data_now
@@ -199,7 +186,7 @@ module _ {L D : Type 0} (log_seen : L → Seen) (log_gives : L → Call → L �
   pub run-unscripted-told : (drive : Drive) (f : Fault) (log_now : Fused L) (data_now : Fused D) → IsScriptFault source source_now f
       → IsLeftAlone log_entry (guarded log_seen log_now) → IsLeftAlone data_entry (guarded data_seen data_now) → Tells (Run drive) (outcome.Fault f) log_now data_now
   run-unscripted-told drive f log_now data_now cause log_alone data_alone =
-      unscripted-told log_seen log_gives data_seen data_gives (run drive) f log_now data_now refl cause log_alone data_alone
+      unscripted-told log_seen log_gives log_crash_gives data_seen data_gives data_crash_gives (run drive) f log_now data_now refl cause log_alone data_alone
 
   -- of `crash`
   abbrev crash : Drive → Stops → ℕ → Command
@@ -210,48 +197,50 @@ module _ {L D : Type 0} (log_seen : L → Seen) (log_gives : L → Call → L �
 
   pub crash-ended-told : (drive : Drive) (stops : Stops) (pick : ℕ) (f : Fault) (log_now : Fused L) (data_now : Fused D)
       → Comes (crashing drive stops pick) (course.Ended f) log_now data_now → Tells (crash drive stops pick) (outcome.Fault f) log_now data_now
-  crash-ended-told drive stops pick f log_now data_now comes = ended-told log_seen log_gives data_seen data_gives (crashing drive stops pick) f log_now data_now comes
+  crash-ended-told drive stops pick f log_now data_now comes = ended-told log_seen log_gives log_crash_gives data_seen data_gives data_crash_gives (crashing drive stops pick) f log_now data_now comes
 
   pub crash-stopped-told : (drive : Drive) (stops : Stops) (pick : ℕ) (met : Fault) (o : Outcome) (log_then log_now : Fused L) (data_then data_now : Fused D)
-      → (comes : Comes (crashing drive stops pick) (course.Stopped met) log_then data_then)
+      → (comes : Comes (crashing drive stops pick) (course.Stopped met) log_then data_then) → ByCrash pick log_then log_now data_then data_now
       → ReadsBack pick comes.script None o (guarded log_seen log_then) (guarded data_seen data_then) (guarded log_seen log_now) (guarded data_seen data_now)
       → Tells (crash drive stops pick) o log_now data_now
-  crash-stopped-told drive stops pick met (outcome.Text text) log_then log_now data_then data_now comes back = inl (record {
+  crash-stopped-told drive stops pick met (outcome.Text text) log_then log_now data_then data_now comes led back = inl (record {
     met = met;
     log_then = log_then;
     data_then = data_then;
     stopped = comes;
     crashed = back.crashed;
+    led = led;
     read = (back.reading.end, back.reading.pages);
     report = back.report;
   })
-  crash-stopped-told drive stops pick met (outcome.Report text f) log_then log_now data_then data_now comes back = absurd back
-  crash-stopped-told drive stops pick met (outcome.Fault (fault.Turns count user)) log_then log_now data_then data_now comes back = absurd back
-  crash-stopped-told drive stops pick met (outcome.Fault f) log_then log_now data_then data_now comes back =
-      told-met log_seen log_gives data_seen data_gives (crashing drive stops pick) (course.Stopped met) f log_then log_now data_then data_now tt comes back
+  crash-stopped-told drive stops pick met (outcome.Report text f) log_then log_now data_then data_now comes led back = absurd back
+  crash-stopped-told drive stops pick met (outcome.Fault (fault.Turns count user)) log_then log_now data_then data_now comes led back = absurd back
+  crash-stopped-told drive stops pick met (outcome.Fault f) log_then log_now data_then data_now comes led back =
+      told-met log_seen log_gives log_crash_gives data_seen data_gives data_crash_gives (crashing drive stops pick) (course.Stopped met) f log_then log_now data_then data_now tt comes (back, led)
 
   pub crash-played-told : (drive : Drive) (stops : Stops) (pick : ℕ) (played : Played) (met : Option Fault) (o : Outcome) (log_then log_now : Fused L) (data_then data_now : Fused D)
-      → (comes : Comes (crashing drive stops pick) (course.Played played met) log_then data_then)
+      → (comes : Comes (crashing drive stops pick) (course.Played played met) log_then data_then) → ByCrash pick log_then log_now data_then data_now
       → ReadsBack pick comes.script (Some (ran_of played)) o (guarded log_seen log_then) (guarded data_seen data_then) (guarded log_seen log_now) (guarded data_seen data_now)
       → Tells (crash drive stops pick) o log_now data_now
-  crash-played-told drive stops pick played met (outcome.Text text) log_then log_now data_then data_now comes back = inr (record {
+  crash-played-told drive stops pick played met (outcome.Text text) log_then log_now data_then data_now comes led back = inr (record {
     log_then = log_then;
     data_then = data_then;
     crashed = back.crashed;
+    led = led;
     read = (back.reading.end, back.reading.pages);
     fault = met;
-    run = record { runs = runs-handed log_seen log_gives data_seen data_gives (crashing drive stops pick) played met log_then data_then comes; report = back.report };
+    run = record { runs = runs-handed log_seen log_gives log_crash_gives data_seen data_gives data_crash_gives (crashing drive stops pick) played met log_then data_then comes; report = back.report };
   })
-  crash-played-told drive stops pick played met (outcome.Report text f) log_then log_now data_then data_now comes back = absurd back
-  crash-played-told drive stops pick played met (outcome.Fault (fault.Turns count user)) log_then log_now data_then data_now comes back = absurd back
-  crash-played-told drive stops pick played met (outcome.Fault f) log_then log_now data_then data_now comes back =
-      told-met log_seen log_gives data_seen data_gives (crashing drive stops pick) (course.Played played met) f log_then log_now data_then data_now tt comes back
+  crash-played-told drive stops pick played met (outcome.Report text f) log_then log_now data_then data_now comes led back = absurd back
+  crash-played-told drive stops pick played met (outcome.Fault (fault.Turns count user)) log_then log_now data_then data_now comes led back = absurd back
+  crash-played-told drive stops pick played met (outcome.Fault f) log_then log_now data_then data_now comes led back =
+      told-met log_seen log_gives log_crash_gives data_seen data_gives data_crash_gives (crashing drive stops pick) (course.Played played met) f log_then log_now data_then data_now tt comes (back, led)
 
   pub crash-unscripted-told : (drive : Drive) (stops : Stops) (pick : ℕ) (f : Fault) (log_now : Fused L) (data_now : Fused D) → IsScriptFault source source_now f
       → IsLeftAlone log_entry (guarded log_seen log_now) → IsLeftAlone data_entry (guarded data_seen data_now)
       → Tells (crash drive stops pick) (outcome.Fault f) log_now data_now
   crash-unscripted-told drive stops pick f log_now data_now cause log_alone data_alone =
-      unscripted-told log_seen log_gives data_seen data_gives (crashing drive stops pick) f log_now data_now refl cause log_alone data_alone
+      unscripted-told log_seen log_gives log_crash_gives data_seen data_gives data_crash_gives (crashing drive stops pick) f log_now data_now refl cause log_alone data_alone
 
   -- of `gen`
   module _ (seed users groups max : ℕ) where
@@ -262,45 +251,62 @@ module _ {L D : Type 0} (log_seen : L → Seen) (log_gives : L → Call → L �
     seeded = handed gen no_stops (drive_of_seed seed max)
 
     pub gen-ended-told : (f : Fault) (log_now : Fused L) (data_now : Fused D) → Comes seeded (course.Ended f) log_now data_now → Tells gen (outcome.Fault f) log_now data_now
-    gen-ended-told f log_now data_now comes = ended-told log_seen log_gives data_seen data_gives seeded f log_now data_now comes
+    gen-ended-told f log_now data_now comes = ended-told log_seen log_gives log_crash_gives data_seen data_gives data_crash_gives seeded f log_now data_now comes
 
     pub gen-stopped-told : (f : Fault) (log_now : Fused L) (data_now : Fused D) → Comes seeded (course.Stopped f) log_now data_now → Tells gen (outcome.Fault f) log_now data_now
     gen-stopped-told (fault.Turns count user) log_now data_now comes = absurd comes.comes_to
-    gen-stopped-told f log_now data_now comes = told-met log_seen log_gives data_seen data_gives seeded (course.Stopped f) f log_now log_now data_now data_now tt comes (there f log_now data_now)
+    gen-stopped-told f log_now data_now comes = told-met log_seen log_gives log_crash_gives data_seen data_gives data_crash_gives seeded (course.Stopped f) f log_now log_now data_now data_now tt comes (there f log_now data_now)
 
     pub gen-cut-told : (played : Played) (f : Fault) (log_now : Fused L) (data_now : Fused D) → Comes seeded (course.Played played (Some f)) log_now data_now
         → Tells gen (outcome.Fault f) log_now data_now
     gen-cut-told played (fault.Turns count user) log_now data_now comes = absurd comes.comes_to
     gen-cut-told played f log_now data_now comes =
-        told-met log_seen log_gives data_seen data_gives seeded (course.Played played (Some f)) f log_now log_now data_now data_now tt comes (there f log_now data_now)
+        told-met log_seen log_gives log_crash_gives data_seen data_gives data_crash_gives seeded (course.Played played (Some f)) f log_now log_now data_now data_now tt comes (there f log_now data_now)
 
-    pub gen-played-told : (played : Played) (o : Outcome) (log_then log_now : Fused L) (data_then data_now : Fused D) → Comes seeded (course.Played played None) log_then data_then
+    -- the call of it, behind which the devices are these
+    abbrev seeded-call : (log_now data_now : lab.Guarded) → lab.Call
+    seeded-call log_now data_now = record {
+      words = [];
+      source = source;
+      source_now = source_now;
+      log_device = log_entry;
+      log_device_now = log_now;
+      data_device = data_entry;
+      data_device_now = data_now;
+    }
+
+    pub gen-played-told : SeedLaws → (played : Played) (o : Outcome) (log_then log_now : Fused L) (data_then data_now : Fused D) → Comes seeded (course.Played played None) log_then data_then
+        → AreLedByCalls log_seen log_gives data_seen data_gives log_then log_now data_then data_now
         → ReadsBehind (ran_of played) o (guarded log_seen log_then) (guarded data_seen data_then) (guarded log_seen log_now) (guarded data_seen data_now)
         → Tells gen o log_now data_now
-    gen-played-told played (outcome.Text text) log_then log_now data_then data_now comes behind = record {
+    gen-played-told laws played (outcome.Text text) log_then log_now data_then data_now comes led behind = record {
       log_then = log_then;
       data_then = data_then;
       read_since = behind.read_since;
-      runs = runs-handed log_seen log_gives data_seen data_gives seeded played None log_then data_then comes;
+      led = led;
+      runs = runs-handed log_seen log_gives log_crash_gives data_seen data_gives data_crash_gives seeded played None log_then data_then comes;
       reading = behind.reading;
+      is_read = behind.is_read;
+      prefix = reading-prefix (seeded-call (guarded log_seen log_now) (guarded data_seen data_now)) no_stops false comes.script played text (guarded log_seen log_then) (guarded data_seen data_then)
+          laws.one laws.same laws.formatted laws.closed laws.fair comes.comes_to behind;
       text_is = behind.text_is;
     }
-    gen-played-told played (outcome.Report text f) log_then log_now data_then data_now comes behind = absurd behind
-    gen-played-told played (outcome.Fault (fault.Turns count user)) log_then log_now data_then data_now comes behind = absurd behind
-    gen-played-told played (outcome.Fault f) log_then log_now data_then data_now comes behind =
-        told-met log_seen log_gives data_seen data_gives seeded (course.Played played None) f log_then log_now data_then data_now tt comes behind
+    gen-played-told laws played (outcome.Report text f) log_then log_now data_then data_now comes led behind = absurd behind
+    gen-played-told laws played (outcome.Fault (fault.Turns count user)) log_then log_now data_then data_now comes led behind = absurd behind
+    gen-played-told laws played (outcome.Fault f) log_then log_now data_then data_now comes led behind =
+        told-met log_seen log_gives log_crash_gives data_seen data_gives data_crash_gives seeded (course.Played played None) f log_then log_now data_then data_now tt comes (behind, led)
 
 -- A WHOLE CALL
 -- a command that memory ran out for tells of no run
-memory-untold : {L D : Type 0} (log_seen : L → Seen) (log_gives : L → Call → L → Type 0) (data_seen : D → Seen) (data_gives : D → Call → D → Type 0) (source source_now : SourceSeen) (log_entry data_entry : Seen) (command : Command) (log_now : Fused L) (data_now : Fused D)
-    → TellsByTurns log_seen log_gives data_seen data_gives source source_now log_entry data_entry command (outcome.Fault fault.Memory) log_now data_now
-memory-untold log_seen log_gives data_seen data_gives source source_now log_entry data_entry (Format pages space log_blocks) log_now data_now = tt
-memory-untold log_seen log_gives data_seen data_gives source source_now log_entry data_entry (Run drive) log_now data_now = tt
-memory-untold log_seen log_gives data_seen data_gives source source_now log_entry data_entry (Crash drive stop_log stop_data pick) log_now data_now = tt
-memory-untold log_seen log_gives data_seen data_gives source source_now log_entry data_entry Recover log_now data_now = tt
-memory-untold log_seen log_gives data_seen data_gives source source_now log_entry data_entry Dump log_now data_now = tt
-memory-untold log_seen log_gives data_seen data_gives source source_now log_entry data_entry (Gen seed users groups true max) log_now data_now = tt
-memory-untold log_seen log_gives data_seen data_gives source source_now log_entry data_entry (Gen seed users groups false max) log_now data_now = tt
+memory-untold : {L D : Type 0} (log_seen : L → Seen) (log_gives : L → Call → L → Type 0) (log_crash_gives : L → ℕ → L → Type 0) (data_seen : D → Seen) (data_gives : D → Call → D → Type 0) (data_crash_gives : D → ℕ → D → Type 0) (source source_now : SourceSeen) (log_entry data_entry : Seen) (command : Command) (log_now : Fused L) (data_now : Fused D)
+    → TellsByTurns log_seen log_gives log_crash_gives data_seen data_gives data_crash_gives source source_now log_entry data_entry command (outcome.Fault fault.Memory) log_now data_now
+memory-untold log_seen log_gives log_crash_gives data_seen data_gives data_crash_gives source source_now log_entry data_entry (Format pages space log_blocks) log_now data_now = tt
+memory-untold log_seen log_gives log_crash_gives data_seen data_gives data_crash_gives source source_now log_entry data_entry (Run drive) log_now data_now = tt
+memory-untold log_seen log_gives log_crash_gives data_seen data_gives data_crash_gives source source_now log_entry data_entry (Crash drive stop_log stop_data pick) log_now data_now = tt
+memory-untold log_seen log_gives log_crash_gives data_seen data_gives data_crash_gives source source_now log_entry data_entry Recover log_now data_now = tt
+memory-untold log_seen log_gives log_crash_gives data_seen data_gives data_crash_gives source source_now log_entry data_entry Dump log_now data_now = tt
+memory-untold log_seen log_gives log_crash_gives data_seen data_gives data_crash_gives source source_now log_entry data_entry (Gen seed users groups true max) log_now data_now = tt
+memory-untold log_seen log_gives log_crash_gives data_seen data_gives data_crash_gives source source_now log_entry data_entry (Gen seed users groups false max) log_now data_now = tt
 
 -- and that is what it means, where no device was called
 memory-means : (call : lab.Call) (command : Command) → OpenableLaw → AreLeftAlone call → IsOutcome call command (outcome.Fault fault.Memory)
@@ -312,27 +318,27 @@ memory-means call Dump law alone = (tt, tt)
 memory-means call (Gen seed users groups true max) law alone = (tt, inl (leaves-alone call law alone))
 memory-means call (Gen seed users groups false max) law alone = (tt, tt)
 
-pub command-by-turns : {L D : Type 0} (log_seen : L → Seen) (log_gives : L → Call → L → Type 0) (data_seen : D → Seen) (data_gives : D → Call → D → Type 0) (words : List (List ℕ)) (source left source_now : SourceSeen)
+pub command-by-turns : {L D : Type 0} (log_seen : L → Seen) (log_gives : L → Call → L → Type 0) (log_crash_gives : L → ℕ → L → Type 0) (data_seen : D → Seen) (data_gives : D → Call → D → Type 0) (data_crash_gives : D → ℕ → D → Type 0) (words : List (List ℕ)) (source left source_now : SourceSeen)
     (log : L) (store : D) (done given : Done L D) (printed : Printed) (command : Command) → source_now ≡ left → given ≡ done → command_of words ≡ Some command
     → EndsCommand (call_of log_seen data_seen words source left log store done) command done.outcome
-    → TellsByTurns log_seen log_gives data_seen data_gives source left (log_seen log) (data_seen store) command done.outcome done.log done.store
+    → TellsByTurns log_seen log_gives log_crash_gives data_seen data_gives data_crash_gives source left (log_seen log) (data_seen store) command done.outcome done.log done.store
     → IsOutcomePrinted given.outcome printed.status printed.sink printed.sink_now
-    → IsByTurns log_seen log_gives data_seen data_gives (lab_of log_seen data_seen words source source_now log store given printed) given.log given.store
-command-by-turns {L} {D} log_seen log_gives data_seen data_gives words source left source_now log store done given printed command same_source same asked ends tells is_printed other asked_other =
+    → IsByTurns log_seen log_gives log_crash_gives data_seen data_gives data_crash_gives (lab_of log_seen data_seen words source source_now log store given printed) given.log given.store
+command-by-turns {L} {D} log_seen log_gives log_crash_gives data_seen data_gives data_crash_gives words source left source_now log store done given printed command same_source same asked ends tells is_printed other asked_other =
     let is : other ≡ command = cc (asked, asked_other) in
     let Told : SourceSeen → Command → Done L D → Type 0 = λ now command found. IsOutcome (call_of log_seen data_seen words source now log store found) command found.outcome
-    × TellsByTurns log_seen log_gives data_seen data_gives source now (log_seen log) (data_seen store) command found.outcome found.log found.store in
+    × TellsByTurns log_seen log_gives log_crash_gives data_seen data_gives data_crash_gives source now (log_seen log) (data_seen store) command found.outcome found.log found.store in
     let told : Told source_now other given = subst (λ (c : Command). Told source_now c given) (sym is)
     (subst (λ (found : Done L D). Told source_now command found) (sym same)
     (subst (λ (now : SourceSeen). Told now command done) (sym same_source) (ends.means, tells))) in
     (given.outcome, is_printed, told.0, told.1)
 
-pub nothing-by-turns : {L D : Type 0} (log_seen : L → Seen) (log_gives : L → Call → L → Type 0) (data_seen : D → Seen) (data_gives : D → Call → D → Type 0) (words : List (List ℕ)) (source source_now : SourceSeen)
+pub nothing-by-turns : {L D : Type 0} (log_seen : L → Seen) (log_gives : L → Call → L → Type 0) (log_crash_gives : L → ℕ → L → Type 0) (data_seen : D → Seen) (data_gives : D → Call → D → Type 0) (data_crash_gives : D → ℕ → D → Type 0) (words : List (List ℕ)) (source source_now : SourceSeen)
     (log : L) (store : D) (done given : Done L D) (printed : Printed) (f : Fault) → given ≡ done
     → ((command_of words ≡ None) × (f ≡ fault.Words)) ⊎ (f ≡ fault.Memory) → IsUnasked f log store done → OpenableLaw
     → IsOutcomePrinted given.outcome printed.status printed.sink printed.sink_now
-    → IsByTurns log_seen log_gives data_seen data_gives (lab_of log_seen data_seen words source source_now log store given printed) given.log given.store
-nothing-by-turns {L} {D} log_seen log_gives data_seen data_gives words source source_now log store done given printed f same why unasked law is_printed command asked = ⊎_elim
+    → IsByTurns log_seen log_gives log_crash_gives data_seen data_gives data_crash_gives (lab_of log_seen data_seen words source source_now log store given printed) given.log given.store
+nothing-by-turns {L} {D} log_seen log_gives log_crash_gives data_seen data_gives data_crash_gives words source source_now log store done given printed f same why unasked law is_printed command asked = ⊎_elim
     (λ other. let none = other.0 in absurd (cc))
     (λ memory.
     let is : given.outcome ≡ outcome.Fault fault.Memory = ap (λ (found : Done L D). found.outcome) same ∙ unasked.outcome_is ∙ ap (λ (f : Fault). outcome.Fault f) memory in
@@ -344,7 +350,7 @@ nothing-by-turns {L} {D} log_seen log_gives data_seen data_gives words source so
       is_printed,
       subst (λ (o : Outcome). IsOutcome (call_of log_seen data_seen words source source_now log store given) command o) (sym is)
           (memory-means (call_of log_seen data_seen words source source_now log store given) command law alone),
-      subst (λ (o : Outcome). TellsByTurns log_seen log_gives data_seen data_gives source source_now (log_seen log) (data_seen store) command o given.log given.store) (sym is)
-          (memory-untold log_seen log_gives data_seen data_gives source source_now (log_seen log) (data_seen store) command given.log given.store),
+      subst (λ (o : Outcome). TellsByTurns log_seen log_gives log_crash_gives data_seen data_gives data_crash_gives source source_now (log_seen log) (data_seen store) command o given.log given.store) (sym is)
+          (memory-untold log_seen log_gives log_crash_gives data_seen data_gives data_crash_gives source source_now (log_seen log) (data_seen store) command given.log given.store),
     ))
     why

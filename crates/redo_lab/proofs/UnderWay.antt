@@ -23,7 +23,7 @@ use Rattle.redo_recover.specs.declared.fault.RecFault.{RecFault}
 use Rattle.redo_recover.specs.declared.fault.RecFault.TheVariants.{SmallLog, NotFormatted, BadFormat, SmallData, NoCheckpoint, BadRecord, PageLost, PageAhead, LogDev, DataDev, NoMemory}
 use Rattle.redo_machine.specs.declared.drive.Turns.{Turns}
 use Rattle.redo_lab.specs.Call.{Guarded, guarded, IsKept}
-use Rattle.redo_lab.specs.Course.{AreRefusedOpened, AreStopped, AreUnderWay, AreUnstarted, ComesTo, KeepsCheckpoint, KeepsFound, KeepsRefused}
+use Rattle.redo_lab.specs.Course.{AreRefusedOpened, AreStopped, AreUnderWay, AreUnstarted, ComesTo, KeepsCheckpoint, KeepsFound, KeepsRefusedStore}
 use Rattle.redo_lab.specs.Playing.{AreArmed, unopened}
 use Rattle.redo_lab.specs.Prepared.{ArePrepared, WhereTold}
 use Rattle.redo_lab.specs.Stages.{IsArmed}
@@ -211,7 +211,7 @@ still-kept same kept = record {
 kept-refused : {L D : Type 0} {log_seen : L → Seen} {log_gives : L → Call → L → Type 0} {data_seen : D → Seen} {data_gives : D → Call → D → Type 0}
     {log_entry data_entry : Seen} {stops : Stops} {log_found data_found : Guarded} {log : Fused L} {data_device : Fused D} {f : RecFault} {log_now : Fused L} {data_now : Fused D}
     → IsUnopened log_seen log_gives data_seen data_gives log_entry data_entry stops log_found data_found log data_device f log_now data_now
-    → KeepsRefused log_entry data_entry (guarded log_seen log_now) (guarded data_seen data_now)
+    → KeepsRefusedStore log_entry data_entry (guarded log_seen log_now) (guarded data_seen data_now)
 kept-refused {log_seen = log_seen} {data_seen = data_seen} {log = log} {data_device = data_device} {log_now = log_now} {data_now = data_now} is refusal log_disk data_disk log_is data_is used refused = ⊎_elim
     (λ formatted. absurd (used (formatted.unused log_disk data_disk log_is data_is)))
     (λ in_use.

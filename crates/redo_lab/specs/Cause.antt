@@ -215,6 +215,16 @@ abbrev pub KeepsRefused : Call → Type 0
 KeepsRefused call = (refusal : Refusal) → WhereToldAtEntry call (λ log data_disk.
     (IsUnused log.reads → ⊥) → AreRefused refusal log data_disk → AreKept call)
 
+-- just before the crash both devices meant this
+pub record AreCrashedFrom (call : Call) (log data_disk : Disk) : Type 0 where
+  pub log_device : call.log_device_now.seen.crashed_from ≡ Some log
+  pub data_device : call.data_device_now.seen.crashed_from ≡ Some data_disk
+
+-- A store in use that is refused was as it had been handed in just before the crash.
+abbrev pub KeepsRefusedCrashed : Call → Type 0
+KeepsRefusedCrashed call = (refusal : Refusal) → WhereToldAtEntry call (λ log data_disk.
+    (IsUnused log.reads → ⊥) → AreRefused refusal log data_disk → AreCrashedFrom call log data_disk)
+
 -- The store that was found when the fuses were armed is kept, also a new one: what could be opened then is read with its
 -- pages, whatever a crash would leave. Nothing was crashed.
 pub record IsFoundKept (call : Call) : Type 0 where
@@ -240,7 +250,7 @@ LeavesStopped call =
     × (AreNotArmed call ⊎ (IsFoundKept call × IsOpenedFirst call call.log_device_now.seen.tells None))
 
 -- WHAT A CRASH LEAVES that isn't reported. The fuses were armed before opening; where that came to its end a run took place, and
--- else none; and what was left is read as a prefix of it.
+-- else none; and what was left is read as a prefix of it. A store in use that is refused was as it had been handed in.
 pub record LeavesCrash (call : Call) (command : Command) : Type 0 where
   pub pick : ℕ
   pub picked : pick_of command ≡ Some pick
@@ -255,6 +265,7 @@ pub record LeavesCrash (call : Call) (command : Command) : Type 0 where
   pub found : WhereToldAtEntry call (AreFound call)
   pub opened_first : IsOpenedFirst call call.log_device_now.seen.crashed_from run
   pub left : IsLeftAsPrefix call script run
+  pub kept : KeepsRefusedCrashed call
 
 -- WHAT A FAULT LEAVES beside its cause: of `format` no store but the new one; of a command that runs a script, by how far it
 -- came, the store that was found, or a prefix of the run. Spent turns and a refusal behind a run say so themselves. The other

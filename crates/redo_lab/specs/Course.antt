@@ -53,15 +53,15 @@ KeepsCheckpoint log_found data_found log_now =
     → IfSome log_now.seen.tells (HasSameCheckpoint reading))
 
 -- a store that was in use and is refused is as it was, where both devices told
-abbrev pub KeepsRefused : (log_entry data_entry : Seen) → (log_now data_now : Guarded) → Type 0
-KeepsRefused log_entry data_entry log_now data_now = (refusal : Refusal) → WhereTold log_entry data_entry (λ log data_disk.
+abbrev pub KeepsRefusedStore : (log_entry data_entry : Seen) → (log_now data_now : Guarded) → Type 0
+KeepsRefusedStore log_entry data_entry log_now data_now = (refusal : Refusal) → WhereTold log_entry data_entry (λ log data_disk.
     (IsUnused log.reads → ⊥) → AreRefused refusal log data_disk → BothKept log_entry data_entry log_now data_now)
 
 -- OPENING WAS STOPPED by a device.
 pub record AreStopped (log_entry data_entry : Seen) (stops : Stops) (log_failed data_failed : ℕ) (log_now data_now : Guarded) : Type 0 where
   pub way : AreUnderWay log_entry data_entry stops log_failed data_failed log_now data_now
   pub keeps : KeepsFound way.log_found way.data_found log_now data_now
-  pub kept : KeepsRefused log_entry data_entry log_now data_now
+  pub kept : KeepsRefusedStore log_entry data_entry log_now data_now
   pub unmoved : KeepsCheckpoint way.log_found way.data_found log_now
 
 abbrev pub IsStoppedBy : Seen → Seen → Stops → Fault → Guarded → Guarded → Type 0
@@ -75,7 +75,7 @@ pub record AreRefusedOpened (log_entry data_entry : Seen) (stops : Stops) (cause
   pub keeps : KeepsFound way.log_found way.data_found log_now data_now
   pub short : IsShorter log_entry.size data_entry.size cause
   pub refused : WhereTold log_entry data_entry (λ log data_disk. (IsUnused log.reads → ⊥) × AreRefused cause log data_disk)
-  pub kept : KeepsRefused log_entry data_entry log_now data_now
+  pub kept : KeepsRefusedStore log_entry data_entry log_now data_now
 
 -- THE SCRIPT DOESN'T FIT the store that was opened.
 pub record AreMisfitted (log_entry data_entry : Seen) (stops : Stops) (log_only : Bool) (script : List ScriptLine) (misfit : Misfit)
@@ -127,7 +127,7 @@ pub record AreSpent (log_entry data_entry : Seen) (stops : Stops) (turns : Turns
 pub record AreUnstarted (log_entry data_entry : Seen) (stops : Stops) (log_now data_now : Guarded) : Type 0 where
   pub way : AreUnderWay log_entry data_entry stops 0 0 log_now data_now
   pub keeps : KeepsFound way.log_found way.data_found log_now data_now
-  pub kept : KeepsRefused log_entry data_entry log_now data_now
+  pub kept : KeepsRefusedStore log_entry data_entry log_now data_now
 
 -- MEMORY RAN OUT over a run: a call of a device had none.
 pub record HasRunOut (log_entry data_entry : Seen) (stops : Stops) (log_only : Bool) (script : List ScriptLine)

@@ -23,3 +23,4 @@ pub mod Took
 pub mod Reported
 pub mod Reread
 pub mod Turned
+pub mod Unopened

@@ -1,6 +1,6 @@
 -- The two devices once a run has prepared them: formatted with the default sizes, where the log device is unused, else as
 -- they were.
-use Rattle.std.specs.Prelude.{ℕ, ◌≡◌, ◌≤◌, ◌⊎◌, List, length, Option, Some, Result, Ok, Err, IfSome}
+use Rattle.std.specs.Prelude.{ℕ, ◌≡◌, ◌≤◌, ◌⊎◌, List, [], length, Option, Some, Result, Ok, Err, IfErr, IfSome}
 use Rattle.model_base.specs.{default_shape}
 use Rattle.model_device.specs.Disk.{Disk}
 use Rattle.model_log.specs.declared.layout.TheConstants.{HEADER_BYTES}
@@ -8,10 +8,11 @@ use Rattle.model_opening.specs.{IsFormatted, KeepsNoStore}
 use Rattle.model_store.specs.{IsUnused}
 use Rattle.model_store.specs.declared.refusal.Refusal.{Refusal}
 use Rattle.model_store.specs.declared.refusal.Refusal.TheVariants as refusal
-use Rattle.redo_disk.specs.{Call, HasSize, ReadsEndWith}
+use Rattle.redo_disk.specs.{AreReads, Call, HasSize, MayEndWith, ReadsEndWith}
 use Rattle.redo_disk.specs.Seen.{Seen}
 use Rattle.redo_disk.specs.declared.error.DevError.{DevError}
 use Rattle.redo_open.specs.{WhereBothTell}
+use Rattle.redo_recover.specs.{data_error_of, log_error_of, refusal_of}
 use Rattle.redo_recover.specs.declared.fault.RecFault.{RecFault}
 use Rattle.redo_recover.specs.declared.fault.RecFault.TheVariants.{SmallLog, SmallData, LogDev, DataDev, NoMemory}
 use Rattle.redo_lab.specs.Call.{Guarded, IsKept}
@@ -97,3 +98,14 @@ IsUnpreparedBy log_entry data_entry fault log_now data_now = ⊥
 abbrev pub Prepares : Seen → Seen → Result (Unit {0}) RecFault → Guarded → Guarded → Type 0
 Prepares log_entry data_entry (Ok done) log_now data_now = ArePrepared log_entry data_entry log_now data_now
 Prepares log_entry data_entry (Err fault) log_now data_now = IsUnpreparedBy log_entry data_entry fault log_now data_now
+
+-- The calls that preparing makes of the log device: all answered Ok, but for the last, where that answered this error. Where a
+-- device is too short they are reads alone.
+pub record PreparesLog (result : Result (Unit {0}) RecFault) (calls : List Call) : Type 0 where
+  pub ends : MayEndWith (log_error_of result) calls
+  pub unwritten : IfErr result (λ fault. IfSome (refusal_of fault) (λ _. AreReads calls))
+
+-- Those of the data device end so too. Where a device is too short there are none.
+pub record PreparesData (result : Result (Unit {0}) RecFault) (calls : List Call) : Type 0 where
+  pub ends : MayEndWith (data_error_of result) calls
+  pub uncalled : IfErr result (λ fault. IfSome (refusal_of fault) (λ _. calls ≡ []))

@@ -11,7 +11,9 @@ use Rattle.model_report.specs.declared.fault.Fault.{Fault}
 use Rattle.model_report.specs.declared.fault.Fault.TheVariants.{LogDevice, DataDevice, Store, Turns, Fit}
 use Rattle.model_script.specs.declared.misfit.Misfit.{Misfit}
 use Rattle.model_script.specs.declared.script.ScriptLine.{ScriptLine}
+use Rattle.model_store.specs.{IsReading, Opens}
 use Rattle.model_store.specs.Reading.{Reading}
+use Rattle.model_theorem.specs.{IsFresh, IsPrefixRead}
 use Rattle.model_theorem.specs.Values as values
 use Rattle.redo_disk.specs.{Call, failures, MakesCalls, MayEndWith}
 use Rattle.redo_disk.specs.Seen.{Seen}
@@ -21,7 +23,7 @@ use Rattle.redo_machine.specs.declared.drive.Driven.{Driven}
 use Rattle.redo_machine.specs.declared.drive.Turns as drive
 use Rattle.redo_machine.specs.declared.running.Ran as running
 use Rattle.redo_machine.specs.declared.running.Ran.TheVariants as ended
-use Rattle.redo_memdisk.specs.{CallsThrough, fuse_of, seen_through}
+use Rattle.redo_memdisk.specs.{CallsThrough, fuse_of, inner_of, seen_through}
 use Rattle.redo_memdisk.specs.declared.fused.Fused.{Fused}
 use Rattle.redo_open.specs.{IsOpenedReady, IsOpeningOf, WhereBothTell}
 use Rattle.redo_open.specs.Opening.{MarksStart}
@@ -32,7 +34,7 @@ use Rattle.redo_lab.specs.Behind.{AreReadSince}
 use Rattle.redo_lab.specs.Call.{Guarded, IsLeftAlone, LabCall, guarded}
 use Rattle.redo_lab.specs.Course.{AreUnderWay, ComesTo, ran_of}
 use Rattle.redo_lab.specs.Crashed.{AreCrashedSince}
-use Rattle.redo_lab.specs.Led.{IsAtArming}
+use Rattle.redo_lab.specs.Led.{IsAtArming, IsCalled, IsCrashed}
 use Rattle.redo_lab.specs.Outcome.{IsOutcome, IsOutcomePrinted}
 use Rattle.redo_lab.specs.Playing.{IsUnfit, MakeCalls, ended_by, played_of}
 use Rattle.redo_lab.specs.Prepared.{WhereTold}
@@ -42,6 +44,7 @@ use Rattle.redo_lab.specs.Script.{IsLongScript, IsScriptFor}
 use Rattle.redo_lab.specs.Stages.{IsArmed}
 use Rattle.redo_lab.specs.Store.{IsOpenedAs}
 use Rattle.redo_lab.specs.Summary.{summary_of}
+use Rattle.redo_lab.specs.Unopened.{ComesToRefusal, ComesToShort, ComesToStop, ComesToUnprepared}
 use Rattle.redo_lab.specs.declared.outcome.Outcome.{Outcome}
 use Rattle.redo_lab.specs.declared.outcome.Outcome.TheVariants as outcome
 use Rattle.redo_lab.specs.declared.playing.Course.{Course}
@@ -170,7 +173,8 @@ pub record ComesToMisfit {L D : Type 0} (log_seen : L → Seen) (log_gives : L �
   pub is_opened : IsOpenedOn log_seen log_gives data_seen data_gives log_entry data_entry stops opened
   pub unfit : IsUnfit opened turns script misfit log_now data_now
 
--- a store was opened on them, and a run came so far on it that the turns of the drive led, or the script doesn't fit it
+-- How far a run came on them that the turns of the drive led: a store was opened, and it came so far on that, or the script
+-- doesn't fit it; or none was opened, and these calls led there.
 abbrev pub ComesByTurnsTo : {L D : Type 0} → (L → Seen) → (L → Call → L → Type 0) → (D → Seen) → (D → Call → D → Type 0)
     → (log_entry data_entry : Seen) → Stops → drive.Turns → List ScriptLine → Course → Fused L → Fused D → Type 0
 ComesByTurnsTo log_seen log_gives data_seen data_gives log_entry data_entry stops turns script (course.Played played fault) log_now data_now =
@@ -179,8 +183,16 @@ ComesByTurnsTo log_seen log_gives data_seen data_gives log_entry data_entry stop
     ComesToSpent log_seen log_gives data_seen data_gives log_entry data_entry stops turns script count user log_now data_now
 ComesByTurnsTo log_seen log_gives data_seen data_gives log_entry data_entry stops turns script (course.Ended (Fit misfit)) log_now data_now =
     ComesToMisfit log_seen log_gives data_seen data_gives log_entry data_entry stops turns script misfit log_now data_now
+ComesByTurnsTo log_seen log_gives data_seen data_gives log_entry data_entry stops turns script (course.Ended LogDevice) log_now data_now =
+    ComesToUnprepared log_seen log_gives data_seen data_gives log_entry data_entry LogDevice log_now data_now
+ComesByTurnsTo log_seen log_gives data_seen data_gives log_entry data_entry stops turns script (course.Ended DataDevice) log_now data_now =
+    ComesToUnprepared log_seen log_gives data_seen data_gives log_entry data_entry DataDevice log_now data_now
+ComesByTurnsTo log_seen log_gives data_seen data_gives log_entry data_entry stops turns script (course.Ended (Store refusal)) log_now data_now =
+    ComesToShort log_seen log_gives data_seen data_gives log_entry data_entry refusal log_now data_now
+    ⊎ ComesToRefusal log_seen log_gives data_seen data_gives log_entry data_entry stops log_now data_now
 ComesByTurnsTo log_seen log_gives data_seen data_gives log_entry data_entry stops turns script (course.Ended _) log_now data_now = Unit {0}
-ComesByTurnsTo log_seen log_gives data_seen data_gives log_entry data_entry stops turns script (course.Stopped _) log_now data_now = Unit {0}
+ComesByTurnsTo log_seen log_gives data_seen data_gives log_entry data_entry stops turns script (course.Stopped fault) log_now data_now =
+    ComesToStop log_seen log_gives data_seen data_gives log_entry data_entry stops fault log_now data_now
 
 -- WHAT IS TOLD OF IT.
 
@@ -224,30 +236,57 @@ pub record TellsRun {L D : Type 0} (log_seen : L → Seen) (log_gives : L → Ca
   pub runs : RunsAsHanded log_seen log_gives data_seen data_gives handed fault log_then data_then
   pub report : IsReportOf runs.script (Some (ran_of runs.played)) read text
 
+-- Both devices were crashed with this pick just as they were then, and calls behind that led here.
+pub record AreLedByCrash {L D : Type 0} (log_seen : L → Seen) (log_gives : L → Call → L → Type 0) (log_crash_gives : L → ℕ → L → Type 0)
+    (data_seen : D → Seen) (data_gives : D → Call → D → Type 0) (data_crash_gives : D → ℕ → D → Type 0)
+    (pick : ℕ) (log_then log_now : Fused L) (data_then data_now : Fused D) : Type 0 where
+  pub log_device : IsCrashed log_seen log_gives log_crash_gives pick log_then log_now
+  pub data_device : IsCrashed data_seen data_gives data_crash_gives pick data_then data_now
+
+-- They weren't crashed: calls led here.
+pub record AreLedByCalls {L D : Type 0} (log_seen : L → Seen) (log_gives : L → Call → L → Type 0) (data_seen : D → Seen) (data_gives : D → Call → D → Type 0)
+    (log_then log_now : Fused L) (data_then data_now : Fused D) : Type 0 where
+  pub log_device : IsCalled log_seen log_gives log_then log_now
+  pub data_device : IsCalled data_seen data_gives data_then data_now
+
 -- The same of a text of `crash`: the devices were crashed at the end of the run, whatever ended it, and then read.
-pub record TellsCrash {L D : Type 0} (log_seen : L → Seen) (log_gives : L → Call → L → Type 0) (data_seen : D → Seen) (data_gives : D → Call → D → Type 0)
+pub record TellsCrash {L D : Type 0} (log_seen : L → Seen) (log_gives : L → Call → L → Type 0) (log_crash_gives : L → ℕ → L → Type 0)
+    (data_seen : D → Seen) (data_gives : D → Call → D → Type 0) (data_crash_gives : D → ℕ → D → Type 0)
     (handed : Handed) (pick : ℕ) (text : List ℕ) (log_now : Fused L) (data_now : Fused D) : Type 0 where
   pub log_then : Fused L
   pub data_then : Fused D
   pub crashed : AreCrashedSince pick 0 0 (guarded log_seen log_then) (guarded data_seen data_then)
       (guarded log_seen log_now) (guarded data_seen data_now)
+  pub led : AreLedByCrash log_seen log_gives log_crash_gives data_seen data_gives data_crash_gives pick log_then log_now data_then data_now
   pub read : ℕ × List Content
   pub fault : Option Fault
   pub run : TellsRun log_seen log_gives data_seen data_gives handed (Some read) fault text log_then data_then
 
--- The text is the summary of such a run that no fault ended, and of a reading: since the end of the run the devices mean the same.
+-- this is so where both devices told what they meant when they were handed in, were fresh, and open this store, which is new
+-- or in order
+abbrev pub WhereHandedOpens : Handed → values.Opened → Type 0 → Type 0
+WhereHandedOpens handed opened P = WhereTold handed.log_entry handed.data_entry (λ log data_disk.
+    IsFresh log handed.log_entry.faults → IsFresh data_disk handed.data_entry.faults
+    → Opens log.reads data_disk.reads opened.shape opened.pages opened.end → P)
+
+-- The text is the summary of such a run that no fault ended, and of what both devices are read as, where they tell: since the
+-- end of the run they mean the same. On fresh devices that open a store, what was read is a prefix of that very run.
 pub record TellsSummary {L D : Type 0} (log_seen : L → Seen) (log_gives : L → Call → L → Type 0) (data_seen : D → Seen) (data_gives : D → Call → D → Type 0)
     (handed : Handed) (text : List ℕ) (log_now : Fused L) (data_now : Fused D) : Type 0 where
   pub log_then : Fused L
   pub data_then : Fused D
   pub read_since : AreReadSince 0 0 (guarded log_seen log_then) (guarded data_seen data_then)
       (guarded log_seen log_now) (guarded data_seen data_now)
+  pub led : AreLedByCalls log_seen log_gives data_seen data_gives log_then log_now data_then data_now
   pub runs : RunsAsHanded log_seen log_gives data_seen data_gives handed None log_then data_then
   pub reading : Reading
+  pub is_read : WhereTold (log_seen (inner_of log_now)) (data_seen (inner_of data_now)) (λ log data_disk. IsReading log.reads data_disk.reads reading)
+  pub prefix : (opened : values.Opened) → WhereHandedOpens handed opened (IsPrefixRead runs.script opened (Some (ran_of runs.played)) reading)
   pub text_is : text ≡ summary_of (ran_of runs.played) reading
 
 -- The text of `crash` tells that there was no run: a device stopped opening, and then both were crashed and read.
-pub record TellsNone {L D : Type 0} (log_seen : L → Seen) (log_gives : L → Call → L → Type 0) (data_seen : D → Seen) (data_gives : D → Call → D → Type 0)
+pub record TellsNone {L D : Type 0} (log_seen : L → Seen) (log_gives : L → Call → L → Type 0) (log_crash_gives : L → ℕ → L → Type 0)
+    (data_seen : D → Seen) (data_gives : D → Call → D → Type 0) (data_crash_gives : D → ℕ → D → Type 0)
     (handed : Handed) (pick : ℕ) (text : List ℕ) (log_now : Fused L) (data_now : Fused D) : Type 0 where
   pub met : Fault
   pub log_then : Fused L
@@ -255,6 +294,7 @@ pub record TellsNone {L D : Type 0} (log_seen : L → Seen) (log_gives : L → C
   pub stopped : ComesAsHanded log_seen log_gives data_seen data_gives handed (course.Stopped met) log_then data_then
   pub crashed : AreCrashedSince pick 0 0 (guarded log_seen log_then) (guarded data_seen data_then)
       (guarded log_seen log_now) (guarded data_seen data_now)
+  pub led : AreLedByCrash log_seen log_gives log_crash_gives data_seen data_gives data_crash_gives pick log_then log_now data_then data_now
   pub read : ℕ × List Content
   pub report : IsReportOf stopped.script None (Some read) text
 
@@ -272,7 +312,9 @@ pub record EndsThere {L D : Type 0} (log_then log_now : Fused L) (data_then data
   pub log_device : log_now ≡ log_then
   pub data_device : data_now ≡ data_then
 
-module _ {L D : Type 0} (log_seen : L → Seen) (data_seen : D → Seen) (log_then log_now : Fused L) (data_then data_now : Fused D) where
+module _ {L D : Type 0} (log_seen : L → Seen) (log_gives : L → Call → L → Type 0) (log_crash_gives : L → ℕ → L → Type 0)
+    (data_seen : D → Seen) (data_gives : D → Call → D → Type 0) (data_crash_gives : D → ℕ → D → Type 0)
+    (log_then log_now : Fused L) (data_then data_now : Fused D) where
   -- this is so of both devices since, by how many calls of each failed, and reading them came to this fault
   abbrev pub FailsReadSince : (ℕ → ℕ → (log_old data_old log_new data_new : Guarded) → Type 0) → Fault → Type 0
   FailsReadSince Since fault = FailsReading
@@ -284,21 +326,25 @@ module _ {L D : Type 0} (log_seen : L → Seen) (data_seen : D → Seen) (log_th
   -- reads them behind a run that no fault ended; and of `run` there is a report, once opening came to its end.
   abbrev pub FailsSince : Command → Course → Fault → Type 0
   FailsSince command (course.Ended met) fault = EndsThere log_then log_now data_then data_now met fault
-  FailsSince (Crash drive stop_log stop_data pick) so_far fault = FailsReadSince (AreCrashedSince pick) fault
+  FailsSince (Crash drive stop_log stop_data pick) so_far fault =
+      FailsReadSince (AreCrashedSince pick) fault
+      × AreLedByCrash log_seen log_gives log_crash_gives data_seen data_gives data_crash_gives pick log_then log_now data_then data_now
   FailsSince command (course.Stopped met) fault = EndsThere log_then log_now data_then data_now met fault
   FailsSince (Gen seed users groups run max) (course.Played played (Some met)) fault = EndsThere log_then log_now data_then data_now met fault
-  FailsSince (Gen seed users groups run max) (course.Played played None) fault = FailsReadSince AreReadSince fault
+  FailsSince (Gen seed users groups run max) (course.Played played None) fault =
+      FailsReadSince AreReadSince fault × AreLedByCalls log_seen log_gives data_seen data_gives log_then log_now data_then data_now
   FailsSince command so_far fault = ⊥
 
 -- This fault ended such a run, or what the command does behind it.
-pub record FailsAsHanded {L D : Type 0} (log_seen : L → Seen) (log_gives : L → Call → L → Type 0) (data_seen : D → Seen) (data_gives : D → Call → D → Type 0)
+pub record FailsAsHanded {L D : Type 0} (log_seen : L → Seen) (log_gives : L → Call → L → Type 0) (log_crash_gives : L → ℕ → L → Type 0)
+    (data_seen : D → Seen) (data_gives : D → Call → D → Type 0) (data_crash_gives : D → ℕ → D → Type 0)
     (handed : Handed) (fault : Fault)
     (log_now : Fused L) (data_now : Fused D) : Type 0 where
   pub so_far : Course
   pub log_then : Fused L
   pub data_then : Fused D
   pub comes : ComesAsHanded log_seen log_gives data_seen data_gives handed so_far log_then data_then
-  pub fails : FailsSince log_seen data_seen log_then log_now data_then data_now handed.command so_far fault
+  pub fails : FailsSince log_seen log_gives log_crash_gives data_seen data_gives data_crash_gives log_then log_now data_then data_now handed.command so_far fault
 
 -- The source had more bytes than a script may have, and no device was called.
 pub record IsTooLong {L D : Type 0} (log_seen : L → Seen) (data_seen : D → Seen) (handed : Handed) (misfit : Misfit)
@@ -310,22 +356,24 @@ pub record IsTooLong {L D : Type 0} (log_seen : L → Seen) (data_seen : D → S
 
 -- What a fault's line alone tells of a run: where the turns were spent, the devices decided, or the script doesn't fit the store
 -- that was opened. Memory may run out anywhere, and any other fault comes of reading the script.
-abbrev pub TellsFault : {L D : Type 0} → (L → Seen) → (L → Call → L → Type 0) → (D → Seen) → (D → Call → D → Type 0)
+abbrev pub TellsFault : {L D : Type 0} → (L → Seen) → (L → Call → L → Type 0) → (L → ℕ → L → Type 0)
+    → (D → Seen) → (D → Call → D → Type 0) → (D → ℕ → D → Type 0)
     → Handed → Fault → Fused L → Fused D → Type 0
-TellsFault log_seen log_gives data_seen data_gives handed (Turns count user) log_now data_now = TellsSpent log_seen log_gives data_seen data_gives handed count user log_now data_now
-TellsFault log_seen log_gives data_seen data_gives handed LogDevice log_now data_now = FailsAsHanded log_seen log_gives data_seen data_gives handed LogDevice log_now data_now
-TellsFault log_seen log_gives data_seen data_gives handed DataDevice log_now data_now = FailsAsHanded log_seen log_gives data_seen data_gives handed DataDevice log_now data_now
-TellsFault log_seen log_gives data_seen data_gives handed (Store refusal) log_now data_now =
-    FailsAsHanded log_seen log_gives data_seen data_gives handed (Store refusal) log_now data_now
-TellsFault log_seen log_gives data_seen data_gives handed (Fit misfit) log_now data_now =
-    IsTooLong log_seen data_seen handed misfit log_now data_now ⊎ FailsAsHanded log_seen log_gives data_seen data_gives handed (Fit misfit) log_now data_now
-TellsFault log_seen log_gives data_seen data_gives handed fault log_now data_now = Unit {0}
+TellsFault log_seen log_gives log_crash_gives data_seen data_gives data_crash_gives handed (Turns count user) log_now data_now = TellsSpent log_seen log_gives data_seen data_gives handed count user log_now data_now
+TellsFault log_seen log_gives log_crash_gives data_seen data_gives data_crash_gives handed LogDevice log_now data_now = FailsAsHanded log_seen log_gives log_crash_gives data_seen data_gives data_crash_gives handed LogDevice log_now data_now
+TellsFault log_seen log_gives log_crash_gives data_seen data_gives data_crash_gives handed DataDevice log_now data_now = FailsAsHanded log_seen log_gives log_crash_gives data_seen data_gives data_crash_gives handed DataDevice log_now data_now
+TellsFault log_seen log_gives log_crash_gives data_seen data_gives data_crash_gives handed (Store refusal) log_now data_now =
+    FailsAsHanded log_seen log_gives log_crash_gives data_seen data_gives data_crash_gives handed (Store refusal) log_now data_now
+TellsFault log_seen log_gives log_crash_gives data_seen data_gives data_crash_gives handed (Fit misfit) log_now data_now =
+    IsTooLong log_seen data_seen handed misfit log_now data_now ⊎ FailsAsHanded log_seen log_gives log_crash_gives data_seen data_gives data_crash_gives handed (Fit misfit) log_now data_now
+TellsFault log_seen log_gives log_crash_gives data_seen data_gives data_crash_gives handed fault log_now data_now = Unit {0}
 
 -- the devices of a command that isn't `crash` aren't stopped
 abbrev pub no_stops : Stops
 no_stops = record { log = None; store = None }
 
-module _ {L D : Type 0} (log_seen : L → Seen) (log_gives : L → Call → L → Type 0) (data_seen : D → Seen) (data_gives : D → Call → D → Type 0)
+module _ {L D : Type 0} (log_seen : L → Seen) (log_gives : L → Call → L → Type 0) (log_crash_gives : L → ℕ → L → Type 0)
+    (data_seen : D → Seen) (data_gives : D → Call → D → Type 0) (data_crash_gives : D → ℕ → D → Type 0)
     (source source_now : SourceSeen) (log_entry data_entry : Seen) where
   -- the call of a command that runs a script so
   abbrev pub handed_as : Command → Stops → Drive → Handed
@@ -348,26 +396,27 @@ module _ {L D : Type 0} (log_seen : L → Seen) (log_gives : L → Call → L �
   TellsByTurns (Run drive) (outcome.Report text fault) log_now data_now =
       TellsRun log_seen log_gives data_seen data_gives (handed_as (Run drive) no_stops drive) None (Some fault) text log_now data_now
   TellsByTurns (Run drive) (outcome.Fault fault) log_now data_now =
-      TellsFault log_seen log_gives data_seen data_gives (handed_as (Run drive) no_stops drive) fault log_now data_now
+      TellsFault log_seen log_gives log_crash_gives data_seen data_gives data_crash_gives (handed_as (Run drive) no_stops drive) fault log_now data_now
   TellsByTurns (Crash drive stop_log stop_data pick) (outcome.Text text) log_now data_now =
-      TellsNone log_seen log_gives data_seen data_gives (handed_as (Crash drive stop_log stop_data pick) (record { log = stop_log; store = stop_data }) drive) pick text log_now data_now
-      ⊎ TellsCrash log_seen log_gives data_seen data_gives (handed_as (Crash drive stop_log stop_data pick) (record { log = stop_log; store = stop_data }) drive) pick text log_now data_now
+      TellsNone log_seen log_gives log_crash_gives data_seen data_gives data_crash_gives (handed_as (Crash drive stop_log stop_data pick) (record { log = stop_log; store = stop_data }) drive) pick text log_now data_now
+      ⊎ TellsCrash log_seen log_gives log_crash_gives data_seen data_gives data_crash_gives (handed_as (Crash drive stop_log stop_data pick) (record { log = stop_log; store = stop_data }) drive) pick text log_now data_now
   TellsByTurns (Crash drive stop_log stop_data pick) (outcome.Report text fault) log_now data_now = ⊥
   TellsByTurns (Crash drive stop_log stop_data pick) (outcome.Fault fault) log_now data_now =
-      TellsFault log_seen log_gives data_seen data_gives (handed_as (Crash drive stop_log stop_data pick) (record { log = stop_log; store = stop_data }) drive) fault log_now data_now
+      TellsFault log_seen log_gives log_crash_gives data_seen data_gives data_crash_gives (handed_as (Crash drive stop_log stop_data pick) (record { log = stop_log; store = stop_data }) drive) fault log_now data_now
   TellsByTurns (Gen seed users groups true max) (outcome.Text text) log_now data_now =
       TellsSummary log_seen log_gives data_seen data_gives (handed_as (Gen seed users groups true max) no_stops (drive_of_seed seed max)) text log_now data_now
   TellsByTurns (Gen seed users groups true max) (outcome.Report text fault) log_now data_now = ⊥
   TellsByTurns (Gen seed users groups true max) (outcome.Fault fault) log_now data_now =
-      TellsFault log_seen log_gives data_seen data_gives (handed_as (Gen seed users groups true max) no_stops (drive_of_seed seed max)) fault log_now data_now
+      TellsFault log_seen log_gives log_crash_gives data_seen data_gives data_crash_gives (handed_as (Gen seed users groups true max) no_stops (drive_of_seed seed max)) fault log_now data_now
   TellsByTurns command outcome log_now data_now = Unit {0}
 
 -- What the words' command came to was printed; it means what it says of the call, and a run that it tells of is one by its
 -- turns.
-abbrev pub IsByTurns : {L D : Type 0} → (L → Seen) → (L → Call → L → Type 0) → (D → Seen) → (D → Call → D → Type 0)
+abbrev pub IsByTurns : {L D : Type 0} → (L → Seen) → (L → Call → L → Type 0) → (L → ℕ → L → Type 0)
+    → (D → Seen) → (D → Call → D → Type 0) → (D → ℕ → D → Type 0)
     → LabCall → Fused L → Fused D → Type 0
-IsByTurns log_seen log_gives data_seen data_gives lab log_now data_now =
+IsByTurns log_seen log_gives log_crash_gives data_seen data_gives data_crash_gives lab log_now data_now =
     (command : Command) → command_of lab.call.words ≡ Some command
     → (outcome : Outcome) × IsOutcomePrinted outcome lab.status lab.sink lab.sink_now × IsOutcome lab.call command outcome
-    × TellsByTurns log_seen log_gives data_seen data_gives lab.call.source lab.call.source_now lab.call.log_device lab.call.data_device
+    × TellsByTurns log_seen log_gives log_crash_gives data_seen data_gives data_crash_gives lab.call.source lab.call.source_now lab.call.log_device lab.call.data_device
     command outcome log_now data_now

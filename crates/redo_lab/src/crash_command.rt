@@ -87,7 +87,7 @@ pub(crate) fn crash_command<L: Sectors, D: Sectors>(
     ensures ends { (words : List (List ℕ)) (source source_now : SourceSeen) → IsScriptRead source source_now script.now
         → EndsCommand (call_of L.seen D.seen words source source_now log store result) (Crash drive.now stops.log stops.store pick) result.outcome }
     ensures turns { (source source_now : SourceSeen) → IsScriptRead source source_now script.now
-        → TellsByTurns L.seen L.gives D.seen D.gives source source_now (L.seen log) (D.seen store) (Crash drive.now stops.log stops.store pick) result.outcome result.log result.store }
+        → TellsByTurns L.seen L.gives L.crash_gives D.seen D.gives D.crash_gives source source_now (L.seen log) (D.seen store) (Crash drive.now stops.log stops.store pick) result.outcome result.log result.store }
     ensures log_device { IsLedFrom L.seen L.gives L.crash_gives log result.log }
     ensures data_device { IsLedFrom D.seen D.gives D.crash_gives store result.store }
 {

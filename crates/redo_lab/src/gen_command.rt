@@ -116,7 +116,7 @@ fn run_script<L: Sectors, D: Sectors>(
     ensures ends { (words : List (List ℕ)) (source : SourceSeen) (users groups : ℕ) → script.now ≡ generated_lines seed users groups
         → EndsCommand (call_of L.seen D.seen words source source log store result) (Gen seed users groups true max) result.outcome }
     ensures turns { (source : SourceSeen) (users groups : ℕ) → script.now ≡ generated_lines seed users groups
-        → TellsByTurns L.seen L.gives D.seen D.gives source source (L.seen log) (D.seen store) (Gen seed users groups true max) result.outcome result.log result.store }
+        → TellsByTurns L.seen L.gives L.crash_gives D.seen D.gives D.crash_gives source source (L.seen log) (D.seen store) (Gen seed users groups true max) result.outcome result.log result.store }
     ensures log_device { IsLedFrom L.seen L.gives L.crash_gives log result.log }
     ensures data_device { IsLedFrom D.seen D.gives D.crash_gives store result.store }
 {
@@ -167,7 +167,7 @@ fn run_seed<L: Sectors, D: Sectors>(
     ensures ends { (words : List (List ℕ)) (source : SourceSeen)
         → EndsCommand (call_of L.seen D.seen words source source log store result) (Gen seed users groups true max) result.outcome }
     ensures turns { (source : SourceSeen)
-        → TellsByTurns L.seen L.gives D.seen D.gives source source (L.seen log) (D.seen store) (Gen seed users groups true max) result.outcome result.log result.store }
+        → TellsByTurns L.seen L.gives L.crash_gives D.seen D.gives D.crash_gives source source (L.seen log) (D.seen store) (Gen seed users groups true max) result.outcome result.log result.store }
     ensures log_device { IsLedFrom L.seen L.gives L.crash_gives log result.log }
     ensures data_device { IsLedFrom D.seen D.gives D.crash_gives store result.store }
 {
@@ -195,7 +195,7 @@ pub(crate) fn gen_command<L: Sectors, D: Sectors>(
     ensures ends { (words : List (List ℕ)) (source : SourceSeen)
         → EndsCommand (call_of L.seen D.seen words source source log store result) (Gen seed users groups run max) result.outcome }
     ensures turns { (source : SourceSeen)
-        → TellsByTurns L.seen L.gives D.seen D.gives source source (L.seen log) (D.seen store) (Gen seed users groups run max) result.outcome result.log result.store }
+        → TellsByTurns L.seen L.gives L.crash_gives D.seen D.gives D.crash_gives source source (L.seen log) (D.seen store) (Gen seed users groups run max) result.outcome result.log result.store }
     ensures log_device { IsLedFrom L.seen L.gives L.crash_gives log result.log }
     ensures data_device { IsLedFrom D.seen D.gives D.crash_gives store result.store }
 {

@@ -39,7 +39,7 @@ fn run_source<S: Source, L: Sectors, D: Sectors>(
 ) -> Done<L, D>
     ensures ends { (words : List (List ℕ))
         → EndsCommand (call_of L.seen D.seen words (S.seen src.old) (S.seen src.new) log store result) (Run drive.now) result.outcome }
-    ensures turns { TellsByTurns L.seen L.gives D.seen D.gives (S.seen src.old) (S.seen src.new) (L.seen log) (D.seen store)
+    ensures turns { TellsByTurns L.seen L.gives L.crash_gives D.seen D.gives D.crash_gives (S.seen src.old) (S.seen src.new) (L.seen log) (D.seen store)
         (Run drive.now) result.outcome result.log result.store }
     ensures log_device { IsLedFrom L.seen L.gives L.crash_gives log result.log }
     ensures data_device { IsLedFrom D.seen D.gives D.crash_gives store result.store }
@@ -66,7 +66,7 @@ fn crash_source<S: Source, L: Sectors, D: Sectors>(
     ensures ends { (words : List (List ℕ))
         → EndsCommand (call_of L.seen D.seen words (S.seen src.old) (S.seen src.new) log store result)
         (Crash drive.now stops.log stops.store pick) result.outcome }
-    ensures turns { TellsByTurns L.seen L.gives D.seen D.gives (S.seen src.old) (S.seen src.new) (L.seen log) (D.seen store)
+    ensures turns { TellsByTurns L.seen L.gives L.crash_gives D.seen D.gives D.crash_gives (S.seen src.old) (S.seen src.new) (L.seen log) (D.seen store)
         (Crash drive.now stops.log stops.store pick) result.outcome result.log result.store }
     ensures log_device { IsLedFrom L.seen L.gives L.crash_gives log result.log }
     ensures data_device { IsLedFrom D.seen D.gives D.crash_gives store result.store }
@@ -91,7 +91,7 @@ fn done<S: Source, L: Sectors, D: Sectors>(
     requires { IsWithin command }
     ensures ends { (words : List (List ℕ))
         → EndsCommand (call_of L.seen D.seen words (S.seen src.old) (S.seen src.new) log store result) command result.outcome }
-    ensures turns { TellsByTurns L.seen L.gives D.seen D.gives (S.seen src.old) (S.seen src.new) (L.seen log) (D.seen store)
+    ensures turns { TellsByTurns L.seen L.gives L.crash_gives D.seen D.gives D.crash_gives (S.seen src.old) (S.seen src.new) (L.seen log) (D.seen store)
         command result.outcome result.log result.store }
     ensures log_device { IsLedFrom L.seen L.gives L.crash_gives log result.log }
     ensures data_device { IsLedFrom D.seen D.gives D.crash_gives store result.store }
@@ -151,7 +151,7 @@ pub fn lab<S: Source, O: Sink, L: Sectors, D: Sectors>(
 ) -> Ended<L, D>
     ensures call { IsCallOf (lab_call_of L.seen D.seen (map (λ word. string_bytes word) words.now) (S.seen src.old) (S.seen src.new)
         (O.seen out.old) (O.seen out.new) log store result) }
-    ensures turns { IsByTurns L.seen L.gives D.seen D.gives
+    ensures turns { IsByTurns L.seen L.gives L.crash_gives D.seen D.gives D.crash_gives
         (lab_call_of L.seen D.seen (map (λ word. string_bytes word) words.now) (S.seen src.old) (S.seen src.new)
         (O.seen out.old) (O.seen out.new) log store result) result.log result.store }
     ensures log_device { IsLedFrom L.seen L.gives L.crash_gives log result.log }

@@ -6,8 +6,8 @@ ghost use Rattle.model_store.specs.{IsUnused};
 ghost use Rattle.redo_disk.specs.{error_of, MakesCalls, ReadStep};
 ghost use Rattle.redo_lab.specs.Call.{guarded};
 ghost use Rattle.redo_lab.specs.Led.{IsCalled};
-ghost use Rattle.redo_lab.specs.Prepared.{ReadsOnce, Prepares};
-ghost use Rattle.redo_memdisk.specs.{fresh, fuse_of, inner_of};
+ghost use Rattle.redo_lab.specs.Prepared.{Prepares, PreparesData, PreparesLog, ReadsOnce};
+ghost use Rattle.redo_memdisk.specs.{CallsThrough, fresh, fuse_of, inner_of};
 ghost use Rattle.redo_recover.specs.{log_fault_of};
 
 use crate::shapes::default_shape;
@@ -58,6 +58,8 @@ pub(crate) fn prepare<L: Sectors, D: Sectors>(
         (guarded L.seen log.new) (guarded D.seen store.new) }
     ensures log_called { IsCalled L.seen L.gives log.old log.new }
     ensures data_called { IsCalled D.seen D.gives store.old store.new }
+    ensures log_calls { MakesCalls (CallsThrough L.seen L.gives) log.old log.new (PreparesLog result) }
+    ensures data_calls { MakesCalls (CallsThrough D.seen D.gives) store.old store.new (PreparesData result) }
 {
     if log.len() < HEADER_BYTES {
         return Err(RecFault::SmallLog(HEADER_BYTES));

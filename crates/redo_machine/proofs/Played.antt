@@ -9,13 +9,11 @@ use Rattle.model_core.specs.declared.ops.Answer.TheVariants as answer
 use Rattle.model_core.specs.declared.ops.Op.{Op}
 use Rattle.model_core.specs.declared.ops.Op.TheVariants as op
 use Rattle.redo_disk.specs.Seen.{Seen}
-use Rattle.redo_logdev.specs.Part as log
 use Rattle.redo_logside.specs.LogPartSide as log_part
 use Rattle.redo_machine.proofs.Listings.{add_left, remove_left}
 use Rattle.redo_machine.specs.Lists.{AreLists, Listings, added, lists_of, removed}
 use Rattle.redo_machine.specs.Playing.{HasSameDevices, IsPlayed, RunOf, data_of}
 use Rattle.redo_machine.specs.declared.parts.Parts.{Parts}
-use Rattle.redo_store.specs.Part as store
 use Rattle.redo_words.specs.Plain.{Plain}
 
 -- the Op is no writing of a batch
@@ -36,12 +34,6 @@ module _ {L D : Type 0} (log_seen : L → Seen) (data_seen : D → Seen) (run : 
 
   abbrev with_words : Plain → Parts L D
   with_words w = record { words = w; log = old.log; store = old.store; lists = old.lists }
-
-  abbrev with_log : log.Part L → Parts L D
-  with_log q = record { words = old.words; log = q; store = old.store; lists = old.lists }
-
-  abbrev with_store : store.Part D → Parts L D
-  with_store e = record { words = old.words; log = old.log; store = e; lists = old.lists }
 
   none : (o : Op) → IsNoBatch o → (code : ℕ) → DataServed (data_of log_seen data_seen run) old.store l o code old.store
   none o other code = untouched (data_of log_seen data_seen run) old.store old.store l o code other refl

@@ -62,7 +62,7 @@ WhereRefused log data_device P = (refusal : Refusal)
     → OnContents log.tells data_device.tells (λ log_bytes data_bytes. Refuses log_bytes data_bytes refusal → P)
 
 -- A fault has its cause: the store is refused for it, a device is too short, or that device has failed. A store that is refused
--- was only read, whatever is answered.
+-- is as it was, whatever is answered.
 pub record HasFaultCause (log data_device log_after data_after : Seen) (fault : RecFault) : Type 0 where
   pub refused : HasCauseIn log.tells data_device.tells fault
   pub lengths : HasLengthCause log.size data_device.size fault

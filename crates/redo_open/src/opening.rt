@@ -89,7 +89,7 @@ fn open_recovered<L: Sectors, D: Sectors>(
 /// Opens the store on two devices, so that a run can start on it: reads it, clears away what stands on the log behind its
 /// end, repairs the places of pages that don't pass, writes each page as it was read where that isn't in its place then,
 /// and moves the checkpoint. No byte of a device is read twice, no place is written that holds its page already, and a
-/// store that is refused is only read.
+/// store that is refused is as it was.
 ///
 /// Wherever it ends, whatever a crash leaves of the two devices is read with the same pages. The devices of a store that
 /// isn't opened are handed back beside the fault.

@@ -40,7 +40,7 @@ pub returns-clause-turns : goal.returns-clause-turns
 returns-clause-turns g c = λ source source_now read.
     elim c.match-course.branch [
       | in-Ended w ↦ rw (w.outcome-is, w.log-is, w.store-is)
-          (crash-ended-told g.L.Sectors.seen g.L.Sectors.gives g.D.Sectors.seen g.D.Sectors.gives source source_now _ _ c.args.drive.now c.args.stops c.args.pick w.in-Ended.fault _ _
+          (crash-ended-told g.L.Sectors.seen g.L.Sectors.gives g.L.Sectors.crash_gives g.D.Sectors.seen g.D.Sectors.gives g.D.Sectors.crash_gives source source_now _ _ c.args.drive.now c.args.stops c.args.pick w.in-Ended.fault _ _
           (record {
             script = c.args.script.now;
             is_script = read;
@@ -48,16 +48,17 @@ returns-clause-turns g c = λ source source_now read.
             by_turns = rw (c.turns_of.ensures, w.in-Ended.is) at c.run_lines-course.ensures.turns;
           }))
       | in-Stopped w ↦ rw (w.outcome-is, w.log-is, w.store-is)
-          (crash-stopped-told g.L.Sectors.seen g.L.Sectors.gives g.D.Sectors.seen g.D.Sectors.gives source source_now _ _ c.args.drive.now c.args.stops c.args.pick w.in-Stopped.field-0 _ _ _ _ _
+          (crash-stopped-told g.L.Sectors.seen g.L.Sectors.gives g.L.Sectors.crash_gives g.D.Sectors.seen g.D.Sectors.gives g.D.Sectors.crash_gives source source_now _ _ c.args.drive.now c.args.stops c.args.pick w.in-Stopped.field-0 _ _ _ _ _
           (record {
             script = c.args.script.now;
             is_script = read;
             comes_to = rw w.in-Stopped.is at c.run_lines-course.ensures.comes_to;
-            by_turns = tt;
+            by_turns = rw w.in-Stopped.is at c.run_lines-course.ensures.turns;
           })
+          (record { log_device = w.crash_and_read-outcome.ensures.log_crashed; data_device = w.crash_and_read-outcome.ensures.data_crashed })
           w.crash_and_read-outcome.ensures.reads)
       | in-Played w ↦ rw (w.outcome-is, w.log-is, w.store-is)
-          (crash-played-told g.L.Sectors.seen g.L.Sectors.gives g.D.Sectors.seen g.D.Sectors.gives source source_now _ _ c.args.drive.now c.args.stops c.args.pick
+          (crash-played-told g.L.Sectors.seen g.L.Sectors.gives g.L.Sectors.crash_gives g.D.Sectors.seen g.D.Sectors.gives g.D.Sectors.crash_gives source source_now _ _ c.args.drive.now c.args.stops c.args.pick
           w.in-Played.played w.in-Played.field-1 _ _ _ _ _
           (record {
             script = c.args.script.now;
@@ -65,6 +66,7 @@ returns-clause-turns g c = λ source source_now read.
             comes_to = rw (w.in-Played.is, c.turns_of.ensures) at c.run_lines-course.ensures.comes_to;
             by_turns = rw (w.in-Played.is, c.turns_of.ensures) at c.run_lines-course.ensures.turns;
           })
+          (record { log_device = w.crash_and_read-outcome-in-Played.ensures.log_crashed; data_device = w.crash_and_read-outcome-in-Played.ensures.data_crashed })
           w.crash_and_read-outcome-in-Played.ensures.reads)
     ]
 

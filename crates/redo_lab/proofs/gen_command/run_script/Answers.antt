@@ -36,26 +36,35 @@ returns-clause-ends g c = λ words source users groups is.
 
 pub returns-clause-turns : goal.returns-clause-turns
 returns-clause-turns g c = λ source users groups is.
+    let laws : SeedLaws = record {
+      one = c.one_answer.ensures.read;
+      same = c.one_reading.ensures;
+      openable = c.openable_reads.ensures;
+      formatted = c.formatted_is_openable.ensures;
+      closed = record { safe = c.closed_run_is_safe.ensures; reads = c.held_run_reads.ensures.read; opened = c.held_run_is_opened.ensures.opened };
+      fair = c.base_is_fair.ensures;
+      unfit = c.unfit_is_misfit.ensures;
+    } in
     elim c.match-course.branch [
       | in-Ended2 w ↦ rw (w.outcome-is, w.log-is, w.store-is) (elim w.in-Ended.is [
-        | inl ended ↦ gen-ended-told g.L.Sectors.seen g.L.Sectors.gives g.D.Sectors.seen g.D.Sectors.gives source source _ _ c.args.seed users groups c.args.max w.in-Ended.fault _ _
+        | inl ended ↦ gen-ended-told g.L.Sectors.seen g.L.Sectors.gives g.L.Sectors.crash_gives g.D.Sectors.seen g.D.Sectors.gives g.D.Sectors.crash_gives source source _ _ c.args.seed users groups c.args.max w.in-Ended.fault _ _
             (record {
               script = c.args.script.now;
               is_script = is;
               comes_to = rw (c.turns_of_seed.ensures, ended) at c.run_lines-course.ensures.comes_to;
               by_turns = rw (c.turns_of_seed.ensures, ended) at c.run_lines-course.ensures.turns;
             })
-        | inr stopped ↦ gen-stopped-told g.L.Sectors.seen g.L.Sectors.gives g.D.Sectors.seen g.D.Sectors.gives source source _ _ c.args.seed users groups c.args.max w.in-Ended.fault _ _
+        | inr stopped ↦ gen-stopped-told g.L.Sectors.seen g.L.Sectors.gives g.L.Sectors.crash_gives g.D.Sectors.seen g.D.Sectors.gives g.D.Sectors.crash_gives source source _ _ c.args.seed users groups c.args.max w.in-Ended.fault _ _
             (record {
               script = c.args.script.now;
               is_script = is;
               comes_to = rw stopped at c.run_lines-course.ensures.comes_to;
-              by_turns = tt;
+              by_turns = rw stopped at c.run_lines-course.ensures.turns;
             })
       ])
       | in-Played w ↦ rw (w.outcome-is, w.log-is, w.store-is) (elim w.match-ended.branch [
         | in-Some cut ↦ rw (cut.outcome-is, cut.log-is, cut.store-is)
-            (gen-cut-told g.L.Sectors.seen g.L.Sectors.gives g.D.Sectors.seen g.D.Sectors.gives source source _ _ c.args.seed users groups c.args.max
+            (gen-cut-told g.L.Sectors.seen g.L.Sectors.gives g.L.Sectors.crash_gives g.D.Sectors.seen g.D.Sectors.gives g.D.Sectors.crash_gives source source _ _ c.args.seed users groups c.args.max
             w.in-Played.played cut.in-Some.fault _ _
             (record {
               script = c.args.script.now;
@@ -64,7 +73,7 @@ returns-clause-turns g c = λ source users groups is.
               by_turns = rw (c.turns_of_seed.ensures, w.in-Played.is, cut.in-Some.is) at c.run_lines-course.ensures.turns;
             }))
         | in-None done ↦ rw (done.outcome-is, done.log-is, done.store-is)
-            (gen-played-told g.L.Sectors.seen g.L.Sectors.gives g.D.Sectors.seen g.D.Sectors.gives source source _ _ c.args.seed users groups c.args.max
+            (gen-played-told g.L.Sectors.seen g.L.Sectors.gives g.L.Sectors.crash_gives g.D.Sectors.seen g.D.Sectors.gives g.D.Sectors.crash_gives source source _ _ c.args.seed users groups c.args.max laws
             w.in-Played.played _ _ _ _ _
             (record {
               script = c.args.script.now;
@@ -72,6 +81,7 @@ returns-clause-turns g c = λ source users groups is.
               comes_to = rw (c.turns_of_seed.ensures, w.in-Played.is, done.in-None.is) at c.run_lines-course.ensures.comes_to;
               by_turns = rw (c.turns_of_seed.ensures, w.in-Played.is, done.in-None.is) at c.run_lines-course.ensures.turns;
             })
+            (record { log_device = done.read_behind.ensures.log_called; data_device = done.read_behind.ensures.data_called })
             done.read_behind.ensures.reads)
       ])
     ]

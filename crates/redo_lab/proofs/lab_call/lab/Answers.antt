@@ -33,10 +33,10 @@ returns-clause-turns g c =
       status = c.print_outcome-status.result;
     } in
     elim c.match-read_command.branch [
-      | in-Ok w ↦ command-by-turns g.L.Sectors.seen g.L.Sectors.gives g.D.Sectors.seen g.D.Sectors.gives _ (g.S.Source.seen c.args.src.now) (g.S.Source.seen w.done.new.src)
+      | in-Ok w ↦ command-by-turns g.L.Sectors.seen g.L.Sectors.gives g.L.Sectors.crash_gives g.D.Sectors.seen g.D.Sectors.gives g.D.Sectors.crash_gives _ (g.S.Source.seen c.args.src.now) (g.S.Source.seen w.done.new.src)
           (g.S.Source.seen c.match-read_command.src) c.args.log c.args.store w.done.result c.match-read_command.outcome printed w.in-Ok.command
           (ap g.S.Source.seen w.src-is) w.outcome-is w.in-Ok.ensures.asked (w.done.ensures.ends _) w.done.ensures.turns c.print_outcome-status.ensures
-      | in-Err w ↦ nothing-by-turns g.L.Sectors.seen g.L.Sectors.gives g.D.Sectors.seen g.D.Sectors.gives _ (g.S.Source.seen c.args.src.now)
+      | in-Err w ↦ nothing-by-turns g.L.Sectors.seen g.L.Sectors.gives g.L.Sectors.crash_gives g.D.Sectors.seen g.D.Sectors.gives g.D.Sectors.crash_gives _ (g.S.Source.seen c.args.src.now)
           (g.S.Source.seen c.match-read_command.src) c.args.log c.args.store w.unasked.result c.match-read_command.outcome printed w.in-Err.fault
           w.outcome-is w.in-Err.ensures.fault w.unasked.ensures c.openable_reads.ensures c.print_outcome-status.ensures
     ]

@@ -27,7 +27,7 @@ returns-in-Ok-clause-turns g c = c.run_command.ensures.turns _ _ c.in-Ok.ensures
 pub returns-in-Err-clause-turns : goal.returns-in-Err-clause-turns
 returns-in-Err-clause-turns g c =
     rw c.unasked.ensures.outcome_is
-    (run-unscripted-told g.L.Sectors.seen g.L.Sectors.gives g.D.Sectors.seen g.D.Sectors.gives _ _ _ _ c.args.drive.now c.in-Err.fault _ _ c.in-Err.ensures.fault
+    (run-unscripted-told g.L.Sectors.seen g.L.Sectors.gives g.L.Sectors.crash_gives g.D.Sectors.seen g.D.Sectors.gives g.D.Sectors.crash_gives _ _ _ _ c.args.drive.now c.in-Err.fault _ _ c.in-Err.ensures.fault
     (record { seen = ap g.L.Sectors.seen c.unasked.ensures.log_inner; fuse = c.unasked.ensures.log_fuse })
     (record { seen = ap g.D.Sectors.seen c.unasked.ensures.data_inner; fuse = c.unasked.ensures.data_fuse }))
 

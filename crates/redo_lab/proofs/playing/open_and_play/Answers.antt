@@ -4,8 +4,8 @@ use Rattle.redo_memdisk.specs.{seen_through}
 use Rattle.redo_lab.proofs.Led.{called-by, called-then, plays-called}
 use Rattle.redo_lab.proofs.OpenedRun.{opened-comes}
 use Rattle.redo_lab.proofs.OpenedTurns.{driven-comes}
-use Rattle.redo_lab.proofs.Turned.{unopened-comes-not}
 use Rattle.redo_lab.proofs.UnderWay.{header-first, unopened-comes}
+use Rattle.redo_lab.proofs.Unopened.{ended-comes}
 use Rattle.redo_lab.proofs.playing.open_and_play.Goals as goal
 
 pub returns-in-Ok-clause-comes_to : goal.returns-in-Ok-clause-comes_to
@@ -42,7 +42,7 @@ returns-in-Ok-clause-turns g c = λ log_entry data_entry stops log_found data_fo
         marks = c.in-Ok.ensures.marks;
       };
     })
-    log_at data_at c.play.ensures.turns
+    log_at data_at c.play.ensures.plays c.play.ensures.turns
 
 pub returns-in-Err-clause-comes_to : goal.returns-in-Err-clause-comes_to
 returns-in-Err-clause-comes_to g c = λ log_entry data_entry stops log_found data_found armed.
@@ -60,7 +60,13 @@ returns-in-Err-clause-comes_to g c = λ log_entry data_entry stops log_found dat
 pub returns-in-Err-clause-turns : goal.returns-in-Err-clause-turns
 returns-in-Err-clause-turns g c = λ log_entry data_entry stops log_found data_found armed log_at data_at.
     rw c.unopened.ensures
-    (unopened-comes-not g.L.Sectors.seen g.L.Sectors.gives g.D.Sectors.seen g.D.Sectors.gives log_entry data_entry stops c.args.turns.now c.args.script.now c.in-Err.log c.in-Err.store c.in-Err.fault)
+    (ended-comes {log_gives = g.L.Sectors.gives} {data_gives = g.D.Sectors.gives} c.args.turns.now c.args.script.now c.in-Err.fault c.in-Err.log c.in-Err.store (record {
+      armed = armed;
+      log_at = log_at;
+      data_at = data_at;
+      log_calls = weaker_calls (λ calls opens. record { ends = opens.ends; header = opens.header; once = opens.once; unwritten = opens.unwritten }) c.in-Err.ensures.log_calls;
+      data_calls = weaker_calls (λ calls opens. record { ends = opens.ends; once = opens.once; unwritten = opens.unwritten }) c.in-Err.ensures.data_calls;
+    }))
 
 pub returns-in-Ok-clause-log_called : goal.returns-in-Ok-clause-log_called
 returns-in-Ok-clause-log_called g c = called-then (called-by c.in-Ok.ensures.log_calls)

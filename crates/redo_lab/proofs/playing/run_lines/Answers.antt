@@ -2,10 +2,11 @@
 use Rattle.std.proofs.Common.{inl, inr, ap}
 use Rattle.redo_disk.specs.Seen.{Seen}
 use Rattle.redo_lab.specs.Call.{Guarded, guarded}
-use Rattle.redo_lab.specs.Prepared.{ArePrepared}
+use Rattle.redo_lab.specs.Prepared.{ArePrepared, IsUnpreparedBy}
 use Rattle.redo_lab.proofs.Behind.{entered}
 use Rattle.redo_lab.proofs.Led.{plain-from}
 use Rattle.redo_lab.proofs.Stages.{armed-now, at-arming-now}
+use Rattle.redo_lab.proofs.Unopened.{unprepared-comes}
 use Rattle.redo_lab.proofs.playing.run_lines.Goals as goal
 
 pub returns-clause-comes_to : goal.returns-clause-comes_to
@@ -45,6 +46,24 @@ returns-clause-turns g c =
     c.arm.ensures.inner c.arm.ensures.fuse c.arm.ensures.armed)
     (at-arming-now g.D.Sectors.seen (g.D.Sectors.seen c.args.store) c.args.stops.store c.prepare.new.store c.arm-2.new.self prepared.data_device
     c.arm-2.ensures.inner c.arm-2.ensures.fuse c.arm-2.ensures.armed)
+
+pub returns-in-Err-clause-turns : goal.returns-in-Err-clause-turns
+returns-in-Err-clause-turns g c =
+    let log_now : Guarded = guarded g.L.Sectors.seen c.prepare.new.log in
+    let data_now : Guarded = guarded g.D.Sectors.seen c.prepare.new.store in
+    rw c.fault_of.ensures
+    (unprepared-comes {log_gives = g.L.Sectors.gives} {data_gives = g.D.Sectors.gives} c.args.stops c.args.turns.now c.args.script.now c.in-Err.fault c.prepare.new.log c.prepare.new.store (record {
+      log_inner = c.plain-log.ensures.inner;
+      log_fuse = c.plain-log.ensures.fuse;
+      log_unarmed = c.plain-log.ensures.armed;
+      data_inner = c.plain-store.ensures.inner;
+      data_fuse = c.plain-store.ensures.fuse;
+      data_unarmed = c.plain-store.ensures.armed;
+      log_calls = c.in-Err.ensures.log_calls;
+      data_calls = c.in-Err.ensures.data_calls;
+      unprepared = entered g.L.Sectors.seen g.D.Sectors.seen c.args.log c.plain-log.result.inner c.args.store c.plain-store.result.inner c.plain-log.ensures.inner c.plain-store.ensures.inner
+          (λ (log : Seen) (store : Seen). IsUnpreparedBy log store c.in-Err.fault log_now data_now) c.in-Err.ensures.prepares;
+    }))
 
 pub returns-in-Err-clause-log_run : goal.returns-in-Err-clause-log_run
 returns-in-Err-clause-log_run g c = inl

@@ -30,23 +30,23 @@ pub returns-clause-turns : goal.returns-clause-turns
 returns-clause-turns g c = λ source source_now read.
     elim c.match-course.branch [
       | in-Ended2 w ↦ rw w.outcome-is (elim w.in-Ended.is [
-        | inl ended ↦ run-ended-told g.L.Sectors.seen g.L.Sectors.gives g.D.Sectors.seen g.D.Sectors.gives source source_now _ _ c.args.drive.now w.in-Ended.fault _ _
+        | inl ended ↦ run-ended-told g.L.Sectors.seen g.L.Sectors.gives g.L.Sectors.crash_gives g.D.Sectors.seen g.D.Sectors.gives g.D.Sectors.crash_gives source source_now _ _ c.args.drive.now w.in-Ended.fault _ _
             (record {
               script = c.args.script.now;
               is_script = read;
               comes_to = rw (c.turns_of.ensures, ended) at c.run_lines-course.ensures.comes_to;
               by_turns = rw (c.turns_of.ensures, ended) at c.run_lines-course.ensures.turns;
             })
-        | inr stopped ↦ run-stopped-told g.L.Sectors.seen g.L.Sectors.gives g.D.Sectors.seen g.D.Sectors.gives source source_now _ _ c.args.drive.now w.in-Ended.fault _ _
+        | inr stopped ↦ run-stopped-told g.L.Sectors.seen g.L.Sectors.gives g.L.Sectors.crash_gives g.D.Sectors.seen g.D.Sectors.gives g.D.Sectors.crash_gives source source_now _ _ c.args.drive.now w.in-Ended.fault _ _
             (record {
               script = c.args.script.now;
               is_script = read;
               comes_to = rw stopped at c.run_lines-course.ensures.comes_to;
-              by_turns = tt;
+              by_turns = rw stopped at c.run_lines-course.ensures.turns;
             })
       ])
       | in-Played w ↦ rw w.outcome-is
-          (run-played-told g.L.Sectors.seen g.L.Sectors.gives g.D.Sectors.seen g.D.Sectors.gives source source_now _ _ c.args.drive.now w.in-Played.played w.in-Played.fault _ _ _
+          (run-played-told g.L.Sectors.seen g.L.Sectors.gives g.L.Sectors.crash_gives g.D.Sectors.seen g.D.Sectors.gives g.D.Sectors.crash_gives source source_now _ _ c.args.drive.now w.in-Played.played w.in-Played.fault _ _ _
           (record {
             script = c.args.script.now;
             is_script = read;
