@@ -1,4 +1,4 @@
-// Rounds of the actors of the log, worked out by hand.
+// Rounds of the actors of the log and of the checkpointer, worked out by hand.
 ghost use Rattle.std.specs.Prelude.{◌≡◌};
 ghost use Rattle.model_core.specs.Actors as actor;
 ghost use Rattle.model_core.specs.AnswerFits.{AnswerFits};
@@ -6,6 +6,7 @@ ghost use Rattle.model_core.specs.{closer_after};
 
 use model_base::Shape;
 use redo_logactors::{Closer, Flusher, Writer};
+use redo_pageactors::Checkpointer;
 use redo_words::{Answer, Lent, Op, Step, Word, old_of};
 use std::process::Abort;
 use std::test::Fail;
@@ -100,4 +101,21 @@ fn a_writer_begins(rt: HostRuntime) -> Result<(), Fail> {
     };
     assert!(rt; lends_nothing_yet);
     Ok(())
+}
+
+/// The checkpointer behind the first list, of which the page that entered first did so at 40,000: its candidate is 16,384 below
+/// that. CTAIL is 60,000.
+fn behind_the_first_list() -> Checkpointer
+    ensures { result.to ≡ 23616 }
+{
+    let mut checkpointer = Checkpointer::new(8_204);
+    checkpointer.took(Answer::Old(60_000));
+    checkpointer.took(Answer::Taken(Some(40_000)));
+    checkpointer
+}
+
+#[test]
+fn a_list_bounds_the_candidate(rt: HostRuntime) {
+    let checkpointer = behind_the_first_list();
+    assert_eq!(rt; checkpointer.next(), Op::GiveList(0));
 }

@@ -14,7 +14,7 @@ use std::alloc::Global;
 use std::process::Abort;
 use std::test::Fail;
 
-/// A byte in page 3: row 2's group.
+/// A group of six bytes, which puts the byte 7 at offset 100 of page 3.
 const ONE_BYTE: [u8; 6] = [0x81, 1, 3, 0, 100, 7];
 
 /// Three groups of 496 bytes, each a string of 489 bytes in page 3.

@@ -16,6 +16,7 @@ new | run --log-only     | 1 f b1 3 100 7 | 0 | open 8204 / g 8204 8210 1 0 flus
 new | crash              | 1 f i 3        | 0 | open 8204 / g 8204 8207 1 0 flushed / marks 8207 8207 8207 8192 / recovered 1 8207 / p 3 8207 -
 new | format             | 1 f b1 3 100 7 | 0 | formatted 8192
 new | gen 1 1 1          | 1 f b1 3 100 7 | 0 | 1 n b8 3 3089 5627;b1 3 250 246
+new | gen 1 1 1 --max 0  | 1 f b1 3 100 7 | 0 | 1 n b8 3 3089 5627;b1 3 250 246
 ",
     )
 }
@@ -27,8 +28,8 @@ fn refuses_calls(rt: HostRuntime) -> Result<(), Fail> {
         "
 new | crash                    | 1 x b1 3 100 7  |  3 | fault script line 1
 new | crash                    | 1 f b1 9 100 7  | 10 | fault fit page 9
-new | run                      | 1 f b2 3 4087 7 | 10 | fault fit offset 4087
-new | run                      | 17 f i 3        | 10 | fault fit user 17
+new | crash                    | 1 f b2 3 4087 7 | 10 | fault fit offset 4087
+new | crash                    | 17 f i 3        | 10 | fault fit user 17
 new | recover                  | 1 f b1 3 100 7  |  8 | fault store unformatted
 new | dump                     | 1 f b1 3 100 7  |  8 | fault store unformatted
 new |                          | 1 f b1 3 100 7  |  2 | fault words
@@ -74,6 +75,7 @@ same | recover |                                                         |  0 | 
 new  | crash   | 1 f s 3 38 (07*4050);s 3 38 (07*4050);s 3 38 (07*71) / | 10 | fault fit group 8193
 same | recover |                                                         |  0 | read 0 8204
 new  | run     | 1 f s 3 38 (07*4050);s 3 38 (07*4050);s 3 38 (07*70) / |  0 | open 8204 / g 8204 16652 1 0 flushed / marks 16652 16652 16652 8192
+new  | crash   | 1 f s 3 38 (07*4050);s 3 38 (07*4050);s 3 38 (07*70) / |  0 | open 8204 / g 8204 16652 1 0 flushed / marks 16652 16652 16652 8192 / recovered 1 16652 / p 3 16652 (07*4050)
 ",
     )
 }

@@ -70,6 +70,12 @@ pub(crate) fn call(alloc: Global, text: &str, script: &str) -> Result<Called, Al
     call_on(alloc, text, script, blank(alloc)?)
 }
 
+/// How many calls of the log device a call on devices that hold zeros makes before its opening, and in its opening.
+pub(crate) fn calls_of_opening(alloc: Global) -> Result<(u64, u64), AllocError> {
+    let fuse = call(alloc, "run", "")?.log_fuse;
+    Ok((fuse.early_calls, fuse.passed))
+}
+
 /// Whether a text has this line.
 fn has_line(text: &str, wanted: &str) -> bool {
     text.lines().any(|line| line == wanted)

@@ -1,8 +1,11 @@
 // The devices that calls are made on.
-use model_base::Shape;
+ghost use Rattle.std.specs.Prelude.{◌≤◌, ◌<◌, ◌^◌};
+ghost use Rattle.model_base.specs.declared.limits.TheConstants.{START_LSN};
+
+use model_base::{LSN_LIMIT, Shape};
 use redo_block::fill;
 use redo_crc::sector;
-use redo_disk::{DevError, Sectors, write_and_sync};
+use redo_disk::{DevError, Sectors};
 use redo_header::fill_ckpt;
 use redo_lab::{LOG_LENGTH, STORE_LENGTH};
 use redo_memdisk::MemDisk;
@@ -52,14 +55,20 @@ fn failing_store(alloc: Global, call: u64) -> Result<Devices, AllocError> {
     })
 }
 
-/// Writes these bytes on a device that has room for them.
-fn put<D: Sectors>(device: &mut D, at: u64, bytes: &[u8]) -> Result<(), DevError> {
+/// Writes these bytes on a device that has room for them, and doesn't sync them.
+fn put_pending<D: Sectors>(device: &mut D, at: u64, bytes: &[u8]) -> Result<(), DevError> {
     let length = bytes.len() as u64;
     let size = device.len();
     if length % 512 != 0 || at % 512 != 0 || size < length || size - length < at {
         return Err(DevError::Failed);
     }
-    write_and_sync(device, at, bytes)
+    device.write(at, bytes)
+}
+
+/// Writes these bytes on a device that has room for them.
+fn put<D: Sectors>(device: &mut D, at: u64, bytes: &[u8]) -> Result<(), DevError> {
+    put_pending(device, at, bytes)?;
+    device.sync()
 }
 
 /// A block with a group of `1 f b1 3 100 7`, but of the length 513.
@@ -80,11 +89,20 @@ fn put_no_type(log: &mut MemDisk) -> Result<(), DevError> {
     put(log, FIRST_BLOCK, &block)
 }
 
+/// The checkpoint of this number, whose place is that of its parity.
+fn put_checkpoint(log: &mut MemDisk, number: u64, lsn: u64) -> Result<(), DevError>
+    requires started { START_LSN ≤ lsn }
+    requires small { lsn < 2 ^ 61 }
+{
+    let mut checkpoint = [0; 512];
+    fill_ckpt(&mut checkpoint, number, lsn, &Shape::default_shape());
+    let at = if number % 2 == 0 { 512 } else { 1536 };
+    put(log, at, &checkpoint)
+}
+
 /// A checkpoint at the second block, and that block with no group in it.
 fn put_no_group(log: &mut MemDisk) -> Result<(), DevError> {
-    let mut checkpoint = [0; 512];
-    fill_ckpt(&mut checkpoint, 2, 8704, &Shape::default_shape());
-    put(log, 512, &checkpoint)?;
+    put_checkpoint(log, 2, 8704)?;
     let mut block = [0; 512];
     fill(&mut block, 8704, &[7; 496], 0, 2);
     put(log, SECOND_BLOCK, &block)
@@ -95,19 +113,16 @@ fn put_broken_place(store: &mut MemDisk) -> Result<(), DevError> {
     put(store, PLACE, &[1; 512])
 }
 
-/// A sound copy of page 5 with this lsn in this slot.
-fn put_copy(store: &mut MemDisk, slot: u64, lsn: u64) -> Result<(), DevError> {
+/// Page 5 with this lsn, whose user bytes are zeros.
+fn page_of(lsn: u64) -> [u8; 4096] {
     let mut page = [0; 4096];
     seal(&mut page, 5, 1, lsn);
-    put(store, slot.saturating_mul(PAGE), &page)
+    page
 }
 
-/// Writes zeros to a sector, and doesn't sync them.
-fn write_pending(device: &mut MemDisk) -> Result<(), DevError> {
-    if device.len() < 1024 {
-        return Err(DevError::Failed);
-    }
-    device.write(512, &[0; 512])
+/// A sound copy of page 5 with this lsn in this slot.
+fn put_copy(store: &mut MemDisk, slot: u64, lsn: u64) -> Result<(), DevError> {
+    put(store, slot.saturating_mul(PAGE), &page_of(lsn))
 }
 
 /// Changes devices as a name says; `same` leaves them, and any other name that isn't below is refused.
@@ -122,8 +137,16 @@ pub(crate) fn change(devices: &mut Devices, name: &str) -> Result<(), DevError> 
             put_copy(&mut devices.store, 6, 8500)?;
             put_broken_place(&mut devices.store)
         }
-        "log pending" => write_pending(&mut devices.log),
-        "data pending" => write_pending(&mut devices.store),
+        "copy beside" => put_copy(&mut devices.store, 1, 8210),
+        "copy ahead" => put_copy(&mut devices.store, 1, 9000),
+        "high number" => put_checkpoint(&mut devices.log, 1 << 63, 8192),
+        "last number" => put_checkpoint(&mut devices.log, u64::MAX, 8192),
+        "high lsn" => put_checkpoint(&mut devices.log, 2, LSN_LIMIT - (1 << 30)),
+        "last lsn" => put_checkpoint(&mut devices.log, 2, LSN_LIMIT - 512),
+        "log pending" => put_pending(&mut devices.log, 512, &[0; 512]),
+        "data pending" => put_pending(&mut devices.store, 512, &[0; 512]),
+        "block pending" => put_pending(&mut devices.log, FIRST_BLOCK, &[0; 512]),
+        "page pending" => put_pending(&mut devices.store, PLACE, &page_of(8204)),
         "same" => Ok(()),
         _ => Err(DevError::Failed),
     }

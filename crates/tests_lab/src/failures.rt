@@ -1,16 +1,10 @@
 // Sources, sinks and devices that fail.
-use crate::calls::{Called, LINE, call, call_with, source_of, words_of};
+use crate::calls::{Called, LINE, call, call_with, calls_of_opening, source_of, words_of};
 use crate::devices::blank;
 use crate::tables::{expect, play, play_at};
 use redo_io::{MemSink, MemSource};
 use std::alloc::{AllocError, Global};
 use std::test::Fail;
-
-/// How many calls of the log device an opening makes, before it and in all.
-fn calls_of_opening(alloc: Global) -> Result<(u64, u64), AllocError> {
-    let fuse = call(alloc, "run", "")?.log_fuse;
-    Ok((fuse.early_calls, fuse.passed))
-}
 
 /// Behind the opening comes the write of the first line's block, and then its sync.
 #[test]

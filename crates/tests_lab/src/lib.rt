@@ -25,3 +25,7 @@ mod stores;
 mod summaries;
 #[cfg(test)]
 mod tables;
+#[cfg(test)]
+mod turns;
+#[cfg(test)]
+mod worn_disk;

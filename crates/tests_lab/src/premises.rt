@@ -1,12 +1,32 @@
 // The premises of the crash theorem: one call where each holds, and what comes where one of them doesn't.
-use crate::calls::{LINE, has_lines, source_of, words_of};
-use crate::devices::FIRST_BLOCK;
-use crate::silent_disk::SilentDisk;
+use crate::calls::{LINE, calls_of_opening, has_lines, source_of, words_of};
+use crate::devices::{FIRST_BLOCK, SECOND_BLOCK};
+use crate::silent_disk::{Harm, SilentDisk};
 use crate::tables::{expect, play, spelled};
+use crate::worn_disk::WornDisk;
+use redo_disk::Sectors;
 use redo_io::MemSink;
 use redo_lab::{LOG_LENGTH, STORE_LENGTH, lab};
+use redo_memdisk::MemDisk;
+use std::alloc::{AllocError, Global};
 use std::process::Abort;
 use std::test::Fail;
+
+/// All premises hold: on new devices, on a store in use, and there also where the log device stops. The first run ends at 8210
+/// and the second at 8722, so the next ones start in the blocks behind, at 8704 + 12 and 9216 + 12. The third opening makes 22
+/// calls of the log device: two reads, 16 writes of zeros up to the log's end and one at its front, a sync, and the checkpoint with
+/// its sync. Behind those the block is written, and its sync is stopped.
+#[test]
+fn a_store_in_order_is_crashed(rt: HostRuntime) -> Result<(), Fail> {
+    play(
+        &rt,
+        "
+new  | crash               | 1 f b1 3 100 7 | 0 | open 8204 / g 8204 8210 1 0 flushed / marks 8210 8210 8210 8192 / recovered 1 8210 / p 3 8210 (00*62)07
+same | crash               | 2 f b1 3 101 8 | 0 | open 8716 / g 8716 8722 2 0 flushed / marks 8722 8722 8722 8704 / recovered 1 8722 / p 3 8722 (00*62)0708
+same | crash --stop-log 23 | 3 f b1 3 102 9 | 0 | open 9228 / g 9228 9234 3 0 lost / marks 9234 9234 9228 9216 / recovered 0 9228 / p 3 8722 (00*62)0708
+",
+    )
+}
 
 /// Five bytes that a CRC-32C doesn't see: its polynomial, bit by bit. A page with them has the checksum of the page with zeros
 /// in their place. Behind them stand lines of another page, behind which the cleaner writes both pages.
@@ -46,22 +66,56 @@ fn a_pending_write_at_entry_is_synced(rt: HostRuntime) -> Result<(), Fail> {
     )
 }
 
-/// Makes a call on new devices that tell nothing, of which the log device tears this sector in its crash. It is to come to this.
-fn expect_silent(
+/// At entry a write isn't synced: the first one of page 5, or one of zeros over the block of the log's only group, which no page
+/// has. Opening reads the devices as if it were. Where opening is stopped at its first call, a crash keeps the write or not, by its
+/// pick, so other pages may be left than were opened; where half of a page is kept, it is lost. An opening that comes to its end
+/// has synced both devices.
+#[test]
+fn a_pending_write_of_a_store_in_use(rt: HostRuntime) -> Result<(), Fail> {
+    play(
+        &rt,
+        "
+new           | run --log-only                 | 1 f b1 3 100 7 | 0 | open 8204 / g 8204 8210 1 0 flushed / marks 8210 8210 8210 8192
+page pending  | crash --stop-data 0            | 2 f b1 4 100 8 | 0 | open none / left 2 1 / recovered 0 8210 / p 3 8210 (00*62)07
+page pending  | crash --stop-data 0 --pick 255 | 2 f b1 4 100 8 | 0 | open none / left 2 1 / recovered 0 8210 / p 3 8210 (00*62)07 / p 5 8204 -
+block pending | crash --stop-log 0             | 2 f b1 4 100 8 | 0 | open none / left 2 1 / recovered 0 8210 / p 3 8210 (00*62)07 / p 5 8204 -
+block pending | crash --stop-log 0 --pick 1    | 2 f b1 4 100 8 | 0 | open none / left 2 1 / recovered 0 8204 / p 5 8204 -
+new           | run --log-only                 | 1 f b1 3 100 7 | 0 | open 8204 / g 8204 8210 1 0 flushed / marks 8210 8210 8210 8192
+page pending  | crash --stop-data 0 --pick 15  | 2 f b1 4 100 8 | 8 | fault store lost 5
+new           | run --log-only                 | 1 f b1 3 100 7 | 0 | open 8204 / g 8204 8210 1 0 flushed / marks 8210 8210 8210 8192
+block pending | crash                          | 2 f b1 4 100 8 | 0 | open 8204 / g 8204 8210 2 0 flushed / marks 8210 8210 8210 8192 / recovered 1 8210 / p 4 8210 (00*62)08
+page pending  | crash                          | 2 f b1 4 101 9 | 0 | open 8716 / g 8716 8722 2 0 flushed / marks 8722 8722 8722 8704 / recovered 1 8722 / p 4 8722 (00*62)0809 / p 5 8204 -
+",
+    )
+}
+
+/// New devices that tell nothing, of which a sector may come to harm in a crash.
+fn silent_devices(
+    alloc: Global,
+    log: Option<Harm>,
+    store: Option<Harm>,
+) -> Result<(SilentDisk, SilentDisk), AllocError> {
+    Ok((
+        SilentDisk::new(alloc, LOG_LENGTH, log)?,
+        SilentDisk::new(alloc, STORE_LENGTH, store)?,
+    ))
+}
+
+/// Makes a call on these devices, which is to come to this; the devices behind it.
+fn expect_on<L: Sectors + Drop, D: Sectors + Drop>(
     rt: &(impl Abort + AllocGlobal),
-    torn: Option<u64>,
+    (log, store): (L, D),
     asked: &str,
     script: &str,
     outcome: &str,
-) -> Result<(), Fail> {
+) -> Result<(L, D), Fail> {
     let alloc = rt.alloc();
     let mut source = source_of(alloc, script)?;
     let mut sink = MemSink::new(alloc);
     let words = words_of(alloc, asked)?;
-    let log = SilentDisk::new(alloc, LOG_LENGTH, torn)?;
-    let store = SilentDisk::new(alloc, STORE_LENGTH, None)?;
     let ended = lab(alloc, &words, &mut source, &mut sink, log, store);
-    expect(rt, outcome, ended.status, sink.bytes(), outcome)
+    expect(rt, outcome, ended.status, sink.bytes(), outcome)?;
+    Ok((ended.log.into_inner(), ended.store.into_inner()))
 }
 
 /// Two lines whose groups stand in one log block. Opening makes 21 calls of the log device; behind them the block is written and
@@ -69,14 +123,65 @@ fn expect_silent(
 /// that it had without it: it isn't read, and the first group is lost though it was flushed.
 #[test]
 fn a_torn_log_block_loses_what_was_flushed(rt: HostRuntime) -> Result<(), Fail> {
-    let words = "crash --stop-log 24";
-    let script = "1 f b1 3 100 7\n1 f b1 3 101 8\n";
-    let whole =
-        "0 | open 8204 / g 8204 8210 1 0 flushed / g 8210 8216 1 1 lost / marks 8216 8216 8210 8192 / recovered 1 8210 / p 3 8210 (00*62)07";
-    let torn =
-        "0 | open 8204 / g 8204 8210 1 0 flushed / g 8210 8216 1 1 lost / marks 8216 8216 8210 8192 / recovered 0 8204";
-    expect_silent(&rt, None, words, script, whole)?;
-    expect_silent(&rt, Some(FIRST_BLOCK), words, script, torn)
+    for (harm, outcome) in [
+        (
+            None,
+            "0 | open 8204 / g 8204 8210 1 0 flushed / g 8210 8216 1 1 lost / marks 8216 8216 8210 8192 / recovered 1 8210 / p 3 8210 (00*62)07",
+        ),
+        (
+            Some(Harm::Torn(FIRST_BLOCK)),
+            "0 | open 8204 / g 8204 8210 1 0 flushed / g 8210 8216 1 1 lost / marks 8216 8216 8210 8192 / recovered 0 8204",
+        ),
+    ] {
+        let devices = silent_devices(rt.alloc(), harm, None)?;
+        let script = "1 f b1 3 100 7\n1 f b1 3 101 8\n";
+        expect_on(&rt, devices, "crash --stop-log 24", script, outcome)?;
+    }
+    Ok(())
+}
+
+/// Opening writes page 3 of a store whose log alone has it: behind 10 calls of the data device come the write of slot 0, its
+/// sync, and the write of the place, which stands behind eight slots and three places. Where the write of the slot is the last,
+/// the place has nothing yet, and the log has it all; where that of the place is, the copy in the slot counts. So a page isn't
+/// lost by a sector that is torn, unless it passes its check then.
+#[test]
+fn a_torn_data_sector_is_noticed(rt: HostRuntime) -> Result<(), Fail> {
+    for (words, torn) in [
+        ("crash --stop-data 10", 0),
+        ("crash --stop-data 12", 11 * 4096),
+    ] {
+        let devices = silent_devices(rt.alloc(), None, Some(Harm::Torn(torn)))?;
+        let run = "0 | open 8204 / g 8204 8210 1 0 flushed / marks 8210 8210 8210 8192";
+        let devices = expect_on(&rt, devices, "run --log-only", LINE, run)?;
+        let crash = "0 | open none / left 2 1 / recovered 0 8210 / p 3 8210 (00*62)07";
+        expect_on(&rt, devices, words, "2 f b1 4 100 8", crash)?;
+    }
+    Ok(())
+}
+
+/// Behind a run and before the crash somebody else writes zeros on the log device: over the header, over the newest checkpoint,
+/// or over the last block. Opening the store a second time writes the checkpoint of number 2 to the second header block, and the
+/// run starts in the second log block. Without the checkpoint the log is read from the first block on, up to the end of the first
+/// run; without the last block it ends where the second run started.
+#[test]
+fn another_writer_is_not_seen(rt: HostRuntime) -> Result<(), Fail> {
+    for (at, outcome) in [
+        (0, "8 | fault store unformatted"),
+        (
+            512,
+            "0 | open 8716 / g 8716 8722 2 0 flushed / marks 8722 8722 8722 8704 / recovered 0 8210 / p 3 8210 (00*62)07",
+        ),
+        (
+            SECOND_BLOCK,
+            "0 | open 8716 / g 8716 8722 2 0 flushed / marks 8722 8722 8722 8704 / recovered 0 8716 / p 3 8210 (00*62)07",
+        ),
+    ] {
+        let devices = silent_devices(rt.alloc(), Some(Harm::Zeroed(at)), None)?;
+        let run = "0 | open 8204 / g 8204 8210 1 0 flushed / marks 8210 8210 8210 8192";
+        let devices = expect_on(&rt, devices, "run", LINE, run)?;
+        expect_on(&rt, devices, "crash", "2 f b1 3 101 8", outcome)?;
+    }
+    Ok(())
 }
 
 /// A call on devices that tell nothing prints what the same call prints on devices that tell.
@@ -84,5 +189,25 @@ fn a_torn_log_block_loses_what_was_flushed(rt: HostRuntime) -> Result<(), Fail> 
 fn devices_that_tell_nothing_serve_as_well(rt: HostRuntime) -> Result<(), Fail> {
     let outcome =
         "0 | open 8204 / g 8204 8210 1 0 flushed / marks 8210 8210 8210 8192 / recovered 1 8210 / p 3 8210 (00*62)07";
-    expect_silent(&rt, None, "crash", LINE, outcome)
+    let devices = silent_devices(rt.alloc(), None, None)?;
+    expect_on(&rt, devices, "crash", LINE, outcome)?;
+    Ok(())
+}
+
+/// The first sync behind opening fails, on a log device whose count of faults can't rise. The line is lost, as on one whose
+/// count does.
+#[test]
+fn a_count_at_its_end(rt: HostRuntime) -> Result<(), Fail> {
+    let alloc = rt.alloc();
+    let (early, opening) = calls_of_opening(alloc)?;
+    let failing = early.saturating_add(opening).saturating_add(1);
+    let log = WornDisk {
+        inner: MemDisk::failing(alloc, LOG_LENGTH, vec![in alloc; failing]?)?,
+    };
+    let store = MemDisk::new(alloc, STORE_LENGTH)?;
+    let script = "1 f b1 3 100 7\n1 f b1 3 100 8\n";
+    let outcome =
+        "0 | open 8204 / g 8204 8210 1 0 lost / left 1 1 / marks 8210 8210 8204 8192 / recovered 0 8204";
+    expect_on(&rt, (log, store), "crash", script, outcome)?;
+    Ok(())
 }

@@ -1,21 +1,31 @@
-// A device that tells nothing of what it holds, and of which a crash may tear a sector.
+// A device that tells nothing of what it holds, and of which a sector may be torn, or written by somebody else.
 ghost use Rattle.std.specs.Prelude.{◌≡◌, length};
 
 use redo_disk::{DevError, Sectors};
 use std::alloc::{AllocError, Global};
 use std::marker::Model;
 
-/// Bytes of half a sector.
+/// Bytes of a sector, and of half of one.
+const SECTOR: usize = 512;
+
 const HALF: usize = 256;
 
-/// A device in memory. A crash leaves what stood there at the last sync, but where a sector is torn: its first half is then what
-/// was written since. No device that tells what it holds has such a crash, since it leaves no image.
+/// What becomes of the sector at this offset in a crash. No device that tells what it holds has such a crash, since it leaves
+/// no image.
+#[derive(Clone, Copy)]
+pub(crate) enum Harm {
+    /// It is torn: its first half is what was written since the last sync.
+    Torn(u64),
+    /// It holds zeros, which somebody else has written there just before.
+    Zeroed(u64),
+}
+
+/// A device in memory. A crash leaves what stood there at the last sync, but for the sector that comes to harm.
 #[derive(Drop)]
 pub(crate) struct SilentDisk {
     reads: Vec<u8>,
     synced: Vec<u8>,
-    /// Where the sector stands that a crash tears, if it tears one.
-    torn: Option<u64>,
+    harm: Option<Harm>,
 }
 
 impl Model for SilentDisk {
@@ -30,12 +40,12 @@ impl Model for SilentDisk {
 }
 
 impl SilentDisk {
-    /// A device of so many zeros, of which a crash tears this sector.
-    pub(crate) fn new(alloc: Global, len: u64, torn: Option<u64>) -> Result<Self, AllocError> {
+    /// A device of so many zeros, of which a sector may come to harm in a crash.
+    pub(crate) fn new(alloc: Global, len: u64, harm: Option<Harm>) -> Result<Self, AllocError> {
         Ok(SilentDisk {
             reads: vec![in alloc; 0; len as usize]?,
             synced: vec![in alloc; 0; len as usize]?,
-            torn,
+            harm,
         })
     }
 }
@@ -46,6 +56,13 @@ fn copy_half(from: &[u8], to: &mut [u8], at: usize)
 {
     if at < from.len() && HALF <= from.len() - at {
         to[at..at + HALF].copy_from_slice(&from[at..at + HALF]);
+    }
+}
+
+/// Fills the sector at this offset with zeros, where there is one.
+fn zero_sector(bytes: &mut [u8], at: usize) {
+    if at < bytes.len() && SECTOR <= bytes.len() - at {
+        bytes[at..at + SECTOR].fill(0);
     }
 }
 
@@ -74,8 +91,10 @@ impl Sectors for SilentDisk {
     }
 
     fn crash(&mut self, _pick: u64) {
-        if let Some(at) = self.torn {
-            copy_half(&self.reads, &mut self.synced, at as usize);
+        match self.harm {
+            Some(Harm::Torn(at)) => copy_half(&self.reads, &mut self.synced, at as usize),
+            Some(Harm::Zeroed(at)) => zero_sector(&mut self.synced, at as usize),
+            None => {}
         }
         self.reads.copy_from_slice(&self.synced);
     }
