@@ -173,7 +173,7 @@ impl Case<'_> {
         let call = self.call(&words_of(&words), "")?;
         call.answers(0, &text)?;
         let mut options = Options::draw(&mut self.draws, false, script.len());
-        let is_summed = self.program.runs_generated && self.draws.once_in(2);
+        let is_summed = self.draws.once_in(2);
         if is_summed {
             options = Options::of_generated(seed);
         }

@@ -85,16 +85,9 @@ fn main() {
         );
         process::exit(2);
     };
-    let program = Program::new(program).unwrap_or_else(|message| {
-        eprintln!("{message}");
-        process::exit(2)
-    });
-    if !program.runs_generated {
-        println!("the program has no `gen --run`, so that isn't tried");
-    }
     let start = Instant::now();
     let soak = Soak {
-        program,
+        program: Program::new(program),
         next: AtomicU64::new(first),
         last: first.saturating_add(runs),
         failures: AtomicU64::new(0),

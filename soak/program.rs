@@ -1,14 +1,11 @@
 //! Calls of the program.
 
-use std::env;
 use std::io::{ErrorKind, Write};
 use std::path::{Path, PathBuf};
 use std::process::{Command, Stdio};
 
 pub struct Program {
     path: PathBuf,
-    /// Whether it has `gen --run`.
-    pub runs_generated: bool,
 }
 
 /// A call with what it read, how it ended and what it printed, to be shown where it fails a check.
@@ -48,14 +45,8 @@ impl Call {
 }
 
 impl Program {
-    pub fn new(path: PathBuf) -> Result<Program, String> {
-        let mut program = Program {
-            path,
-            runs_generated: false,
-        };
-        let words = ["gen", "1", "1", "1", "--run"].map(str::to_string);
-        program.runs_generated = program.call(&env::temp_dir(), &words, "")?.status == 0;
-        Ok(program)
+    pub fn new(path: PathBuf) -> Program {
+        Program { path }
     }
 
     /// Calls the program in this folder.
