@@ -5,6 +5,8 @@ use Rattle.model_device.specs.{IsImage}
 use Rattle.model_device.specs.Disk.{Disk}
 use Rattle.model_history.specs.{IsLeft}
 use Rattle.model_opening.specs.{formatted_store, IsOpenable, KeepsOpened}
+use Rattle.model_report.specs.declared.fault.Fault.{Fault}
+use Rattle.model_report.specs.declared.fault.Fault.TheVariants as fault
 use Rattle.model_run.specs.{opened_as}
 use Rattle.model_script.specs.declared.script.ScriptLine.{ScriptLine}
 use Rattle.model_store.specs.{IsFair}
@@ -13,7 +15,7 @@ use Rattle.model_theorem.specs.{entries_of, IsOpenedBefore, LosesOnlyByFailure, 
 use Rattle.redo_open.specs.{WhereBothTell}
 use Rattle.redo_lab.specs.Call.{Call, Guarded}
 use Rattle.redo_lab.specs.Took.{TookPlace}
-use Rattle.redo_lab.specs.Course.{ArePlayed, AreStopped, AreUnderWay, KeepsRefusedStore, ran_of}
+use Rattle.redo_lab.specs.Course.{ArePlayed, AreStopped, AreUnderWay, IsPlayedBy, IsStoppedBy, KeepsRefusedStore, ran_of}
 use Rattle.redo_lab.specs.declared.playing.Played.{Played}
 use Rattle.redo_lab.specs.declared.playing.Stops.{Stops}
 use Rattle.redo_lab.proofs.RunPlayed.{ClosedLaws, WasFound, closed-as, held-closed, opened-before, safe-as, stopped-on}
@@ -83,7 +85,7 @@ safe-stopped script reading failed left log_disk data_disk some left_is keeps = 
 }
 
 -- OPENING WAS STOPPED.
-pub before-stopped : (call : Call) (stops : Stops) (log_only : Bool) (script : List ScriptLine) (log_failed data_failed : ℕ) (log_old data_old : Guarded)
+before-stopped : (call : Call) (stops : Stops) (log_only : Bool) (script : List ScriptLine) (log_failed data_failed : ℕ) (log_old data_old : Guarded)
     → log_failed + data_failed ≡ 1 → AreStopped call.log_device call.data_device stops log_failed data_failed log_old data_old
     → IsBeforeCrash call stops log_only script None log_failed data_failed log_old data_old
 before-stopped call stops log_only script log_failed data_failed log_old data_old one was = record {
@@ -108,7 +110,7 @@ before-stopped call stops log_only script log_failed data_failed log_old data_ol
 }
 
 -- THE LINES WERE RUN.
-pub before-played : (call : Call) (stops : Stops) (log_only : Bool) (script : List ScriptLine) (played : Played) (log_failed data_failed : ℕ) (log_old data_old : Guarded) → OneAnswer → ClosedLaws
+before-played : (call : Call) (stops : Stops) (log_only : Bool) (script : List ScriptLine) (played : Played) (log_failed data_failed : ℕ) (log_old data_old : Guarded) → OneAnswer → ClosedLaws
     → log_failed ≤ 1 → data_failed ≤ 1 → ArePlayed call.log_device call.data_device stops log_only script played log_failed data_failed log_old data_old
     → IsBeforeCrash call stops log_only script (Some (ran_of played)) log_failed data_failed log_old data_old
 before-played call stops log_only script played log_failed data_failed log_old data_old one laws log_once data_once was = record {
@@ -128,3 +130,37 @@ before-played call stops log_only script played log_failed data_failed log_old d
       });
   kept = kept-opened one call.log_device call.data_device log_old data_old was.opened was.opens;
 }
+
+-- SO MANY CALLS FAILED before a crash, behind an opening that a device stopped, or behind a run.
+pub record IsMet (call : Call) (stops : Stops) (log_only : Bool) (script : List ScriptLine) (run : Option Ran) (log_old data_old : Guarded) : Type 0 where
+  pub log_failed : ℕ
+  pub data_failed : ℕ
+  pub before : IsBeforeCrash call stops log_only script run log_failed data_failed log_old data_old
+
+pub met-stopped : (call : Call) (stops : Stops) (log_only : Bool) (script : List ScriptLine) (f : Fault) (log_old data_old : Guarded)
+    → IsStoppedBy call.log_device call.data_device stops f log_old data_old → IsMet call stops log_only script None log_old data_old
+met-stopped call stops log_only script fault.LogDevice log_old data_old stopped =
+    record { log_failed = 1; data_failed = 0; before = before-stopped call stops log_only script 1 0 log_old data_old refl stopped }
+met-stopped call stops log_only script fault.DataDevice log_old data_old stopped =
+    record { log_failed = 0; data_failed = 1; before = before-stopped call stops log_only script 0 1 log_old data_old refl stopped }
+met-stopped call stops log_only script f log_old data_old stopped = absurd stopped
+
+pub met-played : (call : Call) (stops : Stops) (log_only : Bool) (script : List ScriptLine) (played : Played) (failed : Option Fault) (log_old data_old : Guarded)
+    → OneAnswer → ClosedLaws → IsPlayedBy call.log_device call.data_device stops log_only script played failed log_old data_old
+    → IsMet call stops log_only script (Some (ran_of played)) log_old data_old
+met-played call stops log_only script played None log_old data_old one laws run = record {
+  log_failed = 0;
+  data_failed = 0;
+  before = before-played call stops log_only script played 0 0 log_old data_old one laws (omega arith) (omega arith) run.are;
+}
+met-played call stops log_only script played (Some fault.LogDevice) log_old data_old one laws run = record {
+  log_failed = 1;
+  data_failed = run.data_failed;
+  before = before-played call stops log_only script played 1 run.data_failed log_old data_old one laws (omega arith) run.once run.are;
+}
+met-played call stops log_only script played (Some fault.DataDevice) log_old data_old one laws run = record {
+  log_failed = 0;
+  data_failed = 1;
+  before = before-played call stops log_only script played 0 1 log_old data_old one laws (omega arith) (omega arith) run;
+}
+met-played call stops log_only script played (Some f) log_old data_old one laws run = absurd run

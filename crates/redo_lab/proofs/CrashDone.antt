@@ -28,7 +28,7 @@ use Rattle.redo_lab.specs.declared.outcome.Outcome.{Outcome}
 use Rattle.redo_lab.specs.declared.outcome.Outcome.TheVariants as outcome
 use Rattle.redo_lab.specs.declared.playing.Played.{Played}
 use Rattle.redo_lab.specs.declared.playing.Stops.{Stops}
-use Rattle.redo_lab.proofs.BeforeCrash.{IsBeforeCrash, before-played, before-stopped}
+use Rattle.redo_lab.proofs.BeforeCrash.{IsBeforeCrash, met-played, met-stopped}
 use Rattle.redo_lab.proofs.CrashEnded.{past-crash}
 use Rattle.redo_lab.proofs.CrashSafe.{crashes-told, left-image}
 use Rattle.redo_lab.proofs.CrashTheorem.{CrashLaws, crash-theorem}
@@ -42,7 +42,7 @@ pub record AreBothCrashed (call : Call) (stops : Stops) (pick log_failed data_fa
   pub log_device : IsCrashedWith stops.log pick call.log_device log_found log_failed log_since call.log_device_now
   pub data_device : IsCrashedWith stops.store pick call.data_device data_found data_failed data_since call.data_device_now
 
-both-crashed : (call : Call) (stops : Stops) (log_only : Bool) (pick : ℕ) (script : List ScriptLine) (run : Option Ran) (log_failed data_failed log_since data_since : ℕ) (log_old data_old : Guarded)
+pub both-crashed : (call : Call) (stops : Stops) (log_only : Bool) (pick : ℕ) (script : List ScriptLine) (run : Option Ran) (log_failed data_failed log_since data_since : ℕ) (log_old data_old : Guarded)
     → (before : IsBeforeCrash call stops log_only script run log_failed data_failed log_old data_old)
     → AreCrashedSince pick log_since data_since log_old data_old call.log_device_now call.data_device_now
     → AreBothCrashed call stops pick log_failed data_failed log_since data_since before.way.log_found before.way.data_found
@@ -96,7 +96,7 @@ crash-first call stops log_only script run log_failed data_failed log_old data_o
     (before.safe opened found left left_is disk data_met.0 (sym crashed ∙ met_is) data_met.1).opened_first
 
 -- WHAT IT LEFT is read as a prefix of the run, where the data device's image is fair.
-left-reads : (call : Call) (stops : Stops) (log_only : Bool) (pick : ℕ) (script : List ScriptLine) (run : Option Ran) (log_failed data_failed log_since data_since : ℕ) (log_old data_old : Guarded) → CrashLaws
+pub left-reads : (call : Call) (stops : Stops) (log_only : Bool) (pick : ℕ) (script : List ScriptLine) (run : Option Ran) (log_failed data_failed log_since data_since : ℕ) (log_old data_old : Guarded) → CrashLaws
     → IsBeforeCrash call stops log_only script run log_failed data_failed log_old data_old
     → AreCrashedSince pick log_since data_since log_old data_old call.log_device_now call.data_device_now
     → IsLeftAsPrefix call script run
@@ -273,24 +273,15 @@ crash-done call stops drive pick script run log_failed data_failed log_old data_
 pub crash-stopped : (call : Call) (stops : Stops) (drive : Drive) (pick : ℕ) (script : List ScriptLine) (f : Fault) (log_old data_old : Guarded) (o : Outcome)
     → IsScriptRead call.source call.source_now script → CrashLaws → IsStoppedBy call.log_device call.data_device stops f log_old data_old
     → ReadsBack pick script None o log_old data_old call.log_device_now call.data_device_now → EndsCommand call (Crash drive stops.log stops.store pick) o
-crash-stopped call stops drive pick script fault.LogDevice log_old data_old o read laws stopped back =
-    crash-done call stops drive pick script None 1 0 log_old data_old o read laws (before-stopped call stops drive.log_only script 1 0 log_old data_old refl stopped) back
-crash-stopped call stops drive pick script fault.DataDevice log_old data_old o read laws stopped back =
-    crash-done call stops drive pick script None 0 1 log_old data_old o read laws (before-stopped call stops drive.log_only script 0 1 log_old data_old refl stopped) back
-crash-stopped call stops drive pick script f log_old data_old o read laws stopped back = absurd stopped
+crash-stopped call stops drive pick script f log_old data_old o read laws stopped back =
+    let met = met-stopped call stops drive.log_only script f log_old data_old stopped in
+    crash-done call stops drive pick script None met.log_failed met.data_failed log_old data_old o read laws met.before back
 
 -- A CRASH BEHIND A RUN.
 pub crash-played : (call : Call) (stops : Stops) (drive : Drive) (pick : ℕ) (script : List ScriptLine) (played : Played) (failed : Option Fault) (log_old data_old : Guarded) (o : Outcome)
     → IsScriptRead call.source call.source_now script → CrashLaws → ClosedLaws → IsPlayedBy call.log_device call.data_device stops drive.log_only script played failed log_old data_old
     → ReadsBack pick script (Some (ran_of played)) o log_old data_old call.log_device_now call.data_device_now
     → EndsCommand call (Crash drive stops.log stops.store pick) o
-crash-played call stops drive pick script played None log_old data_old o read laws safe run back =
-    crash-done call stops drive pick script (Some (ran_of played)) 0 0 log_old data_old o read laws
-    (before-played call stops drive.log_only script played 0 0 log_old data_old laws.one_answer safe (omega arith) (omega arith) run.are) back
-crash-played call stops drive pick script played (Some fault.LogDevice) log_old data_old o read laws safe run back =
-    crash-done call stops drive pick script (Some (ran_of played)) 1 run.data_failed log_old data_old o read laws
-    (before-played call stops drive.log_only script played 1 run.data_failed log_old data_old laws.one_answer safe (omega arith) run.once run.are) back
-crash-played call stops drive pick script played (Some fault.DataDevice) log_old data_old o read laws safe run back =
-    crash-done call stops drive pick script (Some (ran_of played)) 0 1 log_old data_old o read laws
-    (before-played call stops drive.log_only script played 0 1 log_old data_old laws.one_answer safe (omega arith) (omega arith) run) back
-crash-played call stops drive pick script played (Some f) log_old data_old o read laws safe run back = absurd run
+crash-played call stops drive pick script played failed log_old data_old o read laws safe run back =
+    let met = met-played call stops drive.log_only script played failed log_old data_old laws.one_answer safe run in
+    crash-done call stops drive pick script (Some (ran_of played)) met.log_failed met.data_failed log_old data_old o read laws met.before back

@@ -24,6 +24,7 @@ pub mod PlainEnds
 pub mod Preparing
 pub mod Printed
 pub mod ReadBehind
+pub mod ReadLeft
 pub mod RunDone
 pub mod RunEnds
 pub mod RunPlayed

@@ -6,6 +6,7 @@ use Rattle.model_command.specs.declared.asked.Drive.{Drive}
 use Rattle.model_report.specs.declared.fault.Fault.{Fault}
 use Rattle.model_report.specs.declared.fault.Fault.TheVariants as fault
 use Rattle.model_script.specs.declared.script.ScriptLine.{ScriptLine}
+use Rattle.model_theorem.specs.{Ran}
 use Rattle.redo_disk.specs.{Call}
 use Rattle.redo_disk.specs.Seen.{Seen}
 use Rattle.redo_disk.specs.declared.error.DevError.{DevError}
@@ -25,12 +26,12 @@ use Rattle.redo_lab.specs.Behind.{ReadsBehind}
 use Rattle.redo_lab.specs.Call as lab
 use Rattle.redo_lab.specs.Call.{AreLeftAlone, IsLeftAlone, guarded}
 use Rattle.redo_lab.specs.Course.{ran_of}
-use Rattle.redo_lab.specs.Crashed.{ReadsBack}
+use Rattle.redo_lab.specs.Crashed.{AreReadBack, ReadsBack}
 use Rattle.redo_lab.specs.Playing.{course_done, course_of, ended_by, played_of}
 use Rattle.redo_lab.specs.Outcome.{EndsCommand, IsOutcome, IsOutcomePrinted, IsUnasked, call_of}
 use Rattle.redo_lab.specs.Reported.{IsReportOf, IsRunPrinted, report_outcome}
 use Rattle.redo_lab.specs.Script.{IsScriptFault}
-use Rattle.redo_lab.specs.Turned.{AreLedByCalls, AreLedByCrash, ComesAsHanded, EndsThere, FailsSince, Handed, IsByTurns, IsDriven, IsDrivenTo, MakePartCalls, RunsAsHanded, TellsByTurns, TellsFault, handed_as, no_stops}
+use Rattle.redo_lab.specs.Turned.{AreLedByCalls, AreLedByCrash, AreReadAsLeft, ComesAsHanded, EndsThere, FailsSince, Handed, IsByTurns, IsDriven, IsDrivenTo, MakePartCalls, RunsAsHanded, TellsByTurns, TellsFault, handed_as, no_stops}
 use Rattle.redo_lab.specs.declared.outcome.Done.{Done}
 use Rattle.redo_lab.specs.declared.outcome.Outcome.{Outcome}
 use Rattle.redo_lab.specs.declared.outcome.Outcome.TheVariants as outcome
@@ -38,14 +39,20 @@ use Rattle.redo_lab.specs.declared.playing.Course.{Course}
 use Rattle.redo_lab.specs.declared.playing.Course.TheVariants as course
 use Rattle.redo_lab.specs.declared.playing.Played.{Played}
 use Rattle.redo_lab.specs.declared.playing.Stops.{Stops}
+use Rattle.redo_lab.proofs.BeforeCrash.{IsMet, met-played, met-stopped}
 use Rattle.redo_lab.proofs.Behind.{alone-behind}
 use Rattle.redo_lab.proofs.Called.{Printed, lab_of}
+use Rattle.redo_lab.proofs.CrashTheorem.{CrashLaws}
 use Rattle.redo_lab.proofs.Formatting.{alone-no-store}
 use Rattle.redo_lab.proofs.Found.{leaves-alone}
 use Rattle.redo_lab.proofs.Keeping.{OpenableLaw}
 use Rattle.redo_lab.proofs.GenDone.{SeedLaws}
 use Rattle.redo_lab.proofs.LinesRun.{none-lacks, some-failed}
+use Rattle.redo_lab.proofs.ReadLeft.{images-read, left-prefix}
+use Rattle.redo_lab.proofs.RunDone.{RunLaws}
+use Rattle.redo_lab.proofs.RunPlayed.{ClosedLaws, FormattedLaw}
 use Rattle.redo_lab.proofs.Summed.{reading-prefix}
+use Rattle.redo_lab.proofs.Told.{OneAnswer}
 
 -- ON AN OPENED STORE
 module _ {L D : Type 0} (log_seen : L → Seen) (log_gives : L → Call → L → Type 0) (data_seen : D → Seen) (data_gives : D → Call → D → Type 0)
@@ -108,10 +115,6 @@ is-unspent (fault.Turns count user) = ⊥
 is-unspent f = Unit {0}
 
 module _ {L D : Type 0} (log_seen : L → Seen) (log_gives : L → Call → L → Type 0) (log_crash_gives : L → ℕ → L → Type 0) (data_seen : D → Seen) (data_gives : D → Call → D → Type 0) (data_crash_gives : D → ℕ → D → Type 0) (handed : Handed) where
-  abbrev runs-handed : (played : Played) (f : Option Fault) (log_then : Fused L) (data_then : Fused D) → ComesAsHanded log_seen log_gives data_seen data_gives handed (course.Played played f) log_then data_then
-      → RunsAsHanded log_seen log_gives data_seen data_gives handed f log_then data_then
-  runs-handed played f log_then data_then comes = record { script = comes.script; is_script = comes.is_script; played = played; comes = comes.by_turns }
-
   -- a run that came so far
   told-met : (so_far : Course) (f : Fault) (log_then log_now : Fused L) (data_then data_now : Fused D) → is-unspent f → ComesAsHanded log_seen log_gives data_seen data_gives handed so_far log_then data_then
       → FailsSince log_seen log_gives log_crash_gives data_seen data_gives data_crash_gives log_then log_now data_then data_now handed.command so_far f → TellsFault log_seen log_gives log_crash_gives data_seen data_gives data_crash_gives handed f log_now data_now
@@ -129,7 +132,7 @@ module _ {L D : Type 0} (log_seen : L → Seen) (log_gives : L → Call → L �
   -- one that ended before its first line, or whose turns were spent
   ended-told : (f : Fault) (log_now : Fused L) (data_now : Fused D) → ComesAsHanded log_seen log_gives data_seen data_gives handed (course.Ended f) log_now data_now
       → TellsFault log_seen log_gives log_crash_gives data_seen data_gives data_crash_gives handed f log_now data_now
-  ended-told (fault.Turns count user) log_now data_now comes = record { script = comes.script; is_script = comes.is_script; comes = comes.by_turns }
+  ended-told (fault.Turns count user) log_now data_now comes = comes
   ended-told f log_now data_now comes = told-met (course.Ended f) f log_now log_now data_now data_now tt comes (there f log_now data_now)
 
   -- no script was read for it, and no device was called
@@ -156,6 +159,31 @@ module _ {L D : Type 0} (log_seen : L → Seen) (log_gives : L → Call → L �
   abbrev ByCrash : ℕ → (log_then log_now : Fused L) → (data_then data_now : Fused D) → Type 0
   ByCrash = AreLedByCrash log_seen log_gives log_crash_gives data_seen data_gives data_crash_gives
 
+  -- the call, behind which the devices are these
+  abbrev call-to : (log_now data_now : lab.Guarded) → lab.Call
+  call-to log_now data_now = record {
+    words = [];
+    source = source;
+    source_now = source_now;
+    log_device = log_entry;
+    log_device_now = log_now;
+    data_device = data_entry;
+    data_device_now = data_now;
+  }
+
+  -- a run that took place
+  abbrev runs-handed : (command : Command) (stops : Stops) (drive : Drive) (played : Played) (f : Option Fault) (log_then : Fused L) (data_then : Fused D)
+      → OneAnswer → FormattedLaw → ClosedLaws → Comes (handed command stops drive) (course.Played played f) log_then data_then
+      → RunsAsHanded log_seen log_gives data_seen data_gives (handed command stops drive) f log_then data_then
+  runs-handed command stops drive played f log_then data_then one formatted laws comes =
+      let call : lab.Call = call-to (guarded log_seen log_then) (guarded data_seen data_then) in
+      record {
+        played = played;
+        comes = comes;
+        safe = images-read call stops drive.log_only comes.script (Some (ran_of played)) one formatted
+            (met-played call stops drive.log_only comes.script played f (guarded log_seen log_then) (guarded data_seen data_then) one laws comes.comes_to);
+      }
+
   -- of `run`
   abbrev run : Drive → Handed
   run drive = handed (Run drive) no_stops drive
@@ -169,18 +197,20 @@ module _ {L D : Type 0} (log_seen : L → Seen) (log_gives : L → Call → L �
   run-stopped-told drive (fault.Turns count user) log_now data_now comes = absurd comes.comes_to
   run-stopped-told drive f log_now data_now comes = told-met log_seen log_gives log_crash_gives data_seen data_gives data_crash_gives (run drive) (course.Stopped f) f log_now log_now data_now data_now tt comes (there f log_now data_now)
 
-  run-text-told : (drive : Drive) (played : Played) (f : Option Fault) (text : List ℕ) (log_now : Fused L) (data_now : Fused D)
+  run-text-told : (drive : Drive) (played : Played) (f : Option Fault) (text : List ℕ) (log_now : Fused L) (data_now : Fused D) → RunLaws
       → (comes : Comes (run drive) (course.Played played f) log_now data_now) → IsReportOf comes.script (Some (ran_of played)) None text
       → Tells (Run drive) (report_outcome text f) log_now data_now
-  run-text-told drive played None text log_now data_now comes report = record { runs = runs-handed log_seen log_gives log_crash_gives data_seen data_gives data_crash_gives (run drive) played None log_now data_now comes; report = report }
-  run-text-told drive played (Some (fault.Turns count user)) text log_now data_now comes report = absurd comes.comes_to
-  run-text-told drive played (Some f) text log_now data_now comes report = record { runs = runs-handed log_seen log_gives log_crash_gives data_seen data_gives data_crash_gives (run drive) played (Some f) log_now data_now comes; report = report }
+  run-text-told drive played None text log_now data_now laws comes report =
+      record { runs = runs-handed (Run drive) no_stops drive played None log_now data_now laws.one laws.formatted laws.closed comes; report = report }
+  run-text-told drive played (Some (fault.Turns count user)) text log_now data_now laws comes report = absurd comes.comes_to
+  run-text-told drive played (Some f) text log_now data_now laws comes report =
+      record { runs = runs-handed (Run drive) no_stops drive played (Some f) log_now data_now laws.one laws.formatted laws.closed comes; report = report }
 
-  pub run-played-told : (drive : Drive) (played : Played) (f : Option Fault) (o : Outcome) (log_now : Fused L) (data_now : Fused D)
+  pub run-played-told : (drive : Drive) (played : Played) (f : Option Fault) (o : Outcome) (log_now : Fused L) (data_now : Fused D) → RunLaws
       → (comes : Comes (run drive) (course.Played played f) log_now data_now) → IsRunPrinted comes.script (ran_of played) f o → Tells (Run drive) o log_now data_now
-  run-played-told drive played f o log_now data_now comes printed = ⊎_elim
+  run-played-told drive played f o log_now data_now laws comes printed = ⊎_elim
       (λ memory. subst (λ (o : Outcome). Tells (Run drive) o log_now data_now) (sym memory) tt)
-      (λ told. subst (λ (o : Outcome). Tells (Run drive) o log_now data_now) (sym told.2) (run-text-told drive played f told.0 log_now data_now comes told.1))
+      (λ told. subst (λ (o : Outcome). Tells (Run drive) o log_now data_now) (sym told.2) (run-text-told drive played f told.0 log_now data_now laws comes told.1))
       printed
 
   pub run-unscripted-told : (drive : Drive) (f : Fault) (log_now : Fused L) (data_now : Fused D) → IsScriptFault source source_now f
@@ -199,41 +229,60 @@ module _ {L D : Type 0} (log_seen : L → Seen) (log_gives : L → Call → L �
       → Comes (crashing drive stops pick) (course.Ended f) log_now data_now → Tells (crash drive stops pick) (outcome.Fault f) log_now data_now
   crash-ended-told drive stops pick f log_now data_now comes = ended-told log_seen log_gives log_crash_gives data_seen data_gives data_crash_gives (crashing drive stops pick) f log_now data_now comes
 
-  pub crash-stopped-told : (drive : Drive) (stops : Stops) (pick : ℕ) (met : Fault) (o : Outcome) (log_then log_now : Fused L) (data_then data_now : Fused D)
+  -- what it left was read so
+  read-handed : (drive : Drive) (stops : Stops) (pick : ℕ) (script : List ScriptLine) (run : Option Ran) (text : List ℕ) (log_then log_now : Fused L) (data_then data_now : Fused D)
+      → CrashLaws → IsMet (call-to (guarded log_seen log_now) (guarded data_seen data_now)) stops drive.log_only script run (guarded log_seen log_then) (guarded data_seen data_then)
+      → (back : AreReadBack pick script run text (guarded log_seen log_then) (guarded data_seen data_then) (guarded log_seen log_now) (guarded data_seen data_now))
+      → AreReadAsLeft log_seen data_seen (crashing drive stops pick) script run back.reading data_then log_now data_now
+  read-handed drive stops pick script run text log_then log_now data_then data_now laws met back = record {
+    is_read = back.is_read;
+    prefix = left-prefix (call-to (guarded log_seen log_now) (guarded data_seen data_now)) stops drive.log_only pick script run (guarded log_seen log_then) (guarded data_seen data_then) back.reading
+        laws met back.crashed back.is_read;
+  }
+
+  pub crash-stopped-told : (drive : Drive) (stops : Stops) (pick : ℕ) (met : Fault) (o : Outcome) (log_then log_now : Fused L) (data_then data_now : Fused D) → CrashLaws
       → (comes : Comes (crashing drive stops pick) (course.Stopped met) log_then data_then) → ByCrash pick log_then log_now data_then data_now
       → ReadsBack pick comes.script None o (guarded log_seen log_then) (guarded data_seen data_then) (guarded log_seen log_now) (guarded data_seen data_now)
       → Tells (crash drive stops pick) o log_now data_now
-  crash-stopped-told drive stops pick met (outcome.Text text) log_then log_now data_then data_now comes led back = inl (record {
+  crash-stopped-told drive stops pick met (outcome.Text text) log_then log_now data_then data_now laws comes led back = inl (record {
     met = met;
     log_then = log_then;
     data_then = data_then;
     stopped = comes;
     crashed = back.crashed;
     led = led;
-    read = (back.reading.end, back.reading.pages);
+    reading = back.reading;
+    read = read-handed drive stops pick comes.script None text log_then log_now data_then data_now laws
+        (met-stopped (call-to (guarded log_seen log_now) (guarded data_seen data_now)) stops drive.log_only comes.script met (guarded log_seen log_then) (guarded data_seen data_then) comes.comes_to) back;
     report = back.report;
   })
-  crash-stopped-told drive stops pick met (outcome.Report text f) log_then log_now data_then data_now comes led back = absurd back
-  crash-stopped-told drive stops pick met (outcome.Fault (fault.Turns count user)) log_then log_now data_then data_now comes led back = absurd back
-  crash-stopped-told drive stops pick met (outcome.Fault f) log_then log_now data_then data_now comes led back =
+  crash-stopped-told drive stops pick met (outcome.Report text f) log_then log_now data_then data_now laws comes led back = absurd back
+  crash-stopped-told drive stops pick met (outcome.Fault (fault.Turns count user)) log_then log_now data_then data_now laws comes led back = absurd back
+  crash-stopped-told drive stops pick met (outcome.Fault f) log_then log_now data_then data_now laws comes led back =
       told-met log_seen log_gives log_crash_gives data_seen data_gives data_crash_gives (crashing drive stops pick) (course.Stopped met) f log_then log_now data_then data_now tt comes (back, led)
 
   pub crash-played-told : (drive : Drive) (stops : Stops) (pick : ℕ) (played : Played) (met : Option Fault) (o : Outcome) (log_then log_now : Fused L) (data_then data_now : Fused D)
+      → CrashLaws → ClosedLaws
       → (comes : Comes (crashing drive stops pick) (course.Played played met) log_then data_then) → ByCrash pick log_then log_now data_then data_now
       → ReadsBack pick comes.script (Some (ran_of played)) o (guarded log_seen log_then) (guarded data_seen data_then) (guarded log_seen log_now) (guarded data_seen data_now)
       → Tells (crash drive stops pick) o log_now data_now
-  crash-played-told drive stops pick played met (outcome.Text text) log_then log_now data_then data_now comes led back = inr (record {
+  crash-played-told drive stops pick played met (outcome.Text text) log_then log_now data_then data_now laws closed comes led back = inr (record {
     log_then = log_then;
     data_then = data_then;
+    fault = met;
+    runs = runs-handed (crash drive stops pick) stops drive played met log_then data_then laws.one_answer laws.formatted closed comes;
     crashed = back.crashed;
     led = led;
-    read = (back.reading.end, back.reading.pages);
-    fault = met;
-    run = record { runs = runs-handed log_seen log_gives log_crash_gives data_seen data_gives data_crash_gives (crashing drive stops pick) played met log_then data_then comes; report = back.report };
+    reading = back.reading;
+    read = read-handed drive stops pick comes.script (Some (ran_of played)) text log_then log_now data_then data_now laws
+        (met-played (call-to (guarded log_seen log_now) (guarded data_seen data_now)) stops drive.log_only comes.script played met (guarded log_seen log_then) (guarded data_seen data_then)
+        laws.one_answer closed comes.comes_to)
+        back;
+    report = back.report;
   })
-  crash-played-told drive stops pick played met (outcome.Report text f) log_then log_now data_then data_now comes led back = absurd back
-  crash-played-told drive stops pick played met (outcome.Fault (fault.Turns count user)) log_then log_now data_then data_now comes led back = absurd back
-  crash-played-told drive stops pick played met (outcome.Fault f) log_then log_now data_then data_now comes led back =
+  crash-played-told drive stops pick played met (outcome.Report text f) log_then log_now data_then data_now laws closed comes led back = absurd back
+  crash-played-told drive stops pick played met (outcome.Fault (fault.Turns count user)) log_then log_now data_then data_now laws closed comes led back = absurd back
+  crash-played-told drive stops pick played met (outcome.Fault f) log_then log_now data_then data_now laws closed comes led back =
       told-met log_seen log_gives log_crash_gives data_seen data_gives data_crash_gives (crashing drive stops pick) (course.Played played met) f log_then log_now data_then data_now tt comes (back, led)
 
   pub crash-unscripted-told : (drive : Drive) (stops : Stops) (pick : ℕ) (f : Fault) (log_now : Fused L) (data_now : Fused D) → IsScriptFault source source_now f
@@ -263,18 +312,6 @@ module _ {L D : Type 0} (log_seen : L → Seen) (log_gives : L → Call → L �
     gen-cut-told played f log_now data_now comes =
         told-met log_seen log_gives log_crash_gives data_seen data_gives data_crash_gives seeded (course.Played played (Some f)) f log_now log_now data_now data_now tt comes (there f log_now data_now)
 
-    -- the call of it, behind which the devices are these
-    abbrev seeded-call : (log_now data_now : lab.Guarded) → lab.Call
-    seeded-call log_now data_now = record {
-      words = [];
-      source = source;
-      source_now = source_now;
-      log_device = log_entry;
-      log_device_now = log_now;
-      data_device = data_entry;
-      data_device_now = data_now;
-    }
-
     pub gen-played-told : SeedLaws → (played : Played) (o : Outcome) (log_then log_now : Fused L) (data_then data_now : Fused D) → Comes seeded (course.Played played None) log_then data_then
         → AreLedByCalls log_seen log_gives data_seen data_gives log_then log_now data_then data_now
         → ReadsBehind (ran_of played) o (guarded log_seen log_then) (guarded data_seen data_then) (guarded log_seen log_now) (guarded data_seen data_now)
@@ -284,10 +321,10 @@ module _ {L D : Type 0} (log_seen : L → Seen) (log_gives : L → Call → L �
       data_then = data_then;
       read_since = behind.read_since;
       led = led;
-      runs = runs-handed log_seen log_gives log_crash_gives data_seen data_gives data_crash_gives seeded played None log_then data_then comes;
+      runs = runs-handed gen no_stops (drive_of_seed seed max) played None log_then data_then laws.one laws.formatted laws.closed comes;
       reading = behind.reading;
       is_read = behind.is_read;
-      prefix = reading-prefix (seeded-call (guarded log_seen log_now) (guarded data_seen data_now)) no_stops false comes.script played text (guarded log_seen log_then) (guarded data_seen data_then)
+      prefix = reading-prefix (call-to (guarded log_seen log_now) (guarded data_seen data_now)) no_stops false comes.script played text (guarded log_seen log_then) (guarded data_seen data_then)
           laws.one laws.same laws.formatted laws.closed laws.fair comes.comes_to behind;
       text_is = behind.text_is;
     }

@@ -1,11 +1,9 @@
 -- The calls that led both devices to where a run ended whose store wasn't opened.
-use Rattle.std.proofs.Common.{ℕ, ◌≡◌, ◌≢◌, ◌≤◌, ◌⊎◌, List, [], Option, Some, None, IfErr, IfSome, Result, Ok, Err, refl, sym, ap, subst, inl, inr, ⊎_elim, arith}
-use Rattle.model_log.specs.declared.layout.TheConstants.{HEADER_BYTES}
-use Rattle.model_report.specs.declared.fault.Fault.TheVariants as fault
+use Rattle.std.proofs.Common.{ℕ, ◌≡◌, ◌⊎◌, List, [], Option, Some, None, IfErr, IfSome, Result, Ok, Err, refl, sym, ap, subst, inl, inr, ⊎_elim}
+use Rattle.model_device.specs.Disk.{Disk}
 use Rattle.model_script.specs.declared.script.ScriptLine.{ScriptLine}
 use Rattle.model_store.specs.declared.refusal.Refusal.{Refusal}
-use Rattle.model_store.specs.declared.refusal.Refusal.TheVariants as refusal
-use Rattle.redo_disk.specs.{AreReads, Call, EndWith, failures, MakesCalls, MayEndWith}
+use Rattle.redo_disk.specs.{AreReads, Call, EndWith, MakesCalls, MayEndWith}
 use Rattle.redo_disk.specs.Seen.{Seen}
 use Rattle.redo_disk.specs.declared.error.DevError.{DevError}
 use Rattle.redo_disk.specs.declared.error.DevError.TheVariants as device
@@ -14,8 +12,8 @@ use Rattle.redo_disk.proofs.Made.{joined_calls, may_end, no_calls, out_of_memory
 use Rattle.redo_memdisk.specs.{CallsThrough, armed_at, fresh, fuse_of, inner_of}
 use Rattle.redo_memdisk.specs.declared.fused.Fused.{Fused}
 use Rattle.redo_machine.specs.declared.drive.Turns.{Turns}
-use Rattle.redo_open.specs.{FormatCalls}
-use Rattle.redo_recover.specs.{BeginWithHeader, ReadOnce, data_error, data_error_of, log_error, log_error_of, log_fault_of, refusal_of}
+use Rattle.redo_open.specs.{FormatCalls, OpensData, OpensLog}
+use Rattle.redo_recover.specs.{data_error, data_error_of, log_error, log_error_of, log_fault_of, refusal_of}
 use Rattle.redo_recover.specs.declared.fault.RecFault.{RecFault}
 use Rattle.redo_recover.specs.declared.fault.RecFault.TheVariants.{SmallLog, NotFormatted, BadFormat, SmallData, NoCheckpoint, BadRecord, PageLost, PageAhead, LogDev, DataDev, NoMemory}
 use Rattle.redo_lab.specs.Call.{Guarded, guarded}
@@ -24,17 +22,10 @@ use Rattle.redo_lab.specs.Led.{IsAtArming}
 use Rattle.redo_lab.specs.Playing.{AreArmed, unopened}
 use Rattle.redo_lab.specs.Prepared.{IsUnpreparedBy, PreparesData, PreparesLog, ReadsOnce}
 use Rattle.redo_lab.specs.Turned.{ComesByTurnsTo}
-use Rattle.redo_lab.specs.Unopened.{ComesFromArming, ComesFromEntry, ComesToRefusal, ComesToStop, OpensDataUpTo, OpensLogUpTo, ReadsDataUpTo, ReadsLogUpTo}
+use Rattle.redo_lab.specs.Unopened.{ComesFromEntry, ComesToUnopened, ComesToUnprepared}
 use Rattle.redo_lab.specs.declared.playing.Course.TheVariants as course
 use Rattle.redo_lab.specs.declared.playing.Stops.{Stops}
-use Rattle.redo_lab.proofs.UnderWay.{AreCounted, counted-opening, header-first, way-of}
-
--- HOW CALLS END that may end so, where memory didn't run out
-ends-exactly : (error : Option DevError) → error ≢ Some device.NoMemory → (calls : List Call) → MayEndWith error calls → EndWith error calls
-ends-exactly error memory calls ends = record { stop = ends.stop; first = ⊎_elim (λ is. is) (λ out. absurd (memory out.1)) ends.first }
-
-none-had : (error : Option DevError) → error ≡ None → error ≢ Some device.NoMemory
-none-had error none memory = cc
+use Rattle.redo_lab.proofs.UnderWay.{counted-opening, header-first, way-of}
 
 -- THE CALLS OF PREPARING
 -- what is so anyhow is so where the store was refused
@@ -161,152 +152,85 @@ pub record ArentPrepared {L D : Type 0} (log_seen : L → Seen) (log_gives : L �
   pub data_calls : MakesCalls (CallsThrough data_seen data_gives) data_plain data_now (PreparesData (Err f))
   pub unprepared : IsUnpreparedBy (log_seen log) (data_seen store) f (guarded log_seen log_now) (guarded data_seen data_now)
 
-pub unprepared-comes : {L D : Type 0} {log_seen : L → Seen} {log_gives : L → Call → L → Type 0} {data_seen : D → Seen} {data_gives : D → Call → D → Type 0}
-    {log : L} {store : D} {log_plain : Fused L} {data_plain : Fused D} (stops : Stops) (turns : Turns) (script : List ScriptLine) (f : RecFault) (log_now : Fused L) (data_now : Fused D)
-    → ArentPrepared log_seen log_gives data_seen data_gives log store log_plain data_plain f log_now data_now
-    → ComesByTurnsTo log_seen log_gives data_seen data_gives (log_seen log) (data_seen store) stops turns script (course.Ended (fault_of f)) log_now data_now
-unprepared-comes stops turns script LogDev log_now data_now is = record {
-  log_device = from-entry is.log_inner is.log_fuse is.log_unarmed
-      (weaker_calls (λ calls made. ends-exactly (Some device.Failed) (λ same. cc) calls made.ends) is.log_calls);
-  data_device = from-entry is.data_inner is.data_fuse is.data_unarmed (weaker_calls (λ calls made. ends-exactly None (λ same. cc) calls made.ends) is.data_calls);
-}
-unprepared-comes stops turns script DataDev log_now data_now is = record {
-  log_device = from-entry is.log_inner is.log_fuse is.log_unarmed (weaker_calls (λ calls made. ends-exactly None (λ same. cc) calls made.ends) is.log_calls);
-  data_device = from-entry is.data_inner is.data_fuse is.data_unarmed
-      (weaker_calls (λ calls made. ends-exactly (Some device.Failed) (λ same. cc) calls made.ends) is.data_calls);
-}
-unprepared-comes stops turns script NoMemory log_now data_now is = tt
-unprepared-comes stops turns script (SmallLog n) log_now data_now is = inl (record {
-  short = is.unprepared;
-  log_device = from-entry is.log_inner is.log_fuse is.log_unarmed
-      (weaker_calls (λ calls made. record { reads = made.unwritten; ends = ends-exactly None (λ same. cc) calls made.ends }) is.log_calls);
-  data_device = from-entry is.data_inner is.data_fuse is.data_unarmed (weaker_calls (λ calls made. made.uncalled) is.data_calls);
-})
-unprepared-comes stops turns script (SmallData n) log_now data_now is = inl (record {
-  short = is.unprepared;
-  log_device = from-entry is.log_inner is.log_fuse is.log_unarmed
-      (weaker_calls (λ calls made. record { reads = made.unwritten; ends = ends-exactly None (λ same. cc) calls made.ends }) is.log_calls);
-  data_device = from-entry is.data_inner is.data_fuse is.data_unarmed (weaker_calls (λ calls made. made.uncalled) is.data_calls);
-})
-unprepared-comes stops turns script NotFormatted log_now data_now is = absurd is.unprepared
-unprepared-comes stops turns script (BadFormat n) log_now data_now is = absurd is.unprepared
-unprepared-comes stops turns script NoCheckpoint log_now data_now is = absurd is.unprepared
-unprepared-comes stops turns script (BadRecord lsn) log_now data_now is = absurd is.unprepared
-unprepared-comes stops turns script (PageLost p) log_now data_now is = absurd is.unprepared
-unprepared-comes stops turns script (PageAhead p lsn) log_now data_now is = absurd is.unprepared
+module _ {L D : Type 0} {log_seen : L → Seen} {log_gives : L → Call → L → Type 0} {data_seen : D → Seen} {data_gives : D → Call → D → Type 0}
+    {log : L} {store : D} {log_plain : Fused L} {data_plain : Fused D} where
+  unprepared-told : (f : RecFault) (log_now : Fused L) (data_now : Fused D)
+      → ArentPrepared log_seen log_gives data_seen data_gives log store log_plain data_plain f log_now data_now
+      → ComesToUnprepared log_seen log_gives data_seen data_gives (log_seen log) (data_seen store) (fault_of f) log_now data_now
+  unprepared-told f log_now data_now is = record {
+    met = f;
+    fault_is = refl;
+    unprepared = is.unprepared;
+    log_device = from-entry is.log_inner is.log_fuse is.log_unarmed is.log_calls;
+    data_device = from-entry is.data_inner is.data_fuse is.data_unarmed is.data_calls;
+  }
 
--- THE CALLS OF OPENING, where it ended with this fault: what is told of those of a log device of this size
-pub record OpensLogTo (f : RecFault) (size : ℕ) (calls : List Call) : Type 0 where
-  pub ends : MayEndWith (log_error f) calls
-  pub header : HEADER_BYTES ≤ size → BeginWithHeader calls
-  pub once : ReadOnce calls
-  pub unwritten : IfSome (refusal_of f) (λ cause. AreReads calls)
+  pub unprepared-comes : (stops : Stops) (turns : Turns) (script : List ScriptLine) (f : RecFault) (log_now : Fused L) (data_now : Fused D)
+      → ArentPrepared log_seen log_gives data_seen data_gives log store log_plain data_plain f log_now data_now
+      → ComesByTurnsTo log_seen log_gives data_seen data_gives (log_seen log) (data_seen store) stops turns script (course.Ended (fault_of f)) log_now data_now
+  unprepared-comes stops turns script LogDev log_now data_now is = unprepared-told LogDev log_now data_now is
+  unprepared-comes stops turns script DataDev log_now data_now is = unprepared-told DataDev log_now data_now is
+  unprepared-comes stops turns script NoMemory log_now data_now is = tt
+  unprepared-comes stops turns script (SmallLog n) log_now data_now is = inl (unprepared-told (SmallLog n) log_now data_now is)
+  unprepared-comes stops turns script (SmallData n) log_now data_now is = inl (unprepared-told (SmallData n) log_now data_now is)
+  unprepared-comes stops turns script NotFormatted log_now data_now is = absurd is.unprepared
+  unprepared-comes stops turns script (BadFormat n) log_now data_now is = absurd is.unprepared
+  unprepared-comes stops turns script NoCheckpoint log_now data_now is = absurd is.unprepared
+  unprepared-comes stops turns script (BadRecord lsn) log_now data_now is = absurd is.unprepared
+  unprepared-comes stops turns script (PageLost p) log_now data_now is = absurd is.unprepared
+  unprepared-comes stops turns script (PageAhead p lsn) log_now data_now is = absurd is.unprepared
 
--- and of those of the data device
-pub record OpensDataTo (f : RecFault) (calls : List Call) : Type 0 where
-  pub ends : MayEndWith (data_error f) calls
-  pub once : ReadOnce calls
-  pub unwritten : IfSome (refusal_of f) (λ cause. AreReads calls)
-
--- the same, where it was stopped or refused the store
-log-up-to : (f : RecFault) (size : ℕ) → log_error f ≢ Some device.NoMemory → (calls : List Call) → BeginWithHeader calls → OpensLogTo f size calls
-    → OpensLogUpTo (log_error f) calls
-log-up-to f size memory calls header opens = record { ends = ends-exactly (log_error f) memory calls opens.ends; header = header; once = opens.once }
-
-data-up-to : (f : RecFault) → data_error f ≢ Some device.NoMemory → (calls : List Call) → OpensDataTo f calls → OpensDataUpTo (data_error f) calls
-data-up-to f memory calls opens = record { ends = ends-exactly (data_error f) memory calls opens.ends; once = opens.once }
-
-read-alone : (f : RecFault) (cause : Refusal) (calls : List Call) → refusal_of f ≡ Some cause → IfSome (refusal_of f) (λ cause. AreReads calls) → AreReads calls
-read-alone f cause calls is unwritten = subst (λ (o : Option Refusal). IfSome o (λ cause. AreReads calls)) is unwritten
-
--- Both fuses were armed, and then opening ended with this fault.
+-- Both fuses were armed, and then opening answered this fault.
 pub record IsEndedOpening {L D : Type 0} (log_seen : L → Seen) (log_gives : L → Call → L → Type 0) (data_seen : D → Seen) (data_gives : D → Call → D → Type 0)
     (log_entry data_entry : Seen) (stops : Stops) (log_found data_found : Guarded) (log : Fused L) (data_device : Fused D) (f : RecFault)
     (log_now : Fused L) (data_now : Fused D) : Type 0 where
   pub armed : AreArmed log_entry data_entry stops log_found data_found (guarded log_seen log) (guarded data_seen data_device)
   pub log_at : IsAtArming stops.log log_found.fuse log
   pub data_at : IsAtArming stops.store data_found.fuse data_device
-  pub log_calls : MakesCalls (CallsThrough log_seen log_gives) log log_now (OpensLogTo f (log_seen log.inner).size)
-  pub data_calls : MakesCalls (CallsThrough data_seen data_gives) data_device data_now (OpensDataTo f)
+  pub log_calls : MakesCalls (CallsThrough log_seen log_gives) log log_now (OpensLog (log_seen log.inner).size (data_seen data_device.inner).size (Err (f, log_now, data_now)))
+  pub data_calls : MakesCalls (CallsThrough data_seen data_gives) data_device data_now (OpensData (log_seen log.inner).tells (data_seen data_device.inner).tells (Err (f, log_now, data_now)))
 
 module _ {L D : Type 0} {log_seen : L → Seen} {log_gives : L → Call → L → Type 0} {data_seen : D → Seen} {data_gives : D → Call → D → Type 0}
     {log_entry data_entry : Seen} {stops : Stops} {log_found data_found : Guarded} {log : Fused L} {data_device : Fused D} where
-  counted-ended : (f : RecFault) (log_now : Fused L) (data_now : Fused D) → IsEndedOpening log_seen log_gives data_seen data_gives log_entry data_entry stops log_found data_found log data_device f log_now data_now
-      → AreCounted log_entry data_entry stops log_found data_found (failures (log_error f)) (failures (data_error f)) (guarded log_seen log_now) (guarded data_seen data_now)
-  counted-ended f log_now data_now is =
-      counted-opening is.armed (weaker_calls (λ calls opens. header-first opens.ends opens.header) is.log_calls) (weaker_calls (λ calls opens. opens.ends) is.data_calls)
-
-  -- each device from its arming on
-  log-from-arming : (f : RecFault) (log_now : Fused L) (data_now : Fused D) (Are : List Call → Type 0)
-      → ((calls : List Call) → BeginWithHeader calls → OpensLogTo f (log_seen log.inner).size calls → Are calls) → IsEndedOpening log_seen log_gives data_seen data_gives log_entry data_entry stops log_found data_found log data_device f log_now data_now
-      → ComesFromArming log_seen log_gives stops.log log_entry log_found Are log_now
-  log-from-arming f log_now data_now Are tells is =
-      let header : HEADER_BYTES ≤ (log_seen log.inner).size = omega (arith, is.armed.prepared.header, is.armed.log_device.same.size) in
+  unopened-told : (f : RecFault) (log_now : Fused L) (data_now : Fused D)
+      → IsEndedOpening log_seen log_gives data_seen data_gives log_entry data_entry stops log_found data_found log data_device f log_now data_now
+      → ComesToUnopened log_seen log_gives data_seen data_gives log_entry data_entry stops (fault_of f) log_now data_now
+  unopened-told f log_now data_now is =
+      let counted = counted-opening is.armed (weaker_calls (λ calls opens. header-first opens.ends opens.header) is.log_calls) (weaker_calls (λ calls opens. opens.ends) is.data_calls) in
+      let OfSizes : ℕ → ℕ → Type 0 = λ log_size data_size. MakesCalls (CallsThrough log_seen log_gives) log log_now (OpensLog log_size data_size (Err (f, log_now, data_now))) in
+      let OfTold : Option Disk → Option Disk → Type 0 = λ log_told data_told. MakesCalls (CallsThrough data_seen data_gives) data_device data_now (OpensData log_told data_told (Err (f, log_now, data_now))) in
       record {
-        armed = log;
-        is_armed = is.armed.log_device;
-        at_arming = is.log_at;
-        calls = weaker_calls (λ calls opens. tells calls (opens.header header) opens) is.log_calls;
-      }
-
-  data-from-arming : (f : RecFault) (log_now : Fused L) (data_now : Fused D) (Are : List Call → Type 0)
-      → ((calls : List Call) → OpensDataTo f calls → Are calls) → IsEndedOpening log_seen log_gives data_seen data_gives log_entry data_entry stops log_found data_found log data_device f log_now data_now
-      → ComesFromArming data_seen data_gives stops.store data_entry data_found Are data_now
-  data-from-arming f log_now data_now Are tells is =
-      record { armed = data_device; is_armed = is.armed.data_device; at_arming = is.data_at; calls = weaker_calls tells is.data_calls }
-
-  -- A DEVICE STOPPED IT.
-  stopped-log : (log_now : Fused L) (data_now : Fused D) → IsEndedOpening log_seen log_gives data_seen data_gives log_entry data_entry stops log_found data_found log data_device LogDev log_now data_now
-      → ComesToStop log_seen log_gives data_seen data_gives log_entry data_entry stops fault.LogDevice log_now data_now
-  stopped-log log_now data_now is = record {
-    way = way-of log_found data_found is.armed.prepared (counted-ended LogDev log_now data_now is);
-    log_device = log-from-arming LogDev log_now data_now (OpensLogUpTo (Some device.Failed)) (log-up-to LogDev _ (λ same. cc)) is;
-    data_device = data-from-arming LogDev log_now data_now (OpensDataUpTo None) (data-up-to LogDev (λ same. cc)) is;
-  }
-
-  stopped-data : (log_now : Fused L) (data_now : Fused D) → IsEndedOpening log_seen log_gives data_seen data_gives log_entry data_entry stops log_found data_found log data_device DataDev log_now data_now
-      → ComesToStop log_seen log_gives data_seen data_gives log_entry data_entry stops fault.DataDevice log_now data_now
-  stopped-data log_now data_now is = record {
-    way = way-of log_found data_found is.armed.prepared (counted-ended DataDev log_now data_now is);
-    log_device = log-from-arming DataDev log_now data_now (OpensLogUpTo None) (log-up-to DataDev _ (λ same. cc)) is;
-    data_device = data-from-arming DataDev log_now data_now (OpensDataUpTo (Some device.Failed)) (data-up-to DataDev (λ same. cc)) is;
-  }
-
-  -- THE STORE WAS REFUSED.
-  refused : (f : RecFault) (cause : Refusal) (log_now : Fused L) (data_now : Fused D) → refusal_of f ≡ Some cause → log_error f ≡ None → data_error f ≡ None
-      → IsEndedOpening log_seen log_gives data_seen data_gives log_entry data_entry stops log_found data_found log data_device f log_now data_now → ComesToRefusal log_seen log_gives data_seen data_gives log_entry data_entry stops log_now data_now
-  refused f cause log_now data_now is_cause log_none data_none is =
-      let counted = counted-ended f log_now data_now is in
-      let unfailed : AreCounted log_entry data_entry stops log_found data_found 0 0 (guarded log_seen log_now) (guarded data_seen data_now) =
-      subst (λ n. AreCounted log_entry data_entry stops log_found data_found 0 n (guarded log_seen log_now) (guarded data_seen data_now)) (ap failures data_none)
-      (subst (λ n. AreCounted log_entry data_entry stops log_found data_found n (failures (data_error f)) (guarded log_seen log_now) (guarded data_seen data_now)) (ap failures log_none) counted) in
-      record {
-        way = way-of log_found data_found is.armed.prepared unfailed;
-        log_device = log-from-arming f log_now data_now ReadsLogUpTo
-            (λ calls header opens. record {
-              reads = read-alone f cause calls is_cause opens.unwritten;
-              opens = subst (λ (error : Option DevError). OpensLogUpTo error calls) log_none (log-up-to f _ (none-had (log_error f) log_none) calls header opens);
-            })
-            is;
-        data_device = data-from-arming f log_now data_now ReadsDataUpTo
-            (λ calls opens. record {
-              reads = read-alone f cause calls is_cause opens.unwritten;
-              opens = subst (λ (error : Option DevError). OpensDataUpTo error calls) data_none (data-up-to f (none-had (data_error f) data_none) calls opens);
-            })
-            is;
+        met = f;
+        fault_is = refl;
+        way = way-of log_found data_found is.armed.prepared counted;
+        log_device = record {
+          armed = log;
+          is_armed = is.armed.log_device;
+          at_arming = is.log_at;
+          calls = subst (λ size. OfSizes size data_entry.size) is.armed.log_device.same.size
+              (subst (λ size. OfSizes (log_seen log.inner).size size) is.armed.data_device.same.size is.log_calls);
+        };
+        data_device = record {
+          armed = data_device;
+          is_armed = is.armed.data_device;
+          at_arming = is.data_at;
+          calls = subst (λ (told : Option Disk). OfTold told data_found.seen.tells) (ap (λ (seen : Seen). seen.tells) is.armed.log_same)
+              (subst (λ (told : Option Disk). OfTold (log_seen log.inner).tells told) (ap (λ (seen : Seen). seen.tells) is.armed.data_same) is.data_calls);
+        };
       }
 
   -- WHAT A RUN COMES TO whose store wasn't opened.
-  pub ended-comes : (turns : Turns) (script : List ScriptLine) (f : RecFault) (log_now : Fused L) (data_now : Fused D) → IsEndedOpening log_seen log_gives data_seen data_gives log_entry data_entry stops log_found data_found log data_device f log_now data_now
+  pub ended-comes : (turns : Turns) (script : List ScriptLine) (f : RecFault) (log_now : Fused L) (data_now : Fused D)
+      → IsEndedOpening log_seen log_gives data_seen data_gives log_entry data_entry stops log_found data_found log data_device f log_now data_now
       → ComesByTurnsTo log_seen log_gives data_seen data_gives log_entry data_entry stops turns script (unopened f) log_now data_now
-  ended-comes turns script LogDev log_now data_now is = stopped-log log_now data_now is
-  ended-comes turns script DataDev log_now data_now is = stopped-data log_now data_now is
+  ended-comes turns script LogDev log_now data_now is = unopened-told LogDev log_now data_now is
+  ended-comes turns script DataDev log_now data_now is = unopened-told DataDev log_now data_now is
   ended-comes turns script NoMemory log_now data_now is = tt
-  ended-comes turns script (SmallLog n) log_now data_now is = inr (refused (SmallLog n) (refusal.SmallLog n) log_now data_now refl refl refl is)
-  ended-comes turns script NotFormatted log_now data_now is = inr (refused NotFormatted refusal.NotFormatted log_now data_now refl refl refl is)
-  ended-comes turns script (BadFormat n) log_now data_now is = inr (refused (BadFormat n) (refusal.BadFormat n) log_now data_now refl refl refl is)
-  ended-comes turns script (SmallData n) log_now data_now is = inr (refused (SmallData n) (refusal.SmallData n) log_now data_now refl refl refl is)
-  ended-comes turns script NoCheckpoint log_now data_now is = inr (refused NoCheckpoint refusal.NoCheckpoint log_now data_now refl refl refl is)
-  ended-comes turns script (BadRecord lsn) log_now data_now is = inr (refused (BadRecord lsn) (refusal.BadRecord lsn) log_now data_now refl refl refl is)
-  ended-comes turns script (PageLost p) log_now data_now is = inr (refused (PageLost p) (refusal.PageLost p) log_now data_now refl refl refl is)
-  ended-comes turns script (PageAhead p lsn) log_now data_now is = inr (refused (PageAhead p lsn) (refusal.PageAhead p lsn) log_now data_now refl refl refl is)
+  ended-comes turns script (SmallLog n) log_now data_now is = inr (unopened-told (SmallLog n) log_now data_now is)
+  ended-comes turns script NotFormatted log_now data_now is = inr (unopened-told NotFormatted log_now data_now is)
+  ended-comes turns script (BadFormat n) log_now data_now is = inr (unopened-told (BadFormat n) log_now data_now is)
+  ended-comes turns script (SmallData n) log_now data_now is = inr (unopened-told (SmallData n) log_now data_now is)
+  ended-comes turns script NoCheckpoint log_now data_now is = inr (unopened-told NoCheckpoint log_now data_now is)
+  ended-comes turns script (BadRecord lsn) log_now data_now is = inr (unopened-told (BadRecord lsn) log_now data_now is)
+  ended-comes turns script (PageLost p) log_now data_now is = inr (unopened-told (PageLost p) log_now data_now is)
+  ended-comes turns script (PageAhead p lsn) log_now data_now is = inr (unopened-told (PageAhead p lsn) log_now data_now is)

@@ -12,7 +12,7 @@ use Rattle.redo_lab.specs.Summary.{summary_of}
 use Rattle.redo_lab.specs.declared.outcome.Outcome.{Outcome}
 use Rattle.redo_lab.specs.declared.outcome.Outcome.TheVariants as outcome
 
--- What reads leave of the device: it means what it meant. Of them so many failed.
+-- Calls came that left the device meaning what it meant. Of them so many failed.
 pub record IsReadSince (failed : ℕ) (old now : Guarded) : Type 0 where
   pub tells : now.seen.tells ≡ old.seen.tells
   -- a fuse that was armed still is

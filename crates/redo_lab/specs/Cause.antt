@@ -210,7 +210,7 @@ KeepsStore call =
     → OpensOrderly log.reads data_disk.reads opened.shape opened.pages opened.end
     → WhereToldNow call (AreReadAsOpened opened)
 
--- A store in use that is refused is as it was.
+-- A store in use that is refused is as it was, where both devices told.
 abbrev pub KeepsRefused : Call → Type 0
 KeepsRefused call = (refusal : Refusal) → WhereToldAtEntry call (λ log data_disk.
     (IsUnused log.reads → ⊥) → AreRefused refusal log data_disk → AreKept call)
@@ -220,7 +220,7 @@ pub record AreCrashedFrom (call : Call) (log data_disk : Disk) : Type 0 where
   pub log_device : call.log_device_now.seen.crashed_from ≡ Some log
   pub data_device : call.data_device_now.seen.crashed_from ≡ Some data_disk
 
--- A store in use that is refused was as it had been handed in just before the crash.
+-- A store in use that is refused was as it had been handed in just before the crash, where both devices told.
 abbrev pub KeepsRefusedCrashed : Call → Type 0
 KeepsRefusedCrashed call = (refusal : Refusal) → WhereToldAtEntry call (λ log data_disk.
     (IsUnused log.reads → ⊥) → AreRefused refusal log data_disk → AreCrashedFrom call log data_disk)
@@ -250,7 +250,8 @@ LeavesStopped call =
     × (AreNotArmed call ⊎ (IsFoundKept call × IsOpenedFirst call call.log_device_now.seen.tells None))
 
 -- WHAT A CRASH LEAVES that isn't reported. The fuses were armed before opening; where that came to its end a run took place, and
--- else none; and what was left is read as a prefix of it. A store in use that is refused was as it had been handed in.
+-- else none. Where both devices told, what was left is read as a prefix of it, and a store in use that is refused was as it had
+-- been handed in just before the crash.
 pub record LeavesCrash (call : Call) (command : Command) : Type 0 where
   pub pick : ℕ
   pub picked : pick_of command ≡ Some pick

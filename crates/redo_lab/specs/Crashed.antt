@@ -15,8 +15,8 @@ use Rattle.redo_lab.specs.Stages.{IsArmed, IsCrashedWith}
 use Rattle.redo_lab.specs.declared.outcome.Outcome.{Outcome}
 use Rattle.redo_lab.specs.declared.outcome.Outcome.TheVariants as outcome
 
--- The device was crashed with this pick and only read since: it means what the crash left, and tells what it meant before.
--- Of the reads so many failed.
+-- The device was crashed with this pick: it means what the crash left, and tells what it meant before. Calls since then left it
+-- meaning that, and of them so many failed.
 pub record IsCrashedSince (pick failed_since : ℕ) (old now : Guarded) : Type 0 where
   pub left : OnTold old.seen.tells now.seen.tells Crashes
   pub from : now.seen.crashed_from ≡ old.seen.tells

@@ -99,13 +99,13 @@ abbrev pub Prepares : Seen → Seen → Result (Unit {0}) RecFault → Guarded �
 Prepares log_entry data_entry (Ok done) log_now data_now = ArePrepared log_entry data_entry log_now data_now
 Prepares log_entry data_entry (Err fault) log_now data_now = IsUnpreparedBy log_entry data_entry fault log_now data_now
 
--- The calls that preparing makes of the log device: all answered Ok, but for the last, where that answered this error. Where a
--- device is too short they are reads alone.
+-- The calls that preparing makes of the log device: all answered Ok, but for the last one, where the device failed. Where
+-- memory ran out that may have been the last one's answer, or all answered Ok. Where a device is too short they are reads alone.
 pub record PreparesLog (result : Result (Unit {0}) RecFault) (calls : List Call) : Type 0 where
   pub ends : MayEndWith (log_error_of result) calls
   pub unwritten : IfErr result (λ fault. IfSome (refusal_of fault) (λ _. AreReads calls))
 
--- Those of the data device end so too. Where a device is too short there are none.
+-- Those of the data device end so too, by its own failure. Where a device is too short there are none.
 pub record PreparesData (result : Result (Unit {0}) RecFault) (calls : List Call) : Type 0 where
   pub ends : MayEndWith (data_error_of result) calls
   pub uncalled : IfErr result (λ fault. IfSome (refusal_of fault) (λ _. calls ≡ []))

@@ -4,16 +4,17 @@ use Rattle.std.specs.Prelude.{ℕ, ◌≡◌, ◌⊎◌, true, List, Option, Som
 use Rattle.model_command.specs.declared.asked.Command.{Command}
 use Rattle.model_command.specs.declared.asked.Command.TheVariants.{Run, Crash, Gen}
 use Rattle.model_command.specs.declared.asked.Drive.{Drive}
+use Rattle.model_device.specs.{IsImage}
+use Rattle.model_device.specs.Disk.{Disk}
 use Rattle.model_log.specs.{start_after}
 use Rattle.model_opening.specs.{IsOpenable}
-use Rattle.model_page.specs.declared.content.Content.{Content}
 use Rattle.model_report.specs.declared.fault.Fault.{Fault}
 use Rattle.model_report.specs.declared.fault.Fault.TheVariants.{LogDevice, DataDevice, Store, Turns, Fit}
 use Rattle.model_script.specs.declared.misfit.Misfit.{Misfit}
 use Rattle.model_script.specs.declared.script.ScriptLine.{ScriptLine}
-use Rattle.model_store.specs.{IsReading, Opens}
+use Rattle.model_store.specs.{IsFair, IsReading, Opens}
 use Rattle.model_store.specs.Reading.{Reading}
-use Rattle.model_theorem.specs.{IsFresh, IsPrefixRead}
+use Rattle.model_theorem.specs.{IsFresh, IsPrefixRead, Ran, ReadsPrefix}
 use Rattle.model_theorem.specs.Values as values
 use Rattle.redo_disk.specs.{Call, failures, MakesCalls, MayEndWith}
 use Rattle.redo_disk.specs.Seen.{Seen}
@@ -44,7 +45,7 @@ use Rattle.redo_lab.specs.Script.{IsLongScript, IsScriptFor}
 use Rattle.redo_lab.specs.Stages.{IsArmed}
 use Rattle.redo_lab.specs.Store.{IsOpenedAs}
 use Rattle.redo_lab.specs.Summary.{summary_of}
-use Rattle.redo_lab.specs.Unopened.{ComesToRefusal, ComesToShort, ComesToStop, ComesToUnprepared}
+use Rattle.redo_lab.specs.Unopened.{ComesToUnopened, ComesToUnprepared}
 use Rattle.redo_lab.specs.declared.outcome.Outcome.{Outcome}
 use Rattle.redo_lab.specs.declared.outcome.Outcome.TheVariants as outcome
 use Rattle.redo_lab.specs.declared.playing.Course.{Course}
@@ -174,7 +175,7 @@ pub record ComesToMisfit {L D : Type 0} (log_seen : L → Seen) (log_gives : L �
   pub unfit : IsUnfit opened turns script misfit log_now data_now
 
 -- How far a run came on them that the turns of the drive led: a store was opened, and it came so far on that, or the script
--- doesn't fit it; or none was opened, and these calls led there.
+-- doesn't fit it; or none was opened, and these calls led there. Of a run that memory ran out for nothing is told.
 abbrev pub ComesByTurnsTo : {L D : Type 0} → (L → Seen) → (L → Call → L → Type 0) → (D → Seen) → (D → Call → D → Type 0)
     → (log_entry data_entry : Seen) → Stops → drive.Turns → List ScriptLine → Course → Fused L → Fused D → Type 0
 ComesByTurnsTo log_seen log_gives data_seen data_gives log_entry data_entry stops turns script (course.Played played fault) log_now data_now =
@@ -188,11 +189,11 @@ ComesByTurnsTo log_seen log_gives data_seen data_gives log_entry data_entry stop
 ComesByTurnsTo log_seen log_gives data_seen data_gives log_entry data_entry stops turns script (course.Ended DataDevice) log_now data_now =
     ComesToUnprepared log_seen log_gives data_seen data_gives log_entry data_entry DataDevice log_now data_now
 ComesByTurnsTo log_seen log_gives data_seen data_gives log_entry data_entry stops turns script (course.Ended (Store refusal)) log_now data_now =
-    ComesToShort log_seen log_gives data_seen data_gives log_entry data_entry refusal log_now data_now
-    ⊎ ComesToRefusal log_seen log_gives data_seen data_gives log_entry data_entry stops log_now data_now
+    ComesToUnprepared log_seen log_gives data_seen data_gives log_entry data_entry (Store refusal) log_now data_now
+    ⊎ ComesToUnopened log_seen log_gives data_seen data_gives log_entry data_entry stops (Store refusal) log_now data_now
 ComesByTurnsTo log_seen log_gives data_seen data_gives log_entry data_entry stops turns script (course.Ended _) log_now data_now = Unit {0}
 ComesByTurnsTo log_seen log_gives data_seen data_gives log_entry data_entry stops turns script (course.Stopped fault) log_now data_now =
-    ComesToStop log_seen log_gives data_seen data_gives log_entry data_entry stops fault log_now data_now
+    ComesToUnopened log_seen log_gives data_seen data_gives log_entry data_entry stops fault log_now data_now
 
 -- WHAT IS TOLD OF IT.
 
@@ -207,18 +208,7 @@ pub record Handed : Type 0 where
   pub stops : Stops
   pub turns : drive.Turns
 
--- A run by turns took place of the script that the command runs; this fault ended it, if one did, and at its end the devices were
--- these.
-pub record RunsAsHanded {L D : Type 0} (log_seen : L → Seen) (log_gives : L → Call → L → Type 0) (data_seen : D → Seen) (data_gives : D → Call → D → Type 0)
-    (handed : Handed) (fault : Option Fault)
-    (log_then : Fused L) (data_then : Fused D) : Type 0 where
-  pub script : List ScriptLine
-  pub is_script : IsScriptFor handed.command handed.source handed.source_now script
-  pub played : Played
-  pub comes : ComesToEnd log_seen log_gives data_seen data_gives handed.log_entry handed.data_entry handed.stops handed.turns script
-      played fault log_then data_then
-
--- A run by turns of that script came so far, if it was begun, and then the devices were these.
+-- A run by turns of the script that the command runs came so far, if it was begun, and then the devices were these.
 pub record ComesAsHanded {L D : Type 0} (log_seen : L → Seen) (log_gives : L → Call → L → Type 0) (data_seen : D → Seen) (data_gives : D → Call → D → Type 0)
     (handed : Handed) (so_far : Course)
     (log_then : Fused L) (data_then : Fused D) : Type 0 where
@@ -229,12 +219,34 @@ pub record ComesAsHanded {L D : Type 0} (log_seen : L → Seen) (log_gives : L �
   pub by_turns : ComesByTurnsTo log_seen log_gives data_seen data_gives handed.log_entry handed.data_entry handed.stops handed.turns script
       so_far log_then data_then
 
--- The text is the report of such a run; behind a crash it has what was read.
+-- this is so where both devices told what they meant when they were handed in, were fresh, and open this store, which is new
+-- or in order
+abbrev pub WhereHandedOpens : Handed → values.Opened → Type 0 → Type 0
+WhereHandedOpens handed opened P = WhereTold handed.log_entry handed.data_entry (λ log data_disk.
+    IsFresh log handed.log_entry.faults → IsFresh data_disk handed.data_entry.faults
+    → Opens log.reads data_disk.reads opened.shape opened.pages opened.end → P)
+
+-- On fresh devices that open a store, whatever a crash would leave of both is read as a prefix of this run of the script, if the
+-- data device's image is fair.
+abbrev pub AreReadAsPrefix : Handed → List ScriptLine → Ran → (log_then data_then : Seen) → Type 0
+AreReadAsPrefix handed script run log_then data_then = (opened : values.Opened) → WhereHandedOpens handed opened (WhereTold log_then data_then (λ log data_disk.
+    (log_bytes data_bytes : List ℕ) → IsImage log log_bytes → IsFair opened.shape data_disk data_bytes
+    → ReadsPrefix script opened (Some run) log_bytes data_bytes))
+
+-- The script was run by turns; this fault ended the run, if one did, and then the devices were these, of which whatever a crash
+-- would leave is read as a prefix of that very run.
+pub record RunsAsHanded {L D : Type 0} (log_seen : L → Seen) (log_gives : L → Call → L → Type 0) (data_seen : D → Seen) (data_gives : D → Call → D → Type 0)
+    (handed : Handed) (fault : Option Fault)
+    (log_then : Fused L) (data_then : Fused D) : Type 0 where
+  pub played : Played
+  pub comes : ComesAsHanded log_seen log_gives data_seen data_gives handed (course.Played played fault) log_then data_then
+  pub safe : AreReadAsPrefix handed comes.script (ran_of played) (log_seen (inner_of log_then)) (data_seen (inner_of data_then))
+
+-- The text is the report of such a run.
 pub record TellsRun {L D : Type 0} (log_seen : L → Seen) (log_gives : L → Call → L → Type 0) (data_seen : D → Seen) (data_gives : D → Call → D → Type 0)
-    (handed : Handed)
-    (read : Option (ℕ × List Content)) (fault : Option Fault) (text : List ℕ) (log_then : Fused L) (data_then : Fused D) : Type 0 where
-  pub runs : RunsAsHanded log_seen log_gives data_seen data_gives handed fault log_then data_then
-  pub report : IsReportOf runs.script (Some (ran_of runs.played)) read text
+    (handed : Handed) (fault : Option Fault) (text : List ℕ) (log_now : Fused L) (data_now : Fused D) : Type 0 where
+  pub runs : RunsAsHanded log_seen log_gives data_seen data_gives handed fault log_now data_now
+  pub report : IsReportOf runs.comes.script (Some (ran_of runs.played)) None text
 
 -- Both devices were crashed with this pick just as they were then, and calls behind that led here.
 pub record AreLedByCrash {L D : Type 0} (log_seen : L → Seen) (log_gives : L → Call → L → Type 0) (log_crash_gives : L → ℕ → L → Type 0)
@@ -249,25 +261,44 @@ pub record AreLedByCalls {L D : Type 0} (log_seen : L → Seen) (log_gives : L �
   pub log_device : IsCalled log_seen log_gives log_then log_now
   pub data_device : IsCalled data_seen data_gives data_then data_now
 
--- The same of a text of `crash`: the devices were crashed at the end of the run, whatever ended it, and then read.
+-- What a crash left is read so, where the devices tell. On fresh devices that open a store this is a prefix of the run of the
+-- script, or has the opened pages, where there was none, if what was left of the data device is fair by what that meant before.
+pub record AreReadAsLeft {L D : Type 0} (log_seen : L → Seen) (data_seen : D → Seen) (handed : Handed) (script : List ScriptLine) (run : Option Ran)
+    (reading : Reading) (data_then : Fused D) (log_now : Fused L) (data_now : Fused D) : Type 0 where
+  pub is_read : WhereTold (log_seen (inner_of log_now)) (data_seen (inner_of data_now)) (λ log data_disk. IsReading log.reads data_disk.reads reading)
+  pub prefix : (opened : values.Opened) (data_crashed data_left : Disk) → WhereHandedOpens handed opened
+      ((data_seen (inner_of data_then)).tells ≡ Some data_crashed → (data_seen (inner_of data_now)).tells ≡ Some data_left
+      → IsFair opened.shape data_crashed data_left.reads → IsPrefixRead script opened run reading)
+
+-- The text of `crash` reports a run by turns: the devices were crashed at its end, whatever ended it, and then read.
 pub record TellsCrash {L D : Type 0} (log_seen : L → Seen) (log_gives : L → Call → L → Type 0) (log_crash_gives : L → ℕ → L → Type 0)
     (data_seen : D → Seen) (data_gives : D → Call → D → Type 0) (data_crash_gives : D → ℕ → D → Type 0)
     (handed : Handed) (pick : ℕ) (text : List ℕ) (log_now : Fused L) (data_now : Fused D) : Type 0 where
   pub log_then : Fused L
   pub data_then : Fused D
+  pub fault : Option Fault
+  pub runs : RunsAsHanded log_seen log_gives data_seen data_gives handed fault log_then data_then
   pub crashed : AreCrashedSince pick 0 0 (guarded log_seen log_then) (guarded data_seen data_then)
       (guarded log_seen log_now) (guarded data_seen data_now)
   pub led : AreLedByCrash log_seen log_gives log_crash_gives data_seen data_gives data_crash_gives pick log_then log_now data_then data_now
-  pub read : ℕ × List Content
-  pub fault : Option Fault
-  pub run : TellsRun log_seen log_gives data_seen data_gives handed (Some read) fault text log_then data_then
+  pub reading : Reading
+  pub read : AreReadAsLeft log_seen data_seen handed runs.comes.script (Some (ran_of runs.played)) reading data_then log_now data_now
+  pub report : IsReportOf runs.comes.script (Some (ran_of runs.played)) (Some (reading.end, reading.pages)) text
 
--- this is so where both devices told what they meant when they were handed in, were fresh, and open this store, which is new
--- or in order
-abbrev pub WhereHandedOpens : Handed → values.Opened → Type 0 → Type 0
-WhereHandedOpens handed opened P = WhereTold handed.log_entry handed.data_entry (λ log data_disk.
-    IsFresh log handed.log_entry.faults → IsFresh data_disk handed.data_entry.faults
-    → Opens log.reads data_disk.reads opened.shape opened.pages opened.end → P)
+-- The text of `crash` tells that there was no run: a device stopped opening, and then both were crashed and read.
+pub record TellsNone {L D : Type 0} (log_seen : L → Seen) (log_gives : L → Call → L → Type 0) (log_crash_gives : L → ℕ → L → Type 0)
+    (data_seen : D → Seen) (data_gives : D → Call → D → Type 0) (data_crash_gives : D → ℕ → D → Type 0)
+    (handed : Handed) (pick : ℕ) (text : List ℕ) (log_now : Fused L) (data_now : Fused D) : Type 0 where
+  pub met : Fault
+  pub log_then : Fused L
+  pub data_then : Fused D
+  pub stopped : ComesAsHanded log_seen log_gives data_seen data_gives handed (course.Stopped met) log_then data_then
+  pub crashed : AreCrashedSince pick 0 0 (guarded log_seen log_then) (guarded data_seen data_then)
+      (guarded log_seen log_now) (guarded data_seen data_now)
+  pub led : AreLedByCrash log_seen log_gives log_crash_gives data_seen data_gives data_crash_gives pick log_then log_now data_then data_now
+  pub reading : Reading
+  pub read : AreReadAsLeft log_seen data_seen handed stopped.script None reading data_then log_now data_now
+  pub report : IsReportOf stopped.script None (Some (reading.end, reading.pages)) text
 
 -- The text is the summary of such a run that no fault ended, and of what both devices are read as, where they tell: since the
 -- end of the run they mean the same. On fresh devices that open a store, what was read is a prefix of that very run.
@@ -281,30 +312,8 @@ pub record TellsSummary {L D : Type 0} (log_seen : L → Seen) (log_gives : L �
   pub runs : RunsAsHanded log_seen log_gives data_seen data_gives handed None log_then data_then
   pub reading : Reading
   pub is_read : WhereTold (log_seen (inner_of log_now)) (data_seen (inner_of data_now)) (λ log data_disk. IsReading log.reads data_disk.reads reading)
-  pub prefix : (opened : values.Opened) → WhereHandedOpens handed opened (IsPrefixRead runs.script opened (Some (ran_of runs.played)) reading)
+  pub prefix : (opened : values.Opened) → WhereHandedOpens handed opened (IsPrefixRead runs.comes.script opened (Some (ran_of runs.played)) reading)
   pub text_is : text ≡ summary_of (ran_of runs.played) reading
-
--- The text of `crash` tells that there was no run: a device stopped opening, and then both were crashed and read.
-pub record TellsNone {L D : Type 0} (log_seen : L → Seen) (log_gives : L → Call → L → Type 0) (log_crash_gives : L → ℕ → L → Type 0)
-    (data_seen : D → Seen) (data_gives : D → Call → D → Type 0) (data_crash_gives : D → ℕ → D → Type 0)
-    (handed : Handed) (pick : ℕ) (text : List ℕ) (log_now : Fused L) (data_now : Fused D) : Type 0 where
-  pub met : Fault
-  pub log_then : Fused L
-  pub data_then : Fused D
-  pub stopped : ComesAsHanded log_seen log_gives data_seen data_gives handed (course.Stopped met) log_then data_then
-  pub crashed : AreCrashedSince pick 0 0 (guarded log_seen log_then) (guarded data_seen data_then)
-      (guarded log_seen log_now) (guarded data_seen data_now)
-  pub led : AreLedByCrash log_seen log_gives log_crash_gives data_seen data_gives data_crash_gives pick log_then log_now data_then data_now
-  pub read : ℕ × List Content
-  pub report : IsReportOf stopped.script None (Some read) text
-
--- the turns of a run were spent, so many, and this is the least user that hasn't ended
-pub record TellsSpent {L D : Type 0} (log_seen : L → Seen) (log_gives : L → Call → L → Type 0) (data_seen : D → Seen) (data_gives : D → Call → D → Type 0)
-    (handed : Handed) (count user : ℕ) (log_now : Fused L) (data_now : Fused D) : Type 0 where
-  pub script : List ScriptLine
-  pub is_script : IsScriptFor handed.command handed.source handed.source_now script
-  pub comes : ComesToSpent log_seen log_gives data_seen data_gives handed.log_entry handed.data_entry handed.stops handed.turns script
-      count user log_now data_now
 
 -- the run met this fault, and nothing was done since
 pub record EndsThere {L D : Type 0} (log_then log_now : Fused L) (data_then data_now : Fused D) (met fault : Fault) : Type 0 where
@@ -359,7 +368,8 @@ pub record IsTooLong {L D : Type 0} (log_seen : L → Seen) (data_seen : D → S
 abbrev pub TellsFault : {L D : Type 0} → (L → Seen) → (L → Call → L → Type 0) → (L → ℕ → L → Type 0)
     → (D → Seen) → (D → Call → D → Type 0) → (D → ℕ → D → Type 0)
     → Handed → Fault → Fused L → Fused D → Type 0
-TellsFault log_seen log_gives log_crash_gives data_seen data_gives data_crash_gives handed (Turns count user) log_now data_now = TellsSpent log_seen log_gives data_seen data_gives handed count user log_now data_now
+TellsFault log_seen log_gives log_crash_gives data_seen data_gives data_crash_gives handed (Turns count user) log_now data_now =
+    ComesAsHanded log_seen log_gives data_seen data_gives handed (course.Ended (Turns count user)) log_now data_now
 TellsFault log_seen log_gives log_crash_gives data_seen data_gives data_crash_gives handed LogDevice log_now data_now = FailsAsHanded log_seen log_gives log_crash_gives data_seen data_gives data_crash_gives handed LogDevice log_now data_now
 TellsFault log_seen log_gives log_crash_gives data_seen data_gives data_crash_gives handed DataDevice log_now data_now = FailsAsHanded log_seen log_gives log_crash_gives data_seen data_gives data_crash_gives handed DataDevice log_now data_now
 TellsFault log_seen log_gives log_crash_gives data_seen data_gives data_crash_gives handed (Store refusal) log_now data_now =
@@ -391,10 +401,10 @@ module _ {L D : Type 0} (log_seen : L → Seen) (log_gives : L → Call → L �
   -- reported of a crash.
   abbrev pub TellsByTurns : Command → Outcome → Fused L → Fused D → Type 0
   TellsByTurns (Run drive) (outcome.Text text) log_now data_now =
-      TellsRun log_seen log_gives data_seen data_gives (handed_as (Run drive) no_stops drive) None None text log_now data_now
+      TellsRun log_seen log_gives data_seen data_gives (handed_as (Run drive) no_stops drive) None text log_now data_now
   TellsByTurns (Run drive) (outcome.Report text (Turns count user)) log_now data_now = ⊥
   TellsByTurns (Run drive) (outcome.Report text fault) log_now data_now =
-      TellsRun log_seen log_gives data_seen data_gives (handed_as (Run drive) no_stops drive) None (Some fault) text log_now data_now
+      TellsRun log_seen log_gives data_seen data_gives (handed_as (Run drive) no_stops drive) (Some fault) text log_now data_now
   TellsByTurns (Run drive) (outcome.Fault fault) log_now data_now =
       TellsFault log_seen log_gives log_crash_gives data_seen data_gives data_crash_gives (handed_as (Run drive) no_stops drive) fault log_now data_now
   TellsByTurns (Crash drive stop_log stop_data pick) (outcome.Text text) log_now data_now =

@@ -5,7 +5,6 @@ ghost use Rattle.model_log.specs.declared.layout.TheConstants.{HEADER_BYTES};
 ghost use Rattle.model_store.specs.{IsUnused};
 ghost use Rattle.redo_disk.specs.{error_of, MakesCalls, ReadStep};
 ghost use Rattle.redo_lab.specs.Call.{guarded};
-ghost use Rattle.redo_lab.specs.Led.{IsCalled};
 ghost use Rattle.redo_lab.specs.Prepared.{Prepares, PreparesData, PreparesLog, ReadsOnce};
 ghost use Rattle.redo_memdisk.specs.{CallsThrough, fresh, fuse_of, inner_of};
 ghost use Rattle.redo_recover.specs.{log_fault_of};
@@ -56,8 +55,6 @@ pub(crate) fn prepare<L: Sectors, D: Sectors>(
     requires data_fresh { fuse_of store.old ≡ fresh }
     ensures prepares { Prepares (L.seen (inner_of log.old)) (D.seen (inner_of store.old)) result
         (guarded L.seen log.new) (guarded D.seen store.new) }
-    ensures log_called { IsCalled L.seen L.gives log.old log.new }
-    ensures data_called { IsCalled D.seen D.gives store.old store.new }
     ensures log_calls { MakesCalls (CallsThrough L.seen L.gives) log.old log.new (PreparesLog result) }
     ensures data_calls { MakesCalls (CallsThrough D.seen D.gives) store.old store.new (PreparesData result) }
 {

@@ -50,6 +50,12 @@ returns-clause-turns g c = λ source source_now read.
       | in-Stopped w ↦ rw (w.outcome-is, w.log-is, w.store-is)
           (crash-stopped-told g.L.Sectors.seen g.L.Sectors.gives g.L.Sectors.crash_gives g.D.Sectors.seen g.D.Sectors.gives g.D.Sectors.crash_gives source source_now _ _ c.args.drive.now c.args.stops c.args.pick w.in-Stopped.field-0 _ _ _ _ _
           (record {
+            one_answer = c.one_answer.ensures.read;
+            one_reading = c.one_reading.ensures;
+            formatted = c.formatted_is_openable.ensures;
+            crash = c.crash_of_safe_run.ensures;
+          })
+          (record {
             script = c.args.script.now;
             is_script = read;
             comes_to = rw w.in-Stopped.is at c.run_lines-course.ensures.comes_to;
@@ -60,6 +66,13 @@ returns-clause-turns g c = λ source source_now read.
       | in-Played w ↦ rw (w.outcome-is, w.log-is, w.store-is)
           (crash-played-told g.L.Sectors.seen g.L.Sectors.gives g.L.Sectors.crash_gives g.D.Sectors.seen g.D.Sectors.gives g.D.Sectors.crash_gives source source_now _ _ c.args.drive.now c.args.stops c.args.pick
           w.in-Played.played w.in-Played.field-1 _ _ _ _ _
+          (record {
+            one_answer = c.one_answer.ensures.read;
+            one_reading = c.one_reading.ensures;
+            formatted = c.formatted_is_openable.ensures;
+            crash = c.crash_of_safe_run.ensures;
+          })
+          (record { safe = c.closed_run_is_safe.ensures; reads = c.held_run_reads.ensures.read; opened = c.held_run_is_opened.ensures.opened })
           (record {
             script = c.args.script.now;
             is_script = read;

@@ -64,8 +64,8 @@ returns-in-Err-clause-turns g c = λ log_entry data_entry stops log_found data_f
       armed = armed;
       log_at = log_at;
       data_at = data_at;
-      log_calls = weaker_calls (λ calls opens. record { ends = opens.ends; header = opens.header; once = opens.once; unwritten = opens.unwritten }) c.in-Err.ensures.log_calls;
-      data_calls = weaker_calls (λ calls opens. record { ends = opens.ends; once = opens.once; unwritten = opens.unwritten }) c.in-Err.ensures.data_calls;
+      log_calls = c.in-Err.ensures.log_calls;
+      data_calls = c.in-Err.ensures.data_calls;
     }))
 
 pub returns-in-Ok-clause-log_called : goal.returns-in-Ok-clause-log_called

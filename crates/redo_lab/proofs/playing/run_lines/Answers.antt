@@ -4,7 +4,7 @@ use Rattle.redo_disk.specs.Seen.{Seen}
 use Rattle.redo_lab.specs.Call.{Guarded, guarded}
 use Rattle.redo_lab.specs.Prepared.{ArePrepared, IsUnpreparedBy}
 use Rattle.redo_lab.proofs.Behind.{entered}
-use Rattle.redo_lab.proofs.Led.{plain-from}
+use Rattle.redo_lab.proofs.Led.{called-by, plain-from}
 use Rattle.redo_lab.proofs.Stages.{armed-now, at-arming-now}
 use Rattle.redo_lab.proofs.Unopened.{unprepared-comes}
 use Rattle.redo_lab.proofs.playing.run_lines.Goals as goal
@@ -67,13 +67,13 @@ returns-in-Err-clause-turns g c =
 
 pub returns-in-Err-clause-log_run : goal.returns-in-Err-clause-log_run
 returns-in-Err-clause-log_run g c = inl
-    (plain-from g.L.Sectors.seen g.L.Sectors.gives c.args.log c.plain-log.result c.prepare.new.log c.plain-log.ensures.inner c.plain-log.ensures.fuse c.plain-log.ensures.armed c.in-Err.ensures.log_called)
+    (plain-from g.L.Sectors.seen g.L.Sectors.gives c.args.log c.plain-log.result c.prepare.new.log c.plain-log.ensures.inner c.plain-log.ensures.fuse c.plain-log.ensures.armed (called-by c.in-Err.ensures.log_calls))
 
 pub returns-clause-log_run : goal.returns-clause-log_run
 returns-clause-log_run g c = inr (record {
   found = c.prepare.new.log;
   before = plain-from g.L.Sectors.seen g.L.Sectors.gives c.args.log c.plain-log.result c.prepare.new.log c.plain-log.ensures.inner c.plain-log.ensures.fuse c.plain-log.ensures.armed
-      c.in-Ok.ensures.log_called;
+      (called-by c.in-Ok.ensures.log_calls);
   limit = c.args.stops.log;
   armed = c.arm.new.self;
   arms = record { inner = c.arm.ensures.inner; fuse = c.arm.ensures.fuse; armed = c.arm.ensures.armed };
@@ -82,13 +82,13 @@ returns-clause-log_run g c = inr (record {
 
 pub returns-in-Err-clause-data_run : goal.returns-in-Err-clause-data_run
 returns-in-Err-clause-data_run g c = inl
-    (plain-from g.D.Sectors.seen g.D.Sectors.gives c.args.store c.plain-store.result c.prepare.new.store c.plain-store.ensures.inner c.plain-store.ensures.fuse c.plain-store.ensures.armed c.in-Err.ensures.data_called)
+    (plain-from g.D.Sectors.seen g.D.Sectors.gives c.args.store c.plain-store.result c.prepare.new.store c.plain-store.ensures.inner c.plain-store.ensures.fuse c.plain-store.ensures.armed (called-by c.in-Err.ensures.data_calls))
 
 pub returns-clause-data_run : goal.returns-clause-data_run
 returns-clause-data_run g c = inr (record {
   found = c.prepare.new.store;
   before = plain-from g.D.Sectors.seen g.D.Sectors.gives c.args.store c.plain-store.result c.prepare.new.store c.plain-store.ensures.inner c.plain-store.ensures.fuse c.plain-store.ensures.armed
-      c.in-Ok.ensures.data_called;
+      (called-by c.in-Ok.ensures.data_calls);
   limit = c.args.stops.store;
   armed = c.arm-2.new.self;
   arms = record { inner = c.arm-2.ensures.inner; fuse = c.arm-2.ensures.fuse; armed = c.arm-2.ensures.armed };

@@ -6,7 +6,6 @@ use Rattle.redo_disk.proofs.Made.{may_end}
 use Rattle.redo_memdisk.specs.{seen_through}
 use Rattle.redo_recover.specs.declared.fault.RecFault.TheVariants.{SmallLog}
 use Rattle.redo_lab.proofs.Formatting.{format-fault}
-use Rattle.redo_lab.proofs.Led.{called-by, called-then, format-called, uncalled}
 use Rattle.redo_lab.proofs.Preparing.{prepared-formatted, prepared-in-use, read-first, unprepared-formatted, unprepared-read}
 use Rattle.redo_lab.proofs.Unopened.{first-failed, format-made, formatted-data, formatted-log, read-first-alone, read-then, uncalled-data, uncalled-first, uncalled-log}
 use Rattle.redo_lab.proofs.prepare.prepare.Goals as goal
@@ -39,44 +38,6 @@ returns-in-Err-clause-prepares g c =
     rw c.first_fault.ensures
     (unprepared-read g.L.Sectors.seen g.D.Sectors.seen _ _ c.is_unused.new.log c.args.store.now c.in-Err.error
     (read-first c.requires.log_fresh c.requires.data_fresh c.in-Err.ensures.calls))
-
-pub returns-then-len-lt-HEADER_BYTES-clause-log_called : goal.returns-then-len-lt-HEADER_BYTES-clause-log_called
-returns-then-len-lt-HEADER_BYTES-clause-log_called g c = uncalled g.L.Sectors.seen g.L.Sectors.gives _ _ refl
-
-pub returns-then-len-lt-HEADER_BYTES-clause-data_called : goal.returns-then-len-lt-HEADER_BYTES-clause-data_called
-returns-then-len-lt-HEADER_BYTES-clause-data_called g c = uncalled g.D.Sectors.seen g.D.Sectors.gives _ _ refl
-
-pub returns-in-Ok-clause-log_called : goal.returns-in-Ok-clause-log_called
-returns-in-Ok-clause-log_called g c = called-then (called-by c.in-Ok-true.ensures.calls)
-    (format-called g.L.Sectors.seen g.L.Sectors.gives g.D.Sectors.seen g.D.Sectors.gives c.is_unused.new.log c.format.new.log c.args.store.now c.format.new.data_device
-    (Ok c.in-Ok.field-0) c.in-Ok.ensures.calls).0
-
-pub returns-in-Ok-clause-data_called : goal.returns-in-Ok-clause-data_called
-returns-in-Ok-clause-data_called g c =
-    (format-called g.L.Sectors.seen g.L.Sectors.gives g.D.Sectors.seen g.D.Sectors.gives c.is_unused.new.log c.format.new.log c.args.store.now c.format.new.data_device
-    (Ok c.in-Ok.field-0) c.in-Ok.ensures.calls).1
-
-pub returns-in-Err-format-clause-log_called : goal.returns-in-Err-format-clause-log_called
-returns-in-Err-format-clause-log_called g c = called-then (called-by c.in-Ok-true.ensures.calls)
-    (format-called g.L.Sectors.seen g.L.Sectors.gives g.D.Sectors.seen g.D.Sectors.gives c.is_unused.new.log c.format.new.log c.args.store.now c.format.new.data_device
-    (Err c.in-Err-format.fault) c.in-Err-format.ensures.calls).0
-
-pub returns-in-Err-format-clause-data_called : goal.returns-in-Err-format-clause-data_called
-returns-in-Err-format-clause-data_called g c =
-    (format-called g.L.Sectors.seen g.L.Sectors.gives g.D.Sectors.seen g.D.Sectors.gives c.is_unused.new.log c.format.new.log c.args.store.now c.format.new.data_device
-    (Err c.in-Err-format.fault) c.in-Err-format.ensures.calls).1
-
-pub returns-in-Ok-false-clause-log_called : goal.returns-in-Ok-false-clause-log_called
-returns-in-Ok-false-clause-log_called g c = called-by c.in-Ok-false.ensures.calls
-
-pub returns-in-Ok-false-clause-data_called : goal.returns-in-Ok-false-clause-data_called
-returns-in-Ok-false-clause-data_called g c = uncalled g.D.Sectors.seen g.D.Sectors.gives _ _ refl
-
-pub returns-in-Err-clause-log_called : goal.returns-in-Err-clause-log_called
-returns-in-Err-clause-log_called g c = called-by c.in-Err.ensures.calls
-
-pub returns-in-Err-clause-data_called : goal.returns-in-Err-clause-data_called
-returns-in-Err-clause-data_called g c = uncalled g.D.Sectors.seen g.D.Sectors.gives _ _ refl
 
 pub returns-then-len-lt-HEADER_BYTES-clause-log_calls : goal.returns-then-len-lt-HEADER_BYTES-clause-log_calls
 returns-then-len-lt-HEADER_BYTES-clause-log_calls g c = uncalled-log g.L.Sectors.seen g.L.Sectors.gives _ (Err (SmallLog HEADER_BYTES)) (inl refl)

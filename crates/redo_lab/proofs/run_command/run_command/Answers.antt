@@ -28,6 +28,14 @@ returns-clause-ends g c = λ words source source_now read.
 
 pub returns-clause-turns : goal.returns-clause-turns
 returns-clause-turns g c = λ source source_now read.
+    let laws : RunLaws = record {
+      one = c.one_answer.ensures.read;
+      same = c.one_reading.ensures;
+      openable = c.openable_reads.ensures;
+      formatted = c.formatted_is_openable.ensures;
+      closed = record { safe = c.closed_run_is_safe.ensures; reads = c.held_run_reads.ensures.read; opened = c.held_run_is_opened.ensures.opened };
+      unfit = c.unfit_is_misfit.ensures;
+    } in
     elim c.match-course.branch [
       | in-Ended2 w ↦ rw w.outcome-is (elim w.in-Ended.is [
         | inl ended ↦ run-ended-told g.L.Sectors.seen g.L.Sectors.gives g.L.Sectors.crash_gives g.D.Sectors.seen g.D.Sectors.gives g.D.Sectors.crash_gives source source_now _ _ c.args.drive.now w.in-Ended.fault _ _
@@ -46,7 +54,7 @@ returns-clause-turns g c = λ source source_now read.
             })
       ])
       | in-Played w ↦ rw w.outcome-is
-          (run-played-told g.L.Sectors.seen g.L.Sectors.gives g.L.Sectors.crash_gives g.D.Sectors.seen g.D.Sectors.gives g.D.Sectors.crash_gives source source_now _ _ c.args.drive.now w.in-Played.played w.in-Played.fault _ _ _
+          (run-played-told g.L.Sectors.seen g.L.Sectors.gives g.L.Sectors.crash_gives g.D.Sectors.seen g.D.Sectors.gives g.D.Sectors.crash_gives source source_now _ _ c.args.drive.now w.in-Played.played w.in-Played.fault _ _ _ laws
           (record {
             script = c.args.script.now;
             is_script = read;
