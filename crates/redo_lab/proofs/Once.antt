@@ -1,5 +1,5 @@
 -- One read of a device, and what it says of the first block.
-use Rattle.std.proofs.Common.{ℕ, ◌≡◌, ◌↔◌, Bool, true, false, IsTrue, List, [], ◌∷◌, replicate, Option, Some, None, IfSome, Ok, Err, refl, sym, ◌∙◌}
+use Rattle.std.proofs.Common.{ℕ, ◌≡◌, ◌↔◌, Bool, true, false, IsTrue, List, [], ◌∷◌, replicate, Option, Some, None, IfSome, Result, Ok, Err, refl, sym, subst, ◌∙◌}
 use Rattle.std.specs.Prelude.{nat_eq}
 use Rattle.std.specs.Cmp.Lexicographic.{other_text, pointwise, same_text}
 use Rattle.std.proofs.lemmas.Bool.{false≢true}
@@ -7,18 +7,25 @@ use Rattle.model_base.specs.declared.limits.TheConstants.{BLOCK_SIZE}
 use Rattle.model_device.specs.Disk.{Disk}
 use Rattle.model_store.specs.{IsUnused}
 use Rattle.redo_disk.specs.{Answer, Call, error_of, MakesCall, MakesCalls, part, Reads, ReadsEndWith}
-use Rattle.redo_lab.specs.Prepared.{ReadsOnce}
+use Rattle.redo_disk.specs.declared.error.DevError.{DevError}
+use Rattle.redo_lab.specs.Prepared.{ReadsBlock, ReadsFirst}
 
 one-read : (at : ℕ) (before after : List ℕ) (answer : Answer) → ReadsEndWith (error_of answer) (Reads at before answer after ∷ [])
 one-read at before after (Ok done) = record { reads = (tt, tt); ends = record { stop = (tt, tt); first = refl } }
 one-read at before after (Err error) = record { reads = (tt, tt); ends = record { stop = (refl, tt); first = refl } }
 
-pub read-once : {D : Type 0} {gives : D → Call → D → Type 0} {old new : D} {at : ℕ} {before after : List ℕ} {answer : Answer}
-    → MakesCall gives old (Reads at before answer after) new → MakesCalls gives old new (ReadsOnce (error_of answer))
-read-once {new = new} {at = at} {before = before} {after = after} {answer = answer} call = record {
+pub read-block : {D : Type 0} {gives : D → Call → D → Type 0} {old new : D} {at : ℕ} {before after : List ℕ} {answer : Answer} (result : Result Bool DevError)
+    → MakesCall gives old (Reads at before answer after) new → error_of answer ≡ error_of result → ReadsFirst result (Reads at before answer after)
+    → MakesCalls gives old new (ReadsBlock result)
+read-block {new = new} {at = at} {before = before} {after = after} {answer = answer} result call same first = record {
   calls = Reads at before answer after ∷ [];
   made = (new, call, refl);
-  are = record { reads = one-read at before after answer; one = refl };
+  are = record {
+    reads = subst (λ (error : Option DevError). ReadsEndWith error (Reads at before answer after ∷ [])) same (one-read at before after answer);
+    first = Reads at before answer after;
+    one = refl;
+    is_first = first;
+  };
 }
 
 -- what a test of two texts tells

@@ -37,7 +37,7 @@ use Rattle.redo_lab.specs.Course.{AreMisfitted, ArePlayed, ArePlayedThrough, Are
 use Rattle.redo_lab.specs.Playing.{AreArmed, AreRun, AreRunSoFar, AreSpentOn, HasRunOutOn, HoldsRunOn, OwesRun, Plays}
 use Rattle.redo_lab.specs.Prepared.{ArePrepared, WhereTold}
 use Rattle.redo_lab.specs.Store.{IsOpenedAs}
-use Rattle.redo_lab.specs.Turned.{opened_at}
+use Rattle.redo_lab.specs.Opening.{opened_at}
 use Rattle.redo_lab.specs.declared.playing.Course.{Course}
 use Rattle.redo_lab.specs.declared.playing.Course.TheVariants as course
 use Rattle.redo_lab.specs.declared.playing.Played.{Played}

@@ -1,10 +1,11 @@
 -- The store that a run by turns was led from, and the calls of that run.
-use Rattle.std.proofs.Common.{List, ap}
+use Rattle.std.proofs.Common.{List, Ok, ap}
 use Rattle.model_opening.specs.{IsOpenable}
 use Rattle.model_report.specs.declared.fault.Fault.TheVariants as fault
 use Rattle.model_script.specs.declared.script.ScriptLine.{ScriptLine}
-use Rattle.redo_disk.specs.{Call}
+use Rattle.redo_disk.specs.{Call, EndWith, MakesCalls}
 use Rattle.redo_disk.specs.Seen.{Seen}
+use Rattle.redo_disk.proofs.Made.{may_end}
 use Rattle.redo_machine.specs.declared.drive.Driven.{Driven}
 use Rattle.redo_machine.specs.declared.drive.Turns.{Turns}
 use Rattle.redo_memdisk.specs.{CallsThrough, seen_through}
@@ -12,33 +13,28 @@ use Rattle.redo_memdisk.specs.declared.fused.Fused.{Fused}
 use Rattle.redo_open.specs.{IsOpenedReady}
 use Rattle.redo_pageactors.specs.declared.opened.Opened.{Opened}
 use Rattle.redo_lab.specs.Call.{Guarded}
-use Rattle.redo_lab.specs.Led.{IsAtArming}
+use Rattle.redo_lab.specs.Opening.{IsOpenedOn}
 use Rattle.redo_lab.specs.Playing.{Plays}
-use Rattle.redo_lab.specs.Turned.{AreCountedFailures, ComesByTurnsTo, IsDrivenTo, IsOpenedOn, MakePartCalls}
+use Rattle.redo_lab.specs.Turned.{AreCountedFailures, ComesByTurnsTo, IsDrivenTo}
 use Rattle.redo_lab.specs.declared.playing.Course.{Course}
 use Rattle.redo_lab.specs.declared.playing.Course.TheVariants as course
 use Rattle.redo_lab.specs.declared.playing.Stops.{Stops}
 use Rattle.redo_lab.proofs.OpenedRun.{HasEnd, IsOpenedUnderWay, counted-opened, end-found, opens-as, read-found}
-use Rattle.redo_lab.proofs.UnderWay.{counted-more, same-both, way-of}
+use Rattle.redo_lab.proofs.UnderWay.{counted-more, same-both}
+use Rattle.redo_lab.proofs.Unopened.{IsAnswered, answered}
 
 -- the opened store
 opened-on : {L D : Type 0} {log_seen : L → Seen} {log_gives : L → Call → L → Type 0} {data_seen : D → Seen} {data_gives : D → Call → D → Type 0}
     {log_entry data_entry : Seen} {stops : Stops} {log_found data_found : Guarded} {log : Fused L} {data_device : Fused D} {store : Opened (Fused L) (Fused D)}
     → IsOpenedUnderWay log_seen log_gives data_seen data_gives log_entry data_entry stops log_found data_found log data_device store
-    → IsAtArming stops.log log_found.fuse log → IsAtArming stops.store data_found.fuse data_device
+    → IsAnswered log_seen log_gives data_seen data_gives log_entry data_entry stops log_found data_found log data_device (Ok store)
     → IsOpenedOn log_seen log_gives data_seen data_gives log_entry data_entry stops store
-opened-on {log_seen = log_seen} {data_seen = data_seen} {log_entry = log_entry} {data_entry = data_entry} {log_found = log_found} {data_found = data_found} {log = log} {data_device = data_device} {store = store} is log_at data_at =
+opened-on {log_seen = log_seen} {data_seen = data_seen} {log_entry = log_entry} {data_entry = data_entry} {log_found = log_found} {data_found = data_found} {log = log} {data_device = data_device} {store = store} is answers =
     let ends : HasEnd log_found.seen.tells data_found.seen.tells store = end-found is in
     record {
-      way = way-of log_found data_found is.armed.prepared (counted-opened is);
-      log_armed = log;
-      armed = is.armed.log_device;
-      log_at_arming = log_at;
+      answered = answered (Ok store) answers;
       marks = is.opened.marks;
-      data_armed = data_device;
-      armed_data = is.armed.data_device;
-      data_at_arming = data_at;
-      data_calls = is.opened.data_calls;
+      runnable = is.opened.runnable;
       read = read-found is;
       end = ends.end;
       start = ends.start;
@@ -53,10 +49,11 @@ counted-failures : {L D : Type 0} {log_seen : L → Seen} {log_gives : L → Cal
     {log_entry data_entry : Seen} {stops : Stops} {log_found data_found : Guarded} {log : Fused L} {data_device : Fused D} {store : Opened (Fused L) (Fused D)}
     (driven : Driven (Fused L) (Fused D)) (log_now : Fused L) (data_now : Fused D)
     → IsOpenedUnderWay log_seen log_gives data_seen data_gives log_entry data_entry stops log_found data_found log data_device store
-    → MakePartCalls (CallsThrough log_seen log_gives) (CallsThrough data_seen data_gives) store driven log_now data_now
+    → MakesCalls (CallsThrough log_seen log_gives) store.log.dev log_now (EndWith driven.closed.log.failed)
+    → MakesCalls (CallsThrough data_seen data_gives) store.store.dev data_now (EndWith driven.closed.store.failed)
     → AreCountedFailures driven log_now data_now
-counted-failures driven log_now data_now is calls =
-    let counted = counted-more (counted-opened is) calls.log calls.data_part in
+counted-failures driven log_now data_now is log_calls data_calls =
+    let counted = counted-more (counted-opened is) (may_end log_calls) (may_end data_calls) in
     record { log_device = counted.log_device.mid; data_device = counted.data_device.mid }
 
 -- how far a run came
@@ -64,31 +61,29 @@ pub driven-comes : {L D : Type 0} {log_seen : L → Seen} {log_gives : L → Cal
     {log_entry data_entry : Seen} {stops : Stops} {log_found data_found : Guarded} {log : Fused L} {data_device : Fused D} {store : Opened (Fused L) (Fused D)}
     (turns : Turns) (script : List ScriptLine) (c : Course) (log_now : Fused L) (data_now : Fused D)
     → IsOpenedUnderWay log_seen log_gives data_seen data_gives log_entry data_entry stops log_found data_found log data_device store
-    → IsAtArming stops.log log_found.fuse log → IsAtArming stops.store data_found.fuse data_device
+    → IsAnswered log_seen log_gives data_seen data_gives log_entry data_entry stops log_found data_found log data_device (Ok store)
     → Plays (seen_through log_seen) (CallsThrough log_seen log_gives) (seen_through data_seen) (CallsThrough data_seen data_gives) store turns script c log_now data_now
     → IsDrivenTo (seen_through log_seen) (CallsThrough log_seen log_gives) (seen_through data_seen) (CallsThrough data_seen data_gives) store turns script c log_now data_now
     → ComesByTurnsTo log_seen log_gives data_seen data_gives log_entry data_entry stops turns script c log_now data_now
-driven-comes {store = store} turns script (course.Played played f) log_now data_now is log_at data_at plays driven = record {
+driven-comes {store = store} turns script (course.Played played f) log_now data_now is answers plays driven = record {
   opened = store;
-  is_opened = opened-on is log_at data_at;
-  done = driven.0;
-  calls = driven.1;
-  counted = counted-failures driven.0.is_driven.driven log_now data_now is driven.1;
+  is_opened = opened-on is answers;
+  done = driven;
+  counted = counted-failures driven.is_driven.driven log_now data_now is driven.is_driven.log_calls driven.is_driven.data_calls;
 }
-driven-comes {store = store} turns script (course.Ended (fault.Turns count user)) log_now data_now is log_at data_at plays driven = record {
+driven-comes {store = store} turns script (course.Ended (fault.Turns count user)) log_now data_now is answers plays driven = record {
   opened = store;
-  is_opened = opened-on is log_at data_at;
-  spent = driven.0;
-  calls = driven.1;
-  counted = counted-failures driven.0.is_driven.driven log_now data_now is driven.1;
+  is_opened = opened-on is answers;
+  spent = driven;
+  counted = counted-failures driven.is_driven.driven log_now data_now is driven.is_driven.log_calls driven.is_driven.data_calls;
 }
-driven-comes {store = store} turns script (course.Ended (fault.Fit misfit)) log_now data_now is log_at data_at plays driven = record {
+driven-comes {store = store} turns script (course.Ended (fault.Fit misfit)) log_now data_now is answers plays driven = record {
   opened = store;
-  is_opened = opened-on is log_at data_at;
+  is_opened = opened-on is answers;
   unfit = driven;
 }
-driven-comes turns script (course.Ended fault.LogDevice) log_now data_now is log_at data_at plays driven = absurd plays
-driven-comes turns script (course.Ended fault.DataDevice) log_now data_now is log_at data_at plays driven = absurd plays
-driven-comes turns script (course.Ended (fault.Store refusal)) log_now data_now is log_at data_at plays driven = absurd plays
-driven-comes turns script (course.Ended f) log_now data_now is log_at data_at plays driven = tt
-driven-comes turns script (course.Stopped f) log_now data_now is log_at data_at plays driven = absurd plays
+driven-comes turns script (course.Ended fault.LogDevice) log_now data_now is answers plays driven = absurd plays
+driven-comes turns script (course.Ended fault.DataDevice) log_now data_now is answers plays driven = absurd plays
+driven-comes turns script (course.Ended (fault.Store refusal)) log_now data_now is answers plays driven = absurd plays
+driven-comes turns script (course.Ended f) log_now data_now is answers plays driven = tt
+driven-comes turns script (course.Stopped f) log_now data_now is answers plays driven = absurd plays

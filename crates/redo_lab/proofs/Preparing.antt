@@ -1,5 +1,5 @@
 -- The two devices while a run prepares them.
-use Rattle.std.proofs.Common.{ℕ, ◌≡◌, ◌≤◌, ◌↔◌, true, false, IsTrue, length, Option, Some, None, Ok, Err, IfSome, refl, sym, ap, subst, ◌∙◌, inl, inr, ⊎_elim, arith}
+use Rattle.std.proofs.Common.{ℕ, ◌≡◌, ◌≤◌, ◌↔◌, Bool, true, false, IsTrue, List, length, Option, Some, None, Result, Ok, Err, IfSome, refl, sym, ap, subst, ◌∙◌, inl, inr, ⊎_elim, arith}
 use Rattle.std.proofs.lemmas.Bool.{cases_lt, false≢true}
 use Rattle.model_base.specs.{default_shape}
 use Rattle.model_device.specs.Disk.{Disk}
@@ -10,7 +10,7 @@ use Rattle.model_page.specs.{data_device_length}
 use Rattle.model_store.specs.{IsUnused}
 use Rattle.model_store.specs.declared.refusal.Refusal.{Refusal}
 use Rattle.model_store.specs.declared.refusal.Refusal.TheVariants as refusal
-use Rattle.redo_disk.specs.{Call, failures, HasSize, MakesCalls}
+use Rattle.redo_disk.specs.{Call, error_of, failures, HasSize, MakesCalls}
 use Rattle.redo_disk.specs.Seen.{Seen}
 use Rattle.redo_disk.specs.declared.error.DevError.{DevError}
 use Rattle.redo_disk.specs.declared.error.DevError.TheVariants as device
@@ -26,7 +26,7 @@ use Rattle.redo_recover.specs.declared.fault.RecFault.{RecFault}
 use Rattle.redo_recover.specs.declared.fault.RecFault.TheVariants.{SmallLog, NotFormatted, BadFormat, SmallData, NoCheckpoint, BadRecord, PageLost, PageAhead, LogDev, DataDev, NoMemory}
 use Rattle.redo_lab.specs.Call.{guarded}
 use Rattle.redo_lab.specs.Complete.{AreLongEnough}
-use Rattle.redo_lab.specs.Prepared.{ArePrepared, AreTooShort, BothBegun, BothKept, BothUntouched, IsUnpreparedBy, ReadsOnce, WasUnused}
+use Rattle.redo_lab.specs.Prepared.{ArePrepared, AreTooShort, BothBegun, BothKept, BothUntouched, IsUnpreparedBy, ReadsBlock, WasUnused}
 use Rattle.redo_lab.specs.Stages.{IsUnarmed}
 use Rattle.redo_lab.specs.Store.{IsTooShort}
 use Rattle.redo_lab.proofs.Behind.{kept-behind, unarmed-behind}
@@ -42,22 +42,22 @@ pub record IsReadFirst {L D : Type 0} (log_seen : L → Seen) (data_seen : D →
   pub log_calls : log.fuse.early_calls ≡ 1
   pub data_calls : store.fuse.early_calls ≡ 0
 
-pub read-first : {L D : Type 0} {log_seen : L → Seen} {gives : L → Call → L → Type 0} {data_seen : D → Seen} {log_old log : Fused L} {store : Fused D} {error : Option DevError}
-    → fuse_of log_old ≡ fresh → fuse_of store ≡ fresh → MakesCalls (CallsThrough log_seen gives) log_old log (ReadsOnce error)
-    → IsReadFirst log_seen data_seen (log_seen (inner_of log_old)) (data_seen (inner_of store)) (failures error) log store
-read-first {log_seen = log_seen} {gives = gives} {data_seen = data_seen} {log_old = log_old} {log = log} {store = store} {error = error} log_fresh data_fresh made =
+pub read-first : {L D : Type 0} {log_seen : L → Seen} {gives : L → Call → L → Type 0} {data_seen : D → Seen} {log_old log : Fused L} {store : Fused D} {result : Result Bool DevError}
+    → fuse_of log_old ≡ fresh → fuse_of store ≡ fresh → MakesCalls (CallsThrough log_seen gives) log_old log (ReadsBlock result)
+    → IsReadFirst log_seen data_seen (log_seen (inner_of log_old)) (data_seen (inner_of store)) (failures (error_of result)) log store
+read-first {log_seen = log_seen} {gives = gives} {data_seen = data_seen} {log_old = log_old} {log = log} {store = store} {result = result} log_fresh data_fresh made =
     let counts = counts-calls log_seen gives log_old log made.calls made.made in
     let stage = ap (λ (fuse : Fuse). fuse.stage) log_fresh in
     let none = ap (λ (fuse : Fuse). fuse.early_calls) log_fresh in
     record {
-      log_device = unarmed-behind refl log_fresh (weaker_calls (λ calls once. MayEndWith-ends error calls once.reads.ends) made);
+      log_device = unarmed-behind refl log_fresh (weaker_calls (λ calls block. MayEndWith-ends (error_of result) calls block.reads.ends) made);
       data_device = unarmed-fresh data_seen (inner_of store) store refl data_fresh;
       kept = record {
-        log_device = kept-behind refl (weaker_calls (λ calls once. record { reads = once.reads.reads; ends = MayEndWith-ends error calls once.reads.ends }) made);
+        log_device = kept-behind refl (weaker_calls (λ calls block. record { reads = block.reads.reads; ends = MayEndWith-ends (error_of result) calls block.reads.ends }) made);
         data_device = record { tells = refl; crashed_from = refl };
       };
       log_calls = counts.early_calls ∙ ap (λ stage. counted (before_arming stage (length made.calls)) log_old.fuse.early_calls) stage
-          ∙ ap (λ n. counted n log_old.fuse.early_calls) made.are.one ∙ ap (counted 1) none;
+          ∙ ap (λ (calls : List Call). counted (length calls) log_old.fuse.early_calls) made.are.one ∙ ap (counted 1) none;
       data_calls = ap (λ (fuse : Fuse). fuse.early_calls) data_fresh;
     }
 

@@ -1,5 +1,5 @@
 -- Two devices that are read behind a run.
-use Rattle.std.proofs.Common.{ℕ, ◌≡◌, List, Option, Result, Ok, Err, IfOk}
+use Rattle.std.proofs.Common.{ℕ, ◌≡◌, List, Option, Result, Ok, Err, IfOk, refl}
 use Rattle.model_device.specs.Disk.{Disk}
 use Rattle.model_store.specs.{IsReading}
 use Rattle.model_store.specs.Reading.{Reading}
@@ -18,6 +18,7 @@ use Rattle.redo_lab.specs.Behind.{AreReadSince, IsReadSince, ReadsBehind}
 use Rattle.redo_lab.specs.Call.{Guarded, guarded}
 use Rattle.redo_lab.specs.Faults.{fault_of}
 use Rattle.redo_lab.specs.Outcome.{outcome_of}
+use Rattle.redo_lab.specs.Reread.{IsOfReading}
 use Rattle.redo_lab.specs.Summary.{summary_of}
 use Rattle.redo_lab.specs.declared.outcome.Outcome.TheVariants as outcome
 use Rattle.redo_lab.proofs.Behind.{reads-of-pieces}
@@ -66,3 +67,8 @@ pub behind-fails : (run : Ran) (log_old data_old log_now data_now : Guarded) (lo
 behind-fails run log_old data_old log_now data_now log_met data_met f since log_same data_same cause lengths =
     reading-fails (λ log_failed data_failed. AreReadSince log_failed data_failed log_old data_old log_now data_now) log_now data_now log_met data_met f
     since log_same data_same cause lengths
+
+-- what becomes of a store that was read: a text, or want of memory for it
+pub text-of-reading : {E : Type 0} (r : Result (List ℕ) E) (recovered : Recovered) → IsOfReading (outcome_of r) (Ok recovered)
+text-of-reading (Ok text) recovered = tt
+text-of-reading (Err error) recovered = refl

@@ -17,7 +17,6 @@ use Rattle.redo_memdisk.specs.declared.fuse.Stage.{Stage}
 use Rattle.redo_memdisk.specs.declared.fuse.Stage.TheVariants.{Before, Stopping, Crashed}
 use Rattle.redo_memdisk.specs.declared.fused.Fused.{Fused}
 use Rattle.redo_lab.specs.Call.{Guarded, guarded}
-use Rattle.redo_lab.specs.Led.{IsAtArming}
 use Rattle.redo_lab.specs.Stages.{IsArmed, IsCrashedWith, IsSameBehind, IsUnarmed}
 use Rattle.redo_lab.proofs.Telling.{calls-go_on, told-goes_on}
 use Rattle.redo_lab.proofs.Printed.{risen-later}
@@ -174,17 +173,6 @@ armed-now seen entry limit old new was inner fuse found = record {
   late_changes = ap (λ (fuse : Fuse). fuse.late_changes) fuse ∙ was.late_changes;
   cause = λ some. absurd (omega arith);
   armed_from = ap (option_and_then (λ device. (seen device).tells)) found;
-}
-
--- this is the device as it was armed
-pub at-arming-now : {D : Type 0} (seen : D → Seen) (entry : Seen) (limit : Option ℕ) (old new : Fused D) → IsUnarmed entry 0 (guarded seen old)
-    → inner_of new ≡ inner_of old → fuse_of new ≡ armed limit (fuse_of old) → armed_at new ≡ Some (inner_of old)
-    → IsAtArming limit (fuse_of old) new
-at-arming-now seen entry limit old new was inner fuse found = record {
-  at_arming = found ∙ ap (λ d. Some d) (sym inner);
-  fuse = fuse;
-  none_passed = ap (λ (fuse : Fuse). fuse.passed) fuse ∙ was.passed;
-  none_failed = ap (λ (fuse : Fuse). fuse.mid) fuse ∙ was.mid;
 }
 
 -- CALLS FROM THEN TO THE CRASH.

@@ -11,7 +11,6 @@ use Rattle.redo_disk.specs.{Call}
 use Rattle.redo_disk.specs.Seen.{Seen}
 use Rattle.redo_disk.specs.declared.error.DevError.{DevError}
 use Rattle.redo_disk.specs.declared.error.DevError.TheVariants.{Failed, NoMemory}
-use Rattle.redo_disk.proofs.Made.{may_end}
 use Rattle.redo_io.specs.{SourceSeen}
 use Rattle.redo_machine.specs.{ComesToRun, HasMemory, RunsByTurns}
 use Rattle.redo_machine.specs.declared.drive.Driven.{Driven}
@@ -29,9 +28,11 @@ use Rattle.redo_lab.specs.Course.{ran_of}
 use Rattle.redo_lab.specs.Crashed.{AreReadBack, ReadsBack}
 use Rattle.redo_lab.specs.Playing.{course_done, course_of, ended_by, played_of}
 use Rattle.redo_lab.specs.Outcome.{EndsCommand, IsOutcome, IsOutcomePrinted, IsUnasked, call_of}
+use Rattle.redo_lab.specs.Led.{IsCrashed}
 use Rattle.redo_lab.specs.Reported.{IsReportOf, IsRunPrinted, report_outcome}
+use Rattle.redo_lab.specs.Reread.{AreReadFor}
 use Rattle.redo_lab.specs.Script.{IsScriptFault}
-use Rattle.redo_lab.specs.Turned.{AreLedByCalls, AreLedByCrash, AreReadAsLeft, ComesAsHanded, EndsThere, FailsSince, Handed, IsByTurns, IsDriven, IsDrivenTo, MakePartCalls, RunsAsHanded, TellsByTurns, TellsFault, handed_as, no_stops}
+use Rattle.redo_lab.specs.Turned.{AreLedByCrash, AreReadAsLeft, ComesAsHanded, EndsThere, FailsSince, Handed, IsByTurns, IsDriven, IsDrivenTo, RunsAsHanded, TellsByTurns, TellsFault, handed_as, no_stops}
 use Rattle.redo_lab.specs.declared.outcome.Done.{Done}
 use Rattle.redo_lab.specs.declared.outcome.Outcome.{Outcome}
 use Rattle.redo_lab.specs.declared.outcome.Outcome.TheVariants as outcome
@@ -47,6 +48,7 @@ use Rattle.redo_lab.proofs.Formatting.{alone-no-store}
 use Rattle.redo_lab.proofs.Found.{leaves-alone}
 use Rattle.redo_lab.proofs.Keeping.{OpenableLaw}
 use Rattle.redo_lab.proofs.GenDone.{SeedLaws}
+use Rattle.redo_lab.proofs.Led.{called-by}
 use Rattle.redo_lab.proofs.LinesRun.{none-lacks, some-failed}
 use Rattle.redo_lab.proofs.ReadLeft.{images-read, left-prefix}
 use Rattle.redo_lab.proofs.RunDone.{RunLaws}
@@ -59,24 +61,27 @@ module _ {L D : Type 0} (log_seen : L → Seen) (log_gives : L → Call → L �
     (opened : Opened L D) (turns : Turns) (script : List ScriptLine) (driven : Driven L D)
     (runs : RunsByTurns log_seen data_seen opened script turns driven) (comes_to : ComesToRun log_gives data_gives opened script driven) where
   abbrev is-driven : (how : running.Ran) → driven.ended ≡ how
-      → IsDriven log_seen data_seen opened turns script how (played_of opened.start driven.closed) driven.closed.log.dev driven.closed.store.dev
-  is-driven how is = record { driven = driven; runs = runs; how_is = is; played_is = refl; log_is = refl; data_is = refl }
-
-  calls-made : MakePartCalls log_gives data_gives opened driven driven.closed.log.dev driven.closed.store.dev
-  calls-made = record { log = may_end (comes_to.log_calls.live refl); data_part = may_end (comes_to.data_calls.live refl) }
+      → IsDriven log_seen log_gives data_seen data_gives opened turns script how (played_of opened.start driven.closed) driven.closed.log.dev driven.closed.store.dev
+  is-driven how is = record {
+    driven = driven;
+    runs = runs;
+    how_is = is;
+    played_is = refl;
+    log_is = refl;
+    data_is = refl;
+    log_calls = comes_to.log_calls.live refl;
+    data_calls = comes_to.data_calls.live refl;
+  }
 
   -- all users ended, and no device was without memory, or one failed
   all-ended : (log_error data_error : Option DevError) → driven.closed.log.failed ≡ log_error → driven.closed.store.failed ≡ data_error
       → driven.ended ≡ ended.Done → HasMemory driven.closed
       → IsDrivenTo log_seen log_gives data_seen data_gives opened turns script (course.Played (played_of opened.start driven.closed) (ended_by log_error data_error)) driven.closed.log.dev driven.closed.store.dev
-  all-ended log_error data_error log_is data_is done memory = (
-    record {
-      is_driven = is-driven ended.Done done;
-      fault_is = ap (λ (e : Option DevError). ended_by e data_error) (sym log_is) ∙ ap (λ (e : Option DevError). ended_by driven.closed.log.failed e) (sym data_is);
-      memory = memory;
-    },
-    calls-made,
-  )
+  all-ended log_error data_error log_is data_is done memory = record {
+    is_driven = is-driven ended.Done done;
+    fault_is = ap (λ (e : Option DevError). ended_by e data_error) (sym log_is) ∙ ap (λ (e : Option DevError). ended_by driven.closed.log.failed e) (sym data_is);
+    memory = memory;
+  }
 
   driven-done : (log_error data_error : Option DevError) → driven.closed.log.failed ≡ log_error → driven.closed.store.failed ≡ data_error → driven.ended ≡ ended.Done
       → IsDrivenTo log_seen log_gives data_seen data_gives opened turns script (course_done (played_of opened.start driven.closed) (ended_by log_error data_error)) driven.closed.log.dev driven.closed.store.dev
@@ -97,7 +102,7 @@ module _ {L D : Type 0} (log_seen : L → Seen) (log_gives : L → Call → L �
       driven.closed.log.dev driven.closed.store.dev
   driven-by ended.Done is = driven-done driven.closed.log.failed driven.closed.store.failed refl refl is
   driven-by (ended.Spent user) is =
-      (record { count_is = refl; played = played_of opened.start driven.closed; is_driven = is-driven (ended.Spent user) is }, calls-made)
+      record { count_is = refl; played = played_of opened.start driven.closed; is_driven = is-driven (ended.Spent user) is }
 
   pub driven-to : IsDrivenTo log_seen log_gives data_seen data_gives opened turns script
       (course_of turns.max driven.ended (played_of opened.start driven.closed) (ended_by driven.closed.log.failed driven.closed.store.failed))
@@ -156,7 +161,7 @@ module _ {L D : Type 0} (log_seen : L → Seen) (log_gives : L → Call → L �
   abbrev Comes : Handed → Course → Fused L → Fused D → Type 0
   Comes = ComesAsHanded log_seen log_gives data_seen data_gives
 
-  abbrev ByCrash : ℕ → (log_then log_now : Fused L) → (data_then data_now : Fused D) → Type 0
+  abbrev ByCrash : ℕ → Outcome → (log_then log_now : Fused L) → (data_then data_now : Fused D) → Type 0
   ByCrash = AreLedByCrash log_seen log_gives log_crash_gives data_seen data_gives data_crash_gives
 
   -- the call, behind which the devices are these
@@ -241,7 +246,7 @@ module _ {L D : Type 0} (log_seen : L → Seen) (log_gives : L → Call → L �
   }
 
   pub crash-stopped-told : (drive : Drive) (stops : Stops) (pick : ℕ) (met : Fault) (o : Outcome) (log_then log_now : Fused L) (data_then data_now : Fused D) → CrashLaws
-      → (comes : Comes (crashing drive stops pick) (course.Stopped met) log_then data_then) → ByCrash pick log_then log_now data_then data_now
+      → (comes : Comes (crashing drive stops pick) (course.Stopped met) log_then data_then) → ByCrash pick o log_then log_now data_then data_now
       → ReadsBack pick comes.script None o (guarded log_seen log_then) (guarded data_seen data_then) (guarded log_seen log_now) (guarded data_seen data_now)
       → Tells (crash drive stops pick) o log_now data_now
   crash-stopped-told drive stops pick met (outcome.Text text) log_then log_now data_then data_now laws comes led back = inl (record {
@@ -263,7 +268,7 @@ module _ {L D : Type 0} (log_seen : L → Seen) (log_gives : L → Call → L �
 
   pub crash-played-told : (drive : Drive) (stops : Stops) (pick : ℕ) (played : Played) (met : Option Fault) (o : Outcome) (log_then log_now : Fused L) (data_then data_now : Fused D)
       → CrashLaws → ClosedLaws
-      → (comes : Comes (crashing drive stops pick) (course.Played played met) log_then data_then) → ByCrash pick log_then log_now data_then data_now
+      → (comes : Comes (crashing drive stops pick) (course.Played played met) log_then data_then) → ByCrash pick o log_then log_now data_then data_now
       → ReadsBack pick comes.script (Some (ran_of played)) o (guarded log_seen log_then) (guarded data_seen data_then) (guarded log_seen log_now) (guarded data_seen data_now)
       → Tells (crash drive stops pick) o log_now data_now
   crash-played-told drive stops pick played met (outcome.Text text) log_then log_now data_then data_now laws closed comes led back = inr (record {
@@ -313,14 +318,14 @@ module _ {L D : Type 0} (log_seen : L → Seen) (log_gives : L → Call → L �
         told-met log_seen log_gives log_crash_gives data_seen data_gives data_crash_gives seeded (course.Played played (Some f)) f log_now log_now data_now data_now tt comes (there f log_now data_now)
 
     pub gen-played-told : SeedLaws → (played : Played) (o : Outcome) (log_then log_now : Fused L) (data_then data_now : Fused D) → Comes seeded (course.Played played None) log_then data_then
-        → AreLedByCalls log_seen log_gives data_seen data_gives log_then log_now data_then data_now
+        → AreReadFor log_seen log_gives data_seen data_gives o log_then log_now data_then data_now
         → ReadsBehind (ran_of played) o (guarded log_seen log_then) (guarded data_seen data_then) (guarded log_seen log_now) (guarded data_seen data_now)
         → Tells gen o log_now data_now
-    gen-played-told laws played (outcome.Text text) log_then log_now data_then data_now comes led behind = record {
+    gen-played-told laws played (outcome.Text text) log_then log_now data_then data_now comes reads behind = record {
       log_then = log_then;
       data_then = data_then;
       read_since = behind.read_since;
-      led = led;
+      reads = reads;
       runs = runs-handed gen no_stops (drive_of_seed seed max) played None log_then data_then laws.one laws.formatted laws.closed comes;
       reading = behind.reading;
       is_read = behind.is_read;
@@ -328,10 +333,21 @@ module _ {L D : Type 0} (log_seen : L → Seen) (log_gives : L → Call → L �
           laws.one laws.same laws.formatted laws.closed laws.fair comes.comes_to behind;
       text_is = behind.text_is;
     }
-    gen-played-told laws played (outcome.Report text f) log_then log_now data_then data_now comes led behind = absurd behind
-    gen-played-told laws played (outcome.Fault (fault.Turns count user)) log_then log_now data_then data_now comes led behind = absurd behind
-    gen-played-told laws played (outcome.Fault f) log_then log_now data_then data_now comes led behind =
-        told-met log_seen log_gives log_crash_gives data_seen data_gives data_crash_gives seeded (course.Played played None) f log_then log_now data_then data_now tt comes (behind, led)
+    gen-played-told laws played (outcome.Report text f) log_then log_now data_then data_now comes reads behind = absurd behind
+    gen-played-told laws played (outcome.Fault (fault.Turns count user)) log_then log_now data_then data_now comes reads behind = absurd behind
+    gen-played-told laws played (outcome.Fault f) log_then log_now data_then data_now comes reads behind =
+        told-met log_seen log_gives log_crash_gives data_seen data_gives data_crash_gives seeded (course.Played played None) f log_then log_now data_then data_now tt comes (behind, reads)
+
+-- WHAT LED EACH DEVICE behind a crash
+module _ {L D : Type 0} {log_seen : L → Seen} {log_gives : L → Call → L → Type 0} {log_crash_gives : L → ℕ → L → Type 0} {data_seen : D → Seen} {data_gives : D → Call → D → Type 0} {data_crash_gives : D → ℕ → D → Type 0}
+    {pick : ℕ} {o : Outcome} {log_then log_now : Fused L} {data_then data_now : Fused D} where
+  pub log-led : AreLedByCrash log_seen log_gives log_crash_gives data_seen data_gives data_crash_gives pick o log_then log_now data_then data_now
+      → IsCrashed log_seen log_gives log_crash_gives pick log_then log_now
+  log-led led = record { crashed = led.log_crashed; crashes = led.log_crashes; called = called-by led.reads.log_device }
+
+  pub data-led : AreLedByCrash log_seen log_gives log_crash_gives data_seen data_gives data_crash_gives pick o log_then log_now data_then data_now
+      → IsCrashed data_seen data_gives data_crash_gives pick data_then data_now
+  data-led led = record { crashed = led.data_crashed; crashes = led.data_crashes; called = called-by led.reads.data_device }
 
 -- A WHOLE CALL
 -- a command that memory ran out for tells of no run

@@ -12,12 +12,12 @@ use Rattle.redo_lab.specs.Summary.{summary_of}
 use Rattle.redo_lab.specs.declared.outcome.Outcome.{Outcome}
 use Rattle.redo_lab.specs.declared.outcome.Outcome.TheVariants as outcome
 
--- Calls came that left the device meaning what it meant. Of them so many failed.
+-- The device means what it meant, where it tells. A fuse that was armed, and had counted no failure, still is, and has counted so
+-- many.
 pub record IsReadSince (failed : ℕ) (old now : Guarded) : Type 0 where
   pub tells : now.seen.tells ≡ old.seen.tells
-  -- a fuse that was armed still is
   pub stage : (limit : Option ℕ) (entry : Seen) (found : Guarded) → IsArmed limit entry found 0 old → IsArmed limit entry found failed now
-  -- what it has passed on stays so
+  -- if it had passed on a call, it has passed on one
   pub passed : 0 < old.fuse.passed → 0 < now.fuse.passed
 
 -- and of both
@@ -25,7 +25,7 @@ pub record AreReadSince (log_failed data_failed : ℕ) (log_old data_old log_now
   pub log_device : IsReadSince log_failed log_old log_now
   pub data_device : IsReadSince data_failed data_old data_now
 
--- THE STORE WAS READ, and this text is the summary of the run and of what was read.
+-- THE STORE WAS READ, and this text is the summary of the run and of what was read, where both tell.
 pub record AreReadBehind (run : Ran) (text : List ℕ) (log_old data_old log_now data_now : Guarded) : Type 0 where
   pub read_since : AreReadSince 0 0 log_old data_old log_now data_now
   pub reading : Reading

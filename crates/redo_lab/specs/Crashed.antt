@@ -15,13 +15,12 @@ use Rattle.redo_lab.specs.Stages.{IsArmed, IsCrashedWith}
 use Rattle.redo_lab.specs.declared.outcome.Outcome.{Outcome}
 use Rattle.redo_lab.specs.declared.outcome.Outcome.TheVariants as outcome
 
--- The device was crashed with this pick: it means what the crash left, and tells what it meant before. Calls since then left it
--- meaning that, and of them so many failed.
+-- Where the device tells, it means what a crash left, and tells what it meant before. A fuse that was armed was crashed with this
+-- pick, has passed on no write and no sync since, and of the calls since so many failed.
 pub record IsCrashedSince (pick failed_since : ℕ) (old now : Guarded) : Type 0 where
   pub left : OnTold old.seen.tells now.seen.tells Crashes
   pub from : now.seen.crashed_from ≡ old.seen.tells
   pub passed : now.fuse.passed ≡ old.fuse.passed
-  -- a fuse that was armed is crashed now
   pub stage : (limit : Option ℕ) (entry : Seen) (found : Guarded) (failed : ℕ) → IsArmed limit entry found failed old
       → IsCrashedWith limit pick entry found failed failed_since now
 
@@ -30,7 +29,7 @@ pub record AreCrashedSince (pick log_failed data_failed : ℕ) (log_old data_old
   pub log_device : IsCrashedSince pick log_failed log_old log_now
   pub data_device : IsCrashedSince pick data_failed data_old data_now
 
--- THE STORE WAS READ, and this text reports the run and what was read.
+-- THE STORE WAS READ, and this text reports the run and what was read, where both tell.
 pub record AreReadBack (pick : ℕ) (script : List ScriptLine) (run : Option Ran) (text : List ℕ) (log_old data_old log_now data_now : Guarded) : Type 0 where
   pub crashed : AreCrashedSince pick 0 0 log_old data_old log_now data_now
   pub reading : Reading

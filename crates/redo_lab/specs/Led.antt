@@ -2,11 +2,11 @@
 -- behind a new fuse, that was armed once at the most, and the device was crashed once at the most; all else were calls through
 -- that fuse.
 use Rattle.std.specs.Prelude.{ℕ, ◌≡◌, ◌⊎◌, List, Option, Some, None}
-use Rattle.redo_disk.specs.{Call, Makes}
+use Rattle.redo_disk.specs.{Call, Makes, MakesCalls}
 use Rattle.redo_disk.specs.Seen.{Seen}
 use Rattle.redo_memdisk.specs.{CallsThrough, CrashesThrough, armed, armed_at, fresh, fuse_of, inner_of}
-use Rattle.redo_memdisk.specs.declared.fuse.Fuse.{Fuse}
 use Rattle.redo_memdisk.specs.declared.fused.Fused.{Fused}
+use Rattle.redo_lab.specs.Call.{Guarded, guarded}
 
 -- the device stands behind a new fuse
 pub record IsPlain {D : Type 0} (device : D) (now : Fused D) : Type 0 where
@@ -19,14 +19,6 @@ pub record IsArming {D : Type 0} (limit : Option ℕ) (old new : Fused D) : Type
   pub inner : inner_of new ≡ inner_of old
   pub fuse : fuse_of new ≡ armed limit (fuse_of old)
   pub armed : armed_at new ≡ Some (inner_of old)
-
--- This is the device at the moment at which its fuse, which told this, was armed with this limit: what was armed is what stands
--- behind the fuse, and no call was counted since, none that was passed on and none that failed.
-pub record IsAtArming {D : Type 0} (limit : Option ℕ) (told : Fuse) (now : Fused D) : Type 0 where
-  pub at_arming : armed_at now ≡ Some (inner_of now)
-  pub fuse : fuse_of now ≡ armed limit told
-  pub none_passed : (fuse_of now).passed ≡ 0
-  pub none_failed : (fuse_of now).mid ≡ 0
 
 -- calls through its fuse led from the one to the other
 pub record IsCalled {D : Type 0} (seen : D → Seen) (gives : D → Call → D → Type 0) (old new : Fused D) : Type 0 where
@@ -70,3 +62,28 @@ pub record IsCrashedFrom {D : Type 0} (seen : D → Seen) (gives : D → Call �
 -- WHAT LED HERE, with a crash or without.
 abbrev pub IsLedFrom : {D : Type 0} → (D → Seen) → (D → Call → D → Type 0) → (D → ℕ → D → Type 0) → D → Fused D → Type 0
 IsLedFrom seen gives crash_gives device now = IsRunFrom seen gives device now ⊎ IsCrashedFrom seen gives crash_gives device now
+
+-- WHICH CALLS THESE WERE, of a device that is seen so where it was handed in.
+-- It was put behind a new fuse, and calls that are such led from there to here.
+pub record ComesFromEntry {D : Type 0} (seen : D → Seen) (gives : D → Call → D → Type 0) (entry : Seen) (Are : List Call → Type 0)
+    (now : Fused D) : Type 0 where
+  pub plain : Fused D
+  pub seen_is : seen (inner_of plain) ≡ entry
+  pub fuse : fuse_of plain ≡ fresh
+  pub unarmed : armed_at plain ≡ None
+  pub calls : MakesCalls (CallsThrough seen gives) plain now Are
+
+-- Such calls led to where it was found so, and then its fuse was armed with this limit.
+pub record IsArmedAsFound {D : Type 0} (seen : D → Seen) (gives : D → Call → D → Type 0) (limit : Option ℕ) (entry : Seen) (found : Guarded)
+    (Are : List Call → Type 0) (now : Fused D) : Type 0 where
+  pub before : Fused D
+  pub from_entry : ComesFromEntry seen gives entry Are before
+  pub found_is : found ≡ guarded seen before
+  pub arms : IsArming limit before now
+
+-- From when its fuse was armed so, calls that are such led to here.
+pub record ComesFromArming {D : Type 0} (seen : D → Seen) (gives : D → Call → D → Type 0) (limit : Option ℕ) (entry : Seen) (found : Guarded)
+    (AreBefore Are : List Call → Type 0) (now : Fused D) : Type 0 where
+  pub armed : Fused D
+  pub is_armed : IsArmedAsFound seen gives limit entry found AreBefore armed
+  pub calls : MakesCalls (CallsThrough seen gives) armed now Are

@@ -10,6 +10,7 @@ pub mod Devices
 pub mod Ending
 pub mod Faults
 pub mod Led
+pub mod Opening
 pub mod Outcome
 pub mod Playing
 pub mod Prepared
@@ -23,4 +24,3 @@ pub mod Took
 pub mod Reported
 pub mod Reread
 pub mod Turned
-pub mod Unopened

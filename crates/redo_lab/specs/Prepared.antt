@@ -1,14 +1,15 @@
--- The two devices once a run has prepared them: formatted with the default sizes, where the log device is unused, else as
--- they were.
-use Rattle.std.specs.Prelude.{ℕ, ◌≡◌, ◌≤◌, ◌⊎◌, List, [], length, Option, Some, Result, Ok, Err, IfErr, IfSome}
+-- The two devices once a run has prepared them: where both told what they mean when they were handed in, formatted with the
+-- default sizes, if the log device was unused, else as they were; and the calls that this took, also of devices that don't tell.
+use Rattle.std.specs.Prelude.{ℕ, ◌≡◌, ◌≢◌, ◌≤◌, ◌<◌, ◌⊎◌, ◌↔◌, Bool, IsTrue, List, [], ◌∷◌, length, replicate, Option, Some, Result, Ok, Err, IfErr, IfSome}
 use Rattle.model_base.specs.{default_shape}
+use Rattle.model_base.specs.declared.limits.TheConstants.{BLOCK_SIZE}
 use Rattle.model_device.specs.Disk.{Disk}
 use Rattle.model_log.specs.declared.layout.TheConstants.{HEADER_BYTES}
 use Rattle.model_opening.specs.{IsFormatted, KeepsNoStore}
 use Rattle.model_store.specs.{IsUnused}
 use Rattle.model_store.specs.declared.refusal.Refusal.{Refusal}
 use Rattle.model_store.specs.declared.refusal.Refusal.TheVariants as refusal
-use Rattle.redo_disk.specs.{AreReads, Call, HasSize, MayEndWith, ReadsEndWith}
+use Rattle.redo_disk.specs.{AreReads, Call, HasSize, MayEndWith, Reads, ReadsEndWith, Syncs, Writes, error_of}
 use Rattle.redo_disk.specs.Seen.{Seen}
 use Rattle.redo_disk.specs.declared.error.DevError.{DevError}
 use Rattle.redo_open.specs.{WhereBothTell}
@@ -20,10 +21,20 @@ use Rattle.redo_lab.specs.Stages.{IsUnarmed}
 use Rattle.redo_lab.specs.Store.{HasNoHeader, IsTooShort}
 use Rattle.redo_lab.specs.Complete.{AreLongEnough}
 
--- the calls are one read, which answered this
-pub record ReadsOnce (error : Option DevError) (calls : List Call) : Type 0 where
-  pub reads : ReadsEndWith error calls
-  pub one : length calls ≡ 1
+-- the call read the first block, and this was made of its answer: whether the block is all zero
+abbrev pub ReadsFirst : Result Bool DevError → Call → Type 0
+ReadsFirst (Ok zero) (Reads at before answer block) =
+    (at ≡ 0) × (length before ≡ BLOCK_SIZE) × (answer ≡ Ok tt) × (IsTrue zero ↔ block ≡ replicate BLOCK_SIZE 0)
+ReadsFirst (Err error) (Reads at before answer block) = (at ≡ 0) × (length before ≡ BLOCK_SIZE) × (answer ≡ Err error)
+ReadsFirst result (Writes write answer) = ⊥
+ReadsFirst result (Syncs answer) = ⊥
+
+-- the calls are that one
+pub record ReadsBlock (result : Result Bool DevError) (calls : List Call) : Type 0 where
+  pub reads : ReadsEndWith (error_of result) calls
+  pub first : Call
+  pub one : calls ≡ first ∷ []
+  pub is_first : ReadsFirst result first
 
 -- where both devices told what they mean when they were handed in, this holds of the two
 abbrev pub WhereTold : Seen → Seen → (Disk → Disk → Type 0) → Type 0
@@ -38,46 +49,49 @@ pub record BothKept (log_entry data_entry : Seen) (log_now data_now : Guarded) :
   pub log_device : IsKept log_entry log_now
   pub data_device : IsKept data_entry data_now
 
--- both were formatted, which was unused; where they tell they hold a store that was just formatted
+-- The log device was unused, where both told, and both are long enough for a new store; where they tell, they hold one that was
+-- just formatted.
 pub record BothFormatted (log_entry data_entry : Seen) (log_now data_now : Guarded) : Type 0 where
   pub unused : WasUnused log_entry data_entry
   pub long : AreLongEnough default_shape log_entry.size data_entry.size
   pub formatted : IfSome log_now.seen.tells (λ log. IfSome data_now.seen.tells (λ data_disk. IsFormatted default_shape log data_disk))
 
--- both are as they were, and in use where they told; before that came one read of the log device
+-- both mean what they meant, and the log device was in use, where both told; it was called once at the most, and the data device
+-- wasn't
 pub record BothInUse (log_entry data_entry : Seen) (log_now data_now : Guarded) : Type 0 where
   pub used : WhereTold log_entry data_entry (λ log data_disk. IsUnused log.reads → ⊥)
   pub kept : BothKept log_entry data_entry log_now data_now
   pub log_calls : log_now.fuse.early_calls ≤ 1
   pub data_calls : data_now.fuse.early_calls ≡ 0
 
--- BOTH ARE READY TO BE OPENED: no call failed, and they were formatted or are in use.
+-- BOTH ARE READY TO BE OPENED: their fuses counted no failure, and they were formatted or are in use.
 pub record ArePrepared (log_entry data_entry : Seen) (log_now data_now : Guarded) : Type 0 where
   pub log_device : IsUnarmed log_entry 0 log_now
   pub data_device : IsUnarmed data_entry 0 data_now
   pub header : HEADER_BYTES ≤ log_entry.size
   pub which : BothFormatted log_entry data_entry log_now data_now ⊎ BothInUse log_entry data_entry log_now data_now
 
--- formatting both was begun, since the log device was unused; it leaves no store but the new one
+-- The log device was unused, and whatever a crash would leave is what they held, or no store, or the new one; so it is where
+-- both tell.
 pub record BothBegun (log_entry data_entry : Seen) (log_now data_now : Guarded) : Type 0 where
   pub unused : WasUnused log_entry data_entry
   pub no_store : WhereTold log_entry data_entry
       (λ log data_disk. WhereBothTell log_now.seen.tells data_now.seen.tells (KeepsNoStore default_shape log data_disk))
 
--- Both are as they were, and before that came at most one call, of the log device: the read of its first block.
+-- Both mean what they meant; the log device was called once at the most, and the data device wasn't.
 pub record BothUntouched (log_entry data_entry : Seen) (log_now data_now : Guarded) : Type 0 where
   pub kept : BothKept log_entry data_entry log_now data_now
   pub log_calls : log_now.fuse.early_calls ≤ 1
   pub data_calls : data_now.fuse.early_calls ≡ 0
   pub data_unfailed : data_now.fuse.early ≡ 0
 
--- THEY AREN'T: so many calls failed, and formatting was begun, or nothing was but to read whether the log device is unused.
+-- THEY AREN'T: so many calls failed, and formatting was begun, or both mean what they meant.
 pub record EndUnprepared (log_entry data_entry : Seen) (log_failed data_failed : ℕ) (log_now data_now : Guarded) : Type 0 where
   pub log_device : IsUnarmed log_entry log_failed log_now
   pub data_device : IsUnarmed data_entry data_failed data_now
   pub begun_or_untouched : BothBegun log_entry data_entry log_now data_now ⊎ BothUntouched log_entry data_entry log_now data_now
 
--- nothing was written, since a device is too short for a header, or for a new store, where the log device was unused
+-- A device is too short for a header, or for a new store, where the log device was unused. Both mean what they meant.
 pub record AreTooShort (log_entry data_entry : Seen) (cause : Refusal) (log_now data_now : Guarded) : Type 0 where
   pub ends : EndUnprepared log_entry data_entry 0 0 log_now data_now
   pub kept : BothKept log_entry data_entry log_now data_now
@@ -99,10 +113,26 @@ abbrev pub Prepares : Seen → Seen → Result (Unit {0}) RecFault → Guarded �
 Prepares log_entry data_entry (Ok done) log_now data_now = ArePrepared log_entry data_entry log_now data_now
 Prepares log_entry data_entry (Err fault) log_now data_now = IsUnpreparedBy log_entry data_entry fault log_now data_now
 
--- The calls that preparing makes of the log device: all answered Ok, but for the last one, where the device failed. Where
--- memory ran out that may have been the last one's answer, or all answered Ok. Where a device is too short they are reads alone.
-pub record PreparesLog (result : Result (Unit {0}) RecFault) (calls : List Call) : Type 0 where
+-- Behind the first block other calls follow only if it is all zero, and then alone preparing ends early.
+abbrev pub IsByBlock : List ℕ → Result (Unit {0}) RecFault → List Call → Type 0
+IsByBlock block (Ok done) rest = rest ≢ [] → block ≡ replicate BLOCK_SIZE 0
+IsByBlock block (Err fault) rest = block ≡ replicate BLOCK_SIZE 0
+
+-- The first call reads the first block, and what it reads decides whether both devices are formatted. A log device that has no
+-- room for a header isn't called.
+abbrev pub JudgesBlock : ℕ → Result (Unit {0}) RecFault → List Call → Type 0
+JudgesBlock log_size result [] = (log_size < HEADER_BYTES) × (result ≡ Err (SmallLog HEADER_BYTES))
+JudgesBlock log_size result (Reads at before (Ok done) block ∷ rest) = (at ≡ 0) × (length before ≡ BLOCK_SIZE) × IsByBlock block result rest
+JudgesBlock log_size result (Reads at before (Err error) block ∷ rest) = (at ≡ 0) × (length before ≡ BLOCK_SIZE)
+JudgesBlock log_size result (Writes write answer ∷ rest) = ⊥
+JudgesBlock log_size result (Syncs answer ∷ rest) = ⊥
+
+-- The calls that preparing makes of a log device of this size: all answered Ok, but for the last one, where the device failed.
+-- Where memory ran out that may have been the last one's answer, or all answered Ok. What the first block reads as is what is
+-- gone by. Where a device is too short they are reads alone.
+pub record PreparesLog (log_size : ℕ) (result : Result (Unit {0}) RecFault) (calls : List Call) : Type 0 where
   pub ends : MayEndWith (log_error_of result) calls
+  pub judged : JudgesBlock log_size result calls
   pub unwritten : IfErr result (λ fault. IfSome (refusal_of fault) (λ _. AreReads calls))
 
 -- Those of the data device end so too, by its own failure. Where a device is too short there are none.

@@ -6,8 +6,6 @@ use Rattle.model_command.specs.declared.asked.Command.TheVariants.{Run, Crash, G
 use Rattle.model_command.specs.declared.asked.Drive.{Drive}
 use Rattle.model_device.specs.{IsImage}
 use Rattle.model_device.specs.Disk.{Disk}
-use Rattle.model_log.specs.{start_after}
-use Rattle.model_opening.specs.{IsOpenable}
 use Rattle.model_report.specs.declared.fault.Fault.{Fault}
 use Rattle.model_report.specs.declared.fault.Fault.TheVariants.{LogDevice, DataDevice, Store, Turns, Fit}
 use Rattle.model_script.specs.declared.misfit.Misfit.{Misfit}
@@ -16,7 +14,7 @@ use Rattle.model_store.specs.{IsFair, IsReading, Opens}
 use Rattle.model_store.specs.Reading.{Reading}
 use Rattle.model_theorem.specs.{IsFresh, IsPrefixRead, Ran, ReadsPrefix}
 use Rattle.model_theorem.specs.Values as values
-use Rattle.redo_disk.specs.{Call, failures, MakesCalls, MayEndWith}
+use Rattle.redo_disk.specs.{Call, EndWith, failures, MakesCalls}
 use Rattle.redo_disk.specs.Seen.{Seen}
 use Rattle.redo_io.specs.{SourceSeen}
 use Rattle.redo_machine.specs.{HasMemory, RunsByTurns}
@@ -24,28 +22,22 @@ use Rattle.redo_machine.specs.declared.drive.Driven.{Driven}
 use Rattle.redo_machine.specs.declared.drive.Turns as drive
 use Rattle.redo_machine.specs.declared.running.Ran as running
 use Rattle.redo_machine.specs.declared.running.Ran.TheVariants as ended
-use Rattle.redo_memdisk.specs.{CallsThrough, fuse_of, inner_of, seen_through}
+use Rattle.redo_memdisk.specs.{CallsThrough, CrashesThrough, fuse_of, inner_of, seen_through}
 use Rattle.redo_memdisk.specs.declared.fused.Fused.{Fused}
-use Rattle.redo_open.specs.{IsOpenedReady, IsOpeningOf, WhereBothTell}
-use Rattle.redo_open.specs.Opening.{MarksStart}
 use Rattle.redo_pageactors.specs.declared.opened.Opened.{Opened}
-use Rattle.redo_recover.specs.{OnContents}
 use Rattle.redo_lab.specs.Asked.{command_of, drive_of_seed, reads_script, turns_of}
 use Rattle.redo_lab.specs.Behind.{AreReadSince}
 use Rattle.redo_lab.specs.Call.{Guarded, IsLeftAlone, LabCall, guarded}
-use Rattle.redo_lab.specs.Course.{AreUnderWay, ComesTo, ran_of}
+use Rattle.redo_lab.specs.Course.{ComesTo, ran_of}
 use Rattle.redo_lab.specs.Crashed.{AreCrashedSince}
-use Rattle.redo_lab.specs.Led.{IsAtArming, IsCalled, IsCrashed}
+use Rattle.redo_lab.specs.Opening.{ComesToUnopened, ComesToUnprepared, IsOpenedOn}
 use Rattle.redo_lab.specs.Outcome.{IsOutcome, IsOutcomePrinted}
-use Rattle.redo_lab.specs.Playing.{IsUnfit, MakeCalls, ended_by, played_of}
+use Rattle.redo_lab.specs.Playing.{IsUnfit, ended_by, played_of}
 use Rattle.redo_lab.specs.Prepared.{WhereTold}
 use Rattle.redo_lab.specs.Reported.{IsReportOf}
-use Rattle.redo_lab.specs.Reread.{FailsReading}
+use Rattle.redo_lab.specs.Reread.{AreReadFor, FailsReading}
 use Rattle.redo_lab.specs.Script.{IsLongScript, IsScriptFor}
-use Rattle.redo_lab.specs.Stages.{IsArmed}
-use Rattle.redo_lab.specs.Store.{IsOpenedAs}
 use Rattle.redo_lab.specs.Summary.{summary_of}
-use Rattle.redo_lab.specs.Unopened.{ComesToUnopened, ComesToUnprepared}
 use Rattle.redo_lab.specs.declared.outcome.Outcome.{Outcome}
 use Rattle.redo_lab.specs.declared.outcome.Outcome.TheVariants as outcome
 use Rattle.redo_lab.specs.declared.playing.Course.{Course}
@@ -55,8 +47,9 @@ use Rattle.redo_lab.specs.declared.playing.Stops.{Stops}
 
 -- ON AN OPENED STORE.
 
--- The turns of the drive led from the opened store to here, and ended so; that came of the lines.
-pub record IsDriven {L D : Type 0} (log_seen : L → Seen) (data_seen : D → Seen)
+-- The turns of the drive led from the opened store to here, and ended so; that came of the lines. All calls that its two parts
+-- made answered Ok, but for the last of each device, where that answered the error that its part met.
+pub record IsDriven {L D : Type 0} (log_seen : L → Seen) (log_gives : L → Call → L → Type 0) (data_seen : D → Seen) (data_gives : D → Call → D → Type 0)
     (opened : Opened L D) (turns : drive.Turns) (script : List ScriptLine) (how : running.Ran) (played : Played)
     (log_now : L) (data_now : D) : Type 0 where
   pub driven : Driven L D
@@ -65,75 +58,39 @@ pub record IsDriven {L D : Type 0} (log_seen : L → Seen) (data_seen : D → Se
   pub played_is : played ≡ played_of opened.start driven.closed
   pub log_is : log_now ≡ driven.closed.log.dev
   pub data_is : data_now ≡ driven.closed.store.dev
+  pub log_calls : MakesCalls log_gives opened.log.dev log_now (EndWith driven.closed.log.failed)
+  pub data_calls : MakesCalls data_gives opened.store.dev data_now (EndWith driven.closed.store.failed)
 
--- All users ended so, and this fault ended the run, if one did: that of the two parts, which isn't want of memory.
-pub record IsDrivenDone {L D : Type 0} (log_seen : L → Seen) (data_seen : D → Seen)
+-- All users ended so, and the two parts met this fault, if any; want of memory is met only beside it.
+pub record IsDrivenDone {L D : Type 0} (log_seen : L → Seen) (log_gives : L → Call → L → Type 0) (data_seen : D → Seen) (data_gives : D → Call → D → Type 0)
     (opened : Opened L D) (turns : drive.Turns) (script : List ScriptLine) (played : Played) (fault : Option Fault)
     (log_now : L) (data_now : D) : Type 0 where
-  pub is_driven : IsDriven log_seen data_seen opened turns script ended.Done played log_now data_now
+  pub is_driven : IsDriven log_seen log_gives data_seen data_gives opened turns script ended.Done played log_now data_now
   pub fault_is : fault ≡ ended_by is_driven.driven.closed.log.failed is_driven.driven.closed.store.failed
   pub memory : HasMemory is_driven.driven.closed
 
 -- So many turns, all that the drive allows, led to here, and this is the least user that hasn't ended.
-pub record IsDrivenOut {L D : Type 0} (log_seen : L → Seen) (data_seen : D → Seen)
+pub record IsDrivenOut {L D : Type 0} (log_seen : L → Seen) (log_gives : L → Call → L → Type 0) (data_seen : D → Seen) (data_gives : D → Call → D → Type 0)
     (opened : Opened L D) (turns : drive.Turns) (script : List ScriptLine) (count user : ℕ)
     (log_now : L) (data_now : D) : Type 0 where
   pub count_is : count ≡ turns.max
   pub played : Played
-  pub is_driven : IsDriven log_seen data_seen opened turns script (ended.Spent user) played log_now data_now
+  pub is_driven : IsDriven log_seen log_gives data_seen data_gives opened turns script (ended.Spent user) played log_now data_now
 
--- The devices went from the opened store to here by calls of which the last one of each alone may have answered an error: the
--- one that its part met.
-abbrev pub MakePartCalls : {L D : Type 0} → (L → Call → L → Type 0) → (D → Call → D → Type 0)
-    → Opened L D → Driven L D → L → D → Type 0
-MakePartCalls log_gives data_gives opened driven log_now data_now =
-    MakeCalls log_gives data_gives opened driven.closed.log.failed driven.closed.store.failed log_now data_now
-
--- how far a run came that the turns of the drive led, if any was begun, and the calls that it made; none is begun of a script that
--- doesn't fit the opened store
+-- how far a run came that the turns of the drive led, if any was begun; none is begun of a script that doesn't fit the opened
+-- store, and of one that memory ran out for nothing is told
 abbrev pub IsDrivenTo : {L D : Type 0} → (L → Seen) → (L → Call → L → Type 0) → (D → Seen) → (D → Call → D → Type 0)
     → Opened L D → drive.Turns → List ScriptLine → Course → L → D → Type 0
 IsDrivenTo log_seen log_gives data_seen data_gives opened turns script (course.Played played fault) log_now data_now =
-    (done : IsDrivenDone log_seen data_seen opened turns script played fault log_now data_now)
-    × MakePartCalls log_gives data_gives opened done.is_driven.driven log_now data_now
+    IsDrivenDone log_seen log_gives data_seen data_gives opened turns script played fault log_now data_now
 IsDrivenTo log_seen log_gives data_seen data_gives opened turns script (course.Ended (Turns count user)) log_now data_now =
-    (spent : IsDrivenOut log_seen data_seen opened turns script count user log_now data_now)
-    × MakePartCalls log_gives data_gives opened spent.is_driven.driven log_now data_now
+    IsDrivenOut log_seen log_gives data_seen data_gives opened turns script count user log_now data_now
 IsDrivenTo log_seen log_gives data_seen data_gives opened turns script (course.Ended (Fit misfit)) log_now data_now =
     IsUnfit opened turns script misfit log_now data_now
 IsDrivenTo log_seen log_gives data_seen data_gives opened turns script (course.Ended _) log_now data_now = Unit {0}
 IsDrivenTo log_seen log_gives data_seen data_gives opened turns script (course.Stopped _) log_now data_now = Unit {0}
 
 -- ON THE TWO DEVICES THAT WERE HANDED IN.
-
--- the opened store, as the theorem has it: its log ends there
-abbrev pub opened_at : {L D : Type 0} → Opened L D → ℕ → values.Opened
-opened_at opened end = record { shape = opened.shape; pages = opened.pages; end = end }
-
--- The store was opened on the two devices, behind their fuses, which stop them so.
-pub record IsOpenedOn {L D : Type 0} (log_seen : L → Seen) (log_gives : L → Call → L → Type 0) (data_seen : D → Seen) (data_gives : D → Call → D → Type 0)
-    (log_entry data_entry : Seen) (stops : Stops) (opened : Opened (Fused L) (Fused D)) : Type 0 where
-  pub way : AreUnderWay log_entry data_entry stops 0 0 (guarded log_seen opened.log.dev) (guarded data_seen opened.store.dev)
-  -- the log device as its fuse was armed; since then its last calls wrote the checkpoint of the next number and made it stay
-  pub log_armed : Fused L
-  pub armed : IsArmed stops.log log_entry way.log_found 0 (guarded log_seen log_armed)
-  pub log_at_arming : IsAtArming stops.log way.log_found.fuse log_armed
-  pub marks : MarksStart (CallsThrough log_seen log_gives) log_armed opened
-  -- the data device as its fuse was armed; since then all its calls answered Ok
-  pub data_armed : Fused D
-  pub armed_data : IsArmed stops.store data_entry way.data_found 0 (guarded data_seen data_armed)
-  pub data_at_arming : IsAtArming stops.store way.data_found.fuse data_armed
-  pub data_calls : MakesCalls (CallsThrough data_seen data_gives) data_armed opened.store.dev (MayEndWith None)
-  -- where both devices told what they meant when the fuses were armed, it was opened as that is read, in order or not; so that
-  -- number is the one next to the number of the newest checkpoint
-  pub read : OnContents way.log_found.seen.tells way.data_found.seen.tells
-      (λ log_bytes data_bytes. IsOpeningOf log_bytes data_bytes opened)
-  pub end : ℕ
-  pub start : opened.start ≡ start_after end
-  pub opens : WhereTold log_entry data_entry (IsOpenedAs (opened_at opened end))
-  -- off devices that held a store in order when the fuses were armed, it was opened as that was read, and both are ready for it
-  pub ready : (reading : Reading) → WhereBothTell way.log_found.seen.tells way.data_found.seen.tells (λ log data_disk.
-      IsOpenable reading log data_disk → IsOpenedReady (seen_through log_seen) (seen_through data_seen) reading opened)
 
 -- since it was armed the fuse of each device has counted as many failures as its part met
 pub record AreCountedFailures {L D : Type 0} (driven : Driven (Fused L) (Fused D)) (log_now : Fused L) (data_now : Fused D)
@@ -148,10 +105,8 @@ pub record ComesToEnd {L D : Type 0} (log_seen : L → Seen) (log_gives : L → 
     (log_now : Fused L) (data_now : Fused D) : Type 0 where
   pub opened : Opened (Fused L) (Fused D)
   pub is_opened : IsOpenedOn log_seen log_gives data_seen data_gives log_entry data_entry stops opened
-  pub done : IsDrivenDone (seen_through log_seen) (seen_through data_seen) opened turns script played fault log_now data_now
-  -- the calls that the two parts of the run made led from the opened store's devices to these
-  pub calls : MakePartCalls (CallsThrough log_seen log_gives) (CallsThrough data_seen data_gives) opened
-      done.is_driven.driven log_now data_now
+  pub done : IsDrivenDone (seen_through log_seen) (CallsThrough log_seen log_gives) (seen_through data_seen) (CallsThrough data_seen data_gives)
+      opened turns script played fault log_now data_now
   pub counted : AreCountedFailures done.is_driven.driven log_now data_now
 
 -- A store was opened on them, and the turns of the drive were spent on it.
@@ -160,10 +115,8 @@ pub record ComesToSpent {L D : Type 0} (log_seen : L → Seen) (log_gives : L �
     (turns : drive.Turns) (script : List ScriptLine) (count user : ℕ) (log_now : Fused L) (data_now : Fused D) : Type 0 where
   pub opened : Opened (Fused L) (Fused D)
   pub is_opened : IsOpenedOn log_seen log_gives data_seen data_gives log_entry data_entry stops opened
-  pub spent : IsDrivenOut (seen_through log_seen) (seen_through data_seen) opened turns script count user log_now data_now
-  -- the calls that the two parts of the run made led from the opened store's devices to these
-  pub calls : MakePartCalls (CallsThrough log_seen log_gives) (CallsThrough data_seen data_gives) opened
-      spent.is_driven.driven log_now data_now
+  pub spent : IsDrivenOut (seen_through log_seen) (CallsThrough log_seen log_gives) (seen_through data_seen) (CallsThrough data_seen data_gives)
+      opened turns script count user log_now data_now
   pub counted : AreCountedFailures spent.is_driven.driven log_now data_now
 
 -- A store was opened on them, and the script doesn't fit that: no call was made since.
@@ -226,15 +179,15 @@ WhereHandedOpens handed opened P = WhereTold handed.log_entry handed.data_entry 
     IsFresh log handed.log_entry.faults → IsFresh data_disk handed.data_entry.faults
     → Opens log.reads data_disk.reads opened.shape opened.pages opened.end → P)
 
--- On fresh devices that open a store, whatever a crash would leave of both is read as a prefix of this run of the script, if the
--- data device's image is fair.
+-- On fresh devices that told, and that open a store, new or in order, whatever a crash would leave of both is read as a prefix of
+-- this run of the script, if the data device's image is fair.
 abbrev pub AreReadAsPrefix : Handed → List ScriptLine → Ran → (log_then data_then : Seen) → Type 0
 AreReadAsPrefix handed script run log_then data_then = (opened : values.Opened) → WhereHandedOpens handed opened (WhereTold log_then data_then (λ log data_disk.
     (log_bytes data_bytes : List ℕ) → IsImage log log_bytes → IsFair opened.shape data_disk data_bytes
     → ReadsPrefix script opened (Some run) log_bytes data_bytes))
 
--- The script was run by turns; this fault ended the run, if one did, and then the devices were these, of which whatever a crash
--- would leave is read as a prefix of that very run.
+-- The script was run by turns; this fault ended the run, if one did, and then the devices were these. On devices of the theorem
+-- whatever a crash would leave of them is read as a prefix of that very run.
 pub record RunsAsHanded {L D : Type 0} (log_seen : L → Seen) (log_gives : L → Call → L → Type 0) (data_seen : D → Seen) (data_gives : D → Call → D → Type 0)
     (handed : Handed) (fault : Option Fault)
     (log_then : Fused L) (data_then : Fused D) : Type 0 where
@@ -248,21 +201,19 @@ pub record TellsRun {L D : Type 0} (log_seen : L → Seen) (log_gives : L → Ca
   pub runs : RunsAsHanded log_seen log_gives data_seen data_gives handed fault log_now data_now
   pub report : IsReportOf runs.comes.script (Some (ran_of runs.played)) None text
 
--- Both devices were crashed with this pick just as they were then, and calls behind that led here.
+-- Both devices were crashed with this pick just as they were then, and read behind that; and this became of it.
 pub record AreLedByCrash {L D : Type 0} (log_seen : L → Seen) (log_gives : L → Call → L → Type 0) (log_crash_gives : L → ℕ → L → Type 0)
     (data_seen : D → Seen) (data_gives : D → Call → D → Type 0) (data_crash_gives : D → ℕ → D → Type 0)
-    (pick : ℕ) (log_then log_now : Fused L) (data_then data_now : Fused D) : Type 0 where
-  pub log_device : IsCrashed log_seen log_gives log_crash_gives pick log_then log_now
-  pub data_device : IsCrashed data_seen data_gives data_crash_gives pick data_then data_now
+    (pick : ℕ) (outcome : Outcome) (log_then log_now : Fused L) (data_then data_now : Fused D) : Type 0 where
+  pub log_crashed : Fused L
+  pub data_crashed : Fused D
+  pub log_crashes : CrashesThrough log_seen log_crash_gives log_then pick log_crashed
+  pub data_crashes : CrashesThrough data_seen data_crash_gives data_then pick data_crashed
+  pub reads : AreReadFor log_seen log_gives data_seen data_gives outcome log_crashed log_now data_crashed data_now
 
--- They weren't crashed: calls led here.
-pub record AreLedByCalls {L D : Type 0} (log_seen : L → Seen) (log_gives : L → Call → L → Type 0) (data_seen : D → Seen) (data_gives : D → Call → D → Type 0)
-    (log_then log_now : Fused L) (data_then data_now : Fused D) : Type 0 where
-  pub log_device : IsCalled log_seen log_gives log_then log_now
-  pub data_device : IsCalled data_seen data_gives data_then data_now
-
--- What a crash left is read so, where the devices tell. On fresh devices that open a store this is a prefix of the run of the
--- script, or has the opened pages, where there was none, if what was left of the data device is fair by what that meant before.
+-- What a crash left is read so, where the devices tell. On fresh devices that told, and that open a store, new or in order, this
+-- is a prefix of the run of the script, or has the opened pages, where there was none, if what was left of the data device is fair
+-- by what that meant before.
 pub record AreReadAsLeft {L D : Type 0} (log_seen : L → Seen) (data_seen : D → Seen) (handed : Handed) (script : List ScriptLine) (run : Option Ran)
     (reading : Reading) (data_then : Fused D) (log_now : Fused L) (data_now : Fused D) : Type 0 where
   pub is_read : WhereTold (log_seen (inner_of log_now)) (data_seen (inner_of data_now)) (λ log data_disk. IsReading log.reads data_disk.reads reading)
@@ -280,7 +231,7 @@ pub record TellsCrash {L D : Type 0} (log_seen : L → Seen) (log_gives : L → 
   pub runs : RunsAsHanded log_seen log_gives data_seen data_gives handed fault log_then data_then
   pub crashed : AreCrashedSince pick 0 0 (guarded log_seen log_then) (guarded data_seen data_then)
       (guarded log_seen log_now) (guarded data_seen data_now)
-  pub led : AreLedByCrash log_seen log_gives log_crash_gives data_seen data_gives data_crash_gives pick log_then log_now data_then data_now
+  pub led : AreLedByCrash log_seen log_gives log_crash_gives data_seen data_gives data_crash_gives pick (outcome.Text text) log_then log_now data_then data_now
   pub reading : Reading
   pub read : AreReadAsLeft log_seen data_seen handed runs.comes.script (Some (ran_of runs.played)) reading data_then log_now data_now
   pub report : IsReportOf runs.comes.script (Some (ran_of runs.played)) (Some (reading.end, reading.pages)) text
@@ -295,20 +246,21 @@ pub record TellsNone {L D : Type 0} (log_seen : L → Seen) (log_gives : L → C
   pub stopped : ComesAsHanded log_seen log_gives data_seen data_gives handed (course.Stopped met) log_then data_then
   pub crashed : AreCrashedSince pick 0 0 (guarded log_seen log_then) (guarded data_seen data_then)
       (guarded log_seen log_now) (guarded data_seen data_now)
-  pub led : AreLedByCrash log_seen log_gives log_crash_gives data_seen data_gives data_crash_gives pick log_then log_now data_then data_now
+  pub led : AreLedByCrash log_seen log_gives log_crash_gives data_seen data_gives data_crash_gives pick (outcome.Text text) log_then log_now data_then data_now
   pub reading : Reading
   pub read : AreReadAsLeft log_seen data_seen handed stopped.script None reading data_then log_now data_now
   pub report : IsReportOf stopped.script None (Some (reading.end, reading.pages)) text
 
 -- The text is the summary of such a run that no fault ended, and of what both devices are read as, where they tell: since the
--- end of the run they mean the same. On fresh devices that open a store, what was read is a prefix of that very run.
+-- end of the run they mean the same, and were read and nothing else. On fresh devices that told, and that open a store, new or in
+-- order, what was read is a prefix of that very run.
 pub record TellsSummary {L D : Type 0} (log_seen : L → Seen) (log_gives : L → Call → L → Type 0) (data_seen : D → Seen) (data_gives : D → Call → D → Type 0)
     (handed : Handed) (text : List ℕ) (log_now : Fused L) (data_now : Fused D) : Type 0 where
   pub log_then : Fused L
   pub data_then : Fused D
   pub read_since : AreReadSince 0 0 (guarded log_seen log_then) (guarded data_seen data_then)
       (guarded log_seen log_now) (guarded data_seen data_now)
-  pub led : AreLedByCalls log_seen log_gives data_seen data_gives log_then log_now data_then data_now
+  pub reads : AreReadFor log_seen log_gives data_seen data_gives (outcome.Text text) log_then log_now data_then data_now
   pub runs : RunsAsHanded log_seen log_gives data_seen data_gives handed None log_then data_then
   pub reading : Reading
   pub is_read : WhereTold (log_seen (inner_of log_now)) (data_seen (inner_of data_now)) (λ log data_disk. IsReading log.reads data_disk.reads reading)
@@ -331,17 +283,18 @@ module _ {L D : Type 0} (log_seen : L → Seen) (log_gives : L → Call → L �
       (guarded log_seen log_then) (guarded data_seen data_then) (guarded log_seen log_now) (guarded data_seen data_now))
       fault (guarded log_seen log_now) (guarded data_seen data_now)
 
-  -- What a run that came so far led to, by command: once opening was begun, `crash` crashes the devices and reads them; `gen`
-  -- reads them behind a run that no fault ended; and of `run` there is a report, once opening came to its end.
+  -- What a run that came so far led to, by command. Where it ended by a fault of its own, that is the fault, and no device was
+  -- called since. Else `crash` crashes the devices and reads them; `gen` reads them behind a run that no fault ended, and calls
+  -- nothing more behind one that a device ended; and of `run` there is a report, or, where opening was stopped, that fault.
   abbrev pub FailsSince : Command → Course → Fault → Type 0
   FailsSince command (course.Ended met) fault = EndsThere log_then log_now data_then data_now met fault
   FailsSince (Crash drive stop_log stop_data pick) so_far fault =
       FailsReadSince (AreCrashedSince pick) fault
-      × AreLedByCrash log_seen log_gives log_crash_gives data_seen data_gives data_crash_gives pick log_then log_now data_then data_now
+      × AreLedByCrash log_seen log_gives log_crash_gives data_seen data_gives data_crash_gives pick (outcome.Fault fault) log_then log_now data_then data_now
   FailsSince command (course.Stopped met) fault = EndsThere log_then log_now data_then data_now met fault
   FailsSince (Gen seed users groups run max) (course.Played played (Some met)) fault = EndsThere log_then log_now data_then data_now met fault
   FailsSince (Gen seed users groups run max) (course.Played played None) fault =
-      FailsReadSince AreReadSince fault × AreLedByCalls log_seen log_gives data_seen data_gives log_then log_now data_then data_now
+      FailsReadSince AreReadSince fault × AreReadFor log_seen log_gives data_seen data_gives (outcome.Fault fault) log_then log_now data_then data_now
   FailsSince command so_far fault = ⊥
 
 -- This fault ended such a run, or what the command does behind it.
@@ -355,7 +308,7 @@ pub record FailsAsHanded {L D : Type 0} (log_seen : L → Seen) (log_gives : L �
   pub comes : ComesAsHanded log_seen log_gives data_seen data_gives handed so_far log_then data_then
   pub fails : FailsSince log_seen log_gives log_crash_gives data_seen data_gives data_crash_gives log_then log_now data_then data_now handed.command so_far fault
 
--- The source had more bytes than a script may have, and no device was called.
+-- The source had more bytes than a script may have, where it tells, and no device was called.
 pub record IsTooLong {L D : Type 0} (log_seen : L → Seen) (data_seen : D → Seen) (handed : Handed) (misfit : Misfit)
     (log_now : Fused L) (data_now : Fused D) : Type 0 where
   pub reads : reads_script handed.command ≡ true
@@ -397,8 +350,8 @@ module _ {L D : Type 0} (log_seen : L → Seen) (log_gives : L → Call → L �
     turns = turns_of drive;
   }
 
-  -- What a command's outcome tells of a run is so of one by its turns. Spent turns have no report, and no device's failure is
-  -- reported of a crash.
+  -- What a command's outcome tells of a run is so of one by its turns. Spent turns have no report, and `crash` and `gen` print
+  -- none before a fault's line.
   abbrev pub TellsByTurns : Command → Outcome → Fused L → Fused D → Type 0
   TellsByTurns (Run drive) (outcome.Text text) log_now data_now =
       TellsRun log_seen log_gives data_seen data_gives (handed_as (Run drive) no_stops drive) None text log_now data_now
@@ -421,7 +374,7 @@ module _ {L D : Type 0} (log_seen : L → Seen) (log_gives : L → Call → L �
   TellsByTurns command outcome log_now data_now = Unit {0}
 
 -- What the words' command came to was printed; it means what it says of the call, and a run that it tells of is one by its
--- turns.
+-- turns; where memory ran out nothing is told of the turns.
 abbrev pub IsByTurns : {L D : Type 0} → (L → Seen) → (L → Call → L → Type 0) → (L → ℕ → L → Type 0)
     → (D → Seen) → (D → Call → D → Type 0) → (D → ℕ → D → Type 0)
     → LabCall → Fused L → Fused D → Type 0

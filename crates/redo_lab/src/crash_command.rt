@@ -7,11 +7,11 @@ ghost use Rattle.model_script.specs.{IsScriptLine};
 ghost use Rattle.redo_io.specs.{SourceSeen};
 ghost use Rattle.redo_lab.specs.Call.{guarded};
 ghost use Rattle.redo_lab.specs.Crashed.{ReadsBack};
-ghost use Rattle.redo_lab.specs.Led.{IsCrashed, IsLedFrom};
+ghost use Rattle.redo_lab.specs.Led.{IsLedFrom};
 ghost use Rattle.redo_lab.specs.Outcome.{EndsCommand, call_of};
 ghost use Rattle.redo_lab.specs.Reported.{IsReportOf, run_of};
 ghost use Rattle.redo_lab.specs.Script.{IsScriptRead};
-ghost use Rattle.redo_lab.specs.Turned.{TellsByTurns};
+ghost use Rattle.redo_lab.specs.Turned.{AreLedByCrash, TellsByTurns};
 
 use crate::asked::turns_of;
 use crate::faults::fault_of;
@@ -61,8 +61,7 @@ fn crash_and_read<L: Sectors, D: Sectors>(
 ) -> Outcome
     ensures reads { ReadsBack pick script.now (run_of played.entry) result
         (guarded L.seen log.old) (guarded D.seen store.old) (guarded L.seen log.new) (guarded D.seen store.new) }
-    ensures log_crashed { IsCrashed L.seen L.gives L.crash_gives pick log.old log.new }
-    ensures data_crashed { IsCrashed D.seen D.gives D.crash_gives pick store.old store.new }
+    ensures led { AreLedByCrash L.seen L.gives L.crash_gives D.seen D.gives D.crash_gives pick result log.old log.new store.old store.new }
 {
     log.crash(pick);
     store.crash(pick);

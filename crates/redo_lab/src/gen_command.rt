@@ -11,8 +11,9 @@ ghost use Rattle.redo_lab.specs.Asked.{drive_of_seed, turns_of};
 ghost use Rattle.redo_lab.specs.Behind.{ReadsBehind};
 ghost use Rattle.redo_lab.specs.Call.{guarded};
 ghost use Rattle.redo_lab.specs.Course.{ran_of};
-ghost use Rattle.redo_lab.specs.Led.{IsCalled, IsLedFrom};
+ghost use Rattle.redo_lab.specs.Led.{IsLedFrom};
 ghost use Rattle.redo_lab.specs.Outcome.{EndsCommand, call_of};
+ghost use Rattle.redo_lab.specs.Reread.{AreReadFor};
 ghost use Rattle.redo_lab.specs.Summary.{summary_of};
 ghost use Rattle.redo_lab.specs.Turned.{TellsByTurns};
 
@@ -83,8 +84,7 @@ fn read_behind<L: Sectors, D: Sectors>(
 ) -> Outcome
     ensures reads { ReadsBehind (ran_of played.now) result (guarded L.seen log.old) (guarded D.seen store.old)
         (guarded L.seen log.new) (guarded D.seen store.new) }
-    ensures log_called { IsCalled L.seen L.gives log.old log.new }
-    ensures data_called { IsCalled D.seen D.gives store.old store.new }
+    ensures calls { AreReadFor L.seen L.gives D.seen D.gives result log.old log.new store.old store.new }
 {
     match recover(alloc, log, store) {
         Ok(recovered) => Outcome::of_text(summarize(alloc, played, &recovered)),

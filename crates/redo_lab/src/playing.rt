@@ -1,5 +1,5 @@
 // The run of a script on two devices: they are prepared and opened, the script is judged, and its lines are run.
-ghost use Rattle.std.specs.Prelude.{◌≡◌, ◌≤◌, ◌<◌, ◌^◌};
+ghost use Rattle.std.specs.Prelude.{◌≡◌, ◌≤◌, ◌<◌, ◌^◌, Ok};
 ghost use Rattle.std.specs.List.{AllByRecursion};
 ghost use Rattle.model_base.specs.{IsWithinLimits};
 ghost use Rattle.model_log.specs.declared.layout.TheConstants.{BLOCK_HEADER};
@@ -10,7 +10,8 @@ ghost use Rattle.redo_machine.specs.{room_from};
 ghost use Rattle.redo_pageactors.specs.{IsRunnable};
 ghost use Rattle.redo_lab.specs.Call.{Guarded, guarded};
 ghost use Rattle.redo_lab.specs.Course.{ComesTo};
-ghost use Rattle.redo_lab.specs.Led.{IsAtArming, IsCalled, IsRunFrom};
+ghost use Rattle.redo_lab.specs.Led.{IsArmedAsFound, IsCalled, IsRunFrom};
+ghost use Rattle.redo_lab.specs.Prepared.{PreparesData, PreparesLog};
 ghost use Rattle.redo_lab.specs.declared.playing.Stops.{Stops};
 ghost use Rattle.redo_lab.specs.Turned.{ComesByTurnsTo, IsDrivenTo};
 ghost use Rattle.redo_lab.specs.Playing.{AreArmed, Plays, course_done, course_of, ended_by, fault_of_unfit, played_of, unopened};
@@ -205,7 +206,8 @@ fn open_and_play<L: Sectors, D: Sectors>(
         → ComesTo log_entry data_entry stops turns.now script.now result.course (guarded L.seen result.log) (guarded D.seen result.store) }
     ensures turns { (log_entry data_entry : Seen) (stops : Stops) (log_found data_found : Guarded)
         → AreArmed log_entry data_entry stops log_found data_found (guarded L.seen log) (guarded D.seen store)
-        → IsAtArming stops.log log_found.fuse log → IsAtArming stops.store data_found.fuse store
+        → IsArmedAsFound L.seen L.gives stops.log log_entry log_found (PreparesLog log_entry.size (Ok tt)) log
+        → IsArmedAsFound D.seen D.gives stops.store data_entry data_found (PreparesData (Ok tt)) store
         → ComesByTurnsTo L.seen L.gives D.seen D.gives log_entry data_entry stops turns.now script.now result.course result.log result.store }
     ensures log_called { IsCalled L.seen L.gives log result.log }
     ensures data_called { IsCalled D.seen D.gives store result.store }

@@ -3,9 +3,9 @@ ghost use Rattle.std.specs.Prelude.{◌≡◌, ◌≤◌, ◌↔◌, IsTrue, IfO
 ghost use Rattle.model_base.specs.declared.limits.TheConstants.{BLOCK_SIZE};
 ghost use Rattle.model_log.specs.declared.layout.TheConstants.{HEADER_BYTES};
 ghost use Rattle.model_store.specs.{IsUnused};
-ghost use Rattle.redo_disk.specs.{error_of, MakesCalls, ReadStep};
+ghost use Rattle.redo_disk.specs.{MakesCalls, ReadStep};
 ghost use Rattle.redo_lab.specs.Call.{guarded};
-ghost use Rattle.redo_lab.specs.Prepared.{Prepares, PreparesData, PreparesLog, ReadsOnce};
+ghost use Rattle.redo_lab.specs.Prepared.{Prepares, PreparesData, PreparesLog, ReadsBlock};
 ghost use Rattle.redo_memdisk.specs.{CallsThrough, fresh, fuse_of, inner_of};
 ghost use Rattle.redo_recover.specs.{log_fault_of};
 
@@ -27,7 +27,7 @@ fn is_blank(block: &[u8; 512]) -> bool
 fn is_unused<L: Sectors>(log: &mut L) -> Result<bool, DevError>
     requires { HEADER_BYTES ≤ (L.seen log.old).size }
     ensures unused { IfOk result (λ unused. IfSome (L.seen log.old).tells (λ disk. IsTrue unused ↔ IsUnused disk.reads)) }
-    ensures calls { MakesCalls L.gives log.old log.new (ReadsOnce (error_of result)) }
+    ensures calls { MakesCalls L.gives log.old log.new (ReadsBlock result) }
 {
     let mut block = [0; 512];
     match log.read(0, &mut block) {
@@ -55,7 +55,7 @@ pub(crate) fn prepare<L: Sectors, D: Sectors>(
     requires data_fresh { fuse_of store.old ≡ fresh }
     ensures prepares { Prepares (L.seen (inner_of log.old)) (D.seen (inner_of store.old)) result
         (guarded L.seen log.new) (guarded D.seen store.new) }
-    ensures log_calls { MakesCalls (CallsThrough L.seen L.gives) log.old log.new (PreparesLog result) }
+    ensures log_calls { MakesCalls (CallsThrough L.seen L.gives) log.old log.new (PreparesLog (L.seen (inner_of log.old)).size result) }
     ensures data_calls { MakesCalls (CallsThrough D.seen D.gives) store.old store.new (PreparesData result) }
 {
     if log.len() < HEADER_BYTES {

@@ -1,6 +1,7 @@
-use Rattle.redo_lab.proofs.Led.{called-by}
+use Rattle.std.proofs.Common.{Ok, Err}
 use Rattle.redo_recover.specs.{reading_of}
 use Rattle.redo_lab.specs.Reported.{run_of}
+use Rattle.redo_lab.proofs.ReadBehind.{text-of-reading}
 use Rattle.redo_lab.proofs.Crashing.{back-fails, back-read, data-crashed, log-crashed}
 use Rattle.redo_lab.proofs.crash_command.crash_and_read.Goals as goal
 
@@ -22,14 +23,30 @@ returns-in-Err-clause-reads g c =
     (record { tells = now.log.tells; size = now.log.size }) (record { tells = now.data_device.tells; size = now.data_device.size })
     now.cause now.lengths)
 
-pub returns-in-Ok-clause-log_crashed : goal.returns-in-Ok-clause-log_crashed
-returns-in-Ok-clause-log_crashed g c = record { crashed = c.crash.new.self; crashes = c.crash.ensures.gives; called = called-by c.in-Ok.ensures.log_calls }
+pub returns-in-Ok-clause-led : goal.returns-in-Ok-clause-led
+returns-in-Ok-clause-led g c = record {
+  log_crashed = c.crash.new.self;
+  data_crashed = c.crash-2.new.self;
+  log_crashes = c.crash.ensures.gives;
+  data_crashes = c.crash-2.ensures.gives;
+  reads = record {
+    result = Ok c.in-Ok.recovered;
+    is_result = rw c.of_text.ensures (text-of-reading c.report_crash.result c.in-Ok.recovered);
+    log_device = c.in-Ok.ensures.log_calls;
+    data_device = c.in-Ok.ensures.data_calls;
+  };
+}
 
-pub returns-in-Ok-clause-data_crashed : goal.returns-in-Ok-clause-data_crashed
-returns-in-Ok-clause-data_crashed g c = record { crashed = c.crash-2.new.self; crashes = c.crash-2.ensures.gives; called = called-by c.in-Ok.ensures.data_calls }
-
-pub returns-in-Err-clause-log_crashed : goal.returns-in-Err-clause-log_crashed
-returns-in-Err-clause-log_crashed g c = record { crashed = c.crash.new.self; crashes = c.crash.ensures.gives; called = called-by c.in-Err.ensures.log_calls }
-
-pub returns-in-Err-clause-data_crashed : goal.returns-in-Err-clause-data_crashed
-returns-in-Err-clause-data_crashed g c = record { crashed = c.crash-2.new.self; crashes = c.crash-2.ensures.gives; called = called-by c.in-Err.ensures.data_calls }
+pub returns-in-Err-clause-led : goal.returns-in-Err-clause-led
+returns-in-Err-clause-led g c = record {
+  log_crashed = c.crash.new.self;
+  data_crashed = c.crash-2.new.self;
+  log_crashes = c.crash.ensures.gives;
+  data_crashes = c.crash-2.ensures.gives;
+  reads = record {
+    result = Err c.in-Err.fault;
+    is_result = c.fault_of.ensures;
+    log_device = c.in-Err.ensures.log_calls;
+    data_device = c.in-Err.ensures.data_calls;
+  };
+}

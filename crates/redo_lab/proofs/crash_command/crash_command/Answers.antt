@@ -2,7 +2,7 @@ use Rattle.std.proofs.Common.{inl}
 use Rattle.redo_lab.proofs.CrashDone.{crash-played, crash-stopped}
 use Rattle.redo_lab.proofs.CrashEnded.{crash-ends-early}
 use Rattle.redo_lab.proofs.Led.{crash-then}
-use Rattle.redo_lab.proofs.Turned.{crash-ended-told, crash-played-told, crash-stopped-told}
+use Rattle.redo_lab.proofs.Turned.{crash-ended-told, crash-played-told, crash-stopped-told, data-led, log-led}
 use Rattle.redo_lab.proofs.crash_command.crash_command.Goals as goal
 use Rattle.redo_lab.proofs.crash_command.crash_command.Goals.{in-Ended, in-Stopped, in-Played}
 
@@ -61,7 +61,7 @@ returns-clause-turns g c = λ source source_now read.
             comes_to = rw w.in-Stopped.is at c.run_lines-course.ensures.comes_to;
             by_turns = rw w.in-Stopped.is at c.run_lines-course.ensures.turns;
           })
-          (record { log_device = w.crash_and_read-outcome.ensures.log_crashed; data_device = w.crash_and_read-outcome.ensures.data_crashed })
+          w.crash_and_read-outcome.ensures.led
           w.crash_and_read-outcome.ensures.reads)
       | in-Played w ↦ rw (w.outcome-is, w.log-is, w.store-is)
           (crash-played-told g.L.Sectors.seen g.L.Sectors.gives g.L.Sectors.crash_gives g.D.Sectors.seen g.D.Sectors.gives g.D.Sectors.crash_gives source source_now _ _ c.args.drive.now c.args.stops c.args.pick
@@ -79,7 +79,7 @@ returns-clause-turns g c = λ source source_now read.
             comes_to = rw (w.in-Played.is, c.turns_of.ensures) at c.run_lines-course.ensures.comes_to;
             by_turns = rw (w.in-Played.is, c.turns_of.ensures) at c.run_lines-course.ensures.turns;
           })
-          (record { log_device = w.crash_and_read-outcome-in-Played.ensures.log_crashed; data_device = w.crash_and_read-outcome-in-Played.ensures.data_crashed })
+          w.crash_and_read-outcome-in-Played.ensures.led
           w.crash_and_read-outcome-in-Played.ensures.reads)
     ]
 
@@ -88,9 +88,9 @@ returns-clause-log_device g c =
     elim c.match-course.branch [
       | in-Ended w ↦ rw w.log-is (inl c.run_lines-course.ensures.log_run)
       | in-Stopped w ↦ rw w.log-is
-          (crash-then g.L.Sectors.seen g.L.Sectors.gives c.args.log g.L.Sectors.crash_gives c.args.pick _ _ c.run_lines-course.ensures.log_run w.crash_and_read-outcome.ensures.log_crashed)
+          (crash-then g.L.Sectors.seen g.L.Sectors.gives c.args.log g.L.Sectors.crash_gives c.args.pick _ _ c.run_lines-course.ensures.log_run (log-led w.crash_and_read-outcome.ensures.led))
       | in-Played w ↦ rw w.log-is
-          (crash-then g.L.Sectors.seen g.L.Sectors.gives c.args.log g.L.Sectors.crash_gives c.args.pick _ _ c.run_lines-course.ensures.log_run w.crash_and_read-outcome-in-Played.ensures.log_crashed)
+          (crash-then g.L.Sectors.seen g.L.Sectors.gives c.args.log g.L.Sectors.crash_gives c.args.pick _ _ c.run_lines-course.ensures.log_run (log-led w.crash_and_read-outcome-in-Played.ensures.led))
     ]
 
 pub returns-clause-data_device : goal.returns-clause-data_device
@@ -98,7 +98,7 @@ returns-clause-data_device g c =
     elim c.match-course.branch [
       | in-Ended w ↦ rw w.store-is (inl c.run_lines-course.ensures.data_run)
       | in-Stopped w ↦ rw w.store-is
-          (crash-then g.D.Sectors.seen g.D.Sectors.gives c.args.store g.D.Sectors.crash_gives c.args.pick _ _ c.run_lines-course.ensures.data_run w.crash_and_read-outcome.ensures.data_crashed)
+          (crash-then g.D.Sectors.seen g.D.Sectors.gives c.args.store g.D.Sectors.crash_gives c.args.pick _ _ c.run_lines-course.ensures.data_run (data-led w.crash_and_read-outcome.ensures.led))
       | in-Played w ↦ rw w.store-is
-          (crash-then g.D.Sectors.seen g.D.Sectors.gives c.args.store g.D.Sectors.crash_gives c.args.pick _ _ c.run_lines-course.ensures.data_run w.crash_and_read-outcome-in-Played.ensures.data_crashed)
+          (crash-then g.D.Sectors.seen g.D.Sectors.gives c.args.store g.D.Sectors.crash_gives c.args.pick _ _ c.run_lines-course.ensures.data_run (data-led w.crash_and_read-outcome-in-Played.ensures.led))
     ]

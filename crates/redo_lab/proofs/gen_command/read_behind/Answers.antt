@@ -1,7 +1,7 @@
-use Rattle.redo_lab.proofs.Led.{called-by}
+use Rattle.std.proofs.Common.{Ok, Err}
 use Rattle.redo_recover.specs.{reading_of}
 use Rattle.redo_lab.specs.Course.{ran_of}
-use Rattle.redo_lab.proofs.ReadBehind.{behind-fails, behind-read, data-read, log-read}
+use Rattle.redo_lab.proofs.ReadBehind.{behind-fails, behind-read, data-read, log-read, text-of-reading}
 use Rattle.redo_lab.proofs.gen_command.read_behind.Goals as goal
 
 pub returns-in-Ok-clause-reads : goal.returns-in-Ok-clause-reads
@@ -22,14 +22,18 @@ returns-in-Err-clause-reads g c =
     (record { tells = now.log.tells; size = now.log.size }) (record { tells = now.data_device.tells; size = now.data_device.size })
     now.cause now.lengths)
 
-pub returns-in-Ok-clause-log_called : goal.returns-in-Ok-clause-log_called
-returns-in-Ok-clause-log_called g c = called-by c.in-Ok.ensures.log_calls
+pub returns-in-Ok-clause-calls : goal.returns-in-Ok-clause-calls
+returns-in-Ok-clause-calls g c = record {
+  result = Ok c.in-Ok.recovered;
+  is_result = rw c.of_text.ensures (text-of-reading c.summarize.result c.in-Ok.recovered);
+  log_device = c.in-Ok.ensures.log_calls;
+  data_device = c.in-Ok.ensures.data_calls;
+}
 
-pub returns-in-Ok-clause-data_called : goal.returns-in-Ok-clause-data_called
-returns-in-Ok-clause-data_called g c = called-by c.in-Ok.ensures.data_calls
-
-pub returns-in-Err-clause-log_called : goal.returns-in-Err-clause-log_called
-returns-in-Err-clause-log_called g c = called-by c.in-Err.ensures.log_calls
-
-pub returns-in-Err-clause-data_called : goal.returns-in-Err-clause-data_called
-returns-in-Err-clause-data_called g c = called-by c.in-Err.ensures.data_calls
+pub returns-in-Err-clause-calls : goal.returns-in-Err-clause-calls
+returns-in-Err-clause-calls g c = record {
+  result = Err c.in-Err.fault;
+  is_result = c.fault_of.ensures;
+  log_device = c.in-Err.ensures.log_calls;
+  data_device = c.in-Err.ensures.data_calls;
+}

@@ -1,6 +1,6 @@
 use Rattle.std.proofs.Common.{refl, inl, inr}
 use Rattle.redo_lab.proofs.GenDone.{SeedLaws, seed-cut, seed-early, seed-played, seed-stopped}
-use Rattle.redo_lab.proofs.Led.{run-then}
+use Rattle.redo_lab.proofs.Led.{called-by, run-then}
 use Rattle.redo_lab.proofs.Turned.{gen-cut-told, gen-ended-told, gen-played-told, gen-stopped-told}
 use Rattle.redo_lab.proofs.gen_command.run_script.Goals as goal
 use Rattle.redo_lab.proofs.gen_command.run_script.Goals.{in-Ended2, in-None, in-Played, in-Some}
@@ -81,7 +81,7 @@ returns-clause-turns g c = λ source users groups is.
               comes_to = rw (c.turns_of_seed.ensures, w.in-Played.is, done.in-None.is) at c.run_lines-course.ensures.comes_to;
               by_turns = rw (c.turns_of_seed.ensures, w.in-Played.is, done.in-None.is) at c.run_lines-course.ensures.turns;
             })
-            (record { log_device = done.read_behind.ensures.log_called; data_device = done.read_behind.ensures.data_called })
+            done.read_behind.ensures.calls
             done.read_behind.ensures.reads)
       ])
     ]
@@ -93,7 +93,7 @@ returns-clause-log_device g c =
       | in-Played w ↦ rw w.log-is (elim w.match-ended.branch [
         | in-Some cut ↦ rw cut.log-is (inl c.run_lines-course.ensures.log_run)
         | in-None done ↦ rw done.log-is
-            (inl (run-then g.L.Sectors.seen g.L.Sectors.gives c.args.log _ _ c.run_lines-course.ensures.log_run done.read_behind.ensures.log_called))
+            (inl (run-then g.L.Sectors.seen g.L.Sectors.gives c.args.log _ _ c.run_lines-course.ensures.log_run (called-by done.read_behind.ensures.calls.log_device)))
       ])
     ]
 
@@ -104,6 +104,6 @@ returns-clause-data_device g c =
       | in-Played w ↦ rw w.store-is (elim w.match-ended.branch [
         | in-Some cut ↦ rw cut.store-is (inl c.run_lines-course.ensures.data_run)
         | in-None done ↦ rw done.store-is
-            (inl (run-then g.D.Sectors.seen g.D.Sectors.gives c.args.store _ _ c.run_lines-course.ensures.data_run done.read_behind.ensures.data_called))
+            (inl (run-then g.D.Sectors.seen g.D.Sectors.gives c.args.store _ _ c.run_lines-course.ensures.data_run (called-by done.read_behind.ensures.calls.data_device)))
       ])
     ]

@@ -42,7 +42,8 @@ returns-in-Ok-clause-turns g c = λ log_entry data_entry stops log_found data_fo
         marks = c.in-Ok.ensures.marks;
       };
     })
-    log_at data_at c.play.ensures.plays c.play.ensures.turns
+    (record { armed = armed; log_at = log_at; data_at = data_at; log_calls = c.in-Ok.ensures.log_calls; data_calls = c.in-Ok.ensures.data_calls })
+    c.play.ensures.plays c.play.ensures.turns
 
 pub returns-in-Err-clause-comes_to : goal.returns-in-Err-clause-comes_to
 returns-in-Err-clause-comes_to g c = λ log_entry data_entry stops log_found data_found armed.

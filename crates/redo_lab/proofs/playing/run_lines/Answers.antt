@@ -1,12 +1,12 @@
 -- Both devices are prepared, and their fuses are armed.
-use Rattle.std.proofs.Common.{inl, inr, ap}
+use Rattle.std.proofs.Common.{inl, inr, refl, ap}
 use Rattle.redo_disk.specs.Seen.{Seen}
 use Rattle.redo_lab.specs.Call.{Guarded, guarded}
 use Rattle.redo_lab.specs.Prepared.{ArePrepared, IsUnpreparedBy}
 use Rattle.redo_lab.proofs.Behind.{entered}
 use Rattle.redo_lab.proofs.Led.{called-by, plain-from}
-use Rattle.redo_lab.proofs.Stages.{armed-now, at-arming-now}
-use Rattle.redo_lab.proofs.Unopened.{unprepared-comes}
+use Rattle.redo_lab.proofs.Stages.{armed-now}
+use Rattle.redo_lab.proofs.Unopened.{entered-log, from-entry, unprepared-comes}
 use Rattle.redo_lab.proofs.playing.run_lines.Goals as goal
 
 pub returns-clause-comes_to : goal.returns-clause-comes_to
@@ -42,10 +42,19 @@ returns-clause-turns g c =
       log_same = ap g.L.Sectors.seen c.arm.ensures.inner;
       data_same = ap g.D.Sectors.seen c.arm-2.ensures.inner;
     })
-    (at-arming-now g.L.Sectors.seen (g.L.Sectors.seen c.args.log) c.args.stops.log c.prepare.new.log c.arm.new.self prepared.log_device
-    c.arm.ensures.inner c.arm.ensures.fuse c.arm.ensures.armed)
-    (at-arming-now g.D.Sectors.seen (g.D.Sectors.seen c.args.store) c.args.stops.store c.prepare.new.store c.arm-2.new.self prepared.data_device
-    c.arm-2.ensures.inner c.arm-2.ensures.fuse c.arm-2.ensures.armed)
+    (record {
+      before = c.prepare.new.log;
+      from_entry = from-entry c.plain-log.ensures.inner c.plain-log.ensures.fuse c.plain-log.ensures.armed
+          (entered-log g.L.Sectors.seen g.L.Sectors.gives c.plain-log.result c.prepare.new.log c.plain-log.ensures.inner c.in-Ok.ensures.log_calls);
+      found_is = refl;
+      arms = record { inner = c.arm.ensures.inner; fuse = c.arm.ensures.fuse; armed = c.arm.ensures.armed };
+    })
+    (record {
+      before = c.prepare.new.store;
+      from_entry = from-entry c.plain-store.ensures.inner c.plain-store.ensures.fuse c.plain-store.ensures.armed c.in-Ok.ensures.data_calls;
+      found_is = refl;
+      arms = record { inner = c.arm-2.ensures.inner; fuse = c.arm-2.ensures.fuse; armed = c.arm-2.ensures.armed };
+    })
 
 pub returns-in-Err-clause-turns : goal.returns-in-Err-clause-turns
 returns-in-Err-clause-turns g c =
@@ -59,7 +68,7 @@ returns-in-Err-clause-turns g c =
       data_inner = c.plain-store.ensures.inner;
       data_fuse = c.plain-store.ensures.fuse;
       data_unarmed = c.plain-store.ensures.armed;
-      log_calls = c.in-Err.ensures.log_calls;
+      log_calls = entered-log g.L.Sectors.seen g.L.Sectors.gives c.plain-log.result c.prepare.new.log c.plain-log.ensures.inner c.in-Err.ensures.log_calls;
       data_calls = c.in-Err.ensures.data_calls;
       unprepared = entered g.L.Sectors.seen g.D.Sectors.seen c.args.log c.plain-log.result.inner c.args.store c.plain-store.result.inner c.plain-log.ensures.inner c.plain-store.ensures.inner
           (λ (log : Seen) (store : Seen). IsUnpreparedBy log store c.in-Err.fault log_now data_now) c.in-Err.ensures.prepares;
