@@ -18,7 +18,7 @@ use Rattle.redo_lab.proofs.Behind.{alone-behind}
 use Rattle.redo_lab.proofs.Endings.{command-ends, nothing-ends}
 
 -- a source that was left alone
-all-left : (left : Option (List ℕ)) → TakesAtMost (MAX_SCRIPT + PIECE) left left
+pub all-left : (left : Option (List ℕ)) → TakesAtMost (MAX_SCRIPT + PIECE) left left
 all-left None = refl
 all-left (Some bytes) = (0, omega arith, omega arith, refl)
 

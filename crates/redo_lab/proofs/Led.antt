@@ -1,5 +1,5 @@
 -- Devices that are given back, and what led to them.
-use Rattle.std.proofs.Common.{ℕ, ◌≡◌, ◌++◌, List, [], Some, None, Result, Ok, Err, refl, inl, inr, ⊎_elim}
+use Rattle.std.proofs.Common.{ℕ, ◌≡◌, ◌++◌, List, [], Some, None, Result, Ok, Err, refl, ap, inl, inr, ⊎_elim}
 use Rattle.model_report.specs.declared.fault.Fault.TheVariants as fault
 use Rattle.model_script.specs.declared.script.ScriptLine.{ScriptLine}
 use Rattle.redo_disk.specs.{Call, MakesCalls}
@@ -12,7 +12,7 @@ use Rattle.redo_open.specs.{FormatCalls}
 use Rattle.redo_pageactors.specs.declared.opened.Opened.{Opened}
 use Rattle.redo_recover.specs.declared.fault.RecFault.{RecFault}
 use Rattle.redo_recover.specs.declared.fault.RecFault.TheVariants.{LogDev, DataDev, NoMemory}
-use Rattle.redo_lab.specs.Led.{IsCalled, IsCalledFrom, IsCrashed, IsLedFrom, IsRunFrom}
+use Rattle.redo_lab.specs.Led.{IsCalled, IsCalledFrom, IsCrashed, IsLedFrom, IsPlainAs, IsRunFrom}
 use Rattle.redo_lab.specs.Playing.{Plays}
 use Rattle.redo_lab.specs.declared.playing.Course.{Course}
 use Rattle.redo_lab.specs.declared.playing.Course.TheVariants as course
@@ -95,3 +95,8 @@ module _ {D : Type 0} (seen : D → Seen) (gives : D → Call → D → Type 0) 
   pub crash-then : (crash_gives : D → ℕ → D → Type 0) (pick : ℕ) (old new : Fused D) → IsRunFrom seen gives device old → IsCrashed seen gives crash_gives pick old new
       → IsLedFrom seen gives crash_gives device new
   crash-then crash_gives pick old new run crashed = inr (record { met = old; before = run; pick = pick; crashed = crashed })
+
+-- a device that was put behind a new fuse, as it is seen
+pub plain-as : {D : Type 0} {seen : D → Seen} {entered : D} {plain : Fused D} → inner_of plain ≡ entered → fuse_of plain ≡ fresh → armed_at plain ≡ None
+    → IsPlainAs seen (seen entered) plain
+plain-as {seen = seen} inner fuse unarmed = record { seen_is = ap seen inner; fuse = fuse; unarmed = unarmed }

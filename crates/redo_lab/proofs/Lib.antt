@@ -20,6 +20,7 @@ pub mod Once
 pub mod OpenedFirst
 pub mod OpenedRun
 pub mod OpenedTurns
+pub mod Plain
 pub mod PlainEnds
 pub mod Preparing
 pub mod Printed

@@ -28,6 +28,7 @@ use Rattle.redo_lab.specs.Prepared.{IsByBlock, IsUnpreparedBy, JudgesBlock, Prep
 use Rattle.redo_lab.specs.Turned.{ComesByTurnsTo}
 use Rattle.redo_lab.specs.declared.playing.Course.TheVariants as course
 use Rattle.redo_lab.specs.declared.playing.Stops.{Stops}
+use Rattle.redo_lab.proofs.Led.{plain-as}
 use Rattle.redo_lab.proofs.UnderWay.{counted-opening, header-first, way-of}
 
 -- THE CALLS OF PREPARING
@@ -193,7 +194,7 @@ pub from-entry : {D : Type 0} {seen : D → Seen} {gives : D → Call → D → 
     → inner_of plain ≡ entered → fuse_of plain ≡ fresh → armed_at plain ≡ None
     → MakesCalls (CallsThrough seen gives) plain now Are → ComesFromEntry seen gives (seen entered) Are now
 from-entry {seen = seen} {plain = plain} inner fuse unarmed made =
-    record { plain = plain; seen_is = ap seen inner; fuse = fuse; unarmed = unarmed; calls = made }
+    record { plain = plain; is_plain = plain-as inner fuse unarmed; calls = made }
 
 -- what the calls of preparing tell is of the device that was handed in
 pub entered-log : {D : Type 0} (seen : D → Seen) (gives : D → Call → D → Type 0) {entered : D} (plain now : Fused D) {result : Result (Unit {0}) RecFault}

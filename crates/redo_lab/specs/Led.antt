@@ -63,14 +63,18 @@ pub record IsCrashedFrom {D : Type 0} (seen : D → Seen) (gives : D → Call �
 abbrev pub IsLedFrom : {D : Type 0} → (D → Seen) → (D → Call → D → Type 0) → (D → ℕ → D → Type 0) → D → Fused D → Type 0
 IsLedFrom seen gives crash_gives device now = IsRunFrom seen gives device now ⊎ IsCrashedFrom seen gives crash_gives device now
 
--- WHICH CALLS THESE WERE, of a device that is seen so where it was handed in.
--- It was put behind a new fuse, and calls that are such led from there to here.
+-- WHICH CALLS THESE WERE.
+-- A device that is seen so stands behind a new fuse.
+pub record IsPlainAs {D : Type 0} (seen : D → Seen) (entry : Seen) (now : Fused D) : Type 0 where
+  pub seen_is : seen (inner_of now) ≡ entry
+  pub fuse : fuse_of now ≡ fresh
+  pub unarmed : armed_at now ≡ None
+
+-- It was put there, and calls that are such led from there to here.
 pub record ComesFromEntry {D : Type 0} (seen : D → Seen) (gives : D → Call → D → Type 0) (entry : Seen) (Are : List Call → Type 0)
     (now : Fused D) : Type 0 where
   pub plain : Fused D
-  pub seen_is : seen (inner_of plain) ≡ entry
-  pub fuse : fuse_of plain ≡ fresh
-  pub unarmed : armed_at plain ≡ None
+  pub is_plain : IsPlainAs seen entry plain
   pub calls : MakesCalls (CallsThrough seen gives) plain now Are
 
 -- Such calls led to where it was found so, and then its fuse was armed with this limit.

@@ -12,6 +12,7 @@ pub mod Faults
 pub mod Led
 pub mod Opening
 pub mod Outcome
+pub mod Plain
 pub mod Playing
 pub mod Prepared
 pub mod Promise

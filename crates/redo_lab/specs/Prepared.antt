@@ -1,6 +1,6 @@
 -- The two devices once a run has prepared them: where both told what they mean when they were handed in, formatted with the
 -- default sizes, if the log device was unused, else as they were; and the calls that this took, also of devices that don't tell.
-use Rattle.std.specs.Prelude.{ℕ, ◌≡◌, ◌≢◌, ◌≤◌, ◌<◌, ◌⊎◌, ◌↔◌, Bool, IsTrue, List, [], ◌∷◌, length, replicate, Option, Some, Result, Ok, Err, IfErr, IfSome}
+use Rattle.std.specs.Prelude.{ℕ, ◌≡◌, ◌≢◌, ◌≤◌, ◌<◌, ◌⊎◌, ◌↔◌, Bool, IsTrue, List, [], ◌∷◌, length, replicate, Some, Result, Ok, Err, IfErr, IfSome}
 use Rattle.model_base.specs.{default_shape}
 use Rattle.model_base.specs.declared.limits.TheConstants.{BLOCK_SIZE}
 use Rattle.model_device.specs.Disk.{Disk}

@@ -1,8 +1,8 @@
 -- A run that is told is the run by the turns of its drive: those of its seed, as many as it allows, on the store that was
 -- opened on the two devices that were handed in.
-use Rattle.std.specs.Prelude.{ℕ, ◌≡◌, ◌⊎◌, true, List, Option, Some, None}
+use Rattle.std.specs.Prelude.{ℕ, ◌≡◌, ◌⊎◌, true, false, List, Option, Some, None}
 use Rattle.model_command.specs.declared.asked.Command.{Command}
-use Rattle.model_command.specs.declared.asked.Command.TheVariants.{Run, Crash, Gen}
+use Rattle.model_command.specs.declared.asked.Command.TheVariants.{Format, Run, Crash, Recover, Dump, Gen}
 use Rattle.model_command.specs.declared.asked.Drive.{Drive}
 use Rattle.model_device.specs.{IsImage}
 use Rattle.model_device.specs.Disk.{Disk}
@@ -32,6 +32,7 @@ use Rattle.redo_lab.specs.Course.{ComesTo, ran_of}
 use Rattle.redo_lab.specs.Crashed.{AreCrashedSince}
 use Rattle.redo_lab.specs.Opening.{ComesToUnopened, ComesToUnprepared, IsOpenedOn}
 use Rattle.redo_lab.specs.Outcome.{IsOutcome, IsOutcomePrinted}
+use Rattle.redo_lab.specs.Plain.{TellsFormat, TellsReading}
 use Rattle.redo_lab.specs.Playing.{IsUnfit, ended_by, played_of}
 use Rattle.redo_lab.specs.Prepared.{WhereTold}
 use Rattle.redo_lab.specs.Reported.{IsReportOf}
@@ -351,7 +352,7 @@ module _ {L D : Type 0} (log_seen : L → Seen) (log_gives : L → Call → L �
   }
 
   -- What a command's outcome tells of a run is so of one by its turns. Spent turns have no report, and `crash` and `gen` print
-  -- none before a fault's line.
+  -- none before a fault's line. A command that runs no script tells its calls; `gen` without a run makes none (`IsGenerated`). Of a command that runs no script it tells its calls.
   abbrev pub TellsByTurns : Command → Outcome → Fused L → Fused D → Type 0
   TellsByTurns (Run drive) (outcome.Text text) log_now data_now =
       TellsRun log_seen log_gives data_seen data_gives (handed_as (Run drive) no_stops drive) None text log_now data_now
@@ -371,7 +372,13 @@ module _ {L D : Type 0} (log_seen : L → Seen) (log_gives : L → Call → L �
   TellsByTurns (Gen seed users groups true max) (outcome.Report text fault) log_now data_now = ⊥
   TellsByTurns (Gen seed users groups true max) (outcome.Fault fault) log_now data_now =
       TellsFault log_seen log_gives log_crash_gives data_seen data_gives data_crash_gives (handed_as (Gen seed users groups true max) no_stops (drive_of_seed seed max)) fault log_now data_now
-  TellsByTurns command outcome log_now data_now = Unit {0}
+  TellsByTurns (Gen seed users groups false max) outcome log_now data_now = Unit {0}
+  TellsByTurns (Format pages space log_blocks) outcome log_now data_now =
+      TellsFormat log_seen log_gives data_seen data_gives log_entry data_entry outcome log_now data_now
+  TellsByTurns Recover outcome log_now data_now =
+      TellsReading log_seen log_gives data_seen data_gives log_entry data_entry outcome log_now data_now
+  TellsByTurns Dump outcome log_now data_now =
+      TellsReading log_seen log_gives data_seen data_gives log_entry data_entry outcome log_now data_now
 
 -- What the words' command came to was printed; it means what it says of the call, and a run that it tells of is one by its
 -- turns; where memory ran out nothing is told of the turns.

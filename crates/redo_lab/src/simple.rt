@@ -6,6 +6,7 @@ ghost use Rattle.redo_io.specs.{SourceSeen};
 ghost use Rattle.redo_lab.specs.Answer.{shape_of};
 ghost use Rattle.redo_lab.specs.Led.{IsLedFrom};
 ghost use Rattle.redo_lab.specs.Outcome.{EndsCommand, call_of};
+ghost use Rattle.redo_lab.specs.Plain.{TellsFormat, TellsReading};
 
 use crate::faults::fault_of;
 use crate::outcome::{Done, Outcome};
@@ -32,6 +33,7 @@ pub(crate) fn format_devices<L: Sectors, D: Sectors>(
     requires { IsWithinLimits (shape_of pages space log_blocks) }
     ensures ends { (words : List (List ℕ)) (source : SourceSeen)
         → EndsCommand (call_of L.seen D.seen words source source log store result) (Format pages space log_blocks) result.outcome }
+    ensures calls { TellsFormat L.seen L.gives D.seen D.gives (L.seen log) (D.seen store) result.outcome result.log result.store }
     ensures log_device { IsLedFrom L.seen L.gives L.crash_gives log result.log }
     ensures data_device { IsLedFrom D.seen D.gives D.crash_gives store result.store }
 {
@@ -53,6 +55,7 @@ pub(crate) fn format_devices<L: Sectors, D: Sectors>(
 pub(crate) fn print_pages<L: Sectors, D: Sectors>(alloc: Global, log: L, store: D) -> Done<L, D>
     ensures ends { (words : List (List ℕ)) (source : SourceSeen)
         → EndsCommand (call_of L.seen D.seen words source source log store result) (Recover) result.outcome }
+    ensures calls { TellsReading L.seen L.gives D.seen D.gives (L.seen log) (D.seen store) result.outcome result.log result.store }
     ensures log_device { IsLedFrom L.seen L.gives L.crash_gives log result.log }
     ensures data_device { IsLedFrom D.seen D.gives D.crash_gives store result.store }
 {
@@ -74,6 +77,7 @@ pub(crate) fn print_pages<L: Sectors, D: Sectors>(alloc: Global, log: L, store: 
 pub(crate) fn print_store<L: Sectors, D: Sectors>(alloc: Global, log: L, store: D) -> Done<L, D>
     ensures ends { (words : List (List ℕ)) (source : SourceSeen)
         → EndsCommand (call_of L.seen D.seen words source source log store result) (Dump) result.outcome }
+    ensures calls { TellsReading L.seen L.gives D.seen D.gives (L.seen log) (D.seen store) result.outcome result.log result.store }
     ensures log_device { IsLedFrom L.seen L.gives L.crash_gives log result.log }
     ensures data_device { IsLedFrom D.seen D.gives D.crash_gives store result.store }
 {

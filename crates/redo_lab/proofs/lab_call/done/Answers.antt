@@ -1,3 +1,4 @@
+use Rattle.redo_lab.proofs.Called.{all-left}
 use Rattle.redo_lab.proofs.lab_call.done.Goals as goal
 
 pub returns-in-Format-clause-ends : goal.returns-in-Format-clause-ends
@@ -19,7 +20,7 @@ pub returns-in-Gen-clause-ends : goal.returns-in-Gen-clause-ends
 returns-in-Gen-clause-ends g c = λ words. rw c.in-Gen.is (c.gen_command.ensures.ends words _)
 
 pub returns-in-Format-clause-turns : goal.returns-in-Format-clause-turns
-returns-in-Format-clause-turns g c = rw c.in-Format.is tt
+returns-in-Format-clause-turns g c = rw c.in-Format.is c.format_devices.ensures.calls
 
 pub returns-in-Run-clause-turns : goal.returns-in-Run-clause-turns
 returns-in-Run-clause-turns g c = rw c.in-Run.is c.run_source.ensures.turns
@@ -28,10 +29,10 @@ pub returns-in-Crash-clause-turns : goal.returns-in-Crash-clause-turns
 returns-in-Crash-clause-turns g c = rw c.in-Crash.is c.crash_source.ensures.turns
 
 pub returns-in-Recover-clause-turns : goal.returns-in-Recover-clause-turns
-returns-in-Recover-clause-turns g c = rw c.in-Recover.is tt
+returns-in-Recover-clause-turns g c = rw c.in-Recover.is c.print_pages.ensures.calls
 
 pub returns-in-Dump-clause-turns : goal.returns-in-Dump-clause-turns
-returns-in-Dump-clause-turns g c = rw c.in-Dump.is tt
+returns-in-Dump-clause-turns g c = rw c.in-Dump.is c.print_store.ensures.calls
 
 pub returns-in-Gen-clause-turns : goal.returns-in-Gen-clause-turns
 returns-in-Gen-clause-turns g c = rw c.in-Gen.is (c.gen_command.ensures.turns _)
@@ -71,3 +72,15 @@ returns-in-Gen-clause-log_device g c = c.gen_command.ensures.log_device
 
 pub returns-in-Gen-clause-data_device : goal.returns-in-Gen-clause-data_device
 returns-in-Gen-clause-data_device g c = c.gen_command.ensures.data_device
+
+pub returns-in-Format-clause-taken : goal.returns-in-Format-clause-taken
+returns-in-Format-clause-taken g c = all-left (g.S.Source.seen c.args.src.now).left
+
+pub returns-in-Recover-clause-taken : goal.returns-in-Recover-clause-taken
+returns-in-Recover-clause-taken g c = all-left (g.S.Source.seen c.args.src.now).left
+
+pub returns-in-Dump-clause-taken : goal.returns-in-Dump-clause-taken
+returns-in-Dump-clause-taken g c = all-left (g.S.Source.seen c.args.src.now).left
+
+pub returns-in-Gen-clause-taken : goal.returns-in-Gen-clause-taken
+returns-in-Gen-clause-taken g c = all-left (g.S.Source.seen c.args.src.now).left

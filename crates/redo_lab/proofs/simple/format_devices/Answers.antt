@@ -3,8 +3,9 @@ use Rattle.redo_disk.specs.Seen.{Seen}
 use Rattle.redo_memdisk.specs.{seen_through}
 use Rattle.redo_lab.specs.Answer.{shape_of}
 use Rattle.redo_lab.proofs.Behind.{entered, format-leaves, formats-both}
-use Rattle.redo_lab.proofs.Led.{called-by, format-called, plain-from}
+use Rattle.redo_lab.proofs.Led.{called-by, format-called, plain-as, plain-from}
 use Rattle.redo_lab.proofs.Formatting.{FormatKeeps, IsFormatFault, format-ends, format-fails, format-fault}
+use Rattle.redo_lab.proofs.Plain.{format-told, format-untold}
 use Rattle.redo_lab.proofs.simple.format_devices.Goals as goal
 use Rattle.redo_lab.proofs.simple.format_devices.Goals.{in-Ok, in-Err}
 
@@ -39,6 +40,25 @@ returns-clause-ends g c = λ words source.
           (format-fault (shape_of c.args.pages c.args.space c.args.log_blocks) (seen_through g.L.Sectors.seen c.plain-log.result) (seen_through g.D.Sectors.seen c.plain-store.result)
           (seen_through g.L.Sectors.seen c.format.new.log) (seen_through g.D.Sectors.seen c.format.new.data_device) w.in-Err.fault (rw c.shape_of.ensures at w.in-Err.ensures.cause)))
           (of_entry (rw c.shape_of.ensures at w.in-Err.ensures.keeps)))
+    ]
+
+pub returns-clause-calls : goal.returns-clause-calls
+returns-clause-calls g c =
+    elim c.match-format.branch [
+      | in-Ok w ↦ rw (w.outcome-is, w.of_text-outcome.ensures) (format-told w.formatted.result (record {
+        log_plain = c.plain-log.result;
+        data_plain = c.plain-store.result;
+        log_is = plain-as c.plain-log.ensures.inner c.plain-log.ensures.fuse c.plain-log.ensures.armed;
+        data_is = plain-as c.plain-store.ensures.inner c.plain-store.ensures.fuse c.plain-store.ensures.armed;
+        calls = w.in-Ok.ensures.calls;
+      }))
+      | in-Err w ↦ rw (w.outcome-is, w.fault_of.ensures) (format-untold w.in-Err.fault (record {
+        log_plain = c.plain-log.result;
+        data_plain = c.plain-store.result;
+        log_is = plain-as c.plain-log.ensures.inner c.plain-log.ensures.fuse c.plain-log.ensures.armed;
+        data_is = plain-as c.plain-store.ensures.inner c.plain-store.ensures.fuse c.plain-store.ensures.armed;
+        calls = w.in-Err.ensures.calls;
+      }))
     ]
 
 pub returns-clause-log_device : goal.returns-clause-log_device

@@ -1,10 +1,15 @@
-use Rattle.std.proofs.Common.{inl, refl}
+use Rattle.std.proofs.Common.{Err, Ok, inl, refl}
 use Rattle.model_store.specs.{IsReading}
 use Rattle.redo_recover.specs.{HasCauseIn, HasLengthCause, OnContents, reading_of}
 use Rattle.redo_disk.specs.Seen.{Seen}
+use Rattle.redo_lab.specs.Faults.{fault_of}
+use Rattle.redo_lab.specs.Outcome.{outcome_of}
+use Rattle.redo_lab.specs.declared.outcome.Outcome.TheVariants as outcome
 use Rattle.redo_lab.proofs.Behind.{entered, log-behind, pages-behind}
-use Rattle.redo_lab.proofs.Led.{called-by, plain-from}
+use Rattle.redo_lab.proofs.Led.{called-by, plain-as, plain-from}
 use Rattle.redo_lab.proofs.PlainEnds.{recover-ends, recover-fails}
+use Rattle.redo_lab.proofs.Plain.{reading-told}
+use Rattle.redo_lab.proofs.ReadBehind.{text-of-reading}
 use Rattle.redo_lab.proofs.simple.print_pages.Goals as goal
 use Rattle.redo_lab.proofs.simple.print_pages.Goals.{in-Ok, in-Err}
 
@@ -26,6 +31,35 @@ returns-clause-ends g c = λ words source.
           (entered g.L.Sectors.seen g.D.Sectors.seen c.args.log c.plain-log.result.inner c.args.store c.plain-store.result.inner c.plain-log.ensures.inner c.plain-store.ensures.inner
           (λ (log : Seen) (store : Seen). HasCauseIn log.tells store.tells w.in-Err.fault) w.in-Err.ensures.cause) (entered g.L.Sectors.seen g.D.Sectors.seen c.args.log c.plain-log.result.inner c.args.store c.plain-store.result.inner c.plain-log.ensures.inner c.plain-store.ensures.inner
           (λ (log : Seen) (store : Seen). HasLengthCause log.size store.size w.in-Err.fault) w.in-Err.ensures.lengths) c.one_answer.ensures.read)
+    ]
+
+pub returns-clause-calls : goal.returns-clause-calls
+returns-clause-calls g c =
+    elim c.match-recover.branch [
+      | in-Ok w ↦ rw (w.outcome-is, w.of_text-outcome.ensures) (reading-told (outcome_of w.reading_text.result) (record {
+        log_plain = c.plain-log.result;
+        data_plain = c.plain-store.result;
+        log_is = plain-as c.plain-log.ensures.inner c.plain-log.ensures.fuse c.plain-log.ensures.armed;
+        data_is = plain-as c.plain-store.ensures.inner c.plain-store.ensures.fuse c.plain-store.ensures.armed;
+        reads = record {
+          result = Ok w.in-Ok.recovered;
+          is_result = text-of-reading w.reading_text.result w.in-Ok.recovered;
+          log_device = w.in-Ok.ensures.log_calls;
+          data_device = w.in-Ok.ensures.data_calls;
+        };
+      }))
+      | in-Err w ↦ rw (w.outcome-is, w.fault_of.ensures) (reading-told (outcome.Fault (fault_of w.in-Err.fault)) (record {
+        log_plain = c.plain-log.result;
+        data_plain = c.plain-store.result;
+        log_is = plain-as c.plain-log.ensures.inner c.plain-log.ensures.fuse c.plain-log.ensures.armed;
+        data_is = plain-as c.plain-store.ensures.inner c.plain-store.ensures.fuse c.plain-store.ensures.armed;
+        reads = record {
+          result = Err w.in-Err.fault;
+          is_result = refl;
+          log_device = w.in-Err.ensures.log_calls;
+          data_device = w.in-Err.ensures.data_calls;
+        };
+      }))
     ]
 
 pub returns-clause-log_device : goal.returns-clause-log_device
