@@ -74,7 +74,8 @@ turns_taken : {L D : Type 0} (log_seen : L → Seen) (data_seen : D → Seen) (r
 turns_taken log_seen data_seen run seed max first actors ended.Done last after ends = (ends.count, ends.turns)
 turns_taken log_seen data_seen run seed max first actors (ended.Spent user) last after ends = (max, ends.turns)
 
-module _ {L D : Type 0} (log_seen : L → Seen) (data_seen : D → Seen) (opened : Opened L D) (script : List ScriptLine) (turns : Turns) (driven : Driven L D) (by : RunsByTurns log_seen data_seen opened script turns driven) where
+module _ {L D : Type 0} (log_seen : L → Seen) (log_gives : L → Call → L → Type 0) (data_seen : D → Seen) (data_gives : D → Call → D → Type 0) (opened : Opened L D) (script : List ScriptLine) (turns : Turns) (driven : Driven L D)
+    (by : RunsByTurns log_seen log_gives data_seen data_gives opened script turns driven) where
   abbrev run : RunOf L D
   run = by.begins.run
 
@@ -139,7 +140,7 @@ module _ {L D : Type 0} (log_seen : L → Seen) (data_seen : D → Seen) (opened
       (seated_seats c (views_of by.actors) by.runs.seated script opened.shape.space by.begins.is_run.of_script) (HasMetError driven.closed)
       (λ failed. met_error (⊎_elim (λ cause. (m.failed, inl cause)) (λ cause. (m.failed, inr cause)) (by.runs.running.both.cause failed))) user end.seat end.state end.is end.number end.not_ended end.least)
 
-  module _ (log_gives : L → Call → L → Type 0) (data_gives : D → Call → D → Type 0) (may : MayBegin opened script turns.log_only) where
+  module _ (may : MayBegin opened script turns.log_only) where
     log_calls : CallOnBoth log_gives data_gives by.first.parts by.last → CallsOn log_gives opened.log.dev None driven.closed.log.dev driven.closed.log.failed
     log_calls calls = subst (λ (z : log.Part L). CallsOn log_gives opened.log.dev None z.dev z.failed) (sym by.log)
         (subst (λ (o : Option DevError). CallsOn log_gives opened.log.dev o by.last.log.dev by.last.log.failed) may.runnable.log_live

@@ -1,11 +1,12 @@
 -- A run by turns, up to one of them.
-use Rattle.std.proofs.Common.{Bool, List, add-one, ap, arith, cond, false, length, length-append, map, nat_lt, refl, subst, suc, sym, true, zero, ℕ, ◌%◌, ◌+◌, ◌/◌, ◌<◌, ◌^◌, ◌∙◌, ◌∷◌, ◌≡◌, ◌≤◌}
+use Rattle.std.proofs.Common.{Bool, List, add-one, ap, arith, cond, false, length, length-append, map, nat_lt, refl, slice_get, subst, suc, sym, true, zero, ℕ, ◌%◌, ◌+◌, ◌/◌, ◌<◌, ◌^◌, ◌∙◌, ◌∷◌, ◌≡◌, ◌≤◌}
 use Rattle.std.proofs.lemmas.Bool.{lt-ltb}
+use Rattle.std.specs.Prelude.{IfSome}
+use lib.ListN.{get_elem?}
+use mathlib.Core.Option.{some}
 use Rattle.model_core.specs.Actors as model
-use Rattle.model_core.specs.DataSide.{DataSide}
-use Rattle.model_core.specs.LogSide.{LogSide}
 use Rattle.model_core.specs.Setup.{Setup}
-use Rattle.model_core.specs.{Core}
+use Rattle.model_core.specs.{Core, lent, next}
 use Rattle.model_core.specs.Turn.{Turn}
 use Rattle.model_core.specs.declared.ops.Step.{Step}
 use Rattle.model_running.specs.{AreSeated, HaveEnded, LastTurn, seat_of_turn, TakesTurns}
@@ -13,13 +14,14 @@ use Rattle.model_script.specs.{draw, first_state, next_state, state_after}
 use Rattle.redo_disk.specs.{Call}
 use Rattle.redo_disk.specs.Seen.{Seen}
 use Rattle.redo_machine.proofs.UserSeats.{first_is_least}
-use Rattle.redo_machine.proofs.Viewed.{length_views}
+use Rattle.redo_machine.proofs.Viewed.{length_views, so_at}
+use Rattle.redo_machine.specs.Asking.{AskOfBoth}
 use Rattle.redo_machine.specs.Calls.{CallOnBoth}
 use Rattle.redo_machine.specs.OpenUsers.{IsFirstOpen}
 use Rattle.redo_machine.specs.Playing.{RunOf, data_of, log_of}
 use Rattle.redo_machine.specs.Running.{IsOnRun, RunsOn, TakesTurn, core_of}
-use Rattle.redo_machine.specs.Turns.{EndsAs, IsDrawn}
-use Rattle.redo_machine.specs.Views.{views_of}
+use Rattle.redo_machine.specs.Turns.{AskInTurns, EndsAsking, IsDrawn}
+use Rattle.redo_machine.specs.Views.{view_of, views_of}
 use Rattle.redo_machine.specs.declared.actor.Actor.{Actor}
 use Rattle.redo_machine.specs.declared.machine.Machine.{Machine}
 use Rattle.redo_machine.specs.declared.running.Ran.TheVariants as ran
@@ -42,11 +44,16 @@ drawn_seat seed max seats turn state l drawn = by (nat_lt turn (max / 2)) (lt-lt
 pub next_drawn : (seed max turn state : ℕ) → turn < max / 2 → IsDrawn seed turn max state → IsDrawn seed (turn + 1) max (next_state state)
 next_drawn seed max turn state l drawn more = ap next_state (drawn l) ∙ sym (next_after turn (first_state seed))
 
-module _ {L D : Type 0} (log_seen : L → Seen) (data_seen : D → Seen) where
+module _ {L D : Type 0} (log_seen : L → Seen) (log_gives : L → Call → L → Type 0) (data_seen : D → Seen) (data_gives : D → Call → D → Type 0) where
+  -- so many turns lead from the first state to the last, with what each asked of both devices
+  pub record TurnsAsk (run : RunOf L D) (seed max n : ℕ) (first last : Core (log_of log_seen data_seen run) (data_of log_seen data_seen run)) : Type 0 where
+    pub turns : TakesTurns (log_of log_seen data_seen run) (data_of log_seen data_seen run) seed max n first last
+    pub asked : AskInTurns log_seen log_gives data_seen data_gives run seed max n first last turns
+
   -- so many turns of a run lead from the first state to this one
   pub record GoesOn (run : RunOf L D) (seed max turn : ℕ) (first now : Machine L D) : Type 0 where
     pub runs : RunsOn log_seen data_seen run now.parts now.actors.items
-    pub turns : TakesTurns (log_of log_seen data_seen run) (data_of log_seen data_seen run) seed max turn (core_of log_seen data_seen run first.parts first.actors.items) (core_of log_seen data_seen run now.parts now.actors.items)
+    pub taken : TurnsAsk run seed max turn (core_of log_seen data_seen run first.parts first.actors.items) (core_of log_seen data_seen run now.parts now.actors.items)
 
   -- A machine in its run, after so many turns. There are so many seats.
   pub record InRun (seed max turn draws seats : ℕ) (first now : Machine L D) : Type 0 where
@@ -56,11 +63,11 @@ module _ {L D : Type 0} (log_seen : L → Seen) (data_seen : D → Seen) where
     pub on_run : IsOnRun log_seen data_seen now.parts now.actors.items
     pub goes : (run : RunOf L D) → RunsOn log_seen data_seen run first.parts first.actors.items → GoesOn run seed max turn first now
 
--- the same, with what it leaves
-pub record InTurns {L D : Type 0} (log_seen : L → Seen) (data_seen : D → Seen) (log_gives : L → Call → L → Type 0) (data_gives : D → Call → D → Type 0) (seed max turn draws seats : ℕ) (first now : Machine L D) : Type 0 where
-  pub run : InRun log_seen data_seen seed max turn draws seats first now
-  pub calls : CallOnBoth log_gives data_gives first.parts now.parts
-  pub entries : now.entries ≡ first.entries
+  -- the same, with what it leaves
+  pub record InTurns (seed max turn draws seats : ℕ) (first now : Machine L D) : Type 0 where
+    pub run : InRun seed max turn draws seats first now
+    pub calls : CallOnBoth log_gives data_gives first.parts now.parts
+    pub entries : now.entries ≡ first.entries
 
 -- there is an actor
 some_actor : (c : Setup) (actors : List Actor) → AreSeated c (views_of actors) → 0 < length actors
@@ -69,31 +76,36 @@ some_actor c actors S =
     let same = length_views actors in
     omega arith
 
--- so many turns, and one more
-one_more : {D : LogSide} {E : DataSide} (seed max n : ℕ) (first last : Core D E) → LastTurn D E seed max (TakesTurns D E seed max n first) n last → TakesTurns D E seed max (n + 1) first last
-one_more {D} {E} seed max n first last t = subst (λ (k : ℕ). TakesTurns D E seed max k first last) (sym (add-one n)) t
+module _ {L D : Type 0} (log_seen : L → Seen) (log_gives : L → Call → L → Type 0) (data_seen : D → Seen) (data_gives : D → Call → D → Type 0) (seed max : ℕ) where
+  -- so many turns, and one more
+  one_more : (run : RunOf L D) (n : ℕ) (first last : Core (log_of log_seen data_seen run) (data_of log_seen data_seen run))
+      (t : LastTurn (log_of log_seen data_seen run) (data_of log_seen data_seen run) seed max (TakesTurns (log_of log_seen data_seen run) (data_of log_seen data_seen run) seed max n first) n last)
+      → AskInTurns log_seen log_gives data_seen data_gives run seed max (suc n) first last t
+      → TurnsAsk log_seen log_gives data_seen data_gives run seed max (n + 1) first last
+  one_more run n first last t asked =
+      subst (λ (k : ℕ). TurnsAsk log_seen log_gives data_seen data_gives run seed max k first last) (sym (add-one n)) (record { turns = t; asked = asked })
 
-module _ {L D : Type 0} (log_seen : L → Seen) (data_seen : D → Seen) (seed max : ℕ) where
   -- a run before its first turn
   pub starts_run : (seats : ℕ) (machine : Machine L D) → IsOnRun log_seen data_seen machine.parts machine.actors.items → length machine.actors.items ≡ seats
-      → InRun log_seen data_seen seed max 0 (first_state seed) seats machine machine
+      → InRun log_seen log_gives data_seen data_gives seed max 0 (first_state seed) seats machine machine
   starts_run seats machine on count = record {
     drawn = λ _. refl;
     count = count;
     some_seats = (let s = some_actor on.run.setup machine.actors.items on.runs.seated in omega arith);
     on_run = on;
-    goes = λ run R. record { runs = R; turns = refl };
+    goes = λ run R. record { runs = R; taken = record { turns = refl; asked = tt } };
   }
 
   -- one turn more, of the seat whose turn it is
-  pub goes_on : (turn draws draws_left seats seat : ℕ) (step : Step) (first old new : Machine L D) → InRun log_seen data_seen seed max turn draws seats first old
+  pub goes_on : (turn draws draws_left seats seat : ℕ) (step : Step) (first old new : Machine L D) → InRun log_seen log_gives data_seen data_gives seed max turn draws seats first old
       → (HaveEnded (views_of old.actors.items) → ⊥)
       → seat ≡ seat_of_turn seed max seats turn → IsDrawn seed (turn + 1) max draws_left
       → ((run : RunOf L D) → RunsOn log_seen data_seen run old.parts old.actors.items → TakesTurn log_seen data_seen run old.parts old.actors.items seat step new.parts new.actors.items)
       → ((run : RunOf L D) → RunsOn log_seen data_seen run old.parts old.actors.items → RunsOn log_seen data_seen run new.parts new.actors.items)
       → length new.actors.items ≡ length old.actors.items
-      → InRun log_seen data_seen seed max (turn + 1) draws_left seats first new
-  goes_on turn draws draws_left seats seat step first old new I open_user its drawn takes keeps same = record {
+      → IfSome (slice_get old.actors.items seat) (λ actor. AskOfBoth log_gives data_gives (lent (view_of actor)) (next (view_of actor)) old.parts new.parts)
+      → InRun log_seen log_gives data_seen data_gives seed max (turn + 1) draws_left seats first new
+  goes_on turn draws draws_left seats seat step first old new I open_user its drawn takes keeps same asked = record {
     drawn = drawn;
     count = same ∙ I.count;
     some_seats = I.some_seats;
@@ -102,37 +114,52 @@ module _ {L D : Type 0} (log_seen : L → Seen) (data_seen : D → Seen) (seed m
         let before = I.goes run R in
         let taken = takes run before.runs in
         let count : seats ≡ length (views_of old.actors.items) = sym (length_views old.actors.items ∙ I.count) in
+        let its_seat : seat ≡ seat_of_turn seed max (length (views_of old.actors.items)) turn = its ∙ ap (λ (n : ℕ). seat_of_turn seed max n turn) count in
+        let its_turn : Turn (log_of log_seen data_seen run) (data_of log_seen data_seen run) (core_of log_seen data_seen run old.parts old.actors.items) (seat_of_turn seed max (length (views_of old.actors.items)) turn) taken.answer step (core_of log_seen data_seen run new.parts new.actors.items) =
+        subst (λ (s : ℕ). Turn (log_of log_seen data_seen run) (data_of log_seen data_seen run) (core_of log_seen data_seen run old.parts old.actors.items) s taken.answer step (core_of log_seen data_seen run new.parts new.actors.items)) its_seat taken.turn in
         record {
           runs = keeps run before.runs;
-          turns = one_more seed max turn (core_of log_seen data_seen run first.parts first.actors.items) (core_of log_seen data_seen run new.parts new.actors.items) (record {
-            before = core_of log_seen data_seen run old.parts old.actors.items;
-            earlier = before.turns;
-            open_user = open_user;
-            answer = taken.answer;
-            step = step;
-            turn = subst (λ (s : ℕ). Turn (log_of log_seen data_seen run) (data_of log_seen data_seen run) (core_of log_seen data_seen run old.parts old.actors.items) s taken.answer step (core_of log_seen data_seen run new.parts new.actors.items))
-                (its ∙ ap (λ (n : ℕ). seat_of_turn seed max n turn) count) taken.turn;
-          });
+          taken = one_more run turn (core_of log_seen data_seen run first.parts first.actors.items) (core_of log_seen data_seen run new.parts new.actors.items)
+              (record {
+                before = core_of log_seen data_seen run old.parts old.actors.items;
+                earlier = before.taken.turns;
+                open_user = open_user;
+                answer = taken.answer;
+                step = step;
+                turn = its_turn;
+              }) (
+                so_at (λ (who : model.Actor). AskOfBoth log_gives data_gives (lent who) (next who) old.parts new.parts) old.actors.items seat its_turn.who asked
+                    (subst (λ (s : ℕ). get_elem? (views_of old.actors.items) s ≡ some its_turn.who) (sym its_seat) its_turn.who_is),
+                before.taken.asked,
+              );
         };
   }
 
   -- a run in which each user has ended
-  pub ends_done : (turn draws seats : ℕ) (first last : Machine L D) → InRun log_seen data_seen seed max turn draws seats first last → turn ≤ max → HaveEnded (views_of last.actors.items)
+  pub ends_done : (turn draws seats : ℕ) (first last : Machine L D) → InRun log_seen log_gives data_seen data_gives seed max turn draws seats first last → turn ≤ max → HaveEnded (views_of last.actors.items)
       → (run : RunOf L D) → RunsOn log_seen data_seen run first.parts first.actors.items
-      → EndsAs log_seen data_seen run seed max first.parts first.actors.items ran.Done last.parts last.actors.items
-  ends_done turn draws seats first last I within ended run R = record { count = turn; within = within; turns = (I.goes run R).turns; ended = ended }
+      → EndsAsking log_seen log_gives data_seen data_gives run seed max first.parts first.actors.items ran.Done last.parts last.actors.items
+  ends_done turn draws seats first last I within ended run R =
+      let goes = I.goes run R in record {
+        ends = record { count = turn; within = within; turns = goes.taken.turns; ended = ended };
+        asked = goes.taken.asked;
+      }
 
   -- a run whose turns are spent
-  pub ends_spent : (turn draws seats user : ℕ) (first last : Machine L D) → InRun log_seen data_seen seed max turn draws seats first last → turn ≡ max → IsFirstOpen (views_of last.actors.items) user
+  pub ends_spent : (turn draws seats user : ℕ) (first last : Machine L D) → InRun log_seen log_gives data_seen data_gives seed max turn draws seats first last → turn ≡ max → IsFirstOpen (views_of last.actors.items) user
       → (run : RunOf L D) → RunsOn log_seen data_seen run first.parts first.actors.items
-      → EndsAs log_seen data_seen run seed max first.parts first.actors.items (ran.Spent user) last.parts last.actors.items
+      → EndsAsking log_seen log_gives data_seen data_gives run seed max first.parts first.actors.items (ran.Spent user) last.parts last.actors.items
   ends_spent turn draws seats user first last I all open_user run R =
-      let goes = I.goes run R in record {
-        turns = subst (λ (n : ℕ). TakesTurns (log_of log_seen data_seen run) (data_of log_seen data_seen run) seed max n (core_of log_seen data_seen run first.parts first.actors.items) (core_of log_seen data_seen run last.parts last.actors.items)) all goes.turns;
-        seat = open_user.seat;
-        state = open_user.state;
-        is = open_user.is;
-        number = open_user.open_user.number;
-        not_ended = open_user.open_user.not_ended;
-        least = first_is_least run.setup (views_of last.actors.items) goes.runs.seated user open_user;
+      let goes = I.goes run R in
+      let taken = subst (λ (n : ℕ). TurnsAsk log_seen log_gives data_seen data_gives run seed max n (core_of log_seen data_seen run first.parts first.actors.items) (core_of log_seen data_seen run last.parts last.actors.items)) all goes.taken in record {
+        ends = record {
+          turns = taken.turns;
+          seat = open_user.seat;
+          state = open_user.state;
+          is = open_user.is;
+          number = open_user.open_user.number;
+          not_ended = open_user.open_user.not_ended;
+          least = first_is_least run.setup (views_of last.actors.items) goes.runs.seated user open_user;
+        };
+        asked = taken.asked;
       }

@@ -1,10 +1,11 @@
 -- What an Op asks of the two devices.
-use Rattle.std.specs.Prelude.{List, [], None, ◌≡◌}
+use Rattle.std.specs.Prelude.{List, [], None, Option, ◌≡◌}
 use Rattle.model_core.specs.Actors as model
 use Rattle.model_core.specs.declared.ops.Op.{Op}
 use Rattle.model_core.specs.declared.ops.Op.TheVariants as op
 use Rattle.redo_dataside.specs.DataPartSide.{fresh_batch}
 use Rattle.redo_disk.specs.{Call, MakesCalls, Request, Serve}
+use Rattle.redo_disk.specs.declared.error.DevError.{DevError}
 use Rattle.redo_logdev.specs.Part as log
 use Rattle.redo_logside.specs.{checkpoint_requests, sync_requests, write_requests}
 use Rattle.redo_machine.specs.declared.parts.Parts.{Parts}
@@ -31,8 +32,17 @@ abbrev pub data_asked : {D : Type 0} → store.Part D → model.Lent → Op → 
 data_asked part l op.WriteBatch = lent_pages part l
 data_asked part l _ = []
 
--- Each device was asked for what the Op asks of it, in that order and for nothing else: for all of it, or up to the call
--- that answered an error.
-pub record AskOfBoth {L D : Type 0} (log_gives : L → Call → L → Type 0) (data_gives : D → Call → D → Type 0) (l : model.Lent) (o : Op) (old new : Parts L D) : Type 0 where
-  pub log : old.log.failed ≡ None → MakesCalls log_gives old.log.dev new.log.dev (Serve (log_asked old.log l o) new.log.failed)
-  pub data_part : old.store.failed ≡ None → MakesCalls data_gives old.store.dev new.store.dev (Serve (data_asked old.store l o) new.store.failed)
+-- A device was asked for these things in this order, and for nothing else: for all of them, or up to the call that answered
+-- an error, this one. Where an error stood before, no call was made: the device is the same, and so is the error.
+pub record AskOf {D : Type 0} (gives : D → Call → D → Type 0) (requests : List Request) (old : D) (failed : Option DevError) (new : D) (failed_now : Option DevError) : Type 0 where
+  pub live : failed ≡ None → MakesCalls gives old new (Serve requests failed_now)
+  pub over : (failed ≡ None → ⊥) → (new ≡ old) × (failed_now ≡ failed)
+
+-- The devices of the log part and of the data part were asked so for what the Op asks of each.
+pub record AskOfParts {L D : Type 0} (log_gives : L → Call → L → Type 0) (data_gives : D → Call → D → Type 0) (l : model.Lent) (o : Op) (old_log new_log : log.Part L) (old_data new_data : store.Part D) : Type 0 where
+  pub log : AskOf log_gives (log_asked old_log l o) old_log.dev old_log.failed new_log.dev new_log.failed
+  pub data_part : AskOf data_gives (data_asked old_data l o) old_data.dev old_data.failed new_data.dev new_data.failed
+
+-- the same of both parts of a store
+abbrev pub AskOfBoth : {L D : Type 0} → (L → Call → L → Type 0) → (D → Call → D → Type 0) → model.Lent → Op → Parts L D → Parts L D → Type 0
+AskOfBoth log_gives data_gives l o old new = AskOfParts log_gives data_gives l o old.log new.log old.store new.store

@@ -17,7 +17,7 @@ use Rattle.redo_disk.specs.declared.error.DevError.TheVariants.{NoMemory}
 use Rattle.redo_machine.specs.Beginning.{BeginsRun, IsOpenedAs}
 use Rattle.redo_machine.specs.Calls.{CallsOn}
 use Rattle.redo_machine.specs.Running.{RunsOn}
-use Rattle.redo_machine.specs.Turns.{EndsAs}
+use Rattle.redo_machine.specs.Turns.{AskToEnd, EndsAs}
 use Rattle.redo_machine.specs.declared.actor.Actor.{Actor}
 use Rattle.redo_machine.specs.declared.drive.Driven.{Driven}
 use Rattle.redo_machine.specs.declared.drive.Turns.{Turns}
@@ -43,15 +43,18 @@ HasMemory closed = ((closed.log.failed ≡ Some NoMemory) ⊎ (closed.store.fail
 abbrev pub HasMetError : {L D : Type 0} → Closed L D → Type 0
 HasMetError closed = (closed.log.failed ≢ None) ⊎ (closed.store.failed ≢ None)
 
--- THE TURNS. The machine began the run of the script on the store, and the turns of the seed led from there to its end, at
--- which both parts are those of the closed run.
-pub record RunsByTurns {L D : Type 0} (log_seen : L → Seen) (data_seen : D → Seen) (opened : Opened L D) (script : List ScriptLine) (turns : Turns) (driven : Driven L D) : Type 0 where
+-- THE TURNS. The machine began the run of the script on the store, with both parts that were opened, and the turns of the
+-- seed led from there to its end, at which both parts are those of the closed run. In each turn both devices were asked for
+-- what the Op of its actor asks of them, and for nothing else.
+pub record RunsByTurns {L D : Type 0} (log_seen : L → Seen) (log_gives : L → Call → L → Type 0) (data_seen : D → Seen) (data_gives : D → Call → D → Type 0)
+    (opened : Opened L D) (script : List ScriptLine) (turns : Turns) (driven : Driven L D) : Type 0 where
   pub first : Machine L D
   pub begins : BeginsRun log_seen data_seen opened script turns.log_only first
   pub last : Parts L D
   pub actors : List Actor
   pub runs : RunsOn log_seen data_seen begins.run last actors
   pub ends : EndsAs log_seen data_seen begins.run turns.seed turns.max first.parts first.actors.items driven.ended last actors
+  pub asked : AskToEnd log_seen log_gives data_seen data_gives begins.run turns.seed turns.max first.parts first.actors.items driven.ended last actors ends
   pub log : driven.closed.log ≡ last.log
   pub data_part : driven.closed.store ≡ last.store
   -- the history, the marks and the code are those of the words and the actors at the end

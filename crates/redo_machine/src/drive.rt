@@ -36,7 +36,7 @@ pub fn run_by_turns<L: Sectors, D: Sectors>(
 ) -> Result<Driven<L, D>, (NoMemory, L, D)>
     requires { MayBegin opened script.now turns.now.log_only }
     ensures err { IfErr result (λ error. (error.1 ≡ opened.log.dev) × (error.2 ≡ opened.store.dev)) }
-    ensures turns { IfOk result (λ driven. RunsByTurns L.seen D.seen opened script.now turns.now driven) }
+    ensures turns { IfOk result (λ driven. RunsByTurns L.seen L.gives D.seen D.gives opened script.now turns.now driven) }
     ensures comes_to { IfOk result (λ driven. ComesToRun L.gives D.gives opened script.now driven) }
     ensures holds { IfOk result (λ driven. HoldsRun L.seen D.seen opened script.now driven) }
     ensures owed { IfOk result (λ driven. IsOwed L.seen D.seen opened script.now driven) }

@@ -4,7 +4,7 @@ ghost use Rattle.model_running.specs.{seat_of_turn};
 ghost use Rattle.redo_machine.specs.Calls.{CallOnBoth};
 ghost use Rattle.redo_machine.specs.Playing.{RunOf};
 ghost use Rattle.redo_machine.specs.Running.{IsOnRun, RunsOn};
-ghost use Rattle.redo_machine.specs.Turns.{EndsAs, IsDrawn};
+ghost use Rattle.redo_machine.specs.Turns.{EndsAsking, IsDrawn};
 
 use crate::machine::Machine;
 use crate::open_users::open_user;
@@ -41,7 +41,7 @@ impl<L: Sectors, D: Sectors> Machine<L, D> {
         ensures runs { (run : RunOf L D) → RunsOn L.seen D.seen run self.old.parts self.old.actors.items
             → RunsOn L.seen D.seen run self.new.parts self.new.actors.items }
         ensures ends { (run : RunOf L D) → RunsOn L.seen D.seen run self.old.parts self.old.actors.items
-            → EndsAs L.seen D.seen run seed max self.old.parts self.old.actors.items result self.new.parts self.new.actors.items }
+            → EndsAsking L.seen L.gives D.seen D.gives run seed max self.old.parts self.old.actors.items result self.new.parts self.new.actors.items }
         ensures calls { CallOnBoth L.gives D.gives self.old.parts self.new.parts }
         ensures entries { self.new.entries ≡ self.old.entries }
     {

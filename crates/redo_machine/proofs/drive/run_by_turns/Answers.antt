@@ -17,6 +17,7 @@ pub returns-clause-turns : goal.returns-clause-turns
 returns-clause-turns g c =
     let B = c.in_ok-machine.ensures.begins in
     let R = c.run-ended.ensures.runs B.run B.runs in
+    let E = c.run-ended.ensures.ends B.run B.runs in
     let within = log_within_script B.run.setup c.args.script.now c.args.opened.shape.space R.running.shared.sn R.running.log_ghost.log R.running.log_ghost.place R.running.both.logged.global.tiled B.is_run.of_script in
     record {
       first = c.in_ok-machine.machine;
@@ -24,7 +25,8 @@ returns-clause-turns g c =
       last = c.run-ended.new.self.parts;
       actors = c.run-ended.new.self.actors.items;
       runs = R;
-      ends = c.run-ended.ensures.ends B.run B.runs;
+      ends = E.ends;
+      asked = E.asked;
       log = c.finish-closed.ensures.log;
       data_part = c.finish-closed.ensures.data_part;
       marks = c.finish-closed.ensures.marks;
@@ -35,16 +37,16 @@ returns-clause-turns g c =
 pub returns-clause-comes_to : goal.returns-clause-comes_to
 unfolding returns-clause-turns
 returns-clause-comes_to g c =
-    comes_to_run g.L.Sectors.seen g.D.Sectors.seen c.args.opened c.args.script.now c.args.turns.now _ (returns-clause-turns g c) g.L.Sectors.gives g.D.Sectors.gives c.requires c.run-ended.ensures.calls
+    comes_to_run g.L.Sectors.seen g.L.Sectors.gives g.D.Sectors.seen g.D.Sectors.gives c.args.opened c.args.script.now c.args.turns.now _ (returns-clause-turns g c) c.requires c.run-ended.ensures.calls
 
 pub returns-clause-holds : goal.returns-clause-holds
 returns-clause-holds g c =
-    holds_run g.L.Sectors.seen g.D.Sectors.seen c.args.opened c.args.script.now c.args.turns.now _ (returns-clause-turns g c) c.requires
+    holds_run g.L.Sectors.seen g.L.Sectors.gives g.D.Sectors.seen g.D.Sectors.gives c.args.opened c.args.script.now c.args.turns.now _ (returns-clause-turns g c) c.requires
 
 pub returns-clause-owed : goal.returns-clause-owed
 returns-clause-owed g c =
-    is_owed g.L.Sectors.seen g.D.Sectors.seen c.args.opened c.args.script.now c.args.turns.now _ (returns-clause-turns g c) c.requires
+    is_owed g.L.Sectors.seen g.L.Sectors.gives g.D.Sectors.seen g.D.Sectors.gives c.args.opened c.args.script.now c.args.turns.now _ (returns-clause-turns g c) c.requires
 
 pub returns-clause-owed_synced : goal.returns-clause-owed_synced
 returns-clause-owed_synced g c =
-    is_owed_synced g.L.Sectors.seen g.D.Sectors.seen c.args.opened c.args.script.now c.args.turns.now _ (returns-clause-turns g c) c.requires
+    is_owed_synced g.L.Sectors.seen g.L.Sectors.gives g.D.Sectors.seen g.D.Sectors.gives c.args.opened c.args.script.now c.args.turns.now _ (returns-clause-turns g c) c.requires
