@@ -8,12 +8,14 @@ use Rattle.model_logdev.specs.{next_number}
 use Rattle.redo_disk.specs.{Call, MakesCalls, put_requests, Serve}
 use Rattle.redo_disk.specs.declared.error.DevError.{DevError}
 use Rattle.redo_disk.specs.declared.error.DevError.TheVariants as device
-use Rattle.redo_disk.proofs.Made.{joined_calls}
+use Rattle.redo_disk.proofs.Calls.{MayEndWith-no_memory}
+use Rattle.redo_disk.proofs.Made.{joined_calls, weaker_calls}
 use Rattle.redo_logdev.specs.Calls.{checkpoint_write}
 use Rattle.redo_logdev.specs.Part.{Part as Log}
 use Rattle.redo_open.proofs.Puts.{puts_no_memory}
+use Rattle.redo_open.specs.Called.{PutsLogIn, PutsLogOf}
 use Rattle.redo_open.specs.Mark.{EndWithMark}
-use Rattle.redo_open.specs.Opening.{Answer, IsStarted, MarksStart, log_left, data_left, log_error_in, data_error_in}
+use Rattle.redo_open.specs.Opening.{Answer, IsStarted, MarksStart, log_left, data_left, data_error_in}
 use Rattle.redo_open.specs.Places.{IsPageFault}
 use Rattle.redo_open.specs.Puts.{MayPutWhere, PutsMayEndWith, PutsWhere}
 use Rattle.redo_recover.specs.{data_error, data_fault_of, log_error, log_fault_of}
@@ -46,8 +48,8 @@ beside_log {gives = gives} {old = old} {new = new} {IsSuch = IsSuch} device.NoMe
     subst (λ (f : RecFault). MakesCalls gives old new (MayPutWhere IsSuch (data_error f))) (sym is) (puts_no_memory made)
 
 -- beside a fault of the pages
-pub beside_pages : {D : Type 0} {gives : D → Call → D → Type 0} {old new : D} (fault : RecFault) → IsPageFault fault
-    → MakesCalls gives old new (PutsMayEndWith None) → MakesCalls gives old new (PutsMayEndWith (log_error fault))
+pub beside_pages : {D : Type 0} {gives : D → Call → D → Type 0} {old new : D} {IsSuch : Write → Type 0} (fault : RecFault) → IsPageFault fault
+    → MakesCalls gives old new (MayPutWhere IsSuch None) → MakesCalls gives old new (MayPutWhere IsSuch (log_error fault))
 beside_pages DataDev own made = made
 beside_pages NoMemory own made = puts_no_memory made
 beside_pages (PageLost p) own made = absurd own
@@ -64,12 +66,16 @@ beside_pages (PageAhead p lsn) own made = absurd own
 
 -- a run that was started makes no call
 pub started_log : {L D : Type 0} {gives : L → Call → L → Type 0} {old log : L} (store : Part D) (recovered : Recovered) (start : ℕ) (result : Answer L D)
-    → IsStarted log store recovered start result → MakesCalls gives old log (PutsMayEndWith None) → MakesCalls gives old (log_left result) (PutsMayEndWith (log_error_in result))
+    → IsStarted log store recovered start result → MakesCalls gives old log (PutsLogOf (Ok tt)) → MakesCalls gives old (log_left result) (PutsLogIn result)
 started_log {gives = gives} {old = old} store recovered start (Ok run) is made =
-    subst (λ dev. MakesCalls gives old dev (PutsMayEndWith None)) (sym (ap (λ (part : Log _). part.dev) is.log_part)) made
+    weaker_calls (λ calls are. record { puts = are.puts; unmarked = tt })
+    (subst (λ dev. MakesCalls gives old dev (PutsLogOf (Ok tt))) (sym (ap (λ (part : Log _). part.dev) is.log_part)) made)
 started_log {gives = gives} {old = old} store recovered start (Err error) (none, log_is, data_is) made =
-    subst (λ (f : RecFault). MakesCalls gives old error.1 (PutsMayEndWith (log_error f))) (sym none)
-    (subst (λ dev. MakesCalls gives old dev (PutsMayEndWith (Some device.NoMemory))) (sym log_is) (puts_no_memory made))
+    weaker_calls (λ calls are. record {
+      puts = subst (λ (f : RecFault). PutsMayEndWith (log_error f) calls) (sym none) (record { puts = are.puts.puts; ends = MayEndWith-no_memory calls are.puts.ends });
+      unmarked = λ other. absurd (other none);
+    })
+    (subst (λ dev. MakesCalls gives old dev (PutsLogOf (Ok tt))) (sym log_is) made)
 
 pub started_data : {L D : Type 0} {gives : D → Call → D → Type 0} {old : D} {IsSuch : Write → Type 0} (log : L) (store : Part D) (recovered : Recovered) (start : ℕ) (result : Answer L D)
     → IsStarted log store recovered start result → MakesCalls gives old store.dev (MayPutWhere IsSuch None) → MakesCalls gives old (data_left result) (MayPutWhere IsSuch (data_error_in result))

@@ -18,11 +18,12 @@ use Rattle.redo_disk.proofs.Made.{joined_calls, weaker_calls}
 use Rattle.redo_open.proofs.Needs.{for-pages, held-spared}
 use Rattle.redo_open.proofs.Puts.{once-then}
 use Rattle.redo_open.proofs.Stores.{unrefused}
-use Rattle.redo_open.specs.Called.{OpensByHeader, OpensData, OpensLog, RefusesUnwritten, SparesHeld, WritesWithin}
+use Rattle.redo_open.proofs.Unmarked.{marks_nothing-behind, marks_nothing-spared, reads-spare}
+use Rattle.redo_open.specs.Called.{OpensByHeader, OpensData, OpensLog, PutsLogIn, RefusesUnwritten, SparesHeld, WritesWithin}
 use Rattle.redo_open.specs.Devices.{IsOpenFault}
 use Rattle.redo_open.specs.Needed.{IsNeededWrite, IsWriteFor}
 use Rattle.redo_open.specs.Opening.{Answer as Opens, IsOpenedAs, data_error_in, data_left, log_error_in, log_left}
-use Rattle.redo_open.specs.Puts.{IsAnyWrite, IsPut, MayPutWhere, PutsMayEndWith}
+use Rattle.redo_open.specs.Puts.{IsAnyWrite, IsPut, MayPutWhere}
 use Rattle.redo_pageactors.specs.declared.opened.Opened.{Opened}
 use Rattle.redo_recover.specs.{AnswersBy, AreFoundOn, ArePlacesOf, BeginWithHeader, IsPieceRead, IsStartIn, JudgesHeader, OnContents, ReadsLog, ReadsPages, reading_of, refusal_of}
 use Rattle.redo_recover.specs.Devices.{OnContent}
@@ -53,6 +54,7 @@ log_refused fault log data_device = weaker_calls (λ calls is. record {
   judged = is.judged;
   by_header = tt;
   unwritten = so-anyway (refusal_of fault) (are-reads calls is.reads.pieces);
+  unmarked = λ other. marks_nothing-spared fault calls (reads-spare calls is.reads.pieces);
 })
 
 no-write : (calls : List Call) (i : ℕ) (write : Write) (answer : Answer) → AllByRecursion IsPieceRead calls → slice_get calls i ≡ Some (Writes write answer) → ⊥
@@ -141,28 +143,30 @@ opened-by log_size data_size recovered store (Writes write answer ∷ xs) ys ope
 opened-by log_size data_size recovered store (Syncs answer ∷ xs) ys opened ends judged = absurd judged
 
 log-joined : {L D : Type 0} {seen : Seen} {data_size : ℕ} {recovered : Recovered} (result : Opens L D) → IfOk result (IsOpenedAs (reading_of recovered))
-    → IfErr result (λ error. IsOpenFault error.0) → (xs ys : List Call) → ReadsLog seen data_size (Ok recovered) xs → PutsMayEndWith (log_error_in result) ys
+    → IfErr result (λ error. IsOpenFault error.0) → (xs ys : List Call) → ReadsLog seen data_size (Ok recovered) xs → PutsLogIn result ys
     → OpensLog seen.size data_size result (xs ++ ys)
 log-joined {seen = seen} {data_size = data_size} {recovered = recovered} (Ok store) opened own xs ys front back = record {
-  ends = MayEndWith-append None xs ys front.reads.ends back.ends;
-  once = once-then IsAnyWrite xs ys front.reads.once back.puts;
+  ends = MayEndWith-append None xs ys front.reads.ends back.puts.ends;
+  once = once-then IsAnyWrite xs ys front.reads.once back.puts.puts;
   header = λ long. header-append xs ys (front.header long);
   judged = tt;
   by_header = opened-by seen.size data_size recovered store xs ys opened front.reads.ends front.judged;
   unwritten = tt;
+  unmarked = tt;
 }
 log-joined {seen = seen} {data_size = data_size} {recovered = recovered} (Err error) opened own xs ys front back = record {
-  ends = MayEndWith-append (log_error_in (Err error)) xs ys front.reads.ends back.ends;
-  once = once-then IsAnyWrite xs ys front.reads.once back.puts;
+  ends = MayEndWith-append (log_error_in (Err error)) xs ys front.reads.ends back.puts.ends;
+  once = once-then IsAnyWrite xs ys front.reads.once back.puts.puts;
   header = λ long. header-append xs ys (front.header long);
   judged = judged-behind seen.size data_size recovered error.0 xs ys own front.judged;
   by_header = tt;
   unwritten = unrefused error.0 (λ _. AreReads (xs ++ ys)) own;
+  unmarked = λ other. marks_nothing-behind error.0 xs ys (reads-spare xs front.reads.pieces) (back.unmarked other);
 }
 
 pub log_opened : {L D : Type 0} {gives : L → Call → L → Type 0} {old middle : L} {seen : Seen} {data_size : ℕ} {recovered : Recovered} (result : Opens L D)
     → IfOk result (IsOpenedAs (reading_of recovered)) → IfErr result (λ error. IsOpenFault error.0)
-    → MakesCalls gives old middle (ReadsLog seen data_size (Ok recovered)) → MakesCalls gives middle (log_left result) (PutsMayEndWith (log_error_in result))
+    → MakesCalls gives old middle (ReadsLog seen data_size (Ok recovered)) → MakesCalls gives middle (log_left result) (PutsLogIn result)
     → MakesCalls gives old (log_left result) (OpensLog seen.size data_size result)
 log_opened result opened own = joined_calls (log-joined result opened own)
 

@@ -20,4 +20,5 @@ pub mod Rows
 pub mod Standing
 pub mod Stores
 pub mod Told
+pub mod Unmarked
 pub mod Writings

@@ -15,7 +15,7 @@ use Rattle.redo_recover.specs.{ReadOnce}
 use Rattle.redo_recover.specs.Calls.{ReadsByte}
 use Rattle.redo_store.specs.Requests.{all_put, batch_requests}
 
-puts-append : (IsSuch : Write → Type 0) (xs ys : List Call) → AllByRecursion (IsPut IsSuch) xs → AllByRecursion (IsPut IsSuch) ys
+pub puts-append : (IsSuch : Write → Type 0) (xs ys : List Call) → AllByRecursion (IsPut IsSuch) xs → AllByRecursion (IsPut IsSuch) ys
     → AllByRecursion (IsPut IsSuch) (xs ++ ys)
 puts-append IsSuch [] ys front back = back
 puts-append IsSuch (call ∷ xs) ys front back = (front.0, puts-append IsSuch xs ys front.1 back)
@@ -56,7 +56,7 @@ pub puts_no_memory : {D : Type 0} {gives : D → Call → D → Type 0} {old new
 puts_no_memory = weaker_calls (λ calls are. record { puts = are.puts; ends = MayEndWith-no_memory calls are.ends })
 
 -- such writes are others too
-put-weaker : (One Both : Write → Type 0) → ((write : Write) → One write → Both write) → (calls : List Call) → AllByRecursion (IsPut One) calls
+pub put-weaker : (One Both : Write → Type 0) → ((write : Write) → One write → Both write) → (calls : List Call) → AllByRecursion (IsPut One) calls
     → AllByRecursion (IsPut Both) calls
 put-weaker One Both weaker [] are = tt
 put-weaker One Both weaker (Reads at before answer after ∷ calls) are = absurd are.0
@@ -81,14 +81,22 @@ asked-puts IsSuch (Reads at before answer after ∷ calls) rest are = absurd are
 asked-puts IsSuch (Writes write answer ∷ calls) rest are = (are.0, asked-puts IsSuch calls rest are.1)
 asked-puts IsSuch (Syncs answer ∷ calls) rest are = (tt, asked-puts IsSuch calls rest are.1)
 
-served : {D : Type 0} {gives : D → Call → D → Type 0} {old new : D} {IsSuch : Write → Type 0} {error : Option DevError} (requests : List Request)
-    → AllByRecursion (IsToPut IsSuch) requests → MakesCalls gives old new (Serve requests error) → MakesCalls gives old new (PutsWhere IsSuch error)
-served {IsSuch = IsSuch} requests are = weaker_calls (λ calls serve. record {
+serve-puts : (IsSuch : Write → Type 0) (requests : List Request) (error : Option DevError) (calls : List Call) → AllByRecursion (IsToPut IsSuch) requests
+    → Serve requests error calls → PutsWhere IsSuch error calls
+serve-puts IsSuch requests error calls are serve = record {
   puts = asked-puts IsSuch calls serve.rest (subst (AllByRecursion (IsToPut IsSuch)) serve.asked are);
   ends = serve.ends;
-})
+}
+
+served : {D : Type 0} {gives : D → Call → D → Type 0} {old new : D} {IsSuch : Write → Type 0} {error : Option DevError} (requests : List Request)
+    → AllByRecursion (IsToPut IsSuch) requests → MakesCalls gives old new (Serve requests error) → MakesCalls gives old new (PutsWhere IsSuch error)
+served {IsSuch = IsSuch} {error = error} requests are = weaker_calls (λ calls. serve-puts IsSuch requests error calls are)
 
 -- a write, and a sync behind it
+pub put-puts : (IsSuch : Write → Type 0) (write : Write) (error : Option DevError) (calls : List Call) → IsSuch write → Serve (put_requests write) error calls
+    → PutsWhere IsSuch error calls
+put-puts IsSuch write error calls is = serve-puts IsSuch (put_requests write) error calls (is, (tt, tt))
+
 pub put_served : {D : Type 0} {gives : D → Call → D → Type 0} {old new : D} {IsSuch : Write → Type 0} {error : Option DevError} {write : Write} → IsSuch write
     → MakesCalls gives old new (Serve (put_requests write) error) → MakesCalls gives old new (PutsWhere IsSuch error)
 put_served {write = write} is = served (put_requests write) (is, (tt, tt))

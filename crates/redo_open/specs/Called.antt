@@ -1,5 +1,5 @@
 -- The calls that opening makes of the two devices.
-use Rattle.std.specs.Prelude.{ℕ, ◌≡◌, ◌≤◌, ◌<◌, ◌+◌, List, [], ◌∷◌, length, slice_get, Option, Some, Result, Err, IfOk, IfErr, IfSome}
+use Rattle.std.specs.Prelude.{ℕ, ◌≡◌, ◌≢◌, ◌≤◌, ◌<◌, ◌+◌, List, [], ◌∷◌, length, slice_get, Option, Some, Result, Ok, Err, IfOk, IfErr, IfSome}
 use Rattle.model_base.specs.declared.shape.Shape.{Shape}
 use Rattle.model_datadev.specs.{place_at, read_as}
 use Rattle.model_device.specs.Disk.{Disk}
@@ -13,8 +13,11 @@ use Rattle.redo_disk.specs.{AreReads, Call, MayEndWith, Reads, Syncs, Writes}
 use Rattle.redo_disk.specs.declared.error.DevError.{DevError}
 use Rattle.redo_open.specs.Needed.{IsWriteFor}
 use Rattle.redo_open.specs.Opening.{Answer, data_error_in, log_error_in}
+use Rattle.redo_open.specs.Puts.{PutsMayEndWith}
 use Rattle.redo_pageactors.specs.declared.opened.Opened.{Opened}
-use Rattle.redo_recover.specs.{BeginWithHeader, IsStartIn, JudgesHeader, OnContents, ReadOnce, refusal_of}
+use Rattle.redo_recover.specs.{BeginWithHeader, IsStartIn, JudgesHeader, OnContents, ReadOnce, log_error_of, refusal_of}
+use Rattle.redo_recover.specs.declared.fault.RecFault.{RecFault}
+use Rattle.redo_recover.specs.declared.fault.RecFault.TheVariants.{LogDev, NoMemory}
 
 -- a store that is refused is refused behind reads alone
 abbrev pub RefusesUnwritten : {L D : Type 0} → Answer L D → List Call → Type 0
@@ -34,10 +37,30 @@ OpensByHeader log_size data_size store (Reads at before answer header ∷ calls)
 OpensByHeader log_size data_size store (Writes write answer ∷ calls) = ⊥
 OpensByHeader log_size data_size store (Syncs answer ∷ calls) = ⊥
 
+-- A byte of the header is written only where the log device failed, and then no sync behind that answered Ok. So no
+-- checkpoint was made to stay.
+pub record MarksNothing (fault : RecFault) (calls : List Call) : Type 0 where
+  pub written : (i : ℕ) (write : Write) (answer : Result (Unit {0}) DevError)
+      → slice_get calls i ≡ Some (Writes write answer) → write.at < HEADER_BYTES → fault ≡ LogDev
+  pub unsynced : (i j : ℕ) (write : Write) (answer : Result (Unit {0}) DevError) (done : Unit {0}) → i < j
+      → slice_get calls i ≡ Some (Writes write answer) → write.at < HEADER_BYTES → slice_get calls j ≡ Some (Syncs (Ok done)) → ⊥
+
+-- The calls of the log device behind recovery: none is a read, they end so, and a fault other than want of memory leaves
+-- no checkpoint that they made to stay.
+pub record PutsLogOf (result : Result (Unit {0}) RecFault) (calls : List Call) : Type 0 where
+  pub puts : PutsMayEndWith (log_error_of result) calls
+  pub unmarked : IfErr result (λ fault. fault ≢ NoMemory → MarksNothing fault calls)
+
+-- the same where the devices are handed on or back
+pub record PutsLogIn {L D : Type 0} (result : Answer L D) (calls : List Call) : Type 0 where
+  pub puts : PutsMayEndWith (log_error_in result) calls
+  pub unmarked : IfErr result (λ error. error.0 ≢ NoMemory → MarksNothing error.0 calls)
+
 -- The calls of a log device of this size, beside a data device of that size. All but the last answered Ok, and the last one
 -- answered this error, if any did; where memory ran out they may all have answered Ok. No byte is read twice. Where the
 -- device has room for a header, the first of them reads that, and what it says is what is answered by, also of devices that
--- don't tell. Where the store is refused they are reads alone.
+-- don't tell. Where the store is refused they are reads alone. Where opening fails for anything but want of memory, which
+-- may come when the checkpoint stands already, they made no checkpoint to stay.
 pub record OpensLog {L D : Type 0} (log_size data_size : ℕ) (result : Answer L D) (calls : List Call) : Type 0 where
   pub ends : MayEndWith (log_error_in result) calls
   pub once : ReadOnce calls
@@ -45,6 +68,7 @@ pub record OpensLog {L D : Type 0} (log_size data_size : ℕ) (result : Answer L
   pub judged : IfErr result (λ error. JudgesHeader log_size data_size (Err error.0) calls)
   pub by_header : IfOk result (λ store. OpensByHeader log_size data_size store calls)
   pub unwritten : RefusesUnwritten result calls
+  pub unmarked : IfErr result (λ error. error.0 ≢ NoMemory → MarksNothing error.0 calls)
 
 -- what is written and the place of the page overlap
 pub record Overlaps (shape : Shape) (p : ℕ) (write : Write) : Type 0 where

@@ -1,7 +1,8 @@
 -- The calls of opening behind recovery: writes and syncs, and no reads.
-use Rattle.std.specs.Prelude.{List, Option}
+use Rattle.std.specs.Prelude.{◌≤◌, List, Option}
 use Rattle.std.specs.List.{AllByRecursion}
 use Rattle.model_device.specs.declared.write.Write.{Write}
+use Rattle.model_log.specs.declared.layout.TheConstants.{HEADER_BYTES}
 use Rattle.redo_disk.specs.{Call, EndWith, MayEndWith, Reads, Syncs, Writes}
 use Rattle.redo_disk.specs.declared.error.DevError.{DevError}
 
@@ -25,9 +26,10 @@ pub record MayPutWhere (IsSuch : Write → Type 0) (error : Option DevError) (ca
 abbrev pub IsAnyWrite : Write → Type 0
 IsAnyWrite write = Unit {0}
 
--- none of the calls is a read, and they end so
-abbrev pub PutsEndWith : Option DevError → List Call → Type 0
-PutsEndWith = PutsWhere IsAnyWrite
+-- the write is behind the header
+abbrev pub IsBlockWrite : Write → Type 0
+IsBlockWrite write = HEADER_BYTES ≤ write.at
 
+-- none of the calls is a read, and they end so
 abbrev pub PutsMayEndWith : Option DevError → List Call → Type 0
 PutsMayEndWith = MayPutWhere IsAnyWrite

@@ -5,12 +5,12 @@ ghost use Rattle.model_log.specs.{IsAtDataStart, log_device_length};
 ghost use Rattle.model_opening.specs.{IsOpenable, KeepsOpened};
 ghost use Rattle.model_store.specs.Reading.{Reading};
 ghost use Rattle.redo_disk.specs.{MakesCalls};
-ghost use Rattle.redo_open.specs.Called.{OpensData, OpensLog};
+ghost use Rattle.redo_open.specs.Called.{OpensData, OpensLog, PutsLogIn};
 ghost use Rattle.redo_open.specs.Devices.{HasSameCheckpoint, IsSameDevice, WhereBothTell};
 ghost use Rattle.redo_open.specs.Mend.{IsSettledData};
 ghost use Rattle.redo_open.specs.Needed.{IsNeededWrite};
-ghost use Rattle.redo_open.specs.Opening.{log_left, data_left, log_error_in, data_error_in, HasFaultCause, IsOpeningOf, IsOpenedReady, IsStarted, MarksStart, OpensRecovered};
-ghost use Rattle.redo_open.specs.Puts.{MayPutWhere, PutsMayEndWith};
+ghost use Rattle.redo_open.specs.Opening.{log_left, data_left, data_error_in, HasFaultCause, IsOpeningOf, IsOpenedReady, IsStarted, MarksStart, OpensRecovered};
+ghost use Rattle.redo_open.specs.Puts.{MayPutWhere};
 ghost use Rattle.redo_pageactors.specs.{IsRunnable};
 ghost use Rattle.redo_recover.specs.{AreFoundOn, IsOfDevices, OnContents, reading_of};
 
@@ -69,7 +69,7 @@ fn open_recovered<L: Sectors, D: Sectors>(
     requires found { IfSome (D.seen data_device).tells
         (λ disk. AreFoundOn recovered.shape recovered.places recovered.pages disk.base) }
     ensures step { OpensRecovered L.seen D.seen (reading_of recovered) (L.seen log) (D.seen data_device) result }
-    ensures log_calls { MakesCalls L.gives log (log_left result) (PutsMayEndWith (log_error_in result)) }
+    ensures log_calls { MakesCalls L.gives log (log_left result) (PutsLogIn result) }
     ensures data_calls { MakesCalls D.gives data_device (data_left result)
         (MayPutWhere (IsNeededWrite recovered) (data_error_in result)) }
     ensures marks { IfOk result (MarksStart L.gives log) }

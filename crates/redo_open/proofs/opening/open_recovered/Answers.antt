@@ -6,6 +6,7 @@ use Rattle.redo_disk.specs.Seen.{Seen}
 use Rattle.redo_disk.specs.declared.error.DevError.TheVariants as device
 use Rattle.redo_open.proofs.Asked.{started_log, started_data, started_marks}
 use Rattle.redo_open.proofs.Puts.{may_put, put_nothing, puts_no_memory}
+use Rattle.redo_open.proofs.Unmarked.{handed_back, unmarked_of}
 use Rattle.redo_recover.specs.{AreNotAhead, data_error, reading_of}
 use Rattle.redo_open.specs.Clear.{MayStart}
 use Rattle.redo_open.specs.Devices.{DevicesStep}
@@ -57,7 +58,8 @@ returns-clause-step g c =
     c.open_devices.new.log c.open_devices.new.part c.start_run.result facts step c.start_run.ensures
 
 pub returns-in-Err-clause-log_calls : goal.returns-in-Err-clause-log_calls
-returns-in-Err-clause-log_calls g c = puts_no_memory (may_put (put_nothing g.L.Sectors.gives c.args.log))
+returns-in-Err-clause-log_calls g c =
+    handed_back NoMemory c.in-Err.data_device (unmarked_of NoMemory (puts_no_memory (may_put (put_nothing g.L.Sectors.gives c.args.log))))
 
 pub returns-in-Err-clause-data_calls : goal.returns-in-Err-clause-data_calls
 returns-in-Err-clause-data_calls g c =
@@ -65,7 +67,7 @@ returns-in-Err-clause-data_calls g c =
     (puts_no_memory (may_put (put_nothing g.D.Sectors.gives c.args.data_device)))
 
 pub returns-in-Err-open_devices-clause-log_calls : goal.returns-in-Err-open_devices-clause-log_calls
-returns-in-Err-open_devices-clause-log_calls g c = c.in-Err-open_devices.ensures.log_calls
+returns-in-Err-open_devices-clause-log_calls g c = handed_back c.in-Err-open_devices.fault c.into_dev.result c.in-Err-open_devices.ensures.log_calls
 
 pub returns-in-Err-open_devices-clause-data_calls : goal.returns-in-Err-open_devices-clause-data_calls
 returns-in-Err-open_devices-clause-data_calls g c =

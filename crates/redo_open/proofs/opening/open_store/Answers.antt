@@ -13,6 +13,7 @@ use Rattle.redo_open.proofs.Endings.{device-own}
 use Rattle.redo_open.proofs.Puts.{may_put, may_put_then, put_nothing, put_one}
 use Rattle.redo_open.proofs.Stores.{also-refused, openable-same, opened-read, opening-cause, both-err, sync-cause, synced-holds}
 use Rattle.redo_open.proofs.Told.{cause-since}
+use Rattle.redo_open.proofs.Unmarked.{handed_back, unmarked_of}
 use Rattle.redo_recover.specs.{AreFoundOn, reading_of}
 use Rattle.redo_recover.specs.declared.fault.RecFault.{RecFault}
 use Rattle.redo_recover.specs.declared.fault.RecFault.TheVariants.{NoMemory}
@@ -83,7 +84,8 @@ pub returns-in-Err-sync-clause-log_calls : goal.returns-in-Err-sync-clause-log_c
 returns-in-Err-sync-clause-log_calls g c =
     let own : IsPageFault c.data_fault.result = subst IsPageFault (sym c.data_fault.ensures) (device-own c.in-Err-sync.error) in
     log_opened (Err (c.data_fault.result, c.recover.new.log, c.sync.new.self)) tt (places-cause c.data_fault.result own) c.in-Ok.ensures.log_calls
-    (beside_pages c.data_fault.result own (may_put (put_nothing g.L.Sectors.gives c.recover.new.log)))
+    (handed_back c.data_fault.result c.sync.new.self
+    (unmarked_of c.data_fault.result (beside_pages c.data_fault.result own (may_put (put_nothing g.L.Sectors.gives c.recover.new.log)))))
 
 pub returns-in-Err-sync-clause-data_calls : goal.returns-in-Err-sync-clause-data_calls
 returns-in-Err-sync-clause-data_calls g c =
