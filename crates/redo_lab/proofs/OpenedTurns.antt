@@ -1,5 +1,5 @@
 -- The store that a run by turns was led from, and the calls of that run.
-use Rattle.std.proofs.Common.{List, Ok, ap}
+use Rattle.std.proofs.Common.{List, Ok, ap, inr}
 use Rattle.model_opening.specs.{IsOpenable}
 use Rattle.model_report.specs.declared.fault.Fault.TheVariants as fault
 use Rattle.model_script.specs.declared.script.ScriptLine.{ScriptLine}
@@ -82,8 +82,7 @@ driven-comes {store = store} turns script (course.Ended (fault.Fit misfit)) log_
   is_opened = opened-on is answers;
   unfit = driven;
 }
-driven-comes turns script (course.Ended fault.LogDevice) log_now data_now is answers plays driven = absurd plays
-driven-comes turns script (course.Ended fault.DataDevice) log_now data_now is answers plays driven = absurd plays
-driven-comes turns script (course.Ended (fault.Store refusal)) log_now data_now is answers plays driven = absurd plays
-driven-comes turns script (course.Ended f) log_now data_now is answers plays driven = tt
-driven-comes turns script (course.Stopped f) log_now data_now is answers plays driven = absurd plays
+driven-comes {store = store} turns script (course.Ended fault.Memory) log_now data_now is answers plays driven =
+    inr (inr (record { opened = store; is_opened = opened-on is answers; short = driven }))
+driven-comes turns script (course.Ended f) log_now data_now is answers plays driven = absurd driven
+driven-comes turns script (course.Stopped f) log_now data_now is answers plays driven = absurd driven

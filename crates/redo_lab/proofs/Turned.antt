@@ -59,7 +59,7 @@ use Rattle.redo_lab.proofs.Told.{OneAnswer}
 -- ON AN OPENED STORE
 module _ {L D : Type 0} (log_seen : L → Seen) (log_gives : L → Call → L → Type 0) (data_seen : D → Seen) (data_gives : D → Call → D → Type 0)
     (opened : Opened L D) (turns : Turns) (script : List ScriptLine) (driven : Driven L D)
-    (runs : RunsByTurns log_seen data_seen opened script turns driven) (comes_to : ComesToRun log_gives data_gives opened script driven) where
+    (runs : RunsByTurns log_seen log_gives data_seen data_gives opened script turns driven) (comes_to : ComesToRun log_gives data_gives opened script driven) where
   abbrev is-driven : (how : running.Ran) → driven.ended ≡ how
       → IsDriven log_seen log_gives data_seen data_gives opened turns script how (played_of opened.start driven.closed) driven.closed.log.dev driven.closed.store.dev
   is-driven how is = record {
@@ -83,6 +83,16 @@ module _ {L D : Type 0} (log_seen : L → Seen) (log_gives : L → Call → L �
     memory = memory;
   }
 
+  -- a device was, and none failed
+  ran-short : (log_error data_error : Option DevError) → driven.closed.log.failed ≡ log_error → driven.closed.store.failed ≡ data_error
+      → driven.ended ≡ ended.Done → ended_by log_error data_error ≡ Some fault.Memory
+      → IsDrivenTo log_seen log_gives data_seen data_gives opened turns script (course.Ended fault.Memory) driven.closed.log.dev driven.closed.store.dev
+  ran-short log_error data_error log_is data_is done short = inr (record {
+    played = played_of opened.start driven.closed;
+    is_driven = is-driven ended.Done done;
+    short = ap (λ (e : Option DevError). ended_by driven.closed.log.failed e) data_is ∙ (ap (λ (e : Option DevError). ended_by e data_error) log_is ∙ short);
+  })
+
   driven-done : (log_error data_error : Option DevError) → driven.closed.log.failed ≡ log_error → driven.closed.store.failed ≡ data_error → driven.ended ≡ ended.Done
       → IsDrivenTo log_seen log_gives data_seen data_gives opened turns script (course_done (played_of opened.start driven.closed) (ended_by log_error data_error)) driven.closed.log.dev driven.closed.store.dev
   driven-done None None log_is data_is done = all-ended None None log_is data_is done (none-lacks driven.closed log_is data_is)
@@ -92,9 +102,9 @@ module _ {L D : Type 0} (log_seen : L → Seen) (log_gives : L → Call → L �
       all-ended None (Some Failed) log_is data_is done (some-failed driven.closed None (Some Failed) log_is data_is (omega arith))
   driven-done (Some NoMemory) (Some Failed) log_is data_is done =
       all-ended (Some NoMemory) (Some Failed) log_is data_is done (some-failed driven.closed (Some NoMemory) (Some Failed) log_is data_is (omega arith))
-  driven-done (Some NoMemory) None log_is data_is done = tt
-  driven-done (Some NoMemory) (Some NoMemory) log_is data_is done = tt
-  driven-done None (Some NoMemory) log_is data_is done = tt
+  driven-done (Some NoMemory) None log_is data_is done = ran-short (Some NoMemory) None log_is data_is done refl
+  driven-done (Some NoMemory) (Some NoMemory) log_is data_is done = ran-short (Some NoMemory) (Some NoMemory) log_is data_is done refl
+  driven-done None (Some NoMemory) log_is data_is done = ran-short None (Some NoMemory) log_is data_is done refl
 
   driven-by : (how : running.Ran) → driven.ended ≡ how
       → IsDrivenTo log_seen log_gives data_seen data_gives opened turns script
@@ -132,6 +142,8 @@ module _ {L D : Type 0} (log_seen : L → Seen) (log_gives : L → Call → L �
       record { so_far = so_far; log_then = log_then; data_then = data_then; comes = comes; fails = fails }
   told-met so_far (fault.Fit misfit) log_then log_now data_then data_now unspent comes fails =
       inr (record { so_far = so_far; log_then = log_then; data_then = data_then; comes = comes; fails = fails })
+  told-met so_far fault.Memory log_then log_now data_then data_now unspent comes fails =
+      inr (record { so_far = so_far; log_then = log_then; data_then = data_then; comes = comes; fails = fails })
   told-met so_far f log_then log_now data_then data_now unspent comes fails = tt
 
   -- one that ended before its first line, or whose turns were spent
@@ -144,11 +156,11 @@ module _ {L D : Type 0} (log_seen : L → Seen) (log_gives : L → Call → L �
   unscripted-told : (f : Fault) (log_now : Fused L) (data_now : Fused D) → reads_script handed.command ≡ true → IsScriptFault handed.source handed.source_now f
       → IsLeftAlone handed.log_entry (guarded log_seen log_now) → IsLeftAlone handed.data_entry (guarded data_seen data_now)
       → TellsFault log_seen log_gives log_crash_gives data_seen data_gives data_crash_gives handed f log_now data_now
-  unscripted-told fault.Memory log_now data_now reads cause log_alone data_alone = tt
+  unscripted-told fault.Memory log_now data_now reads cause log_alone data_alone = inl (record { log_device = log_alone; data_device = data_alone })
   unscripted-told fault.Source log_now data_now reads cause log_alone data_alone = tt
   unscripted-told (fault.Script n) log_now data_now reads cause log_alone data_alone = tt
   unscripted-told (fault.Fit misfit) log_now data_now reads cause log_alone data_alone =
-      inl (record { reads = reads; long = cause; log_device = log_alone; data_device = data_alone })
+      inl (record { reads = reads; long = cause; uncalled = record { log_device = log_alone; data_device = data_alone } })
   unscripted-told f log_now data_now reads cause log_alone data_alone = absurd cause
 
 module _ {L D : Type 0} (log_seen : L → Seen) (log_gives : L → Call → L → Type 0) (log_crash_gives : L → ℕ → L → Type 0) (data_seen : D → Seen) (data_gives : D → Call → D → Type 0) (data_crash_gives : D → ℕ → D → Type 0) (source source_now : SourceSeen) (log_entry data_entry : Seen) where
@@ -214,7 +226,8 @@ module _ {L D : Type 0} (log_seen : L → Seen) (log_gives : L → Call → L �
   pub run-played-told : (drive : Drive) (played : Played) (f : Option Fault) (o : Outcome) (log_now : Fused L) (data_now : Fused D) → RunLaws
       → (comes : Comes (run drive) (course.Played played f) log_now data_now) → IsRunPrinted comes.script (ran_of played) f o → Tells (Run drive) o log_now data_now
   run-played-told drive played f o log_now data_now laws comes printed = ⊎_elim
-      (λ memory. subst (λ (o : Outcome). Tells (Run drive) o log_now data_now) (sym memory) tt)
+      (λ memory. subst (λ (o : Outcome). Tells (Run drive) o log_now data_now) (sym memory)
+      (told-met log_seen log_gives log_crash_gives data_seen data_gives data_crash_gives (run drive) (course.Played played f) fault.Memory log_now log_now data_now data_now tt comes (there fault.Memory log_now data_now)))
       (λ told. subst (λ (o : Outcome). Tells (Run drive) o log_now data_now) (sym told.2) (run-text-told drive played f told.0 log_now data_now laws comes told.1))
       printed
 
@@ -350,16 +363,21 @@ module _ {L D : Type 0} {log_seen : L → Seen} {log_gives : L → Call → L �
   data-led led = record { crashed = led.data_crashed; crashes = led.data_crashes; called = called-by led.reads.data_device }
 
 -- A WHOLE CALL
--- a command that memory ran out for tells of no run
-memory-untold : {L D : Type 0} (log_seen : L → Seen) (log_gives : L → Call → L → Type 0) (log_crash_gives : L → ℕ → L → Type 0) (data_seen : D → Seen) (data_gives : D → Call → D → Type 0) (data_crash_gives : D → ℕ → D → Type 0) (source source_now : SourceSeen) (log_entry data_entry : Seen) (command : Command) (log_now : Fused L) (data_now : Fused D)
-    → TellsByTurns log_seen log_gives log_crash_gives data_seen data_gives data_crash_gives source source_now log_entry data_entry command (outcome.Fault fault.Memory) log_now data_now
-memory-untold log_seen log_gives log_crash_gives data_seen data_gives data_crash_gives source source_now log_entry data_entry (Format pages space log_blocks) log_now data_now = tt
-memory-untold log_seen log_gives log_crash_gives data_seen data_gives data_crash_gives source source_now log_entry data_entry (Run drive) log_now data_now = tt
-memory-untold log_seen log_gives log_crash_gives data_seen data_gives data_crash_gives source source_now log_entry data_entry (Crash drive stop_log stop_data pick) log_now data_now = tt
-memory-untold log_seen log_gives log_crash_gives data_seen data_gives data_crash_gives source source_now log_entry data_entry Recover log_now data_now = tt
-memory-untold log_seen log_gives log_crash_gives data_seen data_gives data_crash_gives source source_now log_entry data_entry Dump log_now data_now = tt
-memory-untold log_seen log_gives log_crash_gives data_seen data_gives data_crash_gives source source_now log_entry data_entry (Gen seed users groups true max) log_now data_now = tt
-memory-untold log_seen log_gives log_crash_gives data_seen data_gives data_crash_gives source source_now log_entry data_entry (Gen seed users groups false max) log_now data_now = tt
+-- a command that memory ran out for before a device was called tells of no run
+module _ {L D : Type 0} (log_seen : L → Seen) (log_gives : L → Call → L → Type 0) (log_crash_gives : L → ℕ → L → Type 0) (data_seen : D → Seen) (data_gives : D → Call → D → Type 0) (data_crash_gives : D → ℕ → D → Type 0) (source source_now : SourceSeen) (log_entry data_entry : Seen) where
+  memory-untold : (command : Command) (log_now : Fused L) (data_now : Fused D) → IsLeftAlone log_entry (guarded log_seen log_now) → IsLeftAlone data_entry (guarded data_seen data_now)
+      → TellsByTurns log_seen log_gives log_crash_gives data_seen data_gives data_crash_gives source source_now log_entry data_entry command (outcome.Fault fault.Memory) log_now data_now
+  memory-untold (Format pages space log_blocks) log_now data_now log_alone data_alone = tt
+  memory-untold (Run drive) log_now data_now log_alone data_alone = inl (record { log_device = log_alone; data_device = data_alone })
+  memory-untold (Crash drive stop_log stop_data pick) log_now data_now log_alone data_alone = inl (record { log_device = log_alone; data_device = data_alone })
+  memory-untold Recover log_now data_now log_alone data_alone = tt
+  memory-untold Dump log_now data_now log_alone data_alone = tt
+  memory-untold (Gen seed users groups true max) log_now data_now log_alone data_alone = inl (record { log_device = log_alone; data_device = data_alone })
+  memory-untold (Gen seed users groups false max) log_now data_now log_alone data_alone = tt
+
+  pub gen-unscripted-told : (seed users groups max : ℕ) (log_now : Fused L) (data_now : Fused D) → IsLeftAlone log_entry (guarded log_seen log_now) → IsLeftAlone data_entry (guarded data_seen data_now)
+      → TellsByTurns log_seen log_gives log_crash_gives data_seen data_gives data_crash_gives source source_now log_entry data_entry (Gen seed users groups true max) (outcome.Fault fault.Memory) log_now data_now
+  gen-unscripted-told seed users groups max = memory-untold (Gen seed users groups true max)
 
 -- and that is what it means, where no device was called
 memory-means : (call : lab.Call) (command : Command) → OpenableLaw → AreLeftAlone call → IsOutcome call command (outcome.Fault fault.Memory)
@@ -404,6 +422,6 @@ nothing-by-turns {L} {D} log_seen log_gives log_crash_gives data_seen data_gives
       subst (λ (o : Outcome). IsOutcome (call_of log_seen data_seen words source source_now log store given) command o) (sym is)
           (memory-means (call_of log_seen data_seen words source source_now log store given) command law alone),
       subst (λ (o : Outcome). TellsByTurns log_seen log_gives log_crash_gives data_seen data_gives data_crash_gives source source_now (log_seen log) (data_seen store) command o given.log given.store) (sym is)
-          (memory-untold log_seen log_gives log_crash_gives data_seen data_gives data_crash_gives source source_now (log_seen log) (data_seen store) command given.log given.store),
+          (memory-untold log_seen log_gives log_crash_gives data_seen data_gives data_crash_gives source source_now (log_seen log) (data_seen store) command given.log given.store alone.log_device alone.data_device),
     ))
     why

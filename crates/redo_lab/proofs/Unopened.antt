@@ -233,7 +233,7 @@ module _ {L D : Type 0} {log_seen : L → Seen} {log_gives : L → Call → L �
       → ComesByTurnsTo log_seen log_gives data_seen data_gives (log_seen log) (data_seen store) stops turns script (course.Ended (fault_of f)) log_now data_now
   unprepared-comes stops turns script LogDev log_now data_now is = unprepared-told LogDev log_now data_now is
   unprepared-comes stops turns script DataDev log_now data_now is = unprepared-told DataDev log_now data_now is
-  unprepared-comes stops turns script NoMemory log_now data_now is = tt
+  unprepared-comes stops turns script NoMemory log_now data_now is = inl (unprepared-told NoMemory log_now data_now is)
   unprepared-comes stops turns script (SmallLog n) log_now data_now is = inl (unprepared-told (SmallLog n) log_now data_now is)
   unprepared-comes stops turns script (SmallData n) log_now data_now is = inl (unprepared-told (SmallData n) log_now data_now is)
   unprepared-comes stops turns script NotFormatted log_now data_now is = absurd is.unprepared
@@ -288,7 +288,7 @@ module _ {L D : Type 0} {log_seen : L → Seen} {log_gives : L → Call → L �
       → ComesByTurnsTo log_seen log_gives data_seen data_gives log_entry data_entry stops turns script (unopened f) log_now data_now
   ended-comes turns script LogDev log_now data_now is = unopened-told LogDev log_now data_now is
   ended-comes turns script DataDev log_now data_now is = unopened-told DataDev log_now data_now is
-  ended-comes turns script NoMemory log_now data_now is = tt
+  ended-comes turns script NoMemory log_now data_now is = inr (inl (unopened-told NoMemory log_now data_now is))
   ended-comes turns script (SmallLog n) log_now data_now is = inr (unopened-told (SmallLog n) log_now data_now is)
   ended-comes turns script NotFormatted log_now data_now is = inr (unopened-told NotFormatted log_now data_now is)
   ended-comes turns script (BadFormat n) log_now data_now is = inr (unopened-told (BadFormat n) log_now data_now is)

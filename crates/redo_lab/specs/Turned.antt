@@ -7,7 +7,7 @@ use Rattle.model_command.specs.declared.asked.Drive.{Drive}
 use Rattle.model_device.specs.{IsImage}
 use Rattle.model_device.specs.Disk.{Disk}
 use Rattle.model_report.specs.declared.fault.Fault.{Fault}
-use Rattle.model_report.specs.declared.fault.Fault.TheVariants.{LogDevice, DataDevice, Store, Turns, Fit}
+use Rattle.model_report.specs.declared.fault.Fault.TheVariants.{Fit, Memory, LogDevice, DataDevice, Store, Turns}
 use Rattle.model_script.specs.declared.misfit.Misfit.{Misfit}
 use Rattle.model_script.specs.declared.script.ScriptLine.{ScriptLine}
 use Rattle.model_store.specs.{IsFair, IsReading, Opens}
@@ -33,7 +33,7 @@ use Rattle.redo_lab.specs.Crashed.{AreCrashedSince}
 use Rattle.redo_lab.specs.Opening.{ComesToUnopened, ComesToUnprepared, IsOpenedOn}
 use Rattle.redo_lab.specs.Outcome.{IsOutcome, IsOutcomePrinted}
 use Rattle.redo_lab.specs.Plain.{TellsFormat, TellsReading}
-use Rattle.redo_lab.specs.Playing.{IsUnfit, ended_by, played_of}
+use Rattle.redo_lab.specs.Playing.{IsUnfit, IsUnplayed, ended_by, played_of}
 use Rattle.redo_lab.specs.Prepared.{WhereTold}
 use Rattle.redo_lab.specs.Reported.{IsReportOf}
 use Rattle.redo_lab.specs.Reread.{AreReadFor, FailsReading}
@@ -54,7 +54,7 @@ pub record IsDriven {L D : Type 0} (log_seen : L → Seen) (log_gives : L → Ca
     (opened : Opened L D) (turns : drive.Turns) (script : List ScriptLine) (how : running.Ran) (played : Played)
     (log_now : L) (data_now : D) : Type 0 where
   pub driven : Driven L D
-  pub runs : RunsByTurns log_seen data_seen opened script turns driven
+  pub runs : RunsByTurns log_seen log_gives data_seen data_gives opened script turns driven
   pub how_is : driven.ended ≡ how
   pub played_is : played ≡ played_of opened.start driven.closed
   pub log_is : log_now ≡ driven.closed.log.dev
@@ -78,8 +78,15 @@ pub record IsDrivenOut {L D : Type 0} (log_seen : L → Seen) (log_gives : L →
   pub played : Played
   pub is_driven : IsDriven log_seen log_gives data_seen data_gives opened turns script (ended.Spent user) played log_now data_now
 
+-- All users ended so, and a device had no memory, but none failed.
+pub record IsDrivenShort {L D : Type 0} (log_seen : L → Seen) (log_gives : L → Call → L → Type 0) (data_seen : D → Seen) (data_gives : D → Call → D → Type 0)
+    (opened : Opened L D) (turns : drive.Turns) (script : List ScriptLine) (log_now : L) (data_now : D) : Type 0 where
+  pub played : Played
+  pub is_driven : IsDriven log_seen log_gives data_seen data_gives opened turns script ended.Done played log_now data_now
+  pub short : ended_by is_driven.driven.closed.log.failed is_driven.driven.closed.store.failed ≡ Some Memory
+
 -- how far a run came that the turns of the drive led, if any was begun; none is begun of a script that doesn't fit the opened
--- store, and of one that memory ran out for nothing is told
+-- store, or where there was no memory for it
 abbrev pub IsDrivenTo : {L D : Type 0} → (L → Seen) → (L → Call → L → Type 0) → (D → Seen) → (D → Call → D → Type 0)
     → Opened L D → drive.Turns → List ScriptLine → Course → L → D → Type 0
 IsDrivenTo log_seen log_gives data_seen data_gives opened turns script (course.Played played fault) log_now data_now =
@@ -88,8 +95,10 @@ IsDrivenTo log_seen log_gives data_seen data_gives opened turns script (course.E
     IsDrivenOut log_seen log_gives data_seen data_gives opened turns script count user log_now data_now
 IsDrivenTo log_seen log_gives data_seen data_gives opened turns script (course.Ended (Fit misfit)) log_now data_now =
     IsUnfit opened turns script misfit log_now data_now
-IsDrivenTo log_seen log_gives data_seen data_gives opened turns script (course.Ended _) log_now data_now = Unit {0}
-IsDrivenTo log_seen log_gives data_seen data_gives opened turns script (course.Stopped _) log_now data_now = Unit {0}
+IsDrivenTo log_seen log_gives data_seen data_gives opened turns script (course.Ended Memory) log_now data_now =
+    IsUnplayed opened log_now data_now ⊎ IsDrivenShort log_seen log_gives data_seen data_gives opened turns script log_now data_now
+IsDrivenTo log_seen log_gives data_seen data_gives opened turns script (course.Ended _) log_now data_now = ⊥
+IsDrivenTo log_seen log_gives data_seen data_gives opened turns script (course.Stopped _) log_now data_now = ⊥
 
 -- ON THE TWO DEVICES THAT WERE HANDED IN.
 
@@ -128,8 +137,18 @@ pub record ComesToMisfit {L D : Type 0} (log_seen : L → Seen) (log_gives : L �
   pub is_opened : IsOpenedOn log_seen log_gives data_seen data_gives log_entry data_entry stops opened
   pub unfit : IsUnfit opened turns script misfit log_now data_now
 
--- How far a run came on them that the turns of the drive led: a store was opened, and it came so far on that, or the script
--- doesn't fit it; or none was opened, and these calls led there. Of a run that memory ran out for nothing is told.
+-- A store was opened on them, and then memory ran out: for the run, of which no turn was taken, or over a call of a device.
+pub record ComesToShort {L D : Type 0} (log_seen : L → Seen) (log_gives : L → Call → L → Type 0) (data_seen : D → Seen) (data_gives : D → Call → D → Type 0)
+    (log_entry data_entry : Seen) (stops : Stops)
+    (turns : drive.Turns) (script : List ScriptLine) (log_now : Fused L) (data_now : Fused D) : Type 0 where
+  pub opened : Opened (Fused L) (Fused D)
+  pub is_opened : IsOpenedOn log_seen log_gives data_seen data_gives log_entry data_entry stops opened
+  pub short : IsUnplayed opened log_now data_now
+      ⊎ IsDrivenShort (seen_through log_seen) (CallsThrough log_seen log_gives) (seen_through data_seen) (CallsThrough data_seen data_gives)
+      opened turns script log_now data_now
+
+-- How far a run came on them that the turns of the drive led: a store was opened, and it came so far on that, or none was begun
+-- on it; or none was opened, and these calls led there.
 abbrev pub ComesByTurnsTo : {L D : Type 0} → (L → Seen) → (L → Call → L → Type 0) → (D → Seen) → (D → Call → D → Type 0)
     → (log_entry data_entry : Seen) → Stops → drive.Turns → List ScriptLine → Course → Fused L → Fused D → Type 0
 ComesByTurnsTo log_seen log_gives data_seen data_gives log_entry data_entry stops turns script (course.Played played fault) log_now data_now =
@@ -145,7 +164,11 @@ ComesByTurnsTo log_seen log_gives data_seen data_gives log_entry data_entry stop
 ComesByTurnsTo log_seen log_gives data_seen data_gives log_entry data_entry stops turns script (course.Ended (Store refusal)) log_now data_now =
     ComesToUnprepared log_seen log_gives data_seen data_gives log_entry data_entry (Store refusal) log_now data_now
     ⊎ ComesToUnopened log_seen log_gives data_seen data_gives log_entry data_entry stops (Store refusal) log_now data_now
-ComesByTurnsTo log_seen log_gives data_seen data_gives log_entry data_entry stops turns script (course.Ended _) log_now data_now = Unit {0}
+ComesByTurnsTo log_seen log_gives data_seen data_gives log_entry data_entry stops turns script (course.Ended Memory) log_now data_now =
+    ComesToUnprepared log_seen log_gives data_seen data_gives log_entry data_entry Memory log_now data_now
+    ⊎ ComesToUnopened log_seen log_gives data_seen data_gives log_entry data_entry stops Memory log_now data_now
+    ⊎ ComesToShort log_seen log_gives data_seen data_gives log_entry data_entry stops turns script log_now data_now
+ComesByTurnsTo log_seen log_gives data_seen data_gives log_entry data_entry stops turns script (course.Ended _) log_now data_now = ⊥
 ComesByTurnsTo log_seen log_gives data_seen data_gives log_entry data_entry stops turns script (course.Stopped fault) log_now data_now =
     ComesToUnopened log_seen log_gives data_seen data_gives log_entry data_entry stops fault log_now data_now
 
@@ -286,7 +309,7 @@ module _ {L D : Type 0} (log_seen : L → Seen) (log_gives : L → Call → L �
 
   -- What a run that came so far led to, by command. Where it ended by a fault of its own, that is the fault, and no device was
   -- called since. Else `crash` crashes the devices and reads them; `gen` reads them behind a run that no fault ended, and calls
-  -- nothing more behind one that a device ended; and of `run` there is a report, or, where opening was stopped, that fault.
+  -- nothing more behind one that a device ended; and of `run` there is a report, or no memory for it, or, where opening was stopped, that fault.
   abbrev pub FailsSince : Command → Course → Fault → Type 0
   FailsSince command (course.Ended met) fault = EndsThere log_then log_now data_then data_now met fault
   FailsSince (Crash drive stop_log stop_data pick) so_far fault =
@@ -296,6 +319,7 @@ module _ {L D : Type 0} (log_seen : L → Seen) (log_gives : L → Call → L �
   FailsSince (Gen seed users groups run max) (course.Played played (Some met)) fault = EndsThere log_then log_now data_then data_now met fault
   FailsSince (Gen seed users groups run max) (course.Played played None) fault =
       FailsReadSince AreReadSince fault × AreReadFor log_seen log_gives data_seen data_gives (outcome.Fault fault) log_then log_now data_then data_now
+  FailsSince (Run drive) (course.Played played met) Memory = EndsThere log_then log_now data_then data_now Memory Memory
   FailsSince command so_far fault = ⊥
 
 -- This fault ended such a run, or what the command does behind it.
@@ -309,16 +333,20 @@ pub record FailsAsHanded {L D : Type 0} (log_seen : L → Seen) (log_gives : L �
   pub comes : ComesAsHanded log_seen log_gives data_seen data_gives handed so_far log_then data_then
   pub fails : FailsSince log_seen log_gives log_crash_gives data_seen data_gives data_crash_gives log_then log_now data_then data_now handed.command so_far fault
 
+-- No device was called.
+pub record AreUncalled {L D : Type 0} (log_seen : L → Seen) (data_seen : D → Seen) (handed : Handed) (log_now : Fused L) (data_now : Fused D) : Type 0 where
+  pub log_device : IsLeftAlone handed.log_entry (guarded log_seen log_now)
+  pub data_device : IsLeftAlone handed.data_entry (guarded data_seen data_now)
+
 -- The source had more bytes than a script may have, where it tells, and no device was called.
 pub record IsTooLong {L D : Type 0} (log_seen : L → Seen) (data_seen : D → Seen) (handed : Handed) (misfit : Misfit)
     (log_now : Fused L) (data_now : Fused D) : Type 0 where
   pub reads : reads_script handed.command ≡ true
   pub long : IsLongScript handed.source misfit
-  pub log_device : IsLeftAlone handed.log_entry (guarded log_seen log_now)
-  pub data_device : IsLeftAlone handed.data_entry (guarded data_seen data_now)
+  pub uncalled : AreUncalled log_seen data_seen handed log_now data_now
 
--- What a fault's line alone tells of a run: where the turns were spent, the devices decided, or the script doesn't fit the store
--- that was opened. Memory may run out anywhere, and any other fault comes of reading the script.
+-- What a fault's line alone tells of a run: where the turns were spent, the devices decided, memory ran out, or the script doesn't
+-- fit the store that was opened. Any other fault comes of reading the script.
 abbrev pub TellsFault : {L D : Type 0} → (L → Seen) → (L → Call → L → Type 0) → (L → ℕ → L → Type 0)
     → (D → Seen) → (D → Call → D → Type 0) → (D → ℕ → D → Type 0)
     → Handed → Fault → Fused L → Fused D → Type 0
@@ -330,6 +358,9 @@ TellsFault log_seen log_gives log_crash_gives data_seen data_gives data_crash_gi
     FailsAsHanded log_seen log_gives log_crash_gives data_seen data_gives data_crash_gives handed (Store refusal) log_now data_now
 TellsFault log_seen log_gives log_crash_gives data_seen data_gives data_crash_gives handed (Fit misfit) log_now data_now =
     IsTooLong log_seen data_seen handed misfit log_now data_now ⊎ FailsAsHanded log_seen log_gives log_crash_gives data_seen data_gives data_crash_gives handed (Fit misfit) log_now data_now
+TellsFault log_seen log_gives log_crash_gives data_seen data_gives data_crash_gives handed Memory log_now data_now =
+    AreUncalled log_seen data_seen handed log_now data_now
+    ⊎ FailsAsHanded log_seen log_gives log_crash_gives data_seen data_gives data_crash_gives handed Memory log_now data_now
 TellsFault log_seen log_gives log_crash_gives data_seen data_gives data_crash_gives handed fault log_now data_now = Unit {0}
 
 -- the devices of a command that isn't `crash` aren't stopped
@@ -381,7 +412,7 @@ module _ {L D : Type 0} (log_seen : L → Seen) (log_gives : L → Call → L �
       TellsReading log_seen log_gives data_seen data_gives log_entry data_entry outcome log_now data_now
 
 -- What the words' command came to was printed; it means what it says of the call, and a run that it tells of is one by its
--- turns; where memory ran out nothing is told of the turns.
+-- turns.
 abbrev pub IsByTurns : {L D : Type 0} → (L → Seen) → (L → Call → L → Type 0) → (L → ℕ → L → Type 0)
     → (D → Seen) → (D → Call → D → Type 0) → (D → ℕ → D → Type 0)
     → LabCall → Fused L → Fused D → Type 0

@@ -4,6 +4,7 @@ use Rattle.redo_lab.specs.Outcome.{call_of}
 use Rattle.redo_lab.proofs.Found.{leaves-alone}
 use Rattle.redo_lab.proofs.Led.{alone-from}
 use Rattle.redo_lab.proofs.PlainEnds.{gen-unscripted}
+use Rattle.redo_lab.proofs.Turned.{gen-unscripted-told}
 use Rattle.redo_lab.proofs.gen_command.run_seed.Goals as goal
 
 pub run_script-requires : goal.run_script-requires
@@ -27,7 +28,12 @@ returns-in-Err-clause-ends g c = λ words source.
     (gen-unscripted _ c.args.seed c.args.users c.args.groups c.args.max alone refl (leaves-alone _ c.openable_reads.ensures alone))
 
 pub returns-in-Err-clause-turns : goal.returns-in-Err-clause-turns
-returns-in-Err-clause-turns g c = λ source. rw c.unasked.ensures.outcome_is tt
+returns-in-Err-clause-turns g c = λ source.
+    let unasked = c.unasked.ensures in
+    rw unasked.outcome_is
+    (gen-unscripted-told g.L.Sectors.seen g.L.Sectors.gives g.L.Sectors.crash_gives g.D.Sectors.seen g.D.Sectors.gives g.D.Sectors.crash_gives source source _ _ c.args.seed c.args.users c.args.groups c.args.max _ _
+    (record { seen = ap g.L.Sectors.seen unasked.log_inner; fuse = unasked.log_fuse })
+    (record { seen = ap g.D.Sectors.seen unasked.data_inner; fuse = unasked.data_fuse }))
 
 pub returns-in-Ok-clause-log_device : goal.returns-in-Ok-clause-log_device
 returns-in-Ok-clause-log_device g c = c.run_script.ensures.log_device
