@@ -37,16 +37,16 @@ OpensByHeader log_size data_size store (Reads at before answer header ∷ calls)
 OpensByHeader log_size data_size store (Writes write answer ∷ calls) = ⊥
 OpensByHeader log_size data_size store (Syncs answer ∷ calls) = ⊥
 
--- A byte of the header is written only where the log device failed, and then no sync behind that answered Ok. So no
--- checkpoint was made to stay.
+-- No checkpoint was made to stay: the header is written only where the log device failed, and no sync behind such a write
+-- answered Ok.
 pub record MarksNothing (fault : RecFault) (calls : List Call) : Type 0 where
   pub written : (i : ℕ) (write : Write) (answer : Result (Unit {0}) DevError)
       → slice_get calls i ≡ Some (Writes write answer) → write.at < HEADER_BYTES → fault ≡ LogDev
   pub unsynced : (i j : ℕ) (write : Write) (answer : Result (Unit {0}) DevError) (done : Unit {0}) → i < j
       → slice_get calls i ≡ Some (Writes write answer) → write.at < HEADER_BYTES → slice_get calls j ≡ Some (Syncs (Ok done)) → ⊥
 
--- The calls of the log device behind recovery: none is a read, they end so, and a fault other than want of memory leaves
--- no checkpoint that they made to stay.
+-- The calls of the log device behind recovery: none is a read, and they end so. Behind a fault other than want of memory
+-- no checkpoint was made to stay.
 pub record PutsLogOf (result : Result (Unit {0}) RecFault) (calls : List Call) : Type 0 where
   pub puts : PutsMayEndWith (log_error_of result) calls
   pub unmarked : IfErr result (λ fault. fault ≢ NoMemory → MarksNothing fault calls)
@@ -60,7 +60,7 @@ pub record PutsLogIn {L D : Type 0} (result : Answer L D) (calls : List Call) : 
 -- answered this error, if any did; where memory ran out they may all have answered Ok. No byte is read twice. Where the
 -- device has room for a header, the first of them reads that, and what it says is what is answered by, also of devices that
 -- don't tell. Where the store is refused they are reads alone. Where opening fails for anything but want of memory, which
--- may come when the checkpoint stands already, they made no checkpoint to stay.
+-- may come when the checkpoint stands already, no checkpoint was made to stay.
 pub record OpensLog {L D : Type 0} (log_size data_size : ℕ) (result : Answer L D) (calls : List Call) : Type 0 where
   pub ends : MayEndWith (log_error_in result) calls
   pub once : ReadOnce calls
