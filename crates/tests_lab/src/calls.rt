@@ -81,6 +81,13 @@ fn has_line(text: &str, wanted: &str) -> bool {
     text.lines().any(|line| line == wanted)
 }
 
+/// Whether a call ended with status 0 and printed these two lines, among others.
+pub(crate) fn prints(called: &Called, lines: [&str; 2]) -> Result<bool, Fail> {
+    let text = str::from_utf8(called.sink.bytes())?;
+    let [first, second] = lines;
+    Ok(called.status == 0 && has_line(text, first) && has_line(text, second))
+}
+
 /// Whether a call on devices that hold zeros ends with status 0 and prints these two lines, among others.
 pub(crate) fn has_lines(
     alloc: Global,
@@ -88,8 +95,5 @@ pub(crate) fn has_lines(
     script: &str,
     lines: [&str; 2],
 ) -> Result<bool, Fail> {
-    let called = call(alloc, words, script)?;
-    let text = str::from_utf8(called.sink.bytes())?;
-    let [first, second] = lines;
-    Ok(called.status == 0 && has_line(text, first) && has_line(text, second))
+    prints(&call(alloc, words, script)?, lines)
 }

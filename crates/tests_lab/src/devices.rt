@@ -125,6 +125,16 @@ fn put_copy(store: &mut MemDisk, slot: u64, lsn: u64) -> Result<(), DevError> {
     put(store, slot.saturating_mul(PAGE), &page_of(lsn))
 }
 
+/// What the first slot of a data device holds.
+pub(crate) fn first_slot<D: Sectors>(store: &mut D) -> Result<[u8; 4096], DevError> {
+    let mut slot = [0; 4096];
+    if store.len() < PAGE {
+        return Err(DevError::Failed);
+    }
+    store.read(0, &mut slot)?;
+    Ok(slot)
+}
+
 /// Changes devices as a name says; `same` leaves them, and any other name that isn't below is refused.
 pub(crate) fn change(devices: &mut Devices, name: &str) -> Result<(), DevError> {
     match name {

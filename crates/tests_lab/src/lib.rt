@@ -10,6 +10,8 @@ mod devices;
 #[cfg(test)]
 mod failures;
 #[cfg(test)]
+mod invalid_disk;
+#[cfg(test)]
 mod logs;
 #[cfg(test)]
 mod premises;

@@ -1,6 +1,7 @@
 // The premises of the crash theorem: one call where each holds, and what comes where one of them doesn't.
-use crate::calls::{LINE, calls_of_opening, has_lines, source_of, words_of};
-use crate::devices::{FIRST_BLOCK, SECOND_BLOCK};
+use crate::calls::{LINE, call, calls_of_opening, has_lines, prints, source_of, words_of};
+use crate::devices::{Devices, FIRST_BLOCK, SECOND_BLOCK, blank, first_slot};
+use crate::invalid_disk::InvalidDisk;
 use crate::silent_disk::{Harm, SilentDisk};
 use crate::tables::{expect, play, spelled};
 use crate::worn_disk::WornDisk;
@@ -8,6 +9,7 @@ use redo_disk::Sectors;
 use redo_io::MemSink;
 use redo_lab::{LOG_LENGTH, STORE_LENGTH, lab};
 use redo_memdisk::MemDisk;
+use redo_page::{PageState, check};
 use std::alloc::{AllocError, Global};
 use std::process::Abort;
 use std::test::Fail;
@@ -52,6 +54,32 @@ fn a_torn_page_that_passes_loses_its_bytes(rt: HostRuntime) -> Result<(), Fail> 
     Ok(())
 }
 
+/// The same batch, of which the write of the slots fails; page 3 is its first page, so slot 0 is its. Where the pick keeps the
+/// slot's first and last sectors, and so not the fourth, the slot passes its check though it is torn: the image isn't fair, since
+/// slots count in that too. But page 3's place is still blank and passes too, so the page is read from there and the log. The
+/// slot's copy then has the page's lsn and other bytes, so the store that is left isn't in order. The first sector alone doesn't
+/// pass, since the low half of the lsn stands in the last one.
+#[test]
+fn a_torn_slot_that_passes_loses_nothing(rt: HostRuntime) -> Result<(), Fail> {
+    let script = spelled(rt.alloc(), UNSEEN)?;
+    let page = spelled(rt.alloc(), "p 3 8216 (00*1962)f176ec0501")?;
+    let lines = ["g 8204 8216 1 0 flushed", page.as_str()];
+    for (pick, state, bytes) in [
+        (129, PageState::Sound(3, 1, 8216), [0; 5]),
+        (0, PageState::Blank, [0; 5]),
+        (1, PageState::Broken, [0; 5]),
+        (255, PageState::Sound(3, 1, 8216), [0xf1, 0x76, 0xec, 5, 1]),
+    ] {
+        let words = format!(in rt.alloc(); "crash --stop-data 10 --pick {pick}")?;
+        let mut called = call(rt.alloc(), &words, &script)?;
+        assert!(rt; prints(&called, lines)?, "at {pick}");
+        let slot = first_slot(&mut called.devices.store)?;
+        assert_eq!(rt; check(&slot), state, "at {pick}");
+        assert_eq!(rt; &slot[2000..2005], bytes.as_slice(), "at {pick}");
+    }
+    Ok(())
+}
+
 /// A device that is handed in with a write that isn't synced has two images. Formatting syncs both devices, so the call does what it
 /// does on devices that have one.
 #[test]
@@ -88,6 +116,10 @@ page pending  | crash                          | 2 f b1 4 101 9 | 0 | open 8716 
 ",
     )
 }
+
+/// What `crash` comes to on new devices with the one line.
+const FLUSHED: &str =
+    "0 | open 8204 / g 8204 8210 1 0 flushed / marks 8210 8210 8210 8192 / recovered 1 8210 / p 3 8210 (00*62)07";
 
 /// New devices that tell nothing, of which a sector may come to harm in a crash.
 fn silent_devices(
@@ -184,18 +216,89 @@ fn another_writer_is_not_seen(rt: HostRuntime) -> Result<(), Fail> {
     Ok(())
 }
 
-/// A call on devices that tell nothing prints what the same call prints on devices that tell.
+/// The same on the data device, over the first sector of page 3's place, which stands behind eight slots and three places. It
+/// doesn't pass its check then, since its last sector isn't zero, and the page is read from its copy and the log. But once slot 0
+/// has had page 4, and the checkpoint stands behind the group of page 3, that page is lost.
+#[test]
+fn another_writer_of_the_data_device_is_not_seen(rt: HostRuntime) -> Result<(), Fail> {
+    let run = "0 | open 8204 / g 8204 8210 1 0 flushed / marks 8210 8210 8210 8192";
+    let again = "0 | open 8716 / g 8716 8722 2 0 flushed / marks 8722 8722 8722 8704";
+    let read =
+        "0 | open 8716 / g 8716 8722 2 0 flushed / marks 8722 8722 8722 8704 / recovered 1 8722 / p 3 8722 (00*62)0708";
+    let harm = Some(Harm::Zeroed(11 * 4096));
+    let devices = silent_devices(rt.alloc(), None, harm)?;
+    let devices = expect_on(&rt, devices, "run", LINE, run)?;
+    expect_on(&rt, devices, "crash", "2 f b1 3 101 8", read)?;
+    let devices = silent_devices(rt.alloc(), None, harm)?;
+    let devices = expect_on(&rt, devices, "run", LINE, run)?;
+    let devices = expect_on(&rt, devices, "run", "2 f b1 4 100 8", again)?;
+    expect_on(
+        &rt,
+        devices,
+        "crash",
+        "3 f b1 5 100 9",
+        "8 | fault store lost 3",
+    )?;
+    Ok(())
+}
+
+/// New devices that tell what they hold, which end behind a sector, or which tell of a write of fewer bytes than a sector. They have
+/// one image all the same, and `crash` does what it does on valid ones.
+#[test]
+fn parts_of_sectors_change_nothing(rt: HostRuntime) -> Result<(), Fail> {
+    let log = InvalidDisk::new(rt.alloc(), LOG_LENGTH + 100)?;
+    let store = InvalidDisk::new(rt.alloc(), STORE_LENGTH + 100)?;
+    expect_on(&rt, (log, store), "crash", LINE, FLUSHED)?;
+    let log = InvalidDisk::new(rt.alloc(), LOG_LENGTH)?.with_part_write()?;
+    let store = InvalidDisk::new(rt.alloc(), STORE_LENGTH)?.with_part_write()?;
+    expect_on(&rt, (log, store), "crash", LINE, FLUSHED)?;
+    Ok(())
+}
+
+/// The block of the log's only group, which no page has, reads as it was written, but at the last sync it was zeros, and no write
+/// since is told: what reads give is no image. Opening reads the group. It makes two reads of the log device and 16 writes of zeros
+/// behind the first block, then a sync, and the checkpoint's write. Where that sync is stopped the crash leaves the zeros, and what
+/// was flushed is lost. Behind the sync the group is there.
+#[test]
+fn reads_that_are_no_image_are_lost(rt: HostRuntime) -> Result<(), Fail> {
+    for (words, outcome) in [
+        (
+            "crash --stop-log 18",
+            "0 | open none / left 2 1 / recovered 0 8204",
+        ),
+        (
+            "crash --stop-log 19",
+            "0 | open none / left 2 1 / recovered 0 8210 / p 3 8210 (00*62)07",
+        ),
+        (
+            "crash",
+            "0 | open 8716 / g 8716 8722 2 0 flushed / marks 8722 8722 8722 8704 / recovered 1 8722 / p 3 8210 (00*62)07 / p 4 8722 (00*62)08",
+        ),
+    ] {
+        let log = InvalidDisk::new(rt.alloc(), LOG_LENGTH)?;
+        let store = InvalidDisk::new(rt.alloc(), STORE_LENGTH)?;
+        let run = "0 | open 8204 / g 8204 8210 1 0 flushed / marks 8210 8210 8210 8192";
+        let (mut log, store) = expect_on(&rt, (log, store), "run --log-only", LINE, run)?;
+        log.forget(FIRST_BLOCK);
+        expect_on(&rt, (log, store), words, "2 f b1 4 100 8", outcome)?;
+    }
+    Ok(())
+}
+
+/// A call prints the same whether both devices tell what they hold, one of the two does, or neither.
 #[test]
 fn devices_that_tell_nothing_serve_as_well(rt: HostRuntime) -> Result<(), Fail> {
-    let outcome =
-        "0 | open 8204 / g 8204 8210 1 0 flushed / marks 8210 8210 8210 8192 / recovered 1 8210 / p 3 8210 (00*62)07";
     let devices = silent_devices(rt.alloc(), None, None)?;
-    expect_on(&rt, devices, "crash", LINE, outcome)?;
+    expect_on(&rt, devices, "crash", LINE, FLUSHED)?;
+    let (silent_log, silent_store) = silent_devices(rt.alloc(), None, None)?;
+    let Devices { log, store } = blank(rt.alloc())?;
+    expect_on(&rt, (log, silent_store), "crash", LINE, FLUSHED)?;
+    expect_on(&rt, (silent_log, store), "crash", LINE, FLUSHED)?;
     Ok(())
 }
 
 /// The first sync behind opening fails, on a log device whose count of faults can't rise. The line is lost, as on one whose
-/// count does.
+/// count does. On such a data device the first call of formatting fails.
 #[test]
 fn a_count_at_its_end(rt: HostRuntime) -> Result<(), Fail> {
     let alloc = rt.alloc();
@@ -209,5 +312,10 @@ fn a_count_at_its_end(rt: HostRuntime) -> Result<(), Fail> {
     let outcome =
         "0 | open 8204 / g 8204 8210 1 0 lost / left 1 1 / marks 8210 8210 8204 8192 / recovered 0 8204";
     expect_on(&rt, (log, store), "crash", script, outcome)?;
+    let log = MemDisk::new(alloc, LOG_LENGTH)?;
+    let store = WornDisk {
+        inner: MemDisk::failing(alloc, STORE_LENGTH, vec![in alloc; 0]?)?,
+    };
+    expect_on(&rt, (log, store), "crash", script, "7 | fault data device")?;
     Ok(())
 }

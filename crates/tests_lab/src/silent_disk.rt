@@ -60,7 +60,7 @@ fn copy_half(from: &[u8], to: &mut [u8], at: usize)
 }
 
 /// Fills the sector at this offset with zeros, where there is one.
-fn zero_sector(bytes: &mut [u8], at: usize) {
+pub(crate) fn zero_sector(bytes: &mut [u8], at: usize) {
     if at < bytes.len() && SECTOR <= bytes.len() - at {
         bytes[at..at + SECTOR].fill(0);
     }
