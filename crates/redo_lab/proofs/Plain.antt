@@ -1,5 +1,5 @@
 -- What a command that runs no script tells of the calls of both devices.
-use Rattle.std.proofs.Common.{List, Result, Ok, Err, refl}
+use Rattle.std.proofs.Common.{List, Result, Ok, Err, refl, inr, inl}
 use Rattle.redo_disk.specs.{Call}
 use Rattle.redo_disk.specs.Seen.{Seen}
 use Rattle.redo_memdisk.specs.declared.fused.Fused.{Fused}
@@ -18,7 +18,7 @@ module _ {L D : Type 0} {log_seen : L → Seen} {log_gives : L → Call → L �
   pub format-told : {E : Type 0} (text : Result (List _) E) → AreFormattedWith log_seen log_gives data_seen data_gives log_entry data_entry (Ok tt) log_now data_now
       → TellsFormat log_seen log_gives data_seen data_gives log_entry data_entry (outcome_of text) log_now data_now
   format-told (Ok text) formatted = formatted
-  format-told (Err error) formatted = tt
+  format-told (Err error) formatted = inr (inl formatted)
 
   -- they weren't, for this fault
   failed : (f : RecFault) → AreFormattedWith log_seen log_gives data_seen data_gives log_entry data_entry (Err f) log_now data_now
@@ -27,7 +27,7 @@ module _ {L D : Type 0} {log_seen : L → Seen} {log_gives : L → Call → L �
 
   pub format-untold : (f : RecFault) → AreFormattedWith log_seen log_gives data_seen data_gives log_entry data_entry (Err f) log_now data_now
       → TellsFormat log_seen log_gives data_seen data_gives log_entry data_entry (outcome.Fault (fault_of f)) log_now data_now
-  format-untold NoMemory formatted = tt
+  format-untold NoMemory formatted = inr (inr (failed NoMemory formatted))
   format-untold LogDev formatted = failed LogDev formatted
   format-untold DataDev formatted = failed DataDev formatted
   format-untold (SmallLog n) formatted = failed (SmallLog n) formatted
@@ -42,5 +42,5 @@ module _ {L D : Type 0} {log_seen : L → Seen} {log_gives : L → Call → L �
   -- the store was read, or wasn't
   pub reading-told : (became : Outcome) → IsReadFor log_seen log_gives data_seen data_gives log_entry data_entry became log_now data_now
       → TellsReading log_seen log_gives data_seen data_gives log_entry data_entry became log_now data_now
-  reading-told (outcome.Fault fault.Memory) read = tt
+  reading-told (outcome.Fault fault.Memory) read = inr read
   reading-told became read = read

@@ -367,13 +367,13 @@ module _ {L D : Type 0} {log_seen : L → Seen} {log_gives : L → Call → L �
 module _ {L D : Type 0} (log_seen : L → Seen) (log_gives : L → Call → L → Type 0) (log_crash_gives : L → ℕ → L → Type 0) (data_seen : D → Seen) (data_gives : D → Call → D → Type 0) (data_crash_gives : D → ℕ → D → Type 0) (source source_now : SourceSeen) (log_entry data_entry : Seen) where
   memory-untold : (command : Command) (log_now : Fused L) (data_now : Fused D) → IsLeftAlone log_entry (guarded log_seen log_now) → IsLeftAlone data_entry (guarded data_seen data_now)
       → TellsByTurns log_seen log_gives log_crash_gives data_seen data_gives data_crash_gives source source_now log_entry data_entry command (outcome.Fault fault.Memory) log_now data_now
-  memory-untold (Format pages space log_blocks) log_now data_now log_alone data_alone = tt
+  memory-untold (Format pages space log_blocks) log_now data_now log_alone data_alone = inl (record { log_device = log_alone; data_device = data_alone })
   memory-untold (Run drive) log_now data_now log_alone data_alone = inl (record { log_device = log_alone; data_device = data_alone })
   memory-untold (Crash drive stop_log stop_data pick) log_now data_now log_alone data_alone = inl (record { log_device = log_alone; data_device = data_alone })
-  memory-untold Recover log_now data_now log_alone data_alone = tt
-  memory-untold Dump log_now data_now log_alone data_alone = tt
+  memory-untold Recover log_now data_now log_alone data_alone = inl (record { log_device = log_alone; data_device = data_alone })
+  memory-untold Dump log_now data_now log_alone data_alone = inl (record { log_device = log_alone; data_device = data_alone })
   memory-untold (Gen seed users groups true max) log_now data_now log_alone data_alone = inl (record { log_device = log_alone; data_device = data_alone })
-  memory-untold (Gen seed users groups false max) log_now data_now log_alone data_alone = tt
+  memory-untold (Gen seed users groups false max) log_now data_now log_alone data_alone = record { log_device = log_alone; data_device = data_alone }
 
   pub gen-unscripted-told : (seed users groups max : ℕ) (log_now : Fused L) (data_now : Fused D) → IsLeftAlone log_entry (guarded log_seen log_now) → IsLeftAlone data_entry (guarded data_seen data_now)
       → TellsByTurns log_seen log_gives log_crash_gives data_seen data_gives data_crash_gives source source_now log_entry data_entry (Gen seed users groups true max) (outcome.Fault fault.Memory) log_now data_now

@@ -43,7 +43,7 @@ pub record AreKept (call : Call) : Type 0 where
   pub log_device : IsKept call.log_device call.log_device_now
   pub data_device : IsKept call.data_device call.data_device_now
 
--- no call of the device was made
+-- it is seen as it was, behind a fuse that saw no call
 pub record IsLeftAlone (old : Seen) (new : Guarded) : Type 0 where
   pub seen : new.seen ≡ old
   pub fuse : new.fuse ≡ fresh

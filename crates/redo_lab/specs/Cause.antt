@@ -250,8 +250,8 @@ LeavesStopped call =
     × (AreNotArmed call ⊎ (IsFoundKept call × IsOpenedFirst call call.log_device_now.seen.tells None))
 
 -- WHAT A CRASH LEAVES that isn't reported. The fuses were armed before opening; where that came to its end a run took place, and
--- else none. Where both devices told, what was left is read as a prefix of it, and a store in use that is refused was as it had
--- been handed in just before the crash.
+-- else none. On fresh devices that told, and that open a store, new or in order, what was left is read as a prefix of it, if that
+-- is fair. Where both told, a store in use that is refused was as it had been handed in just before the crash.
 pub record LeavesCrash (call : Call) (command : Command) : Type 0 where
   pub pick : ℕ
   pub picked : pick_of command ≡ Some pick

@@ -129,7 +129,7 @@ pub record AreUnstarted (log_entry data_entry : Seen) (stops : Stops) (log_now d
   pub keeps : KeepsFound way.log_found way.data_found log_now data_now
   pub kept : KeepsRefusedStore log_entry data_entry log_now data_now
 
--- MEMORY RAN OUT over a run: a call of a device had none.
+-- MEMORY RAN OUT over a run, and no call failed.
 pub record HasRunOut (log_entry data_entry : Seen) (stops : Stops) (log_only : Bool) (script : List ScriptLine)
     (log_now data_now : Guarded) : Type 0 where
   pub run : Ran

@@ -1,6 +1,6 @@
 -- What led both devices to an opened store, or to none: which calls, from when they were handed in, and from when their fuses
 -- were armed.
-use Rattle.std.specs.Prelude.{ℕ, ◌≡◌, Ok, Err}
+use Rattle.std.specs.Prelude.{ℕ, ◌≡◌, Bool, Ok, Err}
 use Rattle.model_log.specs.{start_after}
 use Rattle.model_opening.specs.{IsOpenable}
 use Rattle.model_report.specs.declared.fault.Fault.{Fault}
@@ -24,30 +24,32 @@ use Rattle.redo_lab.specs.Prepared.{IsUnpreparedBy, PreparesData, PreparesLog, W
 use Rattle.redo_lab.specs.Store.{IsOpenedAs}
 use Rattle.redo_lab.specs.declared.playing.Stops.{Stops}
 
--- THE DEVICES WEREN'T PREPARED, for this fault: one of them failed, or is too short for a header or for a new store. Since both
--- were handed in all calls of them answered Ok, but for the last one of the device that failed, if one did. Where one is too
--- short, those of the log device are reads, and there are none of the data device.
+-- THE DEVICES WEREN'T PREPARED, for this fault: one of them failed, or is too short for a header or for a new store, or memory ran
+-- out. Since both were handed in all calls of them answered Ok, but for the last one of the device that failed, or had no memory,
+-- if one did. Where one is too short the log device was called once at the most, for a read, and the data device wasn't.
 pub record ComesToUnprepared {L D : Type 0} (log_seen : L → Seen) (log_gives : L → Call → L → Type 0) (data_seen : D → Seen) (data_gives : D → Call → D → Type 0)
     (log_entry data_entry : Seen) (fault : Fault) (log_now : Fused L) (data_now : Fused D) : Type 0 where
   pub met : RecFault
   pub fault_is : fault ≡ fault_of met
   pub unprepared : IsUnpreparedBy log_entry data_entry met (guarded log_seen log_now) (guarded data_seen data_now)
-  pub log_device : ComesFromEntry log_seen log_gives log_entry (PreparesLog log_entry.size (Err met)) log_now
-  pub data_device : ComesFromEntry data_seen data_gives data_entry (PreparesData (Err met)) data_now
+  pub formats : Bool
+  pub log_device : ComesFromEntry log_seen log_gives log_entry (PreparesLog log_entry.size formats (Err met)) log_now
+  pub data_device : ComesFromEntry data_seen data_gives data_entry (PreparesData formats (Err met)) data_now
 
--- OPENING ANSWERED this. Both devices were prepared by such calls, and their fuses armed; and all calls since then are of an
--- opening that answered so: they end as that asks, the log device's first one read the header, by which it was answered, no byte
--- was read twice, and they wrote what an opening may write.
+-- OPENING ANSWERED this. Both devices were prepared by such calls, and their fuses armed; and all calls since then are told of by
+-- the contract of an opening that answered so: how they end, that the log device's first one read the header, by which it was
+-- answered, what else was read, and what of the writes.
 pub record ComesToAnswer {L D : Type 0} (log_seen : L → Seen) (log_gives : L → Call → L → Type 0) (data_seen : D → Seen) (data_gives : D → Call → D → Type 0)
     (log_entry data_entry : Seen) (stops : Stops) (answer : Answer (Fused L) (Fused D)) : Type 0 where
   pub way : AreUnderWay log_entry data_entry stops (failures (log_error_in answer)) (failures (data_error_in answer))
       (guarded log_seen (log_left answer)) (guarded data_seen (data_left answer))
+  pub formats : Bool
   pub log_device : ComesFromArming log_seen log_gives stops.log log_entry way.log_found
-      (PreparesLog log_entry.size (Ok tt)) (OpensLog log_entry.size data_entry.size answer) (log_left answer)
+      (PreparesLog log_entry.size formats (Ok tt)) (λ armed. OpensLog log_entry.size data_entry.size answer) (log_left answer)
   pub data_device : ComesFromArming data_seen data_gives stops.store data_entry way.data_found
-      (PreparesData (Ok tt)) (OpensData way.log_found.seen.tells way.data_found.seen.tells answer) (data_left answer)
+      (PreparesData formats (Ok tt)) (λ armed. OpensData way.log_found.seen.tells way.data_found.seen.tells answer) (data_left answer)
 
--- OPENING LED TO NO STORE, for this fault: a device failed, or the store was refused.
+-- OPENING LED TO NO STORE, for this fault: a device failed, the store was refused, or memory ran out.
 pub record ComesToUnopened {L D : Type 0} (log_seen : L → Seen) (log_gives : L → Call → L → Type 0) (data_seen : D → Seen) (data_gives : D → Call → D → Type 0)
     (log_entry data_entry : Seen) (stops : Stops) (fault : Fault) (log_now : Fused L) (data_now : Fused D) : Type 0 where
   pub met : RecFault

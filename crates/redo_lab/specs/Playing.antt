@@ -173,7 +173,7 @@ pub record AreSpentOn {L D : Type 0} (log_seen : L → Seen) (log_gives : L → 
   pub holds : HoldsRunOn log_seen data_seen opened script played log_now data_now
   pub leaves : LeavesOpen script played.history ((log_error ≢ None) ⊎ (data_error ≢ None)) user
 
--- A device had no memory, and no call failed for another reason.
+-- Memory ran out, and no call failed.
 pub record HasRunOutOn {L D : Type 0} (log_seen : L → Seen) (log_gives : L → Call → L → Type 0)
     (data_seen : D → Seen) (data_gives : D → Call → D → Type 0)
     (opened : Opened L D) (turns : Turns) (script : List ScriptLine) (log_now : L) (data_now : D) : Type 0 where

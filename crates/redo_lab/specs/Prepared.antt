@@ -1,6 +1,6 @@
 -- The two devices once a run has prepared them: where both told what they mean when they were handed in, formatted with the
 -- default sizes, if the log device was unused, else as they were; and the calls that this took, also of devices that don't tell.
-use Rattle.std.specs.Prelude.{ℕ, ◌≡◌, ◌≢◌, ◌≤◌, ◌<◌, ◌⊎◌, ◌↔◌, Bool, IsTrue, List, [], ◌∷◌, length, replicate, Some, Result, Ok, Err, IfErr, IfSome}
+use Rattle.std.specs.Prelude.{ℕ, ◌≡◌, ◌≢◌, ◌≤◌, ◌<◌, ◌⊎◌, ◌↔◌, Bool, true, false, IsTrue, List, [], ◌∷◌, length, replicate, Some, Result, Ok, Err, IfErr, IfSome}
 use Rattle.model_base.specs.{default_shape}
 use Rattle.model_base.specs.declared.limits.TheConstants.{BLOCK_SIZE}
 use Rattle.model_device.specs.Disk.{Disk}
@@ -9,7 +9,7 @@ use Rattle.model_opening.specs.{IsFormatted, KeepsNoStore}
 use Rattle.model_store.specs.{IsUnused}
 use Rattle.model_store.specs.declared.refusal.Refusal.{Refusal}
 use Rattle.model_store.specs.declared.refusal.Refusal.TheVariants as refusal
-use Rattle.redo_disk.specs.{AreReads, Call, HasSize, MayEndWith, Reads, ReadsEndWith, Syncs, Writes, error_of}
+use Rattle.redo_disk.specs.{Call, HasSize, MakesCalls, MayEndWith, Reads, ReadsEndWith, Syncs, Writes, error_of}
 use Rattle.redo_disk.specs.Seen.{Seen}
 use Rattle.redo_disk.specs.declared.error.DevError.{DevError}
 use Rattle.redo_open.specs.{WhereBothTell}
@@ -113,29 +113,40 @@ abbrev pub Prepares : Seen → Seen → Result (Unit {0}) RecFault → Guarded �
 Prepares log_entry data_entry (Ok done) log_now data_now = ArePrepared log_entry data_entry log_now data_now
 Prepares log_entry data_entry (Err fault) log_now data_now = IsUnpreparedBy log_entry data_entry fault log_now data_now
 
--- Behind the first block other calls follow only if it is all zero, and then alone preparing ends early.
-abbrev pub IsByBlock : List ℕ → Result (Unit {0}) RecFault → List Call → Type 0
-IsByBlock block (Ok done) rest = rest ≢ [] → block ≡ replicate BLOCK_SIZE 0
-IsByBlock block (Err fault) rest = block ≡ replicate BLOCK_SIZE 0
+-- The first block was read as this: both devices are formatted just where it is all zero. Where they aren't, the device is
+-- called no more; nor where one of them is too short for that.
+abbrev pub IsByBlock : List ℕ → (formats : Bool) → Result (Unit {0}) RecFault → List Call → Type 0
+IsByBlock block true result rest =
+    (block ≡ replicate BLOCK_SIZE 0) × IfErr result (λ fault. IfSome (refusal_of fault) (λ _. rest ≡ []))
+IsByBlock block false result rest = (block ≢ replicate BLOCK_SIZE 0) × (rest ≡ []) × (result ≡ Ok tt)
 
--- The first call reads the first block, and what it reads decides whether both devices are formatted. A log device that has no
--- room for a header isn't called.
-abbrev pub JudgesBlock : ℕ → Result (Unit {0}) RecFault → List Call → Type 0
-JudgesBlock log_size result [] = (log_size < HEADER_BYTES) × (result ≡ Err (SmallLog HEADER_BYTES))
-JudgesBlock log_size result (Reads at before (Ok done) block ∷ rest) = (at ≡ 0) × (length before ≡ BLOCK_SIZE) × IsByBlock block result rest
-JudgesBlock log_size result (Reads at before (Err error) block ∷ rest) = (at ≡ 0) × (length before ≡ BLOCK_SIZE)
-JudgesBlock log_size result (Writes write answer ∷ rest) = ⊥
-JudgesBlock log_size result (Syncs answer ∷ rest) = ⊥
+-- A log device that has no room for a header isn't called. Of another one the first call reads the first block, which decides
+-- whether both devices are formatted.
+abbrev pub JudgesBlock : ℕ → (formats : Bool) → Result (Unit {0}) RecFault → List Call → Type 0
+JudgesBlock log_size formats result [] = (log_size < HEADER_BYTES) × (formats ≡ false) × (result ≡ Err (SmallLog HEADER_BYTES))
+JudgesBlock log_size formats result (Reads at before (Ok done) block ∷ rest) =
+    (HEADER_BYTES ≤ log_size) × (at ≡ 0) × (length before ≡ BLOCK_SIZE) × IsByBlock block formats result rest
+JudgesBlock log_size formats result (Reads at before (Err error) block ∷ rest) =
+    (HEADER_BYTES ≤ log_size) × (at ≡ 0) × (length before ≡ BLOCK_SIZE) × (formats ≡ false)
+JudgesBlock log_size formats result (Writes write answer ∷ rest) = ⊥
+JudgesBlock log_size formats result (Syncs answer ∷ rest) = ⊥
 
--- The calls that preparing makes of a log device of this size: all answered Ok, but for the last one, where the device failed.
--- Where memory ran out that may have been the last one's answer, or all answered Ok. What the first block reads as is what is
--- gone by. Where a device is too short they are reads alone.
-pub record PreparesLog (log_size : ℕ) (result : Result (Unit {0}) RecFault) (calls : List Call) : Type 0 where
+-- The calls that preparing makes of a log device of this size, where it formats both, or doesn't: all answered Ok, but for the
+-- last one, where the device failed. Where memory ran out that may have been the last one's answer, or all answered Ok.
+pub record PreparesLog (log_size : ℕ) (formats : Bool) (result : Result (Unit {0}) RecFault) (calls : List Call) : Type 0 where
   pub ends : MayEndWith (log_error_of result) calls
-  pub judged : JudgesBlock log_size result calls
-  pub unwritten : IfErr result (λ fault. IfSome (refusal_of fault) (λ _. AreReads calls))
+  pub judged : JudgesBlock log_size formats result calls
 
--- Those of the data device end so too, by its own failure. Where a device is too short there are none.
-pub record PreparesData (result : Result (Unit {0}) RecFault) (calls : List Call) : Type 0 where
+-- Those of the data device end so too, by its own failure. Where both aren't formatted there are none; nor where one is too
+-- short.
+pub record PreparesData (formats : Bool) (result : Result (Unit {0}) RecFault) (calls : List Call) : Type 0 where
   pub ends : MayEndWith (data_error_of result) calls
+  pub unformatted : formats ≡ false → calls ≡ []
   pub uncalled : IfErr result (λ fault. IfSome (refusal_of fault) (λ _. calls ≡ []))
+
+-- Both devices were called so, from these to those.
+pub record ArePreparedBy {L D : Type 0} (log_gives : L → Call → L → Type 0) (data_gives : D → Call → D → Type 0) (log_size : ℕ)
+    (result : Result (Unit {0}) RecFault) (log_old log_new : L) (data_old data_new : D) : Type 0 where
+  pub formats : Bool
+  pub log_device : MakesCalls log_gives log_old log_new (PreparesLog log_size formats result)
+  pub data_device : MakesCalls data_gives data_old data_new (PreparesData formats result)

@@ -1,4 +1,4 @@
--- A run that is told is the run by the turns of its drive: those of its seed, as many as it allows, on the store that was
+-- A run that is told is the run by the turns of its drive: those of its seed, at most as many as it allows, on the store that was
 -- opened on the two devices that were handed in.
 use Rattle.std.specs.Prelude.{ℕ, ◌≡◌, ◌⊎◌, true, false, List, Option, Some, None}
 use Rattle.model_command.specs.declared.asked.Command.{Command}
@@ -32,7 +32,7 @@ use Rattle.redo_lab.specs.Course.{ComesTo, ran_of}
 use Rattle.redo_lab.specs.Crashed.{AreCrashedSince}
 use Rattle.redo_lab.specs.Opening.{ComesToUnopened, ComesToUnprepared, IsOpenedOn}
 use Rattle.redo_lab.specs.Outcome.{IsOutcome, IsOutcomePrinted}
-use Rattle.redo_lab.specs.Plain.{TellsFormat, TellsReading}
+use Rattle.redo_lab.specs.Plain.{AreUncalledPlain, TellsFormat, TellsReading}
 use Rattle.redo_lab.specs.Playing.{IsUnfit, IsUnplayed, ended_by, played_of}
 use Rattle.redo_lab.specs.Prepared.{WhereTold}
 use Rattle.redo_lab.specs.Reported.{IsReportOf}
@@ -137,7 +137,7 @@ pub record ComesToMisfit {L D : Type 0} (log_seen : L → Seen) (log_gives : L �
   pub is_opened : IsOpenedOn log_seen log_gives data_seen data_gives log_entry data_entry stops opened
   pub unfit : IsUnfit opened turns script misfit log_now data_now
 
--- A store was opened on them, and then memory ran out: for the run, of which no turn was taken, or over a call of a device.
+-- A store was opened on them, and then memory ran out: for the run, of which no call was made, or over a call of a device.
 pub record ComesToShort {L D : Type 0} (log_seen : L → Seen) (log_gives : L → Call → L → Type 0) (data_seen : D → Seen) (data_gives : D → Call → D → Type 0)
     (log_entry data_entry : Seen) (stops : Stops)
     (turns : drive.Turns) (script : List ScriptLine) (log_now : Fused L) (data_now : Fused D) : Type 0 where
@@ -211,7 +211,7 @@ AreReadAsPrefix handed script run log_then data_then = (opened : values.Opened) 
     → ReadsPrefix script opened (Some run) log_bytes data_bytes))
 
 -- The script was run by turns; this fault ended the run, if one did, and then the devices were these. On devices of the theorem
--- whatever a crash would leave of them is read as a prefix of that very run.
+-- whatever a crash would leave of them is read as a prefix of that very run, if the data device's image is fair.
 pub record RunsAsHanded {L D : Type 0} (log_seen : L → Seen) (log_gives : L → Call → L → Type 0) (data_seen : D → Seen) (data_gives : D → Call → D → Type 0)
     (handed : Handed) (fault : Option Fault)
     (log_then : Fused L) (data_then : Fused D) : Type 0 where
@@ -245,7 +245,7 @@ pub record AreReadAsLeft {L D : Type 0} (log_seen : L → Seen) (data_seen : D �
       ((data_seen (inner_of data_then)).tells ≡ Some data_crashed → (data_seen (inner_of data_now)).tells ≡ Some data_left
       → IsFair opened.shape data_crashed data_left.reads → IsPrefixRead script opened run reading)
 
--- The text of `crash` reports a run by turns: the devices were crashed at its end, whatever ended it, and then read.
+-- The text of `crash` reports a run by turns: the devices were crashed at its end, whether a device ended it or not, and then read.
 pub record TellsCrash {L D : Type 0} (log_seen : L → Seen) (log_gives : L → Call → L → Type 0) (log_crash_gives : L → ℕ → L → Type 0)
     (data_seen : D → Seen) (data_gives : D → Call → D → Type 0) (data_crash_gives : D → ℕ → D → Type 0)
     (handed : Handed) (pick : ℕ) (text : List ℕ) (log_now : Fused L) (data_now : Fused D) : Type 0 where
@@ -291,7 +291,7 @@ pub record TellsSummary {L D : Type 0} (log_seen : L → Seen) (log_gives : L �
   pub prefix : (opened : values.Opened) → WhereHandedOpens handed opened (IsPrefixRead runs.comes.script opened (Some (ran_of runs.played)) reading)
   pub text_is : text ≡ summary_of (ran_of runs.played) reading
 
--- the run met this fault, and nothing was done since
+-- the fault is this one, and no device was called since
 pub record EndsThere {L D : Type 0} (log_then log_now : Fused L) (data_then data_now : Fused D) (met fault : Fault) : Type 0 where
   pub fault_is : fault ≡ met
   pub log_device : log_now ≡ log_then
@@ -383,7 +383,8 @@ module _ {L D : Type 0} (log_seen : L → Seen) (log_gives : L → Call → L �
   }
 
   -- What a command's outcome tells of a run is so of one by its turns. Spent turns have no report, and `crash` and `gen` print
-  -- none before a fault's line. A command that runs no script tells its calls; `gen` without a run makes none (`IsGenerated`). Of a command that runs no script it tells its calls.
+  -- none before a fault's line. Of `format`, `recover` and `dump` it tells the calls, and of `gen` without a run that there were
+  -- none.
   abbrev pub TellsByTurns : Command → Outcome → Fused L → Fused D → Type 0
   TellsByTurns (Run drive) (outcome.Text text) log_now data_now =
       TellsRun log_seen log_gives data_seen data_gives (handed_as (Run drive) no_stops drive) None text log_now data_now
@@ -403,7 +404,8 @@ module _ {L D : Type 0} (log_seen : L → Seen) (log_gives : L → Call → L �
   TellsByTurns (Gen seed users groups true max) (outcome.Report text fault) log_now data_now = ⊥
   TellsByTurns (Gen seed users groups true max) (outcome.Fault fault) log_now data_now =
       TellsFault log_seen log_gives log_crash_gives data_seen data_gives data_crash_gives (handed_as (Gen seed users groups true max) no_stops (drive_of_seed seed max)) fault log_now data_now
-  TellsByTurns (Gen seed users groups false max) outcome log_now data_now = Unit {0}
+  TellsByTurns (Gen seed users groups false max) outcome log_now data_now =
+      AreUncalledPlain log_seen log_gives data_seen data_gives log_entry data_entry log_now data_now
   TellsByTurns (Format pages space log_blocks) outcome log_now data_now =
       TellsFormat log_seen log_gives data_seen data_gives log_entry data_entry outcome log_now data_now
   TellsByTurns Recover outcome log_now data_now =
@@ -411,7 +413,7 @@ module _ {L D : Type 0} (log_seen : L → Seen) (log_gives : L → Call → L �
   TellsByTurns Dump outcome log_now data_now =
       TellsReading log_seen log_gives data_seen data_gives log_entry data_entry outcome log_now data_now
 
--- What the words' command came to was printed; it means what it says of the call, and a run that it tells of is one by its
+-- What the words' command came to was to be printed; it means what it says of the call, and a run that it tells of is one by its
 -- turns.
 abbrev pub IsByTurns : {L D : Type 0} → (L → Seen) → (L → Call → L → Type 0) → (L → ℕ → L → Type 0)
     → (D → Seen) → (D → Call → D → Type 0) → (D → ℕ → D → Type 0)

@@ -72,7 +72,7 @@ fn crash_and_read<L: Sectors, D: Sectors>(
 }
 
 /// Runs the script as the drive asks with these stops, crashes both devices with this pick, reads the store, and reports it
-/// all. A device that fails before the crash ends the run and not the command.
+/// all. A device that fails from the arming of its fuse to the crash ends the run and not the command.
 pub(crate) fn crash_command<L: Sectors, D: Sectors>(
     alloc: Global,
     script: &Script,

@@ -1,5 +1,5 @@
 // The run of a script on two devices: they are prepared and opened, the script is judged, and its lines are run.
-ghost use Rattle.std.specs.Prelude.{◌≡◌, ◌≤◌, ◌<◌, ◌^◌, Ok};
+ghost use Rattle.std.specs.Prelude.{◌≡◌, ◌≤◌, ◌<◌, ◌^◌, Bool, Ok};
 ghost use Rattle.std.specs.List.{AllByRecursion};
 ghost use Rattle.model_base.specs.{IsWithinLimits};
 ghost use Rattle.model_log.specs.declared.layout.TheConstants.{BLOCK_HEADER};
@@ -206,8 +206,8 @@ fn open_and_play<L: Sectors, D: Sectors>(
         → ComesTo log_entry data_entry stops turns.now script.now result.course (guarded L.seen result.log) (guarded D.seen result.store) }
     ensures turns { (log_entry data_entry : Seen) (stops : Stops) (log_found data_found : Guarded)
         → AreArmed log_entry data_entry stops log_found data_found (guarded L.seen log) (guarded D.seen store)
-        → IsArmedAsFound L.seen L.gives stops.log log_entry log_found (PreparesLog log_entry.size (Ok tt)) log
-        → IsArmedAsFound D.seen D.gives stops.store data_entry data_found (PreparesData (Ok tt)) store
+        → (formats : Bool) → IsArmedAsFound L.seen L.gives stops.log log_entry log_found (PreparesLog log_entry.size formats (Ok tt)) log
+        → IsArmedAsFound D.seen D.gives stops.store data_entry data_found (PreparesData formats (Ok tt)) store
         → ComesByTurnsTo L.seen L.gives D.seen D.gives log_entry data_entry stops turns.now script.now result.course result.log result.store }
     ensures log_called { IsCalled L.seen L.gives log result.log }
     ensures data_called { IsCalled D.seen D.gives store result.store }

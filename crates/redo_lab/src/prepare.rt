@@ -5,7 +5,7 @@ ghost use Rattle.model_log.specs.declared.layout.TheConstants.{HEADER_BYTES};
 ghost use Rattle.model_store.specs.{IsUnused};
 ghost use Rattle.redo_disk.specs.{MakesCalls, ReadStep};
 ghost use Rattle.redo_lab.specs.Call.{guarded};
-ghost use Rattle.redo_lab.specs.Prepared.{Prepares, PreparesData, PreparesLog, ReadsBlock};
+ghost use Rattle.redo_lab.specs.Prepared.{ArePreparedBy, Prepares, ReadsBlock};
 ghost use Rattle.redo_memdisk.specs.{CallsThrough, fresh, fuse_of, inner_of};
 ghost use Rattle.redo_recover.specs.{log_fault_of};
 
@@ -55,8 +55,8 @@ pub(crate) fn prepare<L: Sectors, D: Sectors>(
     requires data_fresh { fuse_of store.old ≡ fresh }
     ensures prepares { Prepares (L.seen (inner_of log.old)) (D.seen (inner_of store.old)) result
         (guarded L.seen log.new) (guarded D.seen store.new) }
-    ensures log_calls { MakesCalls (CallsThrough L.seen L.gives) log.old log.new (PreparesLog (L.seen (inner_of log.old)).size result) }
-    ensures data_calls { MakesCalls (CallsThrough D.seen D.gives) store.old store.new (PreparesData result) }
+    ensures calls { ArePreparedBy (CallsThrough L.seen L.gives) (CallsThrough D.seen D.gives) (L.seen (inner_of log.old)).size result
+        log.old log.new store.old store.new }
 {
     if log.len() < HEADER_BYTES {
         return Err(RecFault::SmallLog(HEADER_BYTES));

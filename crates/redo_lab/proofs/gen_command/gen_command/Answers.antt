@@ -10,7 +10,7 @@ pub returns-else-run-clause-ends : goal.returns-else-run-clause-ends
 returns-else-run-clause-ends g c = λ words source. rw c.if-run.false (c.print_script.ensures.ends words source)
 
 pub returns-else-run-clause-turns : goal.returns-else-run-clause-turns
-returns-else-run-clause-turns g c = λ source. rw c.if-run.false tt
+returns-else-run-clause-turns g c = λ source. rw c.if-run.false c.print_script.ensures.calls
 
 pub returns-then-run-clause-log_device : goal.returns-then-run-clause-log_device
 returns-then-run-clause-log_device g c = c.run_seed.ensures.log_device

@@ -12,6 +12,12 @@ returns-clause-ends g c = λ words source. rw c.of_text.ensures (gen-ends _ c.ar
     })
     refl c.generate.ensures)
 
+pub returns-clause-calls : goal.returns-clause-calls
+returns-clause-calls g c = record {
+  log_device = alone-behind g.L.Sectors.seen c.args.log c.plain.result c.plain.result c.plain.ensures.inner c.plain.ensures.fuse refl;
+  data_device = alone-behind g.D.Sectors.seen c.args.store c.plain-2.result c.plain-2.result c.plain-2.ensures.inner c.plain-2.ensures.fuse refl;
+}
+
 pub returns-clause-log_device : goal.returns-clause-log_device
 returns-clause-log_device g c = inl (alone-from g.L.Sectors.seen g.L.Sectors.gives c.args.log c.plain.result c.plain.ensures.inner c.plain.ensures.fuse c.plain.ensures.armed)
 

@@ -27,7 +27,7 @@ returns-in-Ok-clause-comes_to g c = λ log_entry data_entry stops log_found data
     c.play.ensures.plays
 
 pub returns-in-Ok-clause-turns : goal.returns-in-Ok-clause-turns
-returns-in-Ok-clause-turns g c = λ log_entry data_entry stops log_found data_found armed log_at data_at.
+returns-in-Ok-clause-turns g c = λ log_entry data_entry stops log_found data_found armed formats log_at data_at.
     driven-comes {log_gives = g.L.Sectors.gives} {data_gives = g.D.Sectors.gives} c.args.turns.now c.args.script.now c.play.result.course c.play.result.log c.play.result.store
     (record {
       laws = record { one_reading = c.one_reading.ensures; one_answer = c.one_answer.ensures.read; formatted = c.formatted_is_openable.ensures };
@@ -42,7 +42,7 @@ returns-in-Ok-clause-turns g c = λ log_entry data_entry stops log_found data_fo
         marks = c.in-Ok.ensures.marks;
       };
     })
-    (record { armed = armed; log_at = log_at; data_at = data_at; log_calls = c.in-Ok.ensures.log_calls; data_calls = c.in-Ok.ensures.data_calls })
+    (record { armed = armed; formats = formats; log_at = log_at; data_at = data_at; log_calls = c.in-Ok.ensures.log_calls; data_calls = c.in-Ok.ensures.data_calls })
     c.play.ensures.plays c.play.ensures.turns
 
 pub returns-in-Err-clause-comes_to : goal.returns-in-Err-clause-comes_to
@@ -59,10 +59,11 @@ returns-in-Err-clause-comes_to g c = λ log_entry data_entry stops log_found dat
     }))
 
 pub returns-in-Err-clause-turns : goal.returns-in-Err-clause-turns
-returns-in-Err-clause-turns g c = λ log_entry data_entry stops log_found data_found armed log_at data_at.
+returns-in-Err-clause-turns g c = λ log_entry data_entry stops log_found data_found armed formats log_at data_at.
     rw c.unopened.ensures
     (ended-comes {log_gives = g.L.Sectors.gives} {data_gives = g.D.Sectors.gives} c.args.turns.now c.args.script.now c.in-Err.fault c.in-Err.log c.in-Err.store (record {
       armed = armed;
+      formats = formats;
       log_at = log_at;
       data_at = data_at;
       log_calls = c.in-Err.ensures.log_calls;

@@ -33,6 +33,7 @@ returns-clause-turns g c =
     let prepared : ArePrepared (g.L.Sectors.seen c.args.log) (g.D.Sectors.seen c.args.store) log_found data_found =
     entered g.L.Sectors.seen g.D.Sectors.seen c.args.log c.plain-log.result.inner c.args.store c.plain-store.result.inner c.plain-log.ensures.inner c.plain-store.ensures.inner
     (λ (log : Seen) (store : Seen). ArePrepared log store log_found data_found) c.in-Ok.ensures.prepares in
+    let calls = entered-log g.L.Sectors.seen c.plain-log.ensures.inner c.in-Ok.ensures.calls in
     c.open_and_play.ensures.turns (g.L.Sectors.seen c.args.log) (g.D.Sectors.seen c.args.store) c.args.stops log_found data_found (record {
       prepared = prepared;
       log_device = armed-now g.L.Sectors.seen (g.L.Sectors.seen c.args.log) c.args.stops.log c.prepare.new.log c.arm.new.self prepared.log_device
@@ -42,16 +43,16 @@ returns-clause-turns g c =
       log_same = ap g.L.Sectors.seen c.arm.ensures.inner;
       data_same = ap g.D.Sectors.seen c.arm-2.ensures.inner;
     })
+    calls.formats
     (record {
       before = c.prepare.new.log;
-      from_entry = from-entry c.plain-log.ensures.inner c.plain-log.ensures.fuse c.plain-log.ensures.armed
-          (entered-log g.L.Sectors.seen g.L.Sectors.gives c.plain-log.result c.prepare.new.log c.plain-log.ensures.inner c.in-Ok.ensures.log_calls);
+      from_entry = from-entry c.plain-log.ensures.inner c.plain-log.ensures.fuse c.plain-log.ensures.armed calls.log_device;
       found_is = refl;
       arms = record { inner = c.arm.ensures.inner; fuse = c.arm.ensures.fuse; armed = c.arm.ensures.armed };
     })
     (record {
       before = c.prepare.new.store;
-      from_entry = from-entry c.plain-store.ensures.inner c.plain-store.ensures.fuse c.plain-store.ensures.armed c.in-Ok.ensures.data_calls;
+      from_entry = from-entry c.plain-store.ensures.inner c.plain-store.ensures.fuse c.plain-store.ensures.armed calls.data_device;
       found_is = refl;
       arms = record { inner = c.arm-2.ensures.inner; fuse = c.arm-2.ensures.fuse; armed = c.arm-2.ensures.armed };
     })
@@ -68,21 +69,20 @@ returns-in-Err-clause-turns g c =
       data_inner = c.plain-store.ensures.inner;
       data_fuse = c.plain-store.ensures.fuse;
       data_unarmed = c.plain-store.ensures.armed;
-      log_calls = entered-log g.L.Sectors.seen g.L.Sectors.gives c.plain-log.result c.prepare.new.log c.plain-log.ensures.inner c.in-Err.ensures.log_calls;
-      data_calls = c.in-Err.ensures.data_calls;
+      calls = entered-log g.L.Sectors.seen c.plain-log.ensures.inner c.in-Err.ensures.calls;
       unprepared = entered g.L.Sectors.seen g.D.Sectors.seen c.args.log c.plain-log.result.inner c.args.store c.plain-store.result.inner c.plain-log.ensures.inner c.plain-store.ensures.inner
           (λ (log : Seen) (store : Seen). IsUnpreparedBy log store c.in-Err.fault log_now data_now) c.in-Err.ensures.prepares;
     }))
 
 pub returns-in-Err-clause-log_run : goal.returns-in-Err-clause-log_run
 returns-in-Err-clause-log_run g c = inl
-    (plain-from g.L.Sectors.seen g.L.Sectors.gives c.args.log c.plain-log.result c.prepare.new.log c.plain-log.ensures.inner c.plain-log.ensures.fuse c.plain-log.ensures.armed (called-by c.in-Err.ensures.log_calls))
+    (plain-from g.L.Sectors.seen g.L.Sectors.gives c.args.log c.plain-log.result c.prepare.new.log c.plain-log.ensures.inner c.plain-log.ensures.fuse c.plain-log.ensures.armed (called-by c.in-Err.ensures.calls.log_device))
 
 pub returns-clause-log_run : goal.returns-clause-log_run
 returns-clause-log_run g c = inr (record {
   found = c.prepare.new.log;
   before = plain-from g.L.Sectors.seen g.L.Sectors.gives c.args.log c.plain-log.result c.prepare.new.log c.plain-log.ensures.inner c.plain-log.ensures.fuse c.plain-log.ensures.armed
-      (called-by c.in-Ok.ensures.log_calls);
+      (called-by c.in-Ok.ensures.calls.log_device);
   limit = c.args.stops.log;
   armed = c.arm.new.self;
   arms = record { inner = c.arm.ensures.inner; fuse = c.arm.ensures.fuse; armed = c.arm.ensures.armed };
@@ -91,13 +91,13 @@ returns-clause-log_run g c = inr (record {
 
 pub returns-in-Err-clause-data_run : goal.returns-in-Err-clause-data_run
 returns-in-Err-clause-data_run g c = inl
-    (plain-from g.D.Sectors.seen g.D.Sectors.gives c.args.store c.plain-store.result c.prepare.new.store c.plain-store.ensures.inner c.plain-store.ensures.fuse c.plain-store.ensures.armed (called-by c.in-Err.ensures.data_calls))
+    (plain-from g.D.Sectors.seen g.D.Sectors.gives c.args.store c.plain-store.result c.prepare.new.store c.plain-store.ensures.inner c.plain-store.ensures.fuse c.plain-store.ensures.armed (called-by c.in-Err.ensures.calls.data_device))
 
 pub returns-clause-data_run : goal.returns-clause-data_run
 returns-clause-data_run g c = inr (record {
   found = c.prepare.new.store;
   before = plain-from g.D.Sectors.seen g.D.Sectors.gives c.args.store c.plain-store.result c.prepare.new.store c.plain-store.ensures.inner c.plain-store.ensures.fuse c.plain-store.ensures.armed
-      (called-by c.in-Ok.ensures.data_calls);
+      (called-by c.in-Ok.ensures.calls.data_device);
   limit = c.args.stops.store;
   armed = c.arm-2.new.self;
   arms = record { inner = c.arm-2.ensures.inner; fuse = c.arm-2.ensures.fuse; armed = c.arm-2.ensures.armed };

@@ -1,13 +1,12 @@
 -- Both devices are prepared for a run.
-use Rattle.std.proofs.Common.{◌≤◌, Ok, Err, refl, inl, arith}
+use Rattle.std.proofs.Common.{◌≤◌, Ok, arith}
 use Rattle.model_base.specs.{default_shape}
 use Rattle.model_log.specs.declared.layout.TheConstants.{HEADER_BYTES}
 use Rattle.redo_disk.proofs.Made.{may_end}
 use Rattle.redo_memdisk.specs.{seen_through}
-use Rattle.redo_recover.specs.declared.fault.RecFault.TheVariants.{SmallLog}
 use Rattle.redo_lab.proofs.Formatting.{format-fault}
 use Rattle.redo_lab.proofs.Preparing.{prepared-formatted, prepared-in-use, read-first, unprepared-formatted, unprepared-read}
-use Rattle.redo_lab.proofs.Unopened.{first-failed, format-made, formatted-data, read-in-use, read-then, uncalled-data, uncalled-first, uncalled-log}
+use Rattle.redo_lab.proofs.Unopened.{first-failed, format-made, formatted-both, read-in-use, uncalled-both}
 use Rattle.redo_lab.proofs.prepare.prepare.Goals as goal
 
 pub returns-in-Ok-clause-prepares : goal.returns-in-Ok-clause-prepares
@@ -39,34 +38,25 @@ returns-in-Err-clause-prepares g c =
     (unprepared-read g.L.Sectors.seen g.D.Sectors.seen _ _ c.is_unused.new.log c.args.store.now c.in-Err.error
     (read-first c.requires.log_fresh c.requires.data_fresh c.in-Err.ensures.calls))
 
-pub returns-then-len-lt-HEADER_BYTES-clause-log_calls : goal.returns-then-len-lt-HEADER_BYTES-clause-log_calls
-returns-then-len-lt-HEADER_BYTES-clause-log_calls g c = uncalled-log g.L.Sectors.seen g.L.Sectors.gives _ _ (omega (arith, c.len.ensures.size, c.if-len-lt-HEADER_BYTES.true))
+pub returns-then-len-lt-HEADER_BYTES-clause-calls : goal.returns-then-len-lt-HEADER_BYTES-clause-calls
+returns-then-len-lt-HEADER_BYTES-clause-calls g c = uncalled-both _ _ _ (omega (arith, c.len.ensures.size, c.if-len-lt-HEADER_BYTES.true))
 
-pub returns-then-len-lt-HEADER_BYTES-clause-data_calls : goal.returns-then-len-lt-HEADER_BYTES-clause-data_calls
-returns-then-len-lt-HEADER_BYTES-clause-data_calls g c = uncalled-data g.D.Sectors.seen g.D.Sectors.gives _ (Err (SmallLog HEADER_BYTES)) (inl refl)
+pub returns-in-Ok-clause-calls : goal.returns-in-Ok-clause-calls
+returns-in-Ok-clause-calls g c =
+    let header : HEADER_BYTES ≤ (g.L.Sectors.seen c.args.log.now.inner).size = omega (arith, c.len.ensures.size, c.if-len-lt-HEADER_BYTES.false) in
+    formatted-both _ (Ok c.in-Ok.field-0) header tt (rw c.in-Ok-true.field-0-test at c.in-Ok-true.ensures.calls) (may_end c.in-Ok.ensures.calls.log) (may_end c.in-Ok.ensures.calls.data_device)
 
-pub returns-in-Ok-clause-log_calls : goal.returns-in-Ok-clause-log_calls
-returns-in-Ok-clause-log_calls g c = read-then _ (Ok c.in-Ok.field-0) tt (rw c.in-Ok-true.field-0-test at c.in-Ok-true.ensures.calls) (may_end c.in-Ok.ensures.calls.log)
+pub returns-in-Err-format-clause-calls : goal.returns-in-Err-format-clause-calls
+returns-in-Err-format-clause-calls g c =
+    let header : HEADER_BYTES ≤ (g.L.Sectors.seen c.args.log.now.inner).size = omega (arith, c.len.ensures.size, c.if-len-lt-HEADER_BYTES.false) in
+    format-made _ c.format.new.log c.args.store.now c.format.new.data_device c.in-Err-format.fault header (rw c.in-Ok-true.field-0-test at c.in-Ok-true.ensures.calls) c.in-Err-format.ensures.calls
 
-pub returns-in-Ok-clause-data_calls : goal.returns-in-Ok-clause-data_calls
-returns-in-Ok-clause-data_calls g c = formatted-data _ (may_end c.in-Ok.ensures.calls.data_device)
+pub returns-in-Ok-false-clause-calls : goal.returns-in-Ok-false-clause-calls
+returns-in-Ok-false-clause-calls g c =
+    let header : HEADER_BYTES ≤ (g.L.Sectors.seen c.args.log.now.inner).size = omega (arith, c.len.ensures.size, c.if-len-lt-HEADER_BYTES.false) in
+    read-in-use _ _ header (rw c.in-Ok-false.field-0-test at c.in-Ok-false.ensures.calls)
 
-pub returns-in-Err-format-clause-log_calls : goal.returns-in-Err-format-clause-log_calls
-returns-in-Err-format-clause-log_calls g c =
-    (format-made _ c.format.new.log c.args.store.now c.format.new.data_device c.in-Err-format.fault (rw c.in-Ok-true.field-0-test at c.in-Ok-true.ensures.calls) c.in-Err-format.ensures.calls).log
-
-pub returns-in-Err-format-clause-data_calls : goal.returns-in-Err-format-clause-data_calls
-returns-in-Err-format-clause-data_calls g c =
-    (format-made 0 c.format.new.log c.args.store.now c.format.new.data_device c.in-Err-format.fault (rw c.in-Ok-true.field-0-test at c.in-Ok-true.ensures.calls) c.in-Err-format.ensures.calls).data_device
-
-pub returns-in-Ok-false-clause-log_calls : goal.returns-in-Ok-false-clause-log_calls
-returns-in-Ok-false-clause-log_calls g c = read-in-use _ _ tt c.in-Ok-false.ensures.calls
-
-pub returns-in-Ok-false-clause-data_calls : goal.returns-in-Ok-false-clause-data_calls
-returns-in-Ok-false-clause-data_calls g c = uncalled-data g.D.Sectors.seen g.D.Sectors.gives _ (Ok tt) (inl refl)
-
-pub returns-in-Err-clause-log_calls : goal.returns-in-Err-clause-log_calls
-returns-in-Err-clause-log_calls g c = rw c.first_fault.ensures (first-failed _ c.in-Err.error c.in-Err.ensures.calls)
-
-pub returns-in-Err-clause-data_calls : goal.returns-in-Err-clause-data_calls
-returns-in-Err-clause-data_calls g c = rw c.first_fault.ensures (uncalled-first g.D.Sectors.seen g.D.Sectors.gives _ c.in-Err.error)
+pub returns-in-Err-clause-calls : goal.returns-in-Err-clause-calls
+returns-in-Err-clause-calls g c =
+    let header : HEADER_BYTES ≤ (g.L.Sectors.seen c.args.log.now.inner).size = omega (arith, c.len.ensures.size, c.if-len-lt-HEADER_BYTES.false) in
+    rw c.first_fault.ensures (first-failed _ _ c.in-Err.error header c.in-Err.ensures.calls)
