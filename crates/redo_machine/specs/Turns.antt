@@ -23,7 +23,8 @@ EndsAs log_seen data_seen run seed max first actors ran.Done last after = IsDone
 EndsAs log_seen data_seen run seed max first actors (ran.Spent user) last after = IsSpent (log_of log_seen data_seen run) (data_of log_seen data_seen run) seed max user (core_of log_seen data_seen run first actors) (core_of log_seen data_seen run last after)
 
 -- In each of these turns, from the parts before it to those behind it, both devices were asked for what the Op of the actor
--- whose turn it was asks of them, and for nothing else.
+-- whose turn it was asks of them, for all of it or up to the call that answered an error, and for nothing else. Behind an error
+-- the device was asked for nothing.
 abbrev pub AskInTurns : {L D : Type 0} (log_seen : L → Seen) (log_gives : L → Call → L → Type 0) (data_seen : D → Seen) (data_gives : D → Call → D → Type 0) (run : RunOf L D) (seed max n : ℕ)
     (first last : Core (log_of log_seen data_seen run) (data_of log_seen data_seen run)) → TakesTurns (log_of log_seen data_seen run) (data_of log_seen data_seen run) seed max n first last → Type 0
 AskInTurns log_seen log_gives data_seen data_gives run seed max zero first last turns = Unit {0}
