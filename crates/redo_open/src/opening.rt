@@ -113,7 +113,7 @@ pub fn open_store<L: Sectors, D: Sectors>(
         (L.seen error.1) (D.seen error.2) error.0) }
     ensures log { IsSameDevice (L.seen log) (L.seen (log_left result)) }
     ensures data_device { IsSameDevice (D.seen data_device) (D.seen (data_left result)) }
-    ensures log_calls { MakesCalls L.gives log (log_left result) (OpensLog (L.seen log).size (D.seen data_device).size result) }
+    ensures log_calls { MakesCalls L.gives log (log_left result) (OpensLog (L.seen log) (D.seen data_device).size result) }
     ensures data_calls { MakesCalls D.gives data_device (data_left result) (OpensData (L.seen log).tells (D.seen data_device).tells result) }
     ensures marks { IfOk result (MarksStart L.gives log) }
 {
