@@ -12,7 +12,7 @@ use Rattle.redo_disk.specs.declared.error.DevError.{DevError}
 use Rattle.redo_disk.specs.declared.error.DevError.TheVariants as device
 use Rattle.redo_disk.proofs.Calls.{MayEndWith-append, MayEndWith-ends}
 use Rattle.redo_disk.proofs.Made.{joined_calls, may_end, no_calls, out_of_memory, weaker_calls}
-use Rattle.redo_memdisk.specs.{CallsThrough, armed_at, fresh, fuse_of, inner_of}
+use Rattle.redo_memdisk.specs.{CallsThrough, armed_at, fresh, fuse_of, inner_of, seen_through}
 use Rattle.redo_memdisk.specs.declared.fused.Fused.{Fused}
 use Rattle.redo_machine.specs.declared.drive.Turns.{Turns}
 use Rattle.redo_open.specs.{FormatCalls, OpensData, OpensLog}
@@ -255,7 +255,7 @@ pub record IsAnswered {L D : Type 0} (log_seen : L → Seen) (log_gives : L → 
   pub formats : Bool
   pub log_at : IsArmedAsFound log_seen log_gives stops.log log_entry log_found (PreparesLog log_entry.size formats (Ok tt)) log
   pub data_at : IsArmedAsFound data_seen data_gives stops.store data_entry data_found (PreparesData formats (Ok tt)) data_device
-  pub log_calls : MakesCalls (CallsThrough log_seen log_gives) log (log_left answer) (OpensLog (log_seen log.inner).size (data_seen data_device.inner).size answer)
+  pub log_calls : MakesCalls (CallsThrough log_seen log_gives) log (log_left answer) (OpensLog (seen_through log_seen log) (data_seen data_device.inner).size answer)
   pub data_calls : MakesCalls (CallsThrough data_seen data_gives) data_device (data_left answer) (OpensData (log_seen log.inner).tells (data_seen data_device.inner).tells answer)
 
 module _ {L D : Type 0} {log_seen : L → Seen} {log_gives : L → Call → L → Type 0} {data_seen : D → Seen} {data_gives : D → Call → D → Type 0}
@@ -265,7 +265,7 @@ module _ {L D : Type 0} {log_seen : L → Seen} {log_gives : L → Call → L �
       → ComesToAnswer log_seen log_gives data_seen data_gives log_entry data_entry stops answer
   answered answer is =
       let counted = counted-opening is.armed (weaker_calls (λ calls opens. header-first opens.ends opens.header) is.log_calls) (weaker_calls (λ calls opens. opens.ends) is.data_calls) in
-      let OfSizes : ℕ → ℕ → Type 0 = λ log_size data_size. MakesCalls (CallsThrough log_seen log_gives) log (log_left answer) (OpensLog log_size data_size answer) in
+      let OfSize : ℕ → Type 0 = λ size. MakesCalls (CallsThrough log_seen log_gives) log (log_left answer) (OpensLog (seen_through log_seen log) size answer) in
       let OfTold : Option Disk → Option Disk → Type 0 = λ log_told data_told. MakesCalls (CallsThrough data_seen data_gives) data_device (data_left answer) (OpensData log_told data_told answer) in
       record {
         way = way-of log_found data_found is.armed.prepared counted;
@@ -273,8 +273,7 @@ module _ {L D : Type 0} {log_seen : L → Seen} {log_gives : L → Call → L �
         log_device = record {
           armed = log;
           is_armed = is.log_at;
-          calls = subst (λ size. OfSizes size data_entry.size) is.armed.log_device.same.size
-              (subst (λ size. OfSizes (log_seen log.inner).size size) is.armed.data_device.same.size is.log_calls);
+          calls = subst OfSize is.armed.data_device.same.size is.log_calls;
         };
         data_device = record {
           armed = data_device;

@@ -45,7 +45,7 @@ pub record ComesToAnswer {L D : Type 0} (log_seen : L → Seen) (log_gives : L �
       (guarded log_seen (log_left answer)) (guarded data_seen (data_left answer))
   pub formats : Bool
   pub log_device : ComesFromArming log_seen log_gives stops.log log_entry way.log_found
-      (PreparesLog log_entry.size formats (Ok tt)) (λ armed. OpensLog log_entry.size data_entry.size answer) (log_left answer)
+      (PreparesLog log_entry.size formats (Ok tt)) (λ armed. OpensLog (seen_through log_seen armed) data_entry.size answer) (log_left answer)
   pub data_device : ComesFromArming data_seen data_gives stops.store data_entry way.data_found
       (PreparesData formats (Ok tt)) (λ armed. OpensData way.log_found.seen.tells way.data_found.seen.tells answer) (data_left answer)
 
