@@ -70,14 +70,14 @@ pub record IsPlainAs {D : Type 0} (seen : D → Seen) (entry : Seen) (now : Fuse
   pub fuse : fuse_of now ≡ fresh
   pub unarmed : armed_at now ≡ None
 
--- It was put there, and calls that are such led from there to here.
+-- A device that is seen so was put there, and calls that are such led from there to here.
 pub record ComesFromEntry {D : Type 0} (seen : D → Seen) (gives : D → Call → D → Type 0) (entry : Seen) (Are : List Call → Type 0)
     (now : Fused D) : Type 0 where
   pub plain : Fused D
   pub is_plain : IsPlainAs seen entry plain
   pub calls : MakesCalls (CallsThrough seen gives) plain now Are
 
--- Such calls led to where it was found so, and then its fuse was armed with this limit.
+-- Such calls led to the device as it was found; then its fuse was armed with this limit.
 pub record IsArmedAsFound {D : Type 0} (seen : D → Seen) (gives : D → Call → D → Type 0) (limit : Option ℕ) (entry : Seen) (found : Guarded)
     (Are : List Call → Type 0) (now : Fused D) : Type 0 where
   pub before : Fused D
@@ -85,7 +85,7 @@ pub record IsArmedAsFound {D : Type 0} (seen : D → Seen) (gives : D → Call �
   pub found_is : found ≡ guarded seen before
   pub arms : IsArming limit before now
 
--- From when its fuse was armed so, calls led to here that are such of a device that was armed there.
+-- Its fuse was armed so, and calls led from there to here, of which that is so, given the device as it was armed.
 pub record ComesFromArming {D : Type 0} (seen : D → Seen) (gives : D → Call → D → Type 0) (limit : Option ℕ) (entry : Seen) (found : Guarded)
     (AreBefore : List Call → Type 0) (Are : Fused D → List Call → Type 0) (now : Fused D) : Type 0 where
   pub armed : Fused D

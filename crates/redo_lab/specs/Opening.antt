@@ -1,5 +1,5 @@
--- What led both devices to an opened store, or to none: which calls, from when they were handed in, and from when their fuses
--- were armed.
+-- What led both devices to an opened store, or to none: which calls, from devices that are seen as those that were handed in, and
+-- from when their fuses were armed.
 use Rattle.std.specs.Prelude.{ℕ, ◌≡◌, Bool, Ok, Err}
 use Rattle.model_log.specs.{start_after}
 use Rattle.model_opening.specs.{IsOpenable}
@@ -25,8 +25,9 @@ use Rattle.redo_lab.specs.Store.{IsOpenedAs}
 use Rattle.redo_lab.specs.declared.playing.Stops.{Stops}
 
 -- THE DEVICES WEREN'T PREPARED, for this fault: one of them failed, or is too short for a header or for a new store, or memory ran
--- out. Since both were handed in all calls of them answered Ok, but for the last one of the device that failed, or had no memory,
--- if one did. Where one is too short the log device was called once at the most, for a read, and the data device wasn't.
+-- out. From devices that are seen as those that were handed in all calls answered Ok, but for the last one of the device that
+-- failed, or had no memory, if one did. Where one is too short the log device was called once at the most, for a read, and the data
+-- device wasn't.
 pub record ComesToUnprepared {L D : Type 0} (log_seen : L → Seen) (log_gives : L → Call → L → Type 0) (data_seen : D → Seen) (data_gives : D → Call → D → Type 0)
     (log_entry data_entry : Seen) (fault : Fault) (log_now : Fused L) (data_now : Fused D) : Type 0 where
   pub met : RecFault
@@ -36,9 +37,9 @@ pub record ComesToUnprepared {L D : Type 0} (log_seen : L → Seen) (log_gives :
   pub log_device : ComesFromEntry log_seen log_gives log_entry (PreparesLog log_entry.size formats (Err met)) log_now
   pub data_device : ComesFromEntry data_seen data_gives data_entry (PreparesData formats (Err met)) data_now
 
--- OPENING ANSWERED this. Both devices were prepared by such calls, and their fuses armed; and all calls since then are told of by
--- the contract of an opening that answered so: how they end, that the log device's first one read the header, by which it was
--- answered, what else was read, and what of the writes.
+-- OPENING ANSWERED this. Both devices were prepared by such calls, and their fuses armed; and all calls since then are as opening's
+-- contract says for this answer: how they end, that the log device's first one read the header, by which it was answered, what
+-- else was read, and some of what was written.
 pub record ComesToAnswer {L D : Type 0} (log_seen : L → Seen) (log_gives : L → Call → L → Type 0) (data_seen : D → Seen) (data_gives : D → Call → D → Type 0)
     (log_entry data_entry : Seen) (stops : Stops) (answer : Answer (Fused L) (Fused D)) : Type 0 where
   pub way : AreUnderWay log_entry data_entry stops (failures (log_error_in answer)) (failures (data_error_in answer))

@@ -7,7 +7,7 @@ use Rattle.redo_disk.specs.{Call, MakesCalls}
 use Rattle.redo_disk.specs.Seen.{Seen}
 use Rattle.redo_memdisk.specs.{CallsThrough, seen_through}
 use Rattle.redo_memdisk.specs.declared.fused.Fused.{Fused}
-use Rattle.redo_recover.specs.{ReadsLog, ReadsPages}
+use Rattle.redo_recover.specs.{ReadsBehindLog, ReadsLog, ReadsPages}
 use Rattle.redo_recover.specs.declared.fault.RecFault.{RecFault}
 use Rattle.redo_recover.specs.declared.recovered.Recovered.{Recovered}
 use Rattle.redo_lab.specs.Call.{Guarded}
@@ -39,7 +39,8 @@ IsOfReading (outcome.Fault found) (Ok recovered) = found ≡ fault.Memory
 IsOfReading (outcome.Fault found) (Err met) = found ≡ fault_of met
 IsOfReading outcome result = ⊥
 
--- BOTH DEVICES WERE READ, and this became of it: the calls that led them there are those of recovery, and no other.
+-- BOTH DEVICES WERE READ, and this became of it: the calls that led them there are those of recovery, and no other. The data device
+-- is read behind the log, so where a fault was met there it wasn't called.
 pub record AreReadFor {L D : Type 0} (log_seen : L → Seen) (log_gives : L → Call → L → Type 0) (data_seen : D → Seen) (data_gives : D → Call → D → Type 0)
     (outcome : Outcome) (log_old log_now : Fused L) (data_old data_now : Fused D) : Type 0 where
   pub result : Result Recovered RecFault
@@ -48,3 +49,4 @@ pub record AreReadFor {L D : Type 0} (log_seen : L → Seen) (log_gives : L → 
       (ReadsLog (seen_through log_seen log_old) (seen_through data_seen data_old).size result)
   pub data_device : MakesCalls (CallsThrough data_seen data_gives) data_old data_now
       (ReadsPages (seen_through log_seen log_old).tells result)
+  pub order : ReadsBehindLog (seen_through log_seen log_old).tells (seen_through data_seen data_old).size data_old data_now result

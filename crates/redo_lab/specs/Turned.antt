@@ -309,7 +309,7 @@ module _ {L D : Type 0} (log_seen : L → Seen) (log_gives : L → Call → L �
 
   -- What a run that came so far led to, by command. Where it ended by a fault of its own, that is the fault, and no device was
   -- called since. Else `crash` crashes the devices and reads them; `gen` reads them behind a run that no fault ended, and calls
-  -- nothing more behind one that a device ended; and of `run` there is a report, or no memory for it, or, where opening was stopped, that fault.
+  -- nothing more behind one that a device ended; and of `run` there is a report, or no memory for it; where opening was stopped, both end with that fault.
   abbrev pub FailsSince : Command → Course → Fault → Type 0
   FailsSince command (course.Ended met) fault = EndsThere log_then log_now data_then data_now met fault
   FailsSince (Crash drive stop_log stop_data pick) so_far fault =

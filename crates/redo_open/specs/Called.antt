@@ -23,8 +23,8 @@ use Rattle.redo_recover.specs.declared.fault.RecFault.{RecFault}
 use Rattle.redo_recover.specs.declared.fault.RecFault.TheVariants.{LogDev, NoMemory}
 use Rattle.redo_recover.specs.declared.recovered.Recovered.{Recovered}
 
--- Where recovery came to this result, opening comes to that answer: a fault is answered as it is, and what was recovered is
--- what is opened, or the fault that is answered is a device's or want of memory.
+-- A fault of recovery is answered as it is. Where a store was recovered, that store is opened, or the answer is a device's fault
+-- or want of memory.
 abbrev pub LeadsTo : {L D : Type 0} → Result Recovered RecFault → Answer L D → Type 0
 LeadsTo (Ok recovered) (Ok store) = IsOpenedAs (reading_of recovered) store
 LeadsTo (Ok recovered) (Err error) = IsOpenFault error.0
@@ -47,7 +47,8 @@ pub record RecoversThenPuts {L D : Type 0} (Recovers : Result Recovered RecFault
 abbrev pub RefusesUnwritten : {L D : Type 0} → Answer L D → List Call → Type 0
 RefusesUnwritten result calls = IfErr result (λ error. IfSome (refusal_of error.0) (λ _. AreReads calls))
 
--- the header that was read is that of the opened store, whose number is the one next to that of the newest checkpoint there
+-- the header that was read is that of the opened store, and the store's number is the next one after that of the header's newest
+-- checkpoint
 pub record IsOpenedBy {L D : Type 0} (header : List ℕ) (log_size data_size : ℕ) (store : Opened L D) : Type 0 where
   pub number : ℕ
   pub ckpt : ℕ

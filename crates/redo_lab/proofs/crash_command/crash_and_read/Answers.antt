@@ -34,6 +34,7 @@ returns-in-Ok-clause-led g c = record {
     is_result = rw c.of_text.ensures (text-of-reading c.report_crash.result c.in-Ok.recovered);
     log_device = c.in-Ok.ensures.log_calls;
     data_device = c.in-Ok.ensures.data_calls;
+    order = c.in-Ok.ensures.order;
   };
 }
 
@@ -48,5 +49,6 @@ returns-in-Err-clause-led g c = record {
     is_result = c.fault_of.ensures;
     log_device = c.in-Err.ensures.log_calls;
     data_device = c.in-Err.ensures.data_calls;
+    order = c.in-Err.ensures.order;
   };
 }

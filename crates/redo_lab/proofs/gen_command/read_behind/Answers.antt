@@ -28,6 +28,7 @@ returns-in-Ok-clause-calls g c = record {
   is_result = rw c.of_text.ensures (text-of-reading c.summarize.result c.in-Ok.recovered);
   log_device = c.in-Ok.ensures.log_calls;
   data_device = c.in-Ok.ensures.data_calls;
+  order = c.in-Ok.ensures.order;
 }
 
 pub returns-in-Err-clause-calls : goal.returns-in-Err-clause-calls
@@ -36,4 +37,5 @@ returns-in-Err-clause-calls g c = record {
   is_result = c.fault_of.ensures;
   log_device = c.in-Err.ensures.log_calls;
   data_device = c.in-Err.ensures.data_calls;
+  order = c.in-Err.ensures.order;
 }

@@ -46,6 +46,7 @@ returns-clause-calls g c =
           is_result = text-of-reading w.listing_of.result w.in-Ok.recovered;
           log_device = w.in-Ok.ensures.log_calls;
           data_device = w.in-Ok.ensures.data_calls;
+          order = w.in-Ok.ensures.order;
         };
       }))
       | in-Err w ↦ rw (w.outcome-is, w.fault_of.ensures) (reading-told (outcome.Fault (fault_of w.in-Err.fault)) (record {
@@ -58,6 +59,7 @@ returns-clause-calls g c =
           is_result = refl;
           log_device = w.in-Err.ensures.log_calls;
           data_device = w.in-Err.ensures.data_calls;
+          order = w.in-Err.ensures.order;
         };
       }))
     ]
