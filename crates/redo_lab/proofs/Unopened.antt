@@ -15,7 +15,7 @@ use Rattle.redo_disk.proofs.Made.{joined_calls, may_end, no_calls, out_of_memory
 use Rattle.redo_memdisk.specs.{CallsThrough, armed_at, fresh, fuse_of, inner_of, seen_through}
 use Rattle.redo_memdisk.specs.declared.fused.Fused.{Fused}
 use Rattle.redo_machine.specs.declared.drive.Turns.{Turns}
-use Rattle.redo_open.specs.{FormatCalls, OpensData, OpensLog}
+use Rattle.redo_open.specs.{FormatCalls, OpensData, OpensLog, RecoversFirst}
 use Rattle.redo_open.specs.Opening.{Answer, data_left, log_left}
 use Rattle.redo_recover.specs.{data_error, data_error_of, log_error, log_error_of, log_fault_of, refusal_of}
 use Rattle.redo_recover.specs.declared.fault.RecFault.{RecFault}
@@ -255,8 +255,9 @@ pub record IsAnswered {L D : Type 0} (log_seen : L → Seen) (log_gives : L → 
   pub formats : Bool
   pub log_at : IsArmedAsFound log_seen log_gives stops.log log_entry log_found (PreparesLog log_entry.size formats (Ok tt)) log
   pub data_at : IsArmedAsFound data_seen data_gives stops.store data_entry data_found (PreparesData formats (Ok tt)) data_device
-  pub log_calls : MakesCalls (CallsThrough log_seen log_gives) log (log_left answer) (OpensLog (seen_through log_seen log) (data_seen data_device.inner).size answer)
+  pub log_calls : MakesCalls (CallsThrough log_seen log_gives) log (log_left answer) (OpensLog (log_seen log.inner).size (data_seen data_device.inner).size answer)
   pub data_calls : MakesCalls (CallsThrough data_seen data_gives) data_device (data_left answer) (OpensData (log_seen log.inner).tells (data_seen data_device.inner).tells answer)
+  pub recovers : RecoversFirst (seen_through log_seen) (CallsThrough log_seen log_gives) (seen_through data_seen) (CallsThrough data_seen data_gives) log data_device answer
 
 module _ {L D : Type 0} {log_seen : L → Seen} {log_gives : L → Call → L → Type 0} {data_seen : D → Seen} {data_gives : D → Call → D → Type 0}
     {log_entry data_entry : Seen} {stops : Stops} {log_found data_found : Guarded} {log : Fused L} {data_device : Fused D} where
@@ -265,7 +266,7 @@ module _ {L D : Type 0} {log_seen : L → Seen} {log_gives : L → Call → L �
       → ComesToAnswer log_seen log_gives data_seen data_gives log_entry data_entry stops answer
   answered answer is =
       let counted = counted-opening is.armed (weaker_calls (λ calls opens. header-first opens.ends opens.header) is.log_calls) (weaker_calls (λ calls opens. opens.ends) is.data_calls) in
-      let OfSize : ℕ → Type 0 = λ size. MakesCalls (CallsThrough log_seen log_gives) log (log_left answer) (OpensLog (seen_through log_seen log) size answer) in
+      let OfSizes : ℕ → ℕ → Type 0 = λ log_size data_size. MakesCalls (CallsThrough log_seen log_gives) log (log_left answer) (OpensLog log_size data_size answer) in
       let OfTold : Option Disk → Option Disk → Type 0 = λ log_told data_told. MakesCalls (CallsThrough data_seen data_gives) data_device (data_left answer) (OpensData log_told data_told answer) in
       record {
         way = way-of log_found data_found is.armed.prepared counted;
@@ -273,7 +274,8 @@ module _ {L D : Type 0} {log_seen : L → Seen} {log_gives : L → Call → L �
         log_device = record {
           armed = log;
           is_armed = is.log_at;
-          calls = subst OfSize is.armed.data_device.same.size is.log_calls;
+          calls = subst (λ size. OfSizes size data_entry.size) is.armed.log_device.same.size
+              (subst (λ size. OfSizes (log_seen log.inner).size size) is.armed.data_device.same.size is.log_calls);
         };
         data_device = record {
           armed = data_device;
@@ -281,6 +283,7 @@ module _ {L D : Type 0} {log_seen : L → Seen} {log_gives : L → Call → L �
           calls = subst (λ (told : Option Disk). OfTold told data_found.seen.tells) (ap (λ (seen : Seen). seen.tells) is.armed.log_same)
               (subst (λ (told : Option Disk). OfTold (log_seen log.inner).tells told) (ap (λ (seen : Seen). seen.tells) is.armed.data_same) is.data_calls);
         };
+        recovers = is.recovers;
       }
 
   unopened-told : (f : RecFault) (log_now : Fused L) (data_now : Fused D)

@@ -85,9 +85,9 @@ pub record IsArmedAsFound {D : Type 0} (seen : D → Seen) (gives : D → Call �
   pub found_is : found ≡ guarded seen before
   pub arms : IsArming limit before now
 
--- Its fuse was armed so, and calls led from there to here, of which that is so, given the device as it was armed.
+-- Its fuse was armed so, and calls that are such led from there to here.
 pub record ComesFromArming {D : Type 0} (seen : D → Seen) (gives : D → Call → D → Type 0) (limit : Option ℕ) (entry : Seen) (found : Guarded)
-    (AreBefore : List Call → Type 0) (Are : Fused D → List Call → Type 0) (now : Fused D) : Type 0 where
+    (AreBefore Are : List Call → Type 0) (now : Fused D) : Type 0 where
   pub armed : Fused D
   pub is_armed : IsArmedAsFound seen gives limit entry found AreBefore armed
-  pub calls : MakesCalls (CallsThrough seen gives) armed now (Are armed)
+  pub calls : MakesCalls (CallsThrough seen gives) armed now Are

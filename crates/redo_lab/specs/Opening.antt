@@ -10,7 +10,7 @@ use Rattle.redo_disk.specs.{Call, failures}
 use Rattle.redo_disk.specs.Seen.{Seen}
 use Rattle.redo_memdisk.specs.{CallsThrough, seen_through}
 use Rattle.redo_memdisk.specs.declared.fused.Fused.{Fused}
-use Rattle.redo_open.specs.{IsOpenedReady, IsOpeningOf, OpensData, OpensLog, WhereBothTell}
+use Rattle.redo_open.specs.{IsOpenedReady, IsOpeningOf, OpensData, OpensLog, RecoversFirst, WhereBothTell}
 use Rattle.redo_open.specs.Opening.{Answer, MarksStart, data_error_in, data_left, log_error_in, log_left}
 use Rattle.redo_pageactors.specs.{IsRunnable}
 use Rattle.redo_pageactors.specs.declared.opened.Opened.{Opened}
@@ -38,17 +38,19 @@ pub record ComesToUnprepared {L D : Type 0} (log_seen : L → Seen) (log_gives :
   pub data_device : ComesFromEntry data_seen data_gives data_entry (PreparesData formats (Err met)) data_now
 
 -- OPENING ANSWERED this. Both devices were prepared by such calls, and their fuses armed; and all calls since then are as opening's
--- contract says for this answer: how they end, that the log device's first one read the header, by which it was answered, what
--- else was read, and some of what was written.
+-- contract says for this answer: how they end, that the log device's first one read the header, by which it was answered, that
+-- recovery came first and what it led to, and some of what was written.
 pub record ComesToAnswer {L D : Type 0} (log_seen : L → Seen) (log_gives : L → Call → L → Type 0) (data_seen : D → Seen) (data_gives : D → Call → D → Type 0)
     (log_entry data_entry : Seen) (stops : Stops) (answer : Answer (Fused L) (Fused D)) : Type 0 where
   pub way : AreUnderWay log_entry data_entry stops (failures (log_error_in answer)) (failures (data_error_in answer))
       (guarded log_seen (log_left answer)) (guarded data_seen (data_left answer))
   pub formats : Bool
   pub log_device : ComesFromArming log_seen log_gives stops.log log_entry way.log_found
-      (PreparesLog log_entry.size formats (Ok tt)) (λ armed. OpensLog (seen_through log_seen armed) data_entry.size answer) (log_left answer)
+      (PreparesLog log_entry.size formats (Ok tt)) (OpensLog log_entry.size data_entry.size answer) (log_left answer)
   pub data_device : ComesFromArming data_seen data_gives stops.store data_entry way.data_found
-      (PreparesData formats (Ok tt)) (λ armed. OpensData way.log_found.seen.tells way.data_found.seen.tells answer) (data_left answer)
+      (PreparesData formats (Ok tt)) (OpensData way.log_found.seen.tells way.data_found.seen.tells answer) (data_left answer)
+  pub recovers : RecoversFirst (seen_through log_seen) (CallsThrough log_seen log_gives) (seen_through data_seen) (CallsThrough data_seen data_gives)
+      log_device.armed data_device.armed answer
 
 -- OPENING LED TO NO STORE, for this fault: a device failed, the store was refused, or memory ran out.
 pub record ComesToUnopened {L D : Type 0} (log_seen : L → Seen) (log_gives : L → Call → L → Type 0) (data_seen : D → Seen) (data_gives : D → Call → D → Type 0)

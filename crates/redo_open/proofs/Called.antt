@@ -1,8 +1,7 @@
 -- What opening says of its calls, by what recovery and the steps behind it say of theirs.
-use Rattle.std.proofs.Common.{◌≡◌, ◌<◌, ◌++◌, ℕ, zero, suc, List, [], ◌∷◌, Option, Some, None, Ok, Err, refl, sym, subst, ⊎_elim}
-use Rattle.std.specs.Prelude.{IfErr, IfOk, IfSome, Result}
+use Rattle.std.proofs.Common.{◌≡◌, ◌<◌, ◌++◌, ℕ, zero, suc, List, [], ◌∷◌, Option, Some, None, Ok, Err, sym, subst, ⊎_elim}
+use Rattle.std.specs.Prelude.{IfErr, IfOk, IfSome}
 use Rattle.std.specs.List.{AllByRecursion, slice_get}
-use Rattle.std.proofs.lemmas.List.{append-nil}
 use Rattle.model_base.specs.{IsWithinLimits}
 use Rattle.model_base.specs.declared.shape.Shape.{Shape}
 use Rattle.model_device.specs.Disk.{Disk}
@@ -17,10 +16,10 @@ use Rattle.redo_disk.specs.Seen.{Seen}
 use Rattle.redo_disk.proofs.Calls.{MayEndWith-append}
 use Rattle.redo_disk.proofs.Made.{joined_calls, weaker_calls}
 use Rattle.redo_open.proofs.Needs.{for-pages, held-spared}
-use Rattle.redo_open.proofs.Puts.{once-then, put-weaker}
+use Rattle.redo_open.proofs.Puts.{once-then}
 use Rattle.redo_open.proofs.Stores.{unrefused}
 use Rattle.redo_open.proofs.Unmarked.{marks_nothing-behind, marks_nothing-spared, reads-spare}
-use Rattle.redo_open.specs.Called.{LeadsTo, OpensByHeader, OpensData, OpensLog, PutsLogIn, RecoversThenPuts, RefusesUnwritten, SparesHeld, WritesWithin}
+use Rattle.redo_open.specs.Called.{OpensByHeader, OpensData, OpensLog, PutsLogIn, RefusesUnwritten, SparesHeld, WritesWithin}
 use Rattle.redo_open.specs.Devices.{IsOpenFault}
 use Rattle.redo_open.specs.Needed.{IsNeededWrite, IsWriteFor}
 use Rattle.redo_open.specs.Opening.{Answer as Opens, IsOpenedAs, data_error_in, data_left, log_error_in, log_left}
@@ -41,30 +40,15 @@ are-reads (Reads at before answer after ∷ calls) pieces = (tt, are-reads calls
 are-reads (Writes write answer ∷ calls) pieces = absurd pieces.0
 are-reads (Syncs answer ∷ calls) pieces = absurd pieces.0
 
--- these are all the calls
-recovers-alone : {L D : Type 0} (Recovers : Result Recovered RecFault → List Call → Type 0) (fault : RecFault) (log : L) (data_device : D) (calls : List Call)
-    → Recovers (Err fault) calls → RecoversThenPuts {L = L} {D = D} Recovers (Err (fault, log, data_device)) calls
-recovers-alone Recovers fault log data_device calls is = record {
-  result = Err fault;
-  reads = calls;
-  puts = [];
-  joined = sym (append-nil calls);
-  recovers = is;
-  are_puts = tt;
-  ends_there = refl;
-  leads = refl;
-}
-
 -- what is so anyway
 so-anyway : {C : Type 0} (cause : Option C) {P : Type 0} → P → IfSome cause (λ _. P)
 so-anyway None holds = tt
 so-anyway (Some cause) holds = holds
 
 pub log_refused : {L D : Type 0} {gives : L → Call → L → Type 0} {old : L} {seen : Seen} {data_size : ℕ} (fault : RecFault) (log : L) (data_device : D)
-    → MakesCalls gives old log (ReadsLog seen data_size (Err fault)) → MakesCalls gives old log (OpensLog {L = L} {D = D} seen data_size (Err (fault, log, data_device)))
-log_refused {seen = seen} {data_size = data_size} fault log data_device = weaker_calls (λ calls is. record {
+    → MakesCalls gives old log (ReadsLog seen data_size (Err fault)) → MakesCalls gives old log (OpensLog {L = L} {D = D} seen.size data_size (Err (fault, log, data_device)))
+log_refused fault log data_device = weaker_calls (λ calls is. record {
   ends = is.reads.ends;
-  recovers = recovers-alone (ReadsLog seen data_size) fault log data_device calls is;
   once = is.reads.once;
   header = is.header;
   judged = is.judged;
@@ -88,7 +72,6 @@ pub data_refused : {L D : Type 0} {gives : D → Call → D → Type 0} {old : D
     → MakesCalls gives old data_device (OpensData {L = L} {D = D} log_told data_told (Err (fault, log, data_device)))
 data_refused {log_told = log_told} data_told fault log data_device = weaker_calls (λ calls is. record {
   ends = is.reads.ends;
-  recovers = recovers-alone (ReadsPages log_told) fault log data_device calls is;
   once = is.reads.once;
   unwritten = so-anyway (refusal_of fault) (are-reads calls is.reads.pieces);
   within = tt;
@@ -97,25 +80,6 @@ data_refused {log_told = log_told} data_told fault log data_device = weaker_call
 })
 
 -- BEHIND RECOVERY the store isn't refused any more.
-
-leads-behind : {L D : Type 0} (recovered : Recovered) (answer : Opens L D) → IfOk answer (IsOpenedAs (reading_of recovered)) → IfErr answer (λ error. IsOpenFault error.0)
-    → LeadsTo (Ok recovered) answer
-leads-behind recovered (Ok store) opened own = opened
-leads-behind recovered (Err error) opened own = own
-
-recovers-then : {L D : Type 0} (Recovers : Result Recovered RecFault → List Call → Type 0) (IsSuch : Write → Type 0) (recovered : Recovered) (answer : Opens L D)
-    (xs ys : List Call) → IfOk answer (IsOpenedAs (reading_of recovered)) → IfErr answer (λ error. IsOpenFault error.0) → Recovers (Ok recovered) xs
-    → AllByRecursion (IsPut IsSuch) ys → RecoversThenPuts Recovers answer (xs ++ ys)
-recovers-then Recovers IsSuch recovered answer xs ys opened own front back = record {
-  result = Ok recovered;
-  reads = xs;
-  puts = ys;
-  joined = refl;
-  recovers = front;
-  are_puts = put-weaker IsSuch IsAnyWrite (λ write is. tt) ys back;
-  ends_there = tt;
-  leads = leads-behind recovered answer opened own;
-}
 
 pub header-append : (xs ys : List Call) → BeginWithHeader xs → BeginWithHeader (xs ++ ys)
 header-append [] ys begins = absurd begins
@@ -180,10 +144,9 @@ opened-by log_size data_size recovered store (Syncs answer ∷ xs) ys opened end
 
 log-joined : {L D : Type 0} {seen : Seen} {data_size : ℕ} {recovered : Recovered} (result : Opens L D) → IfOk result (IsOpenedAs (reading_of recovered))
     → IfErr result (λ error. IsOpenFault error.0) → (xs ys : List Call) → ReadsLog seen data_size (Ok recovered) xs → PutsLogIn result ys
-    → OpensLog seen data_size result (xs ++ ys)
+    → OpensLog seen.size data_size result (xs ++ ys)
 log-joined {seen = seen} {data_size = data_size} {recovered = recovered} (Ok store) opened own xs ys front back = record {
   ends = MayEndWith-append None xs ys front.reads.ends back.puts.ends;
-  recovers = recovers-then (ReadsLog seen data_size) IsAnyWrite recovered (Ok store) xs ys opened own front back.puts.puts;
   once = once-then IsAnyWrite xs ys front.reads.once back.puts.puts;
   header = λ long. header-append xs ys (front.header long);
   judged = tt;
@@ -193,7 +156,6 @@ log-joined {seen = seen} {data_size = data_size} {recovered = recovered} (Ok sto
 }
 log-joined {seen = seen} {data_size = data_size} {recovered = recovered} (Err error) opened own xs ys front back = record {
   ends = MayEndWith-append (log_error_in (Err error)) xs ys front.reads.ends back.puts.ends;
-  recovers = recovers-then (ReadsLog seen data_size) IsAnyWrite recovered (Err error) xs ys opened own front back.puts.puts;
   once = once-then IsAnyWrite xs ys front.reads.once back.puts.puts;
   header = λ long. header-append xs ys (front.header long);
   judged = judged-behind seen.size data_size recovered error.0 xs ys own front.judged;
@@ -205,7 +167,7 @@ log-joined {seen = seen} {data_size = data_size} {recovered = recovered} (Err er
 pub log_opened : {L D : Type 0} {gives : L → Call → L → Type 0} {old middle : L} {seen : Seen} {data_size : ℕ} {recovered : Recovered} (result : Opens L D)
     → IfOk result (IsOpenedAs (reading_of recovered)) → IfErr result (λ error. IsOpenFault error.0)
     → MakesCalls gives old middle (ReadsLog seen data_size (Ok recovered)) → MakesCalls gives middle (log_left result) (PutsLogIn result)
-    → MakesCalls gives old (log_left result) (OpensLog seen data_size result)
+    → MakesCalls gives old (log_left result) (OpensLog seen.size data_size result)
 log_opened result opened own = joined_calls (log-joined result opened own)
 
 -- WHAT IS WRITTEN BEHIND IT.
@@ -263,7 +225,6 @@ pub data_opened : {L D : Type 0} {gives : D → Call → D → Type 0} {old midd
     → MakesCalls gives old (data_left result) (OpensData log_told data_told result)
 data_opened {recovered = recovered} log_told data_told result opened own limits places reads found = joined_calls (λ xs ys front back. record {
   ends = MayEndWith-append (data_error_in result) xs ys front.reads.ends back.ends;
-  recovers = recovers-then (ReadsPages log_told) (IsNeededWrite recovered) recovered result xs ys opened own front back.puts;
   once = once-then (IsNeededWrite recovered) xs ys front.reads.once back.puts;
   unwritten = unrefused-in result (xs ++ ys) own;
   within = within-opened recovered result (xs ++ ys) places opened (such-behind (IsNeededWrite recovered) xs ys front.reads.pieces back.puts);

@@ -1,6 +1,5 @@
 -- The calls that opening makes of the two devices.
-use Rattle.std.specs.Prelude.{ℕ, ◌≡◌, ◌≢◌, ◌≤◌, ◌<◌, ◌+◌, List, [], ◌∷◌, ◌++◌, length, slice_get, Option, Some, Result, Ok, Err, IfOk, IfErr, IfSome}
-use Rattle.std.specs.List.{AllByRecursion}
+use Rattle.std.specs.Prelude.{ℕ, ◌≡◌, ◌≢◌, ◌≤◌, ◌<◌, ◌+◌, List, [], ◌∷◌, length, slice_get, Option, Some, Result, Ok, Err, IfOk, IfErr, IfSome}
 use Rattle.model_base.specs.declared.shape.Shape.{Shape}
 use Rattle.model_datadev.specs.{place_at, read_as}
 use Rattle.model_device.specs.Disk.{Disk}
@@ -10,38 +9,46 @@ use Rattle.model_logdev.specs.{next_number}
 use Rattle.model_page.specs.{IsInPlace}
 use Rattle.model_store.specs.{IsReading}
 use Rattle.model_store.specs.Reading.{Reading}
-use Rattle.redo_disk.specs.{AreReads, Call, MayEndWith, Reads, Syncs, Writes}
+use Rattle.redo_disk.specs.{AreReads, Call, MakesCalls, MayEndWith, Reads, Syncs, Writes}
 use Rattle.redo_disk.specs.Seen.{Seen}
 use Rattle.redo_disk.specs.declared.error.DevError.{DevError}
 use Rattle.redo_open.specs.Devices.{IsOpenFault}
-use Rattle.redo_open.specs.Needed.{IsWriteFor}
-use Rattle.redo_open.specs.Opening.{Answer, IsOpenedAs, data_error_in, log_error_in}
-use Rattle.redo_open.specs.Puts.{IsAnyWrite, IsPut, PutsMayEndWith}
+use Rattle.redo_open.specs.Needed.{IsNeededWrite, IsWriteFor}
+use Rattle.redo_open.specs.Opening.{Answer, IsOpenedAs, data_error_in, data_left, log_error_in, log_left}
+use Rattle.redo_open.specs.Puts.{MayPutWhere, PutsMayEndWith}
 use Rattle.redo_pageactors.specs.declared.opened.Opened.{Opened}
-use Rattle.redo_recover.specs.{BeginWithHeader, IsStartIn, JudgesHeader, OnContents, ReadOnce, ReadsLog, ReadsPages, log_error_of, reading_of, refusal_of}
+use Rattle.redo_recover.specs.{BeginWithHeader, IsStartIn, JudgesHeader, OnContents, ReadOnce, ReadsBehindLog, ReadsLog, ReadsPages, log_error_of, reading_of, refusal_of}
 use Rattle.redo_recover.specs.declared.fault.RecFault.{RecFault}
 use Rattle.redo_recover.specs.declared.fault.RecFault.TheVariants.{LogDev, NoMemory}
 use Rattle.redo_recover.specs.declared.recovered.Recovered.{Recovered}
 
--- A fault of recovery is answered as it is. Where a store was recovered, that store is opened, or the answer is a device's fault
--- or want of memory.
-abbrev pub LeadsTo : {L D : Type 0} → Result Recovered RecFault → Answer L D → Type 0
-LeadsTo (Ok recovered) (Ok store) = IsOpenedAs (reading_of recovered) store
-LeadsTo (Ok recovered) (Err error) = IsOpenFault error.0
-LeadsTo (Err fault) (Ok store) = ⊥
-LeadsTo (Err fault) (Err error) = error.0 ≡ fault
+-- Where recovery came to a fault, that is answered, and no call was made since.
+abbrev pub AnswersFault : {L D : Type 0} → RecFault → Answer L D → L → D → Type 0
+AnswersFault fault answer log_read data_read = answer ≡ Err (fault, log_read, data_read)
 
--- The calls are such as recovery says of its own where it comes to a result, and others behind them: none of these is a read,
--- and there are none where that result is a fault. The result leads to the answer.
-pub record RecoversThenPuts {L D : Type 0} (Recovers : Result Recovered RecFault → List Call → Type 0) (answer : Answer L D) (calls : List Call) : Type 0 where
+-- Where it recovered a store, that is opened, or the answer is a device's fault or want of memory. None of the calls since is a
+-- read, and each write of the data device is of slots, or of a place that has to be written.
+pub record OpensRecoveredBy {L D : Type 0} (log_gives : L → Call → L → Type 0) (data_gives : D → Call → D → Type 0) (recovered : Recovered)
+    (answer : Answer L D) (log_read : L) (data_read : D) : Type 0 where
+  pub opened : IfOk answer (IsOpenedAs (reading_of recovered))
+  pub own_fault : IfErr answer (λ error. IsOpenFault error.0)
+  pub log_puts : MakesCalls log_gives log_read (log_left answer) (PutsMayEndWith (log_error_in answer))
+  pub data_puts : MakesCalls data_gives data_read (data_left answer) (MayPutWhere (IsNeededWrite recovered) (data_error_in answer))
+
+abbrev pub LeadsTo : {L D : Type 0} → (L → Call → L → Type 0) → (D → Call → D → Type 0) → Result Recovered RecFault → Answer L D → L → D → Type 0
+LeadsTo log_gives data_gives (Ok recovered) answer log_read data_read = OpensRecoveredBy log_gives data_gives recovered answer log_read data_read
+LeadsTo log_gives data_gives (Err fault) answer log_read data_read = AnswersFault fault answer log_read data_read
+
+-- RECOVERY COMES FIRST: it read both devices, the data device behind the log, and came to this result, which led to the answer.
+pub record RecoversFirst {L D : Type 0} (log_seen : L → Seen) (log_gives : L → Call → L → Type 0) (data_seen : D → Seen) (data_gives : D → Call → D → Type 0)
+    (log : L) (data_device : D) (answer : Answer L D) : Type 0 where
   pub result : Result Recovered RecFault
-  pub reads : List Call
-  pub puts : List Call
-  pub joined : calls ≡ reads ++ puts
-  pub recovers : Recovers result reads
-  pub are_puts : AllByRecursion (IsPut IsAnyWrite) puts
-  pub ends_there : IfErr result (λ fault. puts ≡ [])
-  pub leads : LeadsTo result answer
+  pub log_read : L
+  pub data_read : D
+  pub log_reads : MakesCalls log_gives log log_read (ReadsLog (log_seen log) (data_seen data_device).size result)
+  pub data_reads : MakesCalls data_gives data_device data_read (ReadsPages (log_seen log).tells result)
+  pub order : ReadsBehindLog (log_seen log).tells (data_seen data_device).size data_device data_read result
+  pub leads : LeadsTo log_gives data_gives result answer log_read data_read
 
 -- a store that is refused is refused behind reads alone
 abbrev pub RefusesUnwritten : {L D : Type 0} → Answer L D → List Call → Type 0
@@ -81,19 +88,17 @@ pub record PutsLogIn {L D : Type 0} (result : Answer L D) (calls : List Call) : 
   pub puts : PutsMayEndWith (log_error_in result) calls
   pub unmarked : IfErr result (λ error. error.0 ≢ NoMemory → MarksNothing error.0 calls)
 
--- The calls of this log device, beside a data device of that size. All but the last answered Ok, and the last one answered
--- this error, if any did; where memory ran out they may all have answered Ok. Those that read are such as recovery says of
--- its own: reads of pieces, and where the device tells only of the header and of bytes that the scan comes near. No byte is
--- read twice. Where the device has room for a header, the first of them reads that, and what it says is what is answered by,
--- also of devices that don't tell. Where the store is refused they are reads alone. Where opening fails for anything but want
--- of memory, which may come when the checkpoint stands already, no checkpoint was made to stay.
-pub record OpensLog {L D : Type 0} (log : Seen) (data_size : ℕ) (result : Answer L D) (calls : List Call) : Type 0 where
+-- The calls of a log device of this size, beside a data device of that size. All but the last answered Ok, and the last one
+-- answered this error, if any did; where memory ran out they may all have answered Ok. No byte is read twice. Where the
+-- device has room for a header, the first of them reads that, and what it says is what is answered by, also of devices that
+-- don't tell. Where the store is refused they are reads alone. Where opening fails for anything but want of memory, which
+-- may come when the checkpoint stands already, no checkpoint was made to stay.
+pub record OpensLog {L D : Type 0} (log_size data_size : ℕ) (result : Answer L D) (calls : List Call) : Type 0 where
   pub ends : MayEndWith (log_error_in result) calls
-  pub recovers : RecoversThenPuts (ReadsLog log data_size) result calls
   pub once : ReadOnce calls
-  pub header : HEADER_BYTES ≤ log.size → BeginWithHeader calls
-  pub judged : IfErr result (λ error. JudgesHeader log.size data_size (Err error.0) calls)
-  pub by_header : IfOk result (λ store. OpensByHeader log.size data_size store calls)
+  pub header : HEADER_BYTES ≤ log_size → BeginWithHeader calls
+  pub judged : IfErr result (λ error. JudgesHeader log_size data_size (Err error.0) calls)
+  pub by_header : IfOk result (λ store. OpensByHeader log_size data_size store calls)
   pub unwritten : RefusesUnwritten result calls
   pub unmarked : IfErr result (λ error. error.0 ≢ NoMemory → MarksNothing error.0 calls)
 
@@ -113,13 +118,11 @@ abbrev pub WritesWithin : {L D : Type 0} → Opened L D → List Call → Type 0
 WritesWithin store calls = (i : ℕ) (write : Write) (answer : Result (Unit {0}) DevError)
     → slice_get calls i ≡ Some (Writes write answer) → IsWriteFor store.shape (λ p. p < store.shape.pages) write
 
--- The calls of a data device: they end so too, and those that read are such as recovery says of its own: reads of pieces, and
--- only of slots and places of the store, where it is opened or the log device tells a header that names it. No byte is read
--- twice, and where the store is refused they are reads alone. Where the store is opened, each write is of slots or of one
--- place, over any devices; where both tell, no byte is written of a place that holds its page already.
+-- The calls of a data device: they end so too, no byte is read twice, and where the store is refused they are reads alone.
+-- Where the store is opened, each write is of slots or of one place, over any devices; where both tell, no byte is written of a
+-- place that holds its page already.
 pub record OpensData {L D : Type 0} (log_told data_told : Option Disk) (result : Answer L D) (calls : List Call) : Type 0 where
   pub ends : MayEndWith (data_error_in result) calls
-  pub recovers : RecoversThenPuts (ReadsPages log_told) result calls
   pub once : ReadOnce calls
   pub unwritten : RefusesUnwritten result calls
   pub within : IfOk result (λ store. WritesWithin store calls)

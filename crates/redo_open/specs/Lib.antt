@@ -14,7 +14,7 @@ pub mod Puts
 pub mod Rewrite
 pub mod Store
 pub mod Zeros
-pub use Rattle.redo_open.specs.Called.{OpensData, OpensLog, RecoversThenPuts}
+pub use Rattle.redo_open.specs.Called.{OpensData, OpensLog, RecoversFirst}
 pub use Rattle.redo_open.specs.Devices.{HasSameCheckpoint, WhereBothTell}
 pub use Rattle.redo_open.specs.Formatting.{FormatCalls, HasFormatCause, JudgesLengths}
 pub use Rattle.redo_open.specs.Opening.{HasFaultCause, IsOpenedReady, IsOpeningOf}

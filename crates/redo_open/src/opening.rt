@@ -5,7 +5,7 @@ ghost use Rattle.model_log.specs.{IsAtDataStart, log_device_length};
 ghost use Rattle.model_opening.specs.{IsOpenable, KeepsOpened};
 ghost use Rattle.model_store.specs.Reading.{Reading};
 ghost use Rattle.redo_disk.specs.{MakesCalls};
-ghost use Rattle.redo_open.specs.Called.{OpensData, OpensLog, PutsLogIn};
+ghost use Rattle.redo_open.specs.Called.{OpensData, OpensLog, PutsLogIn, RecoversFirst};
 ghost use Rattle.redo_open.specs.Devices.{HasSameCheckpoint, IsSameDevice, WhereBothTell};
 ghost use Rattle.redo_open.specs.Mend.{IsSettledData};
 ghost use Rattle.redo_open.specs.Needed.{IsNeededWrite};
@@ -113,9 +113,10 @@ pub fn open_store<L: Sectors, D: Sectors>(
         (L.seen error.1) (D.seen error.2) error.0) }
     ensures log { IsSameDevice (L.seen log) (L.seen (log_left result)) }
     ensures data_device { IsSameDevice (D.seen data_device) (D.seen (data_left result)) }
-    ensures log_calls { MakesCalls L.gives log (log_left result) (OpensLog (L.seen log) (D.seen data_device).size result) }
+    ensures log_calls { MakesCalls L.gives log (log_left result) (OpensLog (L.seen log).size (D.seen data_device).size result) }
     ensures data_calls { MakesCalls D.gives data_device (data_left result) (OpensData (L.seen log).tells (D.seen data_device).tells result) }
     ensures marks { IfOk result (MarksStart L.gives log) }
+    ensures recovers { RecoversFirst L.seen L.gives D.seen D.gives log data_device result }
 {
     let recovered = match recover(alloc, &mut log, &mut data_device) {
         Ok(recovered) => recovered,

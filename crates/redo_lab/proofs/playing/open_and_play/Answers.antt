@@ -42,7 +42,7 @@ returns-in-Ok-clause-turns g c = λ log_entry data_entry stops log_found data_fo
         marks = c.in-Ok.ensures.marks;
       };
     })
-    (record { armed = armed; formats = formats; log_at = log_at; data_at = data_at; log_calls = c.in-Ok.ensures.log_calls; data_calls = c.in-Ok.ensures.data_calls })
+    (record { armed = armed; formats = formats; log_at = log_at; data_at = data_at; log_calls = c.in-Ok.ensures.log_calls; data_calls = c.in-Ok.ensures.data_calls; recovers = c.in-Ok.ensures.recovers })
     c.play.ensures.plays c.play.ensures.turns
 
 pub returns-in-Err-clause-comes_to : goal.returns-in-Err-clause-comes_to
@@ -68,6 +68,7 @@ returns-in-Err-clause-turns g c = λ log_entry data_entry stops log_found data_f
       data_at = data_at;
       log_calls = c.in-Err.ensures.log_calls;
       data_calls = c.in-Err.ensures.data_calls;
+      recovers = c.in-Err.ensures.recovers;
     }))
 
 pub returns-in-Ok-clause-log_called : goal.returns-in-Ok-clause-log_called

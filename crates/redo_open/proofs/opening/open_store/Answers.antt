@@ -1,8 +1,9 @@
 -- The store is read and opened.
-use Rattle.std.proofs.Common.{◌≢◌, ◌∙◌, Err, sym, ap, subst, arith}
+use Rattle.std.proofs.Common.{◌≢◌, ◌∙◌, Ok, Err, refl, sym, ap, subst, arith}
 use Rattle.std.specs.Prelude.{IfOk, IfErr, IfSome}
 use Rattle.model_opening.specs.{KeepsOpened}
 use Rattle.model_store.specs.Reading.{Reading}
+use Rattle.redo_disk.proofs.Made.{weaker_calls}
 use Rattle.redo_open.specs.Devices.{HasSameCheckpoint, WhereBothTell}
 use Rattle.redo_open.specs.Opening.{log_left, data_left, IsOpenedReady}
 use Rattle.redo_open.specs.Places.{IsPageFault}
@@ -106,3 +107,48 @@ returns-clause-data_calls g c =
 
 pub returns-clause-marks : goal.returns-clause-marks
 returns-clause-marks g c = marks_read c.open_recovered.result c.in-Ok.ensures.log_calls c.open_recovered.ensures.marks
+
+pub returns-in-Err-clause-recovers : goal.returns-in-Err-clause-recovers
+returns-in-Err-clause-recovers g c = record {
+  result = Err c.in-Err.fault;
+  log_read = c.recover.new.log;
+  data_read = c.recover.new.data_device;
+  log_reads = c.in-Err.ensures.log_calls;
+  data_reads = c.in-Err.ensures.data_calls;
+  order = c.in-Err.ensures.order;
+  leads = refl;
+}
+
+pub returns-in-Err-sync-clause-recovers : goal.returns-in-Err-sync-clause-recovers
+returns-in-Err-sync-clause-recovers g c =
+    let own : IsPageFault c.data_fault.result = subst IsPageFault (sym c.data_fault.ensures) (device-own c.in-Err-sync.error) in
+    record {
+      result = Ok c.in-Ok.recovered;
+      log_read = c.recover.new.log;
+      data_read = c.recover.new.data_device;
+      log_reads = c.in-Ok.ensures.log_calls;
+      data_reads = c.in-Ok.ensures.data_calls;
+      order = c.in-Ok.ensures.order;
+      leads = record {
+        opened = tt;
+        own_fault = places-cause c.data_fault.result own;
+        log_puts = beside_pages c.data_fault.result own (may_put (put_nothing g.L.Sectors.gives c.recover.new.log));
+        data_puts = may_put (data_ends c.in-Err-sync.error c.data_fault.result c.data_fault.ensures (put_one tt c.in-Err-sync.ensures.gives));
+      };
+    }
+
+pub returns-clause-recovers : goal.returns-clause-recovers
+returns-clause-recovers g c = record {
+  result = Ok c.in-Ok.recovered;
+  log_read = c.recover.new.log;
+  data_read = c.recover.new.data_device;
+  log_reads = c.in-Ok.ensures.log_calls;
+  data_reads = c.in-Ok.ensures.data_calls;
+  order = c.in-Ok.ensures.order;
+  leads = record {
+    opened = c.open_recovered.ensures.step.opened_as;
+    own_fault = c.open_recovered.ensures.step.fault;
+    log_puts = weaker_calls (λ calls is. is.puts) c.open_recovered.ensures.log_calls;
+    data_puts = may_put_then (put_one tt c.in-Ok-sync.ensures.gives) c.open_recovered.ensures.data_calls;
+  };
+}
