@@ -113,15 +113,15 @@ abbrev pub Prepares : Seen → Seen → Result (Unit {0}) RecFault → Guarded �
 Prepares log_entry data_entry (Ok done) log_now data_now = ArePrepared log_entry data_entry log_now data_now
 Prepares log_entry data_entry (Err fault) log_now data_now = IsUnpreparedBy log_entry data_entry fault log_now data_now
 
--- The first block was read as this: both devices are formatted just where it is all zero. Where they aren't, the device is
--- called no more; nor where one of them is too short for that.
+-- The first block was read as this: it is said that both are formatted just where that is all zero. Where it isn't said, the log
+-- device is called no more; nor where one of the two is too short.
 abbrev pub IsByBlock : List ℕ → (formats : Bool) → Result (Unit {0}) RecFault → List Call → Type 0
 IsByBlock block true result rest =
     (block ≡ replicate BLOCK_SIZE 0) × IfErr result (λ fault. IfSome (refusal_of fault) (λ _. rest ≡ []))
 IsByBlock block false result rest = (block ≢ replicate BLOCK_SIZE 0) × (rest ≡ []) × (result ≡ Ok tt)
 
 -- A log device that has no room for a header isn't called. Of another one the first call reads the first block, which decides
--- whether both devices are formatted.
+-- what is said.
 abbrev pub JudgesBlock : ℕ → (formats : Bool) → Result (Unit {0}) RecFault → List Call → Type 0
 JudgesBlock log_size formats result [] = (log_size < HEADER_BYTES) × (formats ≡ false) × (result ≡ Err (SmallLog HEADER_BYTES))
 JudgesBlock log_size formats result (Reads at before (Ok done) block ∷ rest) =

@@ -39,8 +39,8 @@ IsOfReading (outcome.Fault found) (Ok recovered) = found ≡ fault.Memory
 IsOfReading (outcome.Fault found) (Err met) = found ≡ fault_of met
 IsOfReading outcome result = ⊥
 
--- BOTH DEVICES WERE READ, and this became of it: the calls that led them there are those of recovery, and no other. The data device
--- is read behind the log, so where a fault was met there it wasn't called.
+-- BOTH DEVICES WERE READ, and this became of it: the calls that led them there are those of recovery, and no other. Where a fault
+-- was met on the log, the data device wasn't called.
 pub record AreReadFor {L D : Type 0} (log_seen : L → Seen) (log_gives : L → Call → L → Type 0) (data_seen : D → Seen) (data_gives : D → Call → D → Type 0)
     (outcome : Outcome) (log_old log_now : Fused L) (data_old data_now : Fused D) : Type 0 where
   pub result : Result Recovered RecFault

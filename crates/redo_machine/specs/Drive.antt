@@ -45,7 +45,7 @@ HasMetError closed = (closed.log.failed ≢ None) ⊎ (closed.store.failed ≢ N
 
 -- THE TURNS. The machine began the run of the script on the store, with both parts that were opened, and the turns of the
 -- seed led from there to its end, at which both parts are those of the closed run. In each turn both devices were asked for
--- what the Op of its actor asks of them, and for nothing else.
+-- what the Op of its actor asks of them, all of it or up to an error, and for nothing else.
 pub record RunsByTurns {L D : Type 0} (log_seen : L → Seen) (log_gives : L → Call → L → Type 0) (data_seen : D → Seen) (data_gives : D → Call → D → Type 0)
     (opened : Opened L D) (script : List ScriptLine) (turns : Turns) (driven : Driven L D) : Type 0 where
   pub first : Machine L D

@@ -39,7 +39,7 @@ abbrev pub LeadsTo : {L D : Type 0} → (L → Call → L → Type 0) → (D →
 LeadsTo log_gives data_gives (Ok recovered) answer log_read data_read = OpensRecoveredBy log_gives data_gives recovered answer log_read data_read
 LeadsTo log_gives data_gives (Err fault) answer log_read data_read = AnswersFault fault answer log_read data_read
 
--- RECOVERY COMES FIRST: it read both devices, the data device behind the log, and came to this result, which led to the answer.
+-- RECOVERY COMES FIRST, and to this result, which led to the answer. Where it met a fault on the log, the data device wasn't called.
 pub record RecoversFirst {L D : Type 0} (log_seen : L → Seen) (log_gives : L → Call → L → Type 0) (data_seen : D → Seen) (data_gives : D → Call → D → Type 0)
     (log : L) (data_device : D) (answer : Answer L D) : Type 0 where
   pub result : Result Recovered RecFault
