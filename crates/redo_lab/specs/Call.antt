@@ -61,6 +61,12 @@ IsUnread call = call.source_now ≡ call.source
 abbrev pub guarded : {D : Type 0} → (D → Seen) → Fused D → Guarded
 guarded seen fused = record { seen = seen (inner_of fused); fuse = fuse_of fused; armed_from = armed_from seen fused }
 
+-- these two, which were seen so, were left alone
+pub record AreUncalled {L D : Type 0} (log_seen : L → Seen) (data_seen : D → Seen) (log_entry data_entry : Seen) (log_now : Fused L) (data_now : Fused D)
+    : Type 0 where
+  pub log_device : IsLeftAlone log_entry (guarded log_seen log_now)
+  pub data_device : IsLeftAlone data_entry (guarded data_seen data_now)
+
 -- the call that was handed these words, this source, sink and devices, and ended so
 abbrev pub lab_call_of : {L D : Type 0} → (L → Seen) → (D → Seen) → (words : List (List ℕ)) → (source source_now : SourceSeen)
     → (sink sink_now : SinkSeen) → (log : L) → (store : D) → Ended L D → LabCall

@@ -8,7 +8,7 @@ use Rattle.redo_memdisk.specs.{CallsThrough}
 use Rattle.redo_memdisk.specs.declared.fused.Fused.{Fused}
 use Rattle.redo_open.specs.{FormatCalls}
 use Rattle.redo_recover.specs.declared.fault.RecFault.{RecFault}
-use Rattle.redo_lab.specs.Call.{IsLeftAlone, guarded}
+use Rattle.redo_lab.specs.Call.{AreUncalled}
 use Rattle.redo_lab.specs.Faults.{fault_of}
 use Rattle.redo_lab.specs.Led.{IsPlainAs}
 use Rattle.redo_lab.specs.Reread.{AreReadFor}
@@ -44,17 +44,12 @@ pub record IsReadFor {L D : Type 0} (log_seen : L → Seen) (log_gives : L → C
 
 module _ {L D : Type 0} (log_seen : L → Seen) (log_gives : L → Call → L → Type 0) (data_seen : D → Seen) (data_gives : D → Call → D → Type 0)
     (log_entry data_entry : Seen) where
-  -- no device was called
-  pub record AreUncalledPlain (log_now : Fused L) (data_now : Fused D) : Type 0 where
-    pub log_device : IsLeftAlone log_entry (guarded log_seen log_now)
-    pub data_device : IsLeftAlone data_entry (guarded data_seen data_now)
-
   -- what `format` tells; memory may run out before it, in it, or behind it
   abbrev pub TellsFormat : Outcome → Fused L → Fused D → Type 0
   TellsFormat (outcome.Text text) log_now data_now =
       AreFormattedWith log_seen log_gives data_seen data_gives log_entry data_entry (Ok tt) log_now data_now
   TellsFormat (outcome.Fault Memory) log_now data_now =
-      AreUncalledPlain log_now data_now
+      AreUncalled log_seen data_seen log_entry data_entry log_now data_now
       ⊎ AreFormattedWith log_seen log_gives data_seen data_gives log_entry data_entry (Ok tt) log_now data_now
       ⊎ FailsFormat log_seen log_gives data_seen data_gives log_entry data_entry Memory log_now data_now
   TellsFormat (outcome.Fault fault) log_now data_now =
@@ -64,7 +59,7 @@ module _ {L D : Type 0} (log_seen : L → Seen) (log_gives : L → Call → L �
   -- what `recover` and `dump` tell; memory may run out before they read, or over the text
   abbrev pub TellsReading : Outcome → Fused L → Fused D → Type 0
   TellsReading (outcome.Fault Memory) log_now data_now =
-      AreUncalledPlain log_now data_now
+      AreUncalled log_seen data_seen log_entry data_entry log_now data_now
       ⊎ IsReadFor log_seen log_gives data_seen data_gives log_entry data_entry (outcome.Fault Memory) log_now data_now
   TellsReading became log_now data_now =
       IsReadFor log_seen log_gives data_seen data_gives log_entry data_entry became log_now data_now

@@ -27,12 +27,12 @@ use Rattle.redo_memdisk.specs.declared.fused.Fused.{Fused}
 use Rattle.redo_pageactors.specs.declared.opened.Opened.{Opened}
 use Rattle.redo_lab.specs.Asked.{command_of, drive_of_seed, reads_script, turns_of}
 use Rattle.redo_lab.specs.Behind.{AreReadSince}
-use Rattle.redo_lab.specs.Call.{Guarded, IsLeftAlone, LabCall, guarded}
+use Rattle.redo_lab.specs.Call.{AreUncalled, Guarded, LabCall, guarded}
 use Rattle.redo_lab.specs.Course.{ComesTo, ran_of}
 use Rattle.redo_lab.specs.Crashed.{AreCrashedSince}
 use Rattle.redo_lab.specs.Opening.{ComesToUnopened, ComesToUnprepared, IsOpenedOn}
 use Rattle.redo_lab.specs.Outcome.{IsOutcome, IsOutcomePrinted}
-use Rattle.redo_lab.specs.Plain.{AreUncalledPlain, TellsFormat, TellsReading}
+use Rattle.redo_lab.specs.Plain.{TellsFormat, TellsReading}
 use Rattle.redo_lab.specs.Playing.{IsUnfit, IsUnplayed, ended_by, played_of}
 use Rattle.redo_lab.specs.Prepared.{WhereTold}
 use Rattle.redo_lab.specs.Reported.{IsReportOf}
@@ -309,7 +309,8 @@ module _ {L D : Type 0} (log_seen : L → Seen) (log_gives : L → Call → L �
 
   -- What a run that came so far led to, by command. Where it ended by a fault of its own, that is the fault, and no device was
   -- called since. Else `crash` crashes the devices and reads them; `gen` reads them behind a run that no fault ended, and calls
-  -- nothing more behind one that a device ended; and of `run` there is a report, or no memory for it; where opening was stopped, both end with that fault.
+  -- nothing more behind one that a device ended; and of `run` there is a report, or no memory for it. Where opening was stopped,
+  -- `run` and `gen` end with that fault.
   abbrev pub FailsSince : Command → Course → Fault → Type 0
   FailsSince command (course.Ended met) fault = EndsThere log_then log_now data_then data_now met fault
   FailsSince (Crash drive stop_log stop_data pick) so_far fault =
@@ -333,17 +334,12 @@ pub record FailsAsHanded {L D : Type 0} (log_seen : L → Seen) (log_gives : L �
   pub comes : ComesAsHanded log_seen log_gives data_seen data_gives handed so_far log_then data_then
   pub fails : FailsSince log_seen log_gives log_crash_gives data_seen data_gives data_crash_gives log_then log_now data_then data_now handed.command so_far fault
 
--- No device was called.
-pub record AreUncalled {L D : Type 0} (log_seen : L → Seen) (data_seen : D → Seen) (handed : Handed) (log_now : Fused L) (data_now : Fused D) : Type 0 where
-  pub log_device : IsLeftAlone handed.log_entry (guarded log_seen log_now)
-  pub data_device : IsLeftAlone handed.data_entry (guarded data_seen data_now)
-
 -- The source had more bytes than a script may have, where it tells, and no device was called.
 pub record IsTooLong {L D : Type 0} (log_seen : L → Seen) (data_seen : D → Seen) (handed : Handed) (misfit : Misfit)
     (log_now : Fused L) (data_now : Fused D) : Type 0 where
   pub reads : reads_script handed.command ≡ true
   pub long : IsLongScript handed.source misfit
-  pub uncalled : AreUncalled log_seen data_seen handed log_now data_now
+  pub uncalled : AreUncalled log_seen data_seen handed.log_entry handed.data_entry log_now data_now
 
 -- What a fault's line alone tells of a run: where the turns were spent, the devices decided, memory ran out, or the script doesn't
 -- fit the store that was opened. Any other fault comes of reading the script.
@@ -359,7 +355,7 @@ TellsFault log_seen log_gives log_crash_gives data_seen data_gives data_crash_gi
 TellsFault log_seen log_gives log_crash_gives data_seen data_gives data_crash_gives handed (Fit misfit) log_now data_now =
     IsTooLong log_seen data_seen handed misfit log_now data_now ⊎ FailsAsHanded log_seen log_gives log_crash_gives data_seen data_gives data_crash_gives handed (Fit misfit) log_now data_now
 TellsFault log_seen log_gives log_crash_gives data_seen data_gives data_crash_gives handed Memory log_now data_now =
-    AreUncalled log_seen data_seen handed log_now data_now
+    AreUncalled log_seen data_seen handed.log_entry handed.data_entry log_now data_now
     ⊎ FailsAsHanded log_seen log_gives log_crash_gives data_seen data_gives data_crash_gives handed Memory log_now data_now
 TellsFault log_seen log_gives log_crash_gives data_seen data_gives data_crash_gives handed fault log_now data_now = Unit {0}
 
@@ -405,7 +401,7 @@ module _ {L D : Type 0} (log_seen : L → Seen) (log_gives : L → Call → L �
   TellsByTurns (Gen seed users groups true max) (outcome.Fault fault) log_now data_now =
       TellsFault log_seen log_gives log_crash_gives data_seen data_gives data_crash_gives (handed_as (Gen seed users groups true max) no_stops (drive_of_seed seed max)) fault log_now data_now
   TellsByTurns (Gen seed users groups false max) outcome log_now data_now =
-      AreUncalledPlain log_seen log_gives data_seen data_gives log_entry data_entry log_now data_now
+      AreUncalled log_seen data_seen log_entry data_entry log_now data_now
   TellsByTurns (Format pages space log_blocks) outcome log_now data_now =
       TellsFormat log_seen log_gives data_seen data_gives log_entry data_entry outcome log_now data_now
   TellsByTurns Recover outcome log_now data_now =

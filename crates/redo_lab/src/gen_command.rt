@@ -9,11 +9,10 @@ ghost use Rattle.redo_io.specs.{SourceSeen};
 ghost use Rattle.redo_recover.specs.{reading_of};
 ghost use Rattle.redo_lab.specs.Asked.{drive_of_seed, turns_of};
 ghost use Rattle.redo_lab.specs.Behind.{ReadsBehind};
-ghost use Rattle.redo_lab.specs.Call.{guarded};
+ghost use Rattle.redo_lab.specs.Call.{AreUncalled, guarded};
 ghost use Rattle.redo_lab.specs.Course.{ran_of};
 ghost use Rattle.redo_lab.specs.Led.{IsLedFrom};
 ghost use Rattle.redo_lab.specs.Outcome.{EndsCommand, call_of};
-ghost use Rattle.redo_lab.specs.Plain.{AreUncalledPlain};
 ghost use Rattle.redo_lab.specs.Reread.{AreReadFor};
 ghost use Rattle.redo_lab.specs.Summary.{summary_of};
 ghost use Rattle.redo_lab.specs.Turned.{TellsByTurns};
@@ -51,7 +50,7 @@ fn print_script<L: Sectors, D: Sectors>(
     requires few_users { users ≤ MAX_USERS }
     ensures ends { (words : List (List ℕ)) (source : SourceSeen)
         → EndsCommand (call_of L.seen D.seen words source source log store result) (Gen seed users groups false max) result.outcome }
-    ensures calls { AreUncalledPlain L.seen L.gives D.seen D.gives (L.seen log) (D.seen store) result.log result.store }
+    ensures calls { AreUncalled L.seen D.seen (L.seen log) (D.seen store) result.log result.store }
     ensures log_device { IsLedFrom L.seen L.gives L.crash_gives log result.log }
     ensures data_device { IsLedFrom D.seen D.gives D.crash_gives store result.store }
 {
