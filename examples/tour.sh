@@ -4,8 +4,8 @@
 # program, such as crates/redolab/out/redolab that `rt run` leaves, it takes that.
 set -eu
 examples=$(cd "$(dirname "$0")" && pwd)
-errors=$(mktemp)
-trap 'rm -f "$errors"' EXIT
+temporary=$(mktemp -d)
+trap 'rm -rf "$temporary"' EXIT
 trap 'exit 1' HUP INT TERM
 
 redolab() {
@@ -13,7 +13,7 @@ redolab() {
         "$REDOLAB" "$@"
     else
         cd "$examples/../crates/redolab"
-        rt try --seconds 600 -- "$@" 2>"$errors" || { cat "$errors" >&2; exit 1; }
+        rt try --seconds 600 -- "$@" 2>"$temporary/errors" || { cat "$temporary/errors" >&2; return 1; }
     fi
 }
 
@@ -22,7 +22,8 @@ stop() {
     name=$1 times=$2 lines=$3 shows=$4 look=$5
     shift 5
     printf '\n== %s: %s\n\n$ redolab %s\n' "$name" "$shows" "$*"
-    for _ in $(seq "$times"); do cat "$examples/$name"; done | (redolab "$@") | tail -n "$lines"
+    for _ in $(seq "$times"); do cat "$examples/$name"; done | redolab "$@" >"$temporary/printed"
+    tail -n "$lines" "$temporary/printed"
     printf '\n%s\n' "$look"
 }
 
