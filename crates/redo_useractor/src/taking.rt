@@ -148,23 +148,23 @@ impl UserActor {
         let end = self.end_lsn();
         self.loaded.write = n;
         if end < n - n % BLOCK_SIZE + LOG_BUFFER {
-            self.step = UserStep::StoreCell;
+            self.step = UserStep::AddCell;
             return Step::Moved;
         }
         self.waits()
     }
 
-    /// A byte of its group is copied.
+    /// Bytes of its group are copied, as many as stand in one word.
     fn copies(&mut self, n: u64) -> Step
-        requires step { self.old.step ≡ UserStep.StoreCell }
-        ensures state { self.new ≡ user_took self.old n UserStep.StoreCell }
-        ensures step { result ≡ step_end self.old n UserStep.StoreCell self.new }
+        requires step { self.old.step ≡ UserStep.AddCell }
+        ensures state { self.new ≡ user_took self.old n UserStep.AddCell }
+        ensures step { result ≡ step_end self.old n UserStep.AddCell self.new }
     {
         let len = self.line().text.len();
         let crosses = self.crosses();
-        self.copied += 1;
+        self.copied += self.next_count();
         self.step = if self.copied < len {
-            UserStep::StoreCell
+            UserStep::AddCell
         } else if crosses {
             UserStep::StoreFirst
         } else {
@@ -242,10 +242,11 @@ impl UserActor {
             UserStep::TakeLatch => return self.takes_latch(n),
             UserStep::Reserve => return self.reserved(n),
             UserStep::LoadWrite => return self.checks_room(n),
-            UserStep::StoreCell => return self.copies(n),
+            UserStep::AddCell => return self.copies(n),
             UserStep::LoadWtail => return self.checks_link(n),
             UserStep::StoreLink => return self.stored_link(n),
             UserStep::LoadCtail => return self.checks_close(n),
+            UserStep::LoadFrame => return self.loaded_frame(n),
             UserStep::StoreFrame => return self.stored_frame(n),
             UserStep::LoadOldest if n == 0 => self.step = UserStep::AddToList,
             UserStep::LoadOldest | UserStep::GiveList => return self.to_next_page(),
