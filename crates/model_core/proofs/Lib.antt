@@ -1,7 +1,10 @@
 pub mod Ended
+pub mod FrameWords
 pub mod Groups
+pub mod Lanes
 pub mod Lists
 pub mod Lsns
 pub mod Waiting
 pub mod WaitingWords
+pub mod WordCounts
 pub mod WordNumbers

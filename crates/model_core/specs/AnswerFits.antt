@@ -17,7 +17,6 @@ closer_fits t n closer_step.LoadClosedLink = t.tail + n < answer_limit
 closer_fits t n _ = Unit {0}
 
 abbrev pub cleaner_fits : ℕ → CleanerStep → Type 0
-cleaner_fits n cleaner_step.LoadFrame = n < 256
 cleaner_fits n _ = Unit {0}
 
 abbrev pub page_fits : Actor → ℕ → Type 0

@@ -1,5 +1,5 @@
 -- The program of the cleaner.
-use Rattle.std.specs.Prelude.{[], cond, drop, false, get_or, length, nat_le, true, ℕ, ◌%◌, ◌++◌, ◌+◌, ◌-◌, ◌==◌, ◌∷◌}
+use Rattle.std.specs.Prelude.{[], cond, drop, false, get_or, length, nat_le, true, ℕ, ◌%◌, ◌++◌, ◌+◌, ◌-◌, ◌/◌, ◌==◌, ◌∷◌}
 use Rattle.model_core.specs.Answers.{on_call, code_of, old_of, has_taken}
 use Rattle.model_core.specs.States.{CleanerState, BatchPage}
 use Rattle.model_core.specs.declared.ops.Answer.{Answer}
@@ -8,7 +8,8 @@ use Rattle.model_core.specs.declared.steps.CleanerStep.{CleanerStep}
 use Rattle.model_core.specs.declared.words.Word.TheVariants as word
 use Rattle.model_core.specs.declared.ops.Op.TheVariants as op
 use Rattle.model_core.specs.declared.steps.CleanerStep.TheVariants as cleaner_step
-use Rattle.model_core.specs.declared.limits.TheConstants.{FLUSH_LISTS, FRAME_CELLS, BATCH_PAGES}
+use Rattle.model_core.specs.declared.limits.TheConstants.{FLUSH_LISTS, FRAME_CELLS, BATCH_PAGES, WORD_LANES}
+unfoldable use Rattle.model_core.specs.Lanes.{lanes}
 
 abbrev pub no_page : BatchPage
 no_page = record { page = 0; lsn = 0; bytes = [] }
@@ -23,7 +24,7 @@ cleaner_op v cleaner_step.LoadOldest = op.Load (word.Oldest v.page)
 cleaner_op v cleaner_step.TakeLatch = op.Swap (word.Latch v.page) 0 1
 cleaner_op v cleaner_step.LoadNewest = op.Load (word.Newest v.page)
 cleaner_op v cleaner_step.ReleaseSkipped = op.Store (word.Latch v.page) 0
-cleaner_op v cleaner_step.LoadFrame = op.Load (word.Frame v.page (length v.kept))
+cleaner_op v cleaner_step.LoadFrame = op.Load (word.Frame v.page (length v.kept / WORD_LANES))
 cleaner_op v cleaner_step.WriteBatch = op.WriteBatch
 cleaner_op v cleaner_step.RemoveFromList = op.TakeRemove (first_of_batch v)
 cleaner_op v cleaner_step.ClearOldest = op.Store (word.Oldest (first_of_batch v)) 0
@@ -43,7 +44,7 @@ next_in_round v = cond (cond (v.left == 1) true (length v.batch == BATCH_PAGES))
     (record v { page = cond (v.page + 1 == v.pages) 0 (v.page + 1); left = v.left - 1; kept = []; step = cleaner_step.LoadOldest })
 
 abbrev pub page_loaded : CleanerState → ℕ → BatchPage
-page_loaded v n = record { page = v.page; lsn = v.newest; bytes = v.kept ++ n ∷ [] }
+page_loaded v n = record { page = v.page; lsn = v.newest; bytes = v.kept ++ lanes 0 WORD_LANES n }
 
 abbrev pub cleaner_took : CleanerState → Answer → CleanerStep → CleanerState
 cleaner_took v a cleaner_step.LoadFlushed = record v { flushed = old_of a; left = v.pages; batch = []; step = cleaner_step.LoadOldest }
@@ -51,7 +52,7 @@ cleaner_took v a cleaner_step.LoadOldest = cond (old_of a == 0) (next_in_round v
 cleaner_took v a cleaner_step.TakeLatch = cond (old_of a == 0) (record v { step = cleaner_step.LoadNewest }) (next_in_round v)
 cleaner_took v a cleaner_step.LoadNewest = cond (nat_le (old_of a) v.flushed) (record v { newest = old_of a; kept = []; step = cleaner_step.LoadFrame }) (record v { step = cleaner_step.ReleaseSkipped })
 cleaner_took v a cleaner_step.ReleaseSkipped = next_in_round v
-cleaner_took v a cleaner_step.LoadFrame = cond (length v.kept + 1 == FRAME_CELLS) (next_in_round (record v { batch = v.batch ++ page_loaded v (old_of a) ∷ [] })) (record v { kept = v.kept ++ old_of a ∷ []; step = cleaner_step.LoadFrame })
+cleaner_took v a cleaner_step.LoadFrame = cond (length v.kept + WORD_LANES == FRAME_CELLS) (next_in_round (record v { batch = v.batch ++ page_loaded v (old_of a) ∷ [] })) (record v { kept = v.kept ++ lanes 0 WORD_LANES (old_of a); step = cleaner_step.LoadFrame })
 cleaner_took v a cleaner_step.WriteBatch = record v { code = code_of a; step = on_call a cleaner_step.RemoveFromList cleaner_step.StoreFailed }
 cleaner_took v a cleaner_step.RemoveFromList = cond (has_taken a) (record v { step = cleaner_step.ClearOldest }) (record v { checks = true; step = cleaner_step.RemoveFromList })
 cleaner_took v a cleaner_step.ClearOldest = record v { step = cleaner_step.GiveList }

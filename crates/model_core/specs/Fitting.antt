@@ -1,12 +1,15 @@
 -- The answers that an actor may be given: with these no number of its own wraps, no byte is lost, and no list outgrows its
 -- room.
-use Rattle.std.specs.Prelude.{cond, length, ℕ, ◌+◌, ◌<◌, ◌^◌, ◌≤◌}
+use Rattle.std.specs.Prelude.{cond, false, length, ℕ, ◌+◌, ◌-◌, ◌<◌, ◌^◌, ◌≡◌, ◌≤◌}
 use Rattle.model_core.specs.Actors.{Actor}
 use Rattle.model_core.specs.Answers.{old_of}
 use Rattle.model_core.specs.Program.{is_checking}
 use Rattle.model_core.specs.States.{WriterState, UserState}
-use Rattle.model_core.specs.UserProgram.{group_bytes}
-use Rattle.model_core.specs.WriterProgram.{full_blocks}
+use Rattle.model_core.specs.UserProgram.{copy_place, group_bytes, next_bytes}
+use Rattle.model_core.specs.Lanes.{lane_of, left_in_word}
+unfoldable use Rattle.model_core.specs.Lanes.{packed}
+use Rattle.model_core.specs.Lsn.{lsn}
+use Rattle.model_core.specs.WriterProgram.{full_blocks, has_whole_word, read_place}
 use Rattle.model_core.specs.declared.ops.Answer.{Answer}
 use Rattle.model_core.specs.declared.steps.UserStep.{UserStep}
 use Rattle.model_core.specs.declared.steps.WriterStep.{WriterStep}
@@ -24,6 +27,7 @@ user_fits u n user_step.LoadCheckpoint = n < answer_limit
 user_fits u n user_step.LoadSn = n < answer_limit
 user_fits u n user_step.Reserve = n + length (group_bytes u) < answer_limit
 user_fits u n user_step.LoadWrite = n < answer_limit
+user_fits u n user_step.AddCell = n + packed (lane_of (copy_place u)) (next_bytes u) < 2 ^ 64
 user_fits u n user_step.LoadWtail = n < answer_limit
 user_fits u n _ = Unit {0}
 
@@ -32,7 +36,8 @@ writer_fits s n writer_step.LoadLink = s.tail + n < answer_limit
 writer_fits s n writer_step.LoadCheckpoint = n < answer_limit
 writer_fits s n writer_step.LoadFirst = n < BLOCK_SIZE
 writer_fits s n writer_step.ClearFirst = length s.firsts < 86
-writer_fits s n writer_step.LoadCell = (n < 256) × (length s.kept < 41736)
+writer_fits s n writer_step.LoadCell = has_whole_word s ≡ false → length s.kept + (s.tail - lsn (read_place s)) ≤ 41736
+writer_fits s n writer_step.ClearCell = length s.kept + left_in_word (read_place s) ≤ 41736
 writer_fits s n writer_step.StoreWrite = (full_blocks s ≤ length s.firsts) × (s.from + length s.kept < answer_limit)
 writer_fits s n _ = Unit {0}
 

@@ -2,7 +2,7 @@
 use Rattle.std.specs.Prelude.{List, [], get_or, length, slice_index, slice_set, ℕ, ◌*◌, ◌++◌, ◌+◌, ◌<◌, ◌∷◌, ◌≡◌}
 use Rattle.model_core.specs.declared.words.Word.{Word}
 use Rattle.model_core.specs.declared.words.Word.TheVariants as word
-use Rattle.model_core.specs.declared.limits.TheConstants.{LOG_BUFFER, BUFFER_BLOCKS, WRITTEN_LINKS, CLOSED_LINKS, FLUSH_LISTS, FRAME_CELLS}
+use Rattle.model_core.specs.declared.limits.TheConstants.{BUFFER_BLOCKS, BUFFER_WORDS, WRITTEN_LINKS, CLOSED_LINKS, FLUSH_LISTS, FRAME_WORDS}
 
 -- where each kind of word begins
 abbrev pub device_at : ℕ
@@ -21,7 +21,7 @@ abbrev pub cells_at : ℕ
 cells_at = closed_links_at + CLOSED_LINKS
 
 abbrev pub firsts_at : ℕ
-firsts_at = cells_at + LOG_BUFFER
+firsts_at = cells_at + BUFFER_WORDS
 
 abbrev pub pages_at : ℕ
 pages_at = firsts_at + BUFFER_BLOCKS
@@ -31,7 +31,7 @@ abbrev pub frame_at : ℕ
 frame_at = 3
 
 abbrev pub page_stride : ℕ
-page_stride = frame_at + FRAME_CELLS
+page_stride = frame_at + FRAME_WORDS
 
 -- how many words a store of so many pages has
 abbrev pub word_count : ℕ → ℕ
@@ -61,12 +61,12 @@ abbrev pub IsWord : ℕ → Word → Type 0
 IsWord pages (word.List i) = i < FLUSH_LISTS
 IsWord pages (word.Wlink i) = i < WRITTEN_LINKS
 IsWord pages (word.Clink i) = i < CLOSED_LINKS
-IsWord pages (word.Cell i) = i < LOG_BUFFER
+IsWord pages (word.Cell i) = i < BUFFER_WORDS
 IsWord pages (word.First i) = i < BUFFER_BLOCKS
 IsWord pages (word.Latch p) = p < pages
 IsWord pages (word.Newest p) = p < pages
 IsWord pages (word.Oldest p) = p < pages
-IsWord pages (word.Frame p i) = (p < pages) × (i < FRAME_CELLS)
+IsWord pages (word.Frame p i) = (p < pages) × (i < FRAME_WORDS)
 IsWord pages _ = Unit {0}
 
 -- a page's words
@@ -107,10 +107,10 @@ pub record IsSized (pages : ℕ) (m : SharedWords) : Type 0 where
   pub lists : length m.lists ≡ FLUSH_LISTS
   pub wlinks : length m.wlinks ≡ WRITTEN_LINKS
   pub clinks : length m.clinks ≡ CLOSED_LINKS
-  pub cells : length m.cells ≡ LOG_BUFFER
+  pub cells : length m.cells ≡ BUFFER_WORDS
   pub firsts : length m.firsts ≡ BUFFER_BLOCKS
   pub page_words : length m.page_words ≡ pages
-  pub frames : (p : ℕ) → p < pages → length (page_words_at m.page_words p).frame ≡ FRAME_CELLS
+  pub frames : (p : ℕ) → p < pages → length (page_words_at m.page_words p).frame ≡ FRAME_WORDS
 
 abbrev pub rows : SharedWords → List ℕ
 rows m = m.lists ++ (m.wlinks ++ (m.clinks ++ (m.cells ++ (m.firsts ++ flat_page_words m.page_words))))

@@ -11,6 +11,7 @@ pub mod FlushLists
 pub mod FlusherProgram
 pub mod Groups
 pub mod Holding
+pub mod Lanes
 pub mod Layout
 pub mod LogSide
 pub mod Lsn
@@ -35,6 +36,8 @@ pub use Rattle.model_core.specs.FlushLists.{Each, Listed, Relaxed, joined, oldes
 pub use Rattle.model_core.specs.FlusherProgram.{flusher_after, flusher_checked, flusher_next, flusher_op, flusher_took}
 pub use Rattle.model_core.specs.Groups.{CellWrite, Entry, IsBound, IsLent, KeptPage, PageChange, Tiles, byte_at, crosses, crossing, end_of, first_of, stream, sum_of}
 pub use Rattle.model_core.specs.Holding.{checkpointer_holds, flusher_holds, holds, writer_holds}
+pub use Rattle.model_core.specs.Lanes.{byte_in, cell_of, frame_bytes, lane_of, left_in_word}
+unfoldable pub use Rattle.model_core.specs.Lanes.{lane, lanes, packed}
 pub use Rattle.model_core.specs.Layout.{IsSized, IsWord, PageWords, SharedWords, blank_words, cells_at, closed_links_at, firsts_at, flat, flat_page_words, index, page_stride, page_words_at, pages_at, read, rows, with_page_words, word_count, wrote}
 pub use Rattle.model_core.specs.Lsn.{ceiling, floor}
 unfoldable pub use Rattle.model_core.specs.Lsn.{lsn}
@@ -43,7 +46,7 @@ pub use Rattle.model_core.specs.Program.{checked, entries, entries_from, entry, 
 pub use Rattle.model_core.specs.Setup.{IsScripted}
 pub use Rattle.model_core.specs.States.{BatchPage, CheckpointerState, CleanerState, CloserState, FlusherState, Line, LoadedMarks, UserState, WriterState, none_loaded}
 pub use Rattle.model_core.specs.Turn.{Core, DataServed, LogServed, list_word}
-pub use Rattle.model_core.specs.UserProgram.{after_link, answered, can_close, can_link, cells_of, change_at, changes, group_bytes, group_end, has_passed, has_room, has_space, line, line_at, mode, page_of, put_of, to_next_page, user_checked, user_next, user_op, user_took, with_mark}
+pub use Rattle.model_core.specs.UserProgram.{after_link, answered, can_close, can_link, cells_of, change_at, changes, copy_place, frame_count, frame_word, group_bytes, group_end, has_passed, has_room, has_space, is_whole, line, line_at, mode, next_bytes, next_count, next_puts, page_of, put_lanes, put_of, same_word, stored_word, to_next_page, user_checked, user_next, user_op, user_took, with_mark, word_step}
 pub use Rattle.model_core.specs.Waiting.{checkpointer_ending, checkpointer_waits, cleaner_ending, cleaner_waits, closer_ending, closer_waits, finds_none, flusher_ending, flusher_waits, step_of, user_ending, user_waits, writer_ending, writer_waits}
 pub use Rattle.model_core.specs.WordTurn.{OnWord, OpWords, after, answer_of, found, list_answer, lists_left, shared_answer, shared_left, word_found, words_after, words_left}
-pub use Rattle.model_core.specs.WriterProgram.{full_blocks, has_log_space, read_place, stands_outside, writer_after, writer_checked, writer_next, writer_op, writer_took}
+pub use Rattle.model_core.specs.WriterProgram.{full_blocks, has_log_space, has_whole_word, read_place, stands_outside, word_end, writer_after, writer_checked, writer_next, writer_op, writer_took}

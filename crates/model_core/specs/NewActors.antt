@@ -22,6 +22,7 @@ new_user user blocks lines = record {
   copied = 0;
   page = 0;
   cell = 0;
+  word = 0;
   loaded = none_loaded;
   code = 0;
   checks = cond (length lines == 0) false true;
@@ -39,6 +40,7 @@ new_writer blocks start = record {
   firsts = [];
   link = 0;
   first = 0;
+  word = 0;
   ckpt = 0;
   code = 0;
   checks = false;

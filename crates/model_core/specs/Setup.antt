@@ -27,3 +27,6 @@ pub record IsScripted (c : Setup) : Type 0 where
   -- each page once, and cells of its frame
   pub apart : (user j i k : ℕ) → i < k → k < length (line_at (c.script user) j).changes → (change_at (line_at (c.script user) j).changes i).page ≢ (change_at (line_at (c.script user) j).changes k).page
   pub within : (user j k i : ℕ) → k < length (line_at (c.script user) j).changes → (get_or (change_at (line_at (c.script user) j).changes k).cells i (record { at = 0; value = 0 })).at < FRAME_CELLS
+  -- ascending
+  pub ascending : (user j k a b : ℕ) → a < b → b < length (change_at (line_at (c.script user) j).changes k).cells → (get_or (change_at (line_at (c.script user) j).changes k).cells a (record { at = 0; value = 0 })).at < (get_or (change_at (line_at (c.script user) j).changes k).cells b (record { at = 0; value = 0 })).at
+  pub are_bytes : (user j k i : ℕ) → (get_or (change_at (line_at (c.script user) j).changes k).cells i (record { at = 0; value = 0 })).value < 256

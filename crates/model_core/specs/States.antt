@@ -40,6 +40,8 @@ pub record UserState : Type 0 where
   -- its place among the group's pages, and among the changed cells of that page
   pub page : ℕ
   pub cell : ℕ
+  -- the word of that page's frame that it has loaded
+  pub word : ℕ
   pub loaded : LoadedMarks
   pub code : ℕ
   pub checks : Bool
@@ -47,7 +49,7 @@ pub record UserState : Type 0 where
 
 -- The writer. `tail` and `write`, its last stored mark, are lsns; `kept` are the stream's bytes from the sn `from`, the start
 -- of a block, up to its read place, and `firsts` the first offsets of the blocks from there on that it has entered. `link`,
--- `first` and `ckpt` are what it has loaded last.
+-- `first`, `word` and `ckpt` are what it has loaded last.
 pub record WriterState : Type 0 where
   pub blocks : ℕ
   pub tail : ℕ
@@ -57,6 +59,7 @@ pub record WriterState : Type 0 where
   pub firsts : List ℕ
   pub link : ℕ
   pub first : ℕ
+  pub word : ℕ
   pub ckpt : ℕ
   pub code : ℕ
   pub checks : Bool

@@ -1,6 +1,8 @@
 -- The program of a user: its next Op, and its state after the answer.
-use Rattle.std.specs.Prelude.{Bool, List, [], cond, false, get_or, length, nat_le, nat_lt, slice_index, true, ℕ, ◌%◌, ◌*◌, ◌++◌, ◌+◌, ◌-◌, ◌/◌, ◌==◌, ◌∷◌}
+use Rattle.std.specs.Prelude.{Bool, List, [], cond, drop, false, get_or, length, min, nat_le, nat_lt, slice_set, suc, take, true, ℕ, ◌%◌, ◌*◌, ◌++◌, ◌+◌, ◌-◌, ◌/◌, ◌==◌, ◌∷◌}
 use Rattle.model_core.specs.Groups.{PageChange, CellWrite}
+use Rattle.model_core.specs.Lanes.{cell_of, lane_of, left_in_word}
+unfoldable use Rattle.model_core.specs.Lanes.{lanes, packed}
 use Rattle.model_core.specs.Lsn.{floor, lsn}
 use Rattle.model_core.specs.States.{Line, LoadedMarks, UserState}
 use Rattle.model_core.specs.declared.ops.Op.{Op}
@@ -10,7 +12,7 @@ use Rattle.model_core.specs.declared.ops.Op.TheVariants as op
 use Rattle.model_core.specs.declared.steps.UserStep.TheVariants as user_step
 use Rattle.model_base.specs.declared.limits.TheConstants.{BLOCK_SIZE}
 use Rattle.model_log.specs.declared.layout.TheConstants.{BLOCK_DATA}
-use Rattle.model_core.specs.declared.limits.TheConstants.{BUFFER_BLOCKS, CLOSED_LINKS, FLUSH_LISTS, FREE_MARGIN, LOG_BUFFER, WRITTEN_LINKS}
+use Rattle.model_core.specs.declared.limits.TheConstants.{BUFFER_BLOCKS, CLOSED_LINKS, FLUSH_LISTS, FREE_MARGIN, LOG_BUFFER, WORD_LANES, WRITTEN_LINKS}
 
 abbrev pub line_at : List Line → ℕ → Line
 line_at lines k = get_or lines k (record { mode = 0; bytes = []; changes = [] })
@@ -38,11 +40,52 @@ cells_of u = (change_at (changes u) u.page).cells
 abbrev pub put_of : UserState → CellWrite
 put_of u = get_or (cells_of u) u.cell (record { at = 0; value = 0 })
 
+-- how many of these cells, from the first on, lie in this word of a frame
+abbrev pub same_word : ℕ → List CellWrite → ℕ
+same_word q [] = 0
+same_word q (x ∷ xs) = cond (x.at / WORD_LANES == q) (suc (same_word q xs)) 0
+
+-- the word of the frame in which the next changed cell lies; how many of the next cells lie there, and which
+abbrev pub frame_word : UserState → ℕ
+frame_word u = (put_of u).at / WORD_LANES
+
+abbrev pub frame_count : UserState → ℕ
+frame_count u = same_word (frame_word u) (drop u.cell (cells_of u))
+
+abbrev pub next_puts : UserState → List CellWrite
+next_puts u = take (frame_count u) (drop u.cell (cells_of u))
+
+-- from a cell on all lanes of its word change; where some stay, the word is loaded first
+abbrev pub is_whole : List CellWrite → ℕ → Bool
+is_whole cells i = nat_le WORD_LANES (same_word ((get_or cells i (record { at = 0; value = 0 })).at / WORD_LANES) (drop i cells))
+
+abbrev pub word_step : List CellWrite → ℕ → UserStep
+word_step cells i = cond (is_whole cells i) user_step.StoreFrame user_step.LoadFrame
+
+-- eight lanes with these cells stored in theirs
+abbrev pub put_lanes : List CellWrite → List ℕ → List ℕ
+put_lanes [] lanes = lanes
+put_lanes (x ∷ xs) lanes = put_lanes xs (slice_set lanes (x.at % WORD_LANES) x.value)
+
+-- the word that it has loaded, with those
+abbrev pub stored_word : UserState → ℕ
+stored_word u = packed 0 (put_lanes (next_puts u) (lanes 0 WORD_LANES u.word))
+
 abbrev pub group_end : UserState → ℕ
 group_end u = u.start + length (group_bytes u)
 
 abbrev pub mode : UserState → ℕ
 mode u = (line_at u.lines u.k).mode
+
+-- where the next byte of the group goes; how many bytes go into one word from there, and which
+abbrev pub copy_place : UserState → ℕ
+copy_place u = u.start + u.copied
+
+abbrev pub next_count : UserState → ℕ
+next_count u = min (left_in_word (copy_place u)) (length (group_bytes u) - u.copied)
+
+abbrev pub next_bytes : UserState → List ℕ
+next_bytes u = take (next_count u) (drop u.copied (group_bytes u))
 
 abbrev pub user_op : UserState → UserStep → Op
 user_op u user_step.LoadCheckpoint = op.Load word.Ckpt
@@ -50,12 +93,13 @@ user_op u user_step.LoadSn = op.Load word.Sn
 user_op u user_step.TakeLatch = op.Swap (word.Latch (page_of u)) 0 1
 user_op u user_step.Reserve = op.Add word.Sn (length (group_bytes u))
 user_op u user_step.LoadWrite = op.Load word.Write
-user_op u user_step.StoreCell = op.Store (word.Cell (lsn (u.start + u.copied) % LOG_BUFFER)) (slice_index (group_bytes u) u.copied)
+user_op u user_step.AddCell = op.Add (word.Cell (cell_of (copy_place u))) (packed (lane_of (copy_place u)) (next_bytes u))
 user_op u user_step.StoreFirst = op.Store (word.First (lsn (group_end u) / BLOCK_SIZE % BUFFER_BLOCKS)) (lsn (group_end u) % BLOCK_SIZE)
 user_op u user_step.LoadWtail = op.Load word.Wtail
 user_op u user_step.StoreLink = op.Store (word.Wlink (lsn u.start % WRITTEN_LINKS)) (lsn (group_end u) - lsn u.start)
 user_op u user_step.LoadCtail = op.Load word.Ctail
-user_op u user_step.StoreFrame = op.Store (word.Frame (page_of u) (put_of u).at) (put_of u).value
+user_op u user_step.LoadFrame = op.Load (word.Frame (page_of u) (frame_word u))
+user_op u user_step.StoreFrame = op.Store (word.Frame (page_of u) (frame_word u)) (stored_word u)
 user_op u user_step.StoreNewest = op.Store (word.Newest (page_of u)) (lsn (group_end u))
 user_op u user_step.LoadOldest = op.Load (word.Oldest (page_of u))
 user_op u user_step.AddToList = op.TakeAdd (page_of u) (lsn u.start)
@@ -100,20 +144,21 @@ with_mark u n = cond (mode u == 1) (record u.loaded { flushed = n }) (record u.l
 
 -- it is done with the page that it is at
 abbrev pub to_next_page : UserState → UserState
-to_next_page u = record u { page = u.page + 1; cell = 0; step = cond (u.page + 1 == length (changes u)) user_step.StoreClosedLink (cond (0 == length (change_at (changes u) (u.page + 1)).cells) user_step.StoreNewest user_step.StoreFrame) }
+to_next_page u = record u { page = u.page + 1; cell = 0; step = cond (u.page + 1 == length (changes u)) user_step.StoreClosedLink (cond (0 == length (change_at (changes u) (u.page + 1)).cells) user_step.StoreNewest (word_step (change_at (changes u) (u.page + 1)).cells 0)) }
 
 abbrev pub user_took : UserState → ℕ → UserStep → UserState
 user_took u n user_step.LoadCheckpoint = record u { loaded = record u.loaded { ckpt = n }; step = user_step.LoadSn }
 user_took u n user_step.LoadSn = cond (has_space u n) (record u { page = 0; cell = 0; step = cond (length (changes u) == 0) user_step.Reserve user_step.TakeLatch }) (record u { checks = true; step = user_step.LoadCheckpoint })
 user_took u n user_step.TakeLatch = cond (n == 0) (record u { page = u.page + 1; step = cond (u.page + 1 == length (changes u)) user_step.Reserve user_step.TakeLatch }) (record u { checks = true; step = user_step.TakeLatch })
 user_took u n user_step.Reserve = record u { starts = u.starts ++ n ∷ []; start = n; copied = 0; page = 0; cell = 0; step = user_step.LoadWrite }
-user_took u n user_step.LoadWrite = cond (has_room u n) (record u { loaded = record u.loaded { write = n }; step = user_step.StoreCell }) (record u { loaded = record u.loaded { write = n }; checks = true; step = user_step.LoadWrite })
-user_took u n user_step.StoreCell = record u { copied = u.copied + 1; step = cond (u.copied + 1 == length (group_bytes u)) (cond (nat_lt (u.start / BLOCK_DATA) (group_end u / BLOCK_DATA)) user_step.StoreFirst user_step.LoadWtail) user_step.StoreCell }
+user_took u n user_step.LoadWrite = cond (has_room u n) (record u { loaded = record u.loaded { write = n }; step = user_step.AddCell }) (record u { loaded = record u.loaded { write = n }; checks = true; step = user_step.LoadWrite })
+user_took u n user_step.AddCell = record u { copied = u.copied + next_count u; step = cond (u.copied + next_count u == length (group_bytes u)) (cond (nat_lt (u.start / BLOCK_DATA) (group_end u / BLOCK_DATA)) user_step.StoreFirst user_step.LoadWtail) user_step.AddCell }
 user_took u n user_step.StoreFirst = record u { step = user_step.LoadWtail }
 user_took u n user_step.LoadWtail = cond (can_link u n) (record u { loaded = record u.loaded { wtail = n }; step = user_step.StoreLink }) (record u { loaded = record u.loaded { wtail = n }; checks = true; step = user_step.LoadWtail })
 user_took u n user_step.StoreLink = cond (length (changes u) == 0) (after_link u) (record u { step = user_step.LoadCtail })
-user_took u n user_step.LoadCtail = cond (can_close u n) (record u { loaded = record u.loaded { ctail = n }; step = cond (u.cell == length (cells_of u)) user_step.StoreNewest user_step.StoreFrame }) (record u { loaded = record u.loaded { ctail = n }; checks = true; step = user_step.LoadCtail })
-user_took u n user_step.StoreFrame = record u { cell = u.cell + 1; step = cond (u.cell + 1 == length (cells_of u)) user_step.StoreNewest user_step.StoreFrame }
+user_took u n user_step.LoadCtail = cond (can_close u n) (record u { loaded = record u.loaded { ctail = n }; step = cond (u.cell == length (cells_of u)) user_step.StoreNewest (word_step (cells_of u) u.cell) }) (record u { loaded = record u.loaded { ctail = n }; checks = true; step = user_step.LoadCtail })
+user_took u n user_step.LoadFrame = record u { word = n; step = user_step.StoreFrame }
+user_took u n user_step.StoreFrame = record u { cell = u.cell + frame_count u; word = 0; step = cond (u.cell + frame_count u == length (cells_of u)) user_step.StoreNewest (word_step (cells_of u) (u.cell + frame_count u)) }
 user_took u n user_step.StoreNewest = record u { step = user_step.LoadOldest }
 user_took u n user_step.LoadOldest = cond (n == 0) (record u { step = user_step.AddToList }) (to_next_page u)
 user_took u n user_step.AddToList = record u { checks = cond (n == 0) false true; step = cond (n == 0) user_step.StoreOldest user_step.AddToList }

@@ -1,8 +1,12 @@
 // The sizes of what the actors share, with their units.
 
-/// Bytes of the log buffer: it has a cell for each lsn of its window, so also for those of a block's header and trailer,
-/// which stay unused.
+/// Bytes of the log buffer: it has a byte lane for each lsn of its window, so also for those of a block's header and
+/// trailer, which stay unused.
 pub const LOG_BUFFER: u64 = 65_536;
+/// Byte lanes of a word of the log buffer.
+pub const WORD_LANES: u64 = 8;
+/// Words of the log buffer.
+pub const BUFFER_WORDS: u64 = LOG_BUFFER / WORD_LANES;
 /// Log blocks that the log buffer spans, and so words FIRST.
 pub const BUFFER_BLOCKS: u64 = 128;
 /// Links of the recent-written buffer: one for each lsn of its window.
@@ -15,5 +19,7 @@ pub const FREE_MARGIN: u64 = 278_528;
 pub const FLUSH_LISTS: u64 = 4;
 /// Cells of a page's frame: one for each byte of the page.
 pub const FRAME_CELLS: u64 = 4_096;
+/// Words of a page's frame.
+pub const FRAME_WORDS: u64 = FRAME_CELLS / WORD_LANES;
 /// The most pages that the cleaner writes at once.
 pub const BATCH_PAGES: u64 = 8;

@@ -14,8 +14,8 @@ pub enum UserStep {
     Reserve,
     /// Waits for room in the log buffer.
     LoadWrite,
-    /// The next byte of its group.
-    StoreCell,
+    /// The next bytes of its group, as many as stand in one word: a fetch-add of them in their lanes.
+    AddCell,
     /// The first offset of the block in which its group ends.
     StoreFirst,
     /// Waits for room in the recent-written buffer.
@@ -24,7 +24,9 @@ pub enum UserStep {
     StoreLink,
     /// Waits for room in the recent-closed buffer.
     LoadCtail,
-    /// The next changed byte of the page that it is at.
+    /// The next word of the page's frame that the group changes.
+    LoadFrame,
+    /// That word, with the bytes that the group changes there.
     StoreFrame,
     /// The group's end, for that page.
     StoreNewest,
@@ -63,8 +65,10 @@ pub enum WriterStep {
     LoadFirst,
     /// The same.
     ClearFirst,
-    /// The byte at its read place.
+    /// The word of its read place.
     LoadCell,
+    /// The word that it has loaded, where all its bytes are below the tail.
+    ClearCell,
     /// To write.
     TakeDevice,
     /// The log part, which has failed.
@@ -132,7 +136,7 @@ pub enum CleanerStep {
     LoadNewest,
     /// Its latch: a group on it isn't flushed.
     ReleaseSkipped,
-    /// Its next byte.
+    /// Its next eight bytes.
     LoadFrame,
     /// The round's pages.
     WriteBatch,

@@ -25,7 +25,7 @@ pub enum Word {
     Wlink(u32),
     /// The same of the recent-closed buffer.
     Clink(u32),
-    /// A byte of the log buffer.
+    /// Eight bytes of the log buffer, in its lanes.
     Cell(u32),
     /// The first offset of a block in the log buffer, or 0.
     First(u32),
@@ -35,7 +35,7 @@ pub enum Word {
     Newest(u32),
     /// The start of the oldest group on a page that isn't written, or 0.
     Oldest(u32),
-    /// A byte of a page's frame.
+    /// Eight bytes of a page's frame, in its lanes.
     Frame(u32, u32),
 }
 

@@ -8,6 +8,7 @@ pub mod FirstsFit
 pub mod Given
 pub mod Groups
 pub mod Legality
+pub mod LineBytes
 pub mod Losses
 pub mod OpenLines
 pub mod PagePrefixes

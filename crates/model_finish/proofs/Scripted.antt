@@ -3,6 +3,7 @@ use Rattle.std.proofs.Common.{Bool, List, Some, [], ap, append-nil, arith, cond,
 use Rattle.std.proofs.Math.ListN.{get_or-append}
 use Rattle.std.proofs.Math.Seq.{get_or-append_right}
 use Rattle.std.proofs.lemmas.List.{get_or_past}
+use Rattle.std.specs.List.{AllByRecursion}
 use Rattle.std.specs.Prelude.{slice_index}
 use native.Mathlib.Decide.{dec_le, ℕ_discrete}
 use Rattle.model_base.specs.declared.shape.Shape.{Shape}
@@ -10,9 +11,10 @@ use Rattle.model_changes.specs.{after_from, cell_where_same, cells_of, change_on
 use Rattle.model_core.specs.{CellWrite, change_at, IsScripted, Line, line_at, PageChange}
 use Rattle.model_core.specs.Setup.{Setup}
 use Rattle.model_finish.proofs.Groups.{line_below}
+use Rattle.model_finish.proofs.LineBytes.{changes_get_bytes, collected_each, GetsBytes, if_one}
 use Rattle.model_finish.specs.Script.{IsOfScript}
 use Rattle.model_history.specs.{lines_of_user}
-use Rattle.model_record.specs.{GroupFits, page_of, RecordFits}
+use Rattle.model_record.specs.{GroupFits, HasText, page_of, RecordFits}
 use Rattle.model_record.specs.declared.rec.Rec.{Rec}
 use Rattle.model_record.specs.declared.rec.Rec.TheVariants.{Init, Num, Text}
 use Rattle.model_script.specs.{group_of, LineFits}
@@ -47,6 +49,44 @@ cells_within low high (suc n) i = by (eqb (slice_index low n) (slice_index high 
       | yes behind ↦ subst (λ (z : CellWrite). z.at < 38 + suc n) (sym (get_or-append_right front (last b) i no_cell behind)) (small b (i - length front))
       | no there ↦ subst (λ (z : CellWrite). z.at < 38 + suc n) (sym (get_or-append front (last b) no_cell i (omega arith))) (let z = before i in omega arith)
     ]
+
+-- they ascend
+abbrev Ascends : List CellWrite → Type 0
+Ascends cells = (a b : ℕ) → a < b → b < length cells → (get_or cells a no_cell).at < (get_or cells b no_cell).at
+
+cells_ascend : (low high : List ℕ) (n : ℕ) → Ascends (collected (cell_where_same low high) n)
+unfolding collected
+cells_ascend low high zero = λ a b lt l. absurd (omega arith)
+cells_ascend low high (suc n) = by (eqb (slice_index low n) (slice_index high n)) (cells_ascend low high n)
+  where
+    front : List CellWrite
+    front = collected (cell_where_same low high) n
+
+    one : CellWrite
+    one = record { at = 38 + n; value = slice_index low n }
+
+    by : (b : Bool) → Ascends front → Ascends (front ++ cond b (one ∷ []) [])
+    by false before = subst Ascends (sym (append-nil front)) before
+    by true before = λ a b lt l.
+        let long : length (front ++ one ∷ []) ≡ length front + 1 = length-append front (one ∷ []) in
+        let here : (get_or (front ++ one ∷ []) a no_cell).at ≡ (get_or front a no_cell).at = ap (λ (z : CellWrite). z.at) (get_or-append front (one ∷ []) no_cell a (omega arith)) in
+        let w = cells_within low high n a in
+        elim (dec_le (length front) b) [
+          | yes behind ↦ (let i : b - length front ≡ 0 = omega arith in
+              let e : (get_or (front ++ one ∷ []) b no_cell).at ≡ 38 + n = ap (λ (z : CellWrite). z.at) (get_or-append_right front (one ∷ []) b no_cell behind) ∙ ap (λ (j : ℕ). (get_or (one ∷ []) j no_cell).at) i in omega arith)
+          | no there ↦ (let e : (get_or (front ++ one ∷ []) b no_cell).at ≡ (get_or front b no_cell).at = ap (λ (z : CellWrite). z.at) (get_or-append front (one ∷ []) no_cell b (omega arith)) in let z = before a b lt (omega arith) in omega arith)
+        ]
+
+-- and so do those of each page that a group changes
+abbrev ChangeAscends : PageChange → Type 0
+ChangeAscends change = Ascends change.cells
+
+none_ascends : ChangeAscends no_change
+none_ascends a b lt l = absurd (omega arith)
+
+changes_ascend : (pages : ℕ) (group : List Rec) (k : ℕ) → ChangeAscends (change_at (changes_of pages group) k)
+changes_ascend pages group k = collected_each ChangeAscends (change_on group) no_change none_ascends
+    (λ p j. if_one ChangeAscends (record { page = p; cells = cells_of p group }) no_change (cells_ascend (after_from 0 p group) (after_from 255 p group) 4050) none_ascends (touches p group) j) pages k
 
 -- pages below a number, ascending, and cells of a frame
 record PagesBelow (n : ℕ) (cs : List PageChange) : Type 0 where
@@ -139,6 +179,21 @@ module _ (c : Setup) (script : List ScriptLine) (shape : Shape) (pages : c.pages
       subst (λ (cs : List PageChange). 0 < length cs) (sym are) (some_change shape (group_of shape.space z.one) f.has_text.some f.fits))
       (λ z. let past = z.0 in absurd (omega arith)) (line_changes c shape.space script S user j)
 
+  -- the cells of a page ascend and get bytes
+  ascend_by : (b : Bool) (group : List Rec) (k : ℕ) → ChangeAscends (change_at (cond b [] (changes_of c.pages group)) k)
+  ascend_by true group k = none_ascends
+  ascend_by false group k = changes_ascend c.pages group k
+
+  ascend : (user j k : ℕ) → ChangeAscends (change_at (line_at (c.script user) j).changes k)
+  ascend user j k = ⊎_elim (λ z. subst (λ (cs : List PageChange). ChangeAscends (change_at cs k)) (sym z.are) (ascend_by c.log_only (group_of shape.space z.one) k)) (λ z. subst (λ (cs : List PageChange). ChangeAscends (change_at cs k)) (sym z.1) none_ascends) (line_changes c shape.space script S user j)
+
+  bytes_by : (b : Bool) (group : List Rec) (k : ℕ) → AllByRecursion HasText group → GetsBytes (change_at (cond b [] (changes_of c.pages group)) k)
+  bytes_by true group k has = λ i. omega arith
+  bytes_by false group k has = changes_get_bytes c.pages group has k
+
+  get_bytes : (user j k : ℕ) → GetsBytes (change_at (line_at (c.script user) j).changes k)
+  get_bytes user j k = ⊎_elim (λ z. let f = fits user j z.one z.at in subst (λ (cs : List PageChange). GetsBytes (change_at cs k)) (sym z.are) (bytes_by c.log_only (group_of shape.space z.one) k f.has_text.each)) (λ z. subst (λ (cs : List PageChange). GetsBytes (change_at cs k)) (sym z.1) (λ i. omega arith)) (line_changes c shape.space script S user j)
+
   -- so they name pages as the running store asks
   pub scripted : IsScripted c
   scripted = record {
@@ -147,4 +202,6 @@ module _ (c : Setup) (script : List ScriptLine) (shape : Shape) (pages : c.pages
     there = λ user j k. (below user j).there k;
     apart = λ user j i k lt l e. let z = (below user j).ascending i k lt l in absurd (omega arith);
     within = λ user j k i l. (below user j).within k i l;
+    ascending = ascend;
+    are_bytes = get_bytes;
   }

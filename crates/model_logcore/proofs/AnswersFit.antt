@@ -1,21 +1,23 @@
 -- The answer to an actor's Op is one that it can take: no number of its own wraps, no byte is lost, and no list outgrows its
 -- room.
-use Rattle.std.proofs.Common.{Bool, List, [], ap, arith, cond, drop, false, length, refl, suc, sym, true, zero, ℕ, ⊎_elim, ◌%◌, ◌*◌, ◌+◌, ◌-◌, ◌/◌, ◌<◌, ◌∙◌, ◌∷◌, ◌≡◌, ◌≤◌}
+use Rattle.std.proofs.Common.{Bool, List, [], ap, arith, cond, drop, false, leb-false, length, refl, subst, suc, sym, true, zero, ℕ, ⊎_elim, ◌%◌, ◌*◌, ◌+◌, ◌-◌, ◌/◌, ◌<◌, ◌∙◌, ◌∷◌, ◌≡◌, ◌≤◌}
 use Rattle.std.specs.Prelude.{slice_index}
 use lib.ListN.{get_elem?}
 use native.Mathlib.Decide.{dec_le, ℕ_discrete}
 use Rattle.model_base.specs.declared.limits.TheConstants.{LSN_LIMIT}
 use Rattle.model_core.proofs.Groups.{first_base, first_from, tiles_at}
+use Rattle.model_core.proofs.Lanes.{part_word}
 use Rattle.model_core.proofs.Lsns.{lsn_le, lsn_below, lsn_wide, sn_below}
-use Rattle.model_core.specs.{Actor, answer_limit, checkpointer_op, cleaner_op, closer_op, end_of, first_of, flusher_op, group_bytes, Listed, lsn, next, old_of, read_place, shared_answer, SharedWords, user_fits, user_op, UserState, writer_fits, writer_op, WriterState}
+use Rattle.model_core.specs.{Actor, answer_limit, checkpointer_op, cleaner_op, closer_op, end_of, first_of, flusher_op, group_bytes, lane_of, left_in_word, Listed, lsn, next, old_of, read_place, shared_answer, SharedWords, user_fits, user_op, UserState, writer_fits, writer_op, WriterState}
 use Rattle.model_core.specs.Fitting.{Fitting}
 use Rattle.model_core.specs.LogSide.{LogSide}
 use Rattle.model_core.specs.Setup.{Setup}
 use Rattle.model_core.specs.declared.ops.Op.{Op}
 use Rattle.model_core.specs.declared.steps.UserStep.{UserStep}
 use Rattle.model_core.specs.declared.steps.WriterStep.{WriterStep}
+use Rattle.model_logcore.proofs.RingSteps.{sum_small}
 use Rattle.model_logcore.proofs.UserGroups.{lengths_step}
-use Rattle.model_logcore.proofs.WriterCells.{block_is, cell_true, first_true}
+use Rattle.model_logcore.proofs.WriterCells.{block_is, first_true}
 use Rattle.model_logcore.proofs.WriterSteps.{link_here}
 use Rattle.model_logcore.specs.LogFacts.{LogGhost, sum_over_actors}
 use Rattle.model_logcore.specs.LogFits.{UserAt, UserFits, WriterAt, WriterFits}
@@ -54,6 +56,7 @@ module _ (D : LogSide) (c : Setup) (spare : ℕ) (m : SharedWords) (g : LogGhost
       let s = sn_below (m.sn + length (group_bytes u)) (m.sn + sum_over_actors left_to_reserve actors + spare) LSN_LIMIT (omega arith) before.room in
       omega arith
   user_can u at user_step.LoadWrite h ls broken code mark = let s = small_write in omega arith
+  user_can u at user_step.AddCell h ls broken code mark = sum_small D c spare m g p actors seat u before at h
   user_can u at user_step.LoadWtail h ls broken code mark = let s = small_wtail in omega arith
   user_can u at _ h ls broken code mark = tt
 
@@ -71,6 +74,14 @@ module _ (D : LogSide) (c : Setup) (spare : ℕ) (m : SharedWords) (g : LogGhost
           omega arith)
       | no d ↦ omega arith
     ]
+
+    -- what the writer keeps and hasn't read is small
+    tail_small : g.tail ≤ s.from + 41736
+    tail_small = let O = before.global.order in let b = mine.from in let sm = mine.small in let t = mine.tail in let w = mine.write in let wi = O.write_is in
+        let z = lsn_wide g.write (g.tail - g.write) in
+        let y : g.write + (g.tail - g.write) ≡ g.tail = (let x = O.write_read in let v = O.read_wtail in let u = O.wtail_tail in omega arith) in
+        let k : lsn (g.write + (g.tail - g.write)) ≡ lsn g.tail = ap lsn y in
+        omega arith
 
     kept_small : g.read < g.tail → length s.kept < 41736
     kept_small l = let O = before.global.order in let a = mine.long in let b = mine.from in let sm = mine.small in let t = mine.tail in let w = mine.write in let wi = O.write_is in
@@ -93,11 +104,17 @@ module _ (D : LogSide) (c : Setup) (spare : ℕ) (m : SharedWords) (g : LogGhost
     writer_can writer_step.LoadCheckpoint h ls broken code mark = let s = small_ckpt in omega arith
     writer_can writer_step.LoadFirst h ls broken code mark = first_small h.3 h.1
     writer_can writer_step.ClearFirst h ls broken code mark = let k = kept_small h.1 in let e = h.3 in omega arith
-    writer_can writer_step.LoadCell h ls broken code mark = (
-      (let O = before.global.order in let e = cell_true D c spare m g p actors seat s before at h.1 in
-          let b = before.global.tiled.bytes g.read (let x = O.base_write in let y = O.write_read in omega arith) (let x = h.1 in let y = O.tail_sn in omega arith) in omega arith),
-      kept_small h.1,
-    )
+    writer_can writer_step.LoadCell h ls broken code mark = λ part. let a = mine.long in let k = tail_small in let z = h.1 in
+        let few = leb-false (left_in_word (read_place s)) (s.tail - lsn (read_place s)) part in
+        let is : read_place s + (lsn g.tail - lsn (read_place s)) ≡ g.tail = part_word (read_place s) g.tail (omega arith) (subst (λ (t : ℕ). t - lsn (read_place s) < left_in_word (read_place s)) mine.tail few) in
+        subst (λ (t : ℕ). length s.kept + (t - lsn (read_place s)) ≤ 41736) (sym mine.tail) (small_of (length s.kept) (lsn g.tail - lsn (read_place s)) is)
+      where
+        small_of : (k n : ℕ) → s.from + k + n ≡ g.tail → k + n ≤ 41736
+        small_of k n e = let t = tail_small in omega arith
+    writer_can writer_step.ClearCell h ls broken code mark = small_of (length s.kept) (left_in_word (read_place s)) h.4
+      where
+        small_of : (k n : ℕ) → s.from + k + n ≤ g.tail → k + n ≤ 41736
+        small_of k n e = let t = tail_small in omega arith
     writer_can writer_step.StoreWrite h ls broken code mark = let O = before.global.order in let a = mine.long in let b = mine.wide in let r = O.read_entered in let w = O.read_wtail in let x = O.wtail_tail in let y = O.tail_sn in let z = sn_below m.sn m.sn LSN_LIMIT (omega arith) small_sn in (omega arith, omega arith)
     writer_can _ h ls broken code mark = tt
 

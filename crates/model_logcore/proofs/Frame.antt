@@ -8,7 +8,7 @@ use Rattle.model_base.specs.declared.limits.TheConstants.{LSN_LIMIT}
 use Rattle.model_core.proofs.Lists.{at_set, set_else}
 use Rattle.model_core.proofs.Groups.{tiles_at}
 use Rattle.model_core.proofs.Lsns.{floor_grows, lsn_below}
-use Rattle.model_core.specs.{Actor, byte_at, checkpointer_holds, CheckpointerState, CleanerState, entries, Entry, first_of, flusher_holds, FlusherState, group_bytes, holds, IsSized, LoadedMarks, lsn, SharedWords, sum_of, Tiles, UserState, writer_holds, WriterState}
+use Rattle.model_core.specs.{Actor, byte_at, checkpointer_holds, CheckpointerState, CleanerState, entries, Entry, first_of, flusher_holds, FlusherState, group_bytes, holds, IsSized, left_in_word, LoadedMarks, lsn, read_place, SharedWords, sum_of, Tiles, UserState, word_end, writer_holds, WriterState}
 use Rattle.model_core.specs.LogSide.{LogSide}
 use Rattle.model_core.specs.Setup.{Setup}
 use Rattle.model_core.specs.declared.steps.UserStep.{UserStep}
@@ -132,13 +132,14 @@ module _ (D : LogSide) (c : Setup) where
     user_at_later seat j u T later ne user_step.LoadSn h = h
     user_at_later seat j u T later ne user_step.Reserve h = h
     user_at_later seat j u T later ne user_step.LoadWrite h = (h.0, h.1, in_hand_later seat j u T later ne (let e = h.3 in omega arith) h.2, h.3)
-    user_at_later seat j u T later ne user_step.StoreCell h = (h.0, h.1, in_hand_later seat j u T later ne (let e = h.3 in omega arith) h.2, h.3, (let e = h.4 in let f = floor_grows m.write m'.write later.write in omega arith))
+    user_at_later seat j u T later ne user_step.AddCell h = (h.0, h.1, in_hand_later seat j u T later ne (let e = h.3 in omega arith) h.2, h.3, (let e = h.4 in let f = floor_grows m.write m'.write later.write in omega arith))
     user_at_later seat j u T later ne user_step.StoreFirst h = (h.0, h.1, in_hand_later seat j u T later ne (let e = h.3 in omega arith) h.2, h.3, (let e = h.4 in let f = floor_grows m.write m'.write later.write in omega arith), h.5)
     user_at_later seat j u T later ne user_step.LoadWtail h = (h.0, h.1, in_hand_later seat j u T later ne (let e = h.3 in omega arith) h.2, h.3, (λ l. later.firsts _ (h.4 l)))
     user_at_later seat j u T later ne user_step.StoreLink h = (h.0, h.1, in_hand_later seat j u T later ne (let e = h.3 in omega arith) h.2, h.3, (λ l. later.firsts _ (h.4 l)), (let e = h.5 in let w = later.wtail in omega arith))
     user_at_later seat j u T later ne user_step.AwaitMark h = (h.0, h.1, linked_later j u T later h.2, h.3)
     user_at_later seat j u T later ne user_step.TakeLatch h = h
     user_at_later seat j u T later ne user_step.LoadCtail h = (h.0, h.1, linked_later j u T later h.2)
+    user_at_later seat j u T later ne user_step.LoadFrame h = (h.0, h.1, linked_later j u T later h.2)
     user_at_later seat j u T later ne user_step.StoreFrame h = (h.0, h.1, linked_later j u T later h.2)
     user_at_later seat j u T later ne user_step.StoreNewest h = (h.0, h.1, linked_later j u T later h.2)
     user_at_later seat j u T later ne user_step.LoadOldest h = (h.0, h.1, linked_later j u T later h.2)
@@ -185,11 +186,11 @@ module _ (D : LogSide) (c : Setup) where
       pub ckpt : m.ckpt ≤ m'.ckpt
       pub failed : 0 < m.failed → 0 < m'.failed
       pub link : 0 < slice_index m.wlinks (lsn g.tail % 32768) → slice_index m'.wlinks (lsn g.tail % 32768) ≡ slice_index m.wlinks (lsn g.tail % 32768)
-      pub bytes : (x : ℕ) → c.base ≤ x → x < g.read → byte_at c.base g'.log x ≡ byte_at c.base g.log x
+      pub bytes : (x : ℕ) → c.base ≤ x → x < g.tail → byte_at c.base g'.log x ≡ byte_at c.base g.log x
       pub firsts : (q : ℕ) → 496 * q < g.tail → first_of c.base g'.log q ≡ first_of c.base g.log q
       pub written : D.written p' ≡ D.written p
 
-    module _ (s : WriterState) (j : ℕ) (still : Still) (base : c.base % 496 ≡ 0) (low : c.base ≤ g.write) (tails : g.wtail ≤ g.tail) where
+    module _ (s : WriterState) (j : ℕ) (still : Still) (base : c.base % 496 ≡ 0) (low : c.base ≤ g.write) (reads : g.read ≤ g.wtail) (tails : g.wtail ≤ g.tail) where
       idle_later : (g.read ≡ g.write) × (D.written p ≡ m.write) → (g'.read ≡ g'.write) × (D.written p' ≡ m'.write)
       idle_later h = (still.read ∙ h.0 ∙ sym still.gwrite, still.written ∙ h.1 ∙ sym still.write)
 
@@ -198,6 +199,9 @@ module _ (D : LogSide) (c : Setup) where
 
       less_later : g.read < g.tail → g'.read < g'.tail
       less_later h = let b = still.read in let d = still.tail in omega arith
+
+      within : (i n : ℕ) → i < n → read_place s + n ≤ g.tail → read_place s + i < g.tail
+      within i n l le = omega arith
 
       writer_at_later : s.tail ≡ lsn g.tail → s.from ≡ g.write / 496 * 496 → s.from + length s.kept ≡ g.read → s.from + 496 * length s.firsts ≡ 496 * g.entered
           → (st : WriterStep) → (writer_holds st ≡ true → ◌≡◌ {A = D.Part} p' p) → WriterAt D c m g p j s st → WriterAt D c m' g' p' j s st
@@ -220,6 +224,14 @@ module _ (D : LogSide) (c : Setup) where
         h.4 ∙ sym (still.firsts g.entered (let a = h.1 in let b = h.3 in omega arith)) ∙ ap (first_of c.base g'.log) (sym still.entered),
       )
       writer_at_later tail from long wide writer_step.LoadCell part h = (busy_later h.0, less_later h.1, h.2, h.3)
+      writer_at_later tail from long wide writer_step.ClearCell part h = (
+        busy_later h.0,
+        less_later h.1,
+        h.2,
+        h.3,
+        subst (λ (t : ℕ). word_end s ≤ t) (sym still.tail) h.4,
+        (λ i l. h.5 i l ∙ sym (still.bytes (read_place s + i) (let f = from in omega arith) (within i (left_in_word (read_place s)) l h.4))),
+      )
       writer_at_later tail from long wide writer_step.TakeDevice part h = (busy_later h.0, still.read ∙ h.1 ∙ sym still.tail, h.2)
       writer_at_later tail from long wide writer_step.GiveBroken part h = (busy_later h.0, still.read ∙ h.1 ∙ sym still.tail, h.2)
       writer_at_later tail from long wide writer_step.WriteTo part h = (busy_later h.0, still.read ∙ h.1 ∙ sym still.tail, h.2, ap D.failed (part refl) ∙ h.3)
@@ -298,7 +310,7 @@ module _ (D : LogSide) (c : Setup) where
     -- every other actor is as before
     pub others_later : (seat : ℕ) → LogFacts D c m g p → Later m g m' g' seat → Still → Same → (j : ℕ) (a : Actor) → j ≢ seat → (holds a ≡ true → ◌≡◌ {A = D.Part} p' p) → Fits D c m g p j a → Fits D c m' g' p' j a
     others_later seat G later still same j (actor.User u) ne part h = user_later seat j u G.tiled.tiles later ne h
-    others_later seat G later still same j (actor.Writer s) ne part h = let O = G.order in writer_later s j still O.base_even O.base_write O.wtail_tail (let e = O.entered_tail in omega arith) part h
+    others_later seat G later still same j (actor.Writer s) ne part h = let O = G.order in writer_later s j still O.base_even O.base_write O.read_wtail O.wtail_tail (let e = O.entered_tail in omega arith) part h
     others_later seat G later still same j (actor.Flusher f) ne part h = flusher_later f later.write same part h
     others_later seat G later still same j (actor.Closer t) ne part h = λ z. same.failed (h z)
     others_later seat G later still same j (actor.Cleaner v) ne part h = cleaner_told_later v (record { failed = same.failed; ckpt = same.point }) h
@@ -318,7 +330,7 @@ module _ (D : LogSide) (c : Setup) where
     -- the same where the checkpointer moves, which is alone, and the newest checkpoint may change
     pub others_pointer : (seat : ℕ) → seat ≡ c.checkpointer → LogFacts D c m g p → Later m g m' g' seat → Still → m.flushed ≤ m'.flushed → (j : ℕ) (a : Actor) → j ≢ seat → (holds a ≡ true → ◌≡◌ {A = D.Part} p' p) → Fits D c m g p j a → Fits D c m' g' p' j a
     others_pointer seat is G later still fl j (actor.User u) ne part h = user_later seat j u G.tiled.tiles later ne h
-    others_pointer seat is G later still fl j (actor.Writer s) ne part h = let O = G.order in writer_later s j still O.base_even O.base_write O.wtail_tail (let e = O.entered_tail in omega arith) part h
+    others_pointer seat is G later still fl j (actor.Writer s) ne part h = let O = G.order in writer_later s j still O.base_even O.base_write O.read_wtail O.wtail_tail (let e = O.entered_tail in omega arith) part h
     others_pointer seat is G later still fl j (actor.Flusher f) ne part h = flusher_later_by f later.write fl later.failed part h
     others_pointer seat is G later still fl j (actor.Closer t) ne part h = λ z. later.failed (h z)
     others_pointer seat is G later still fl j (actor.Cleaner v) ne part h = ((λ z. later.failed (h.0 z)), h.1)

@@ -2,6 +2,7 @@
 use Rattle.std.proofs.Common.{List, ap, arith, length, subst, ℕ, ◌+◌, ◌/◌, ◌<◌, ◌≡◌, ◌≤◌}
 use native.Mathlib.Decide.{dec_le}
 use Rattle.model_core.proofs.Groups.{tiles_at}
+use Rattle.model_core.proofs.Lanes.{word_grows}
 use Rattle.model_core.proofs.Lsns.{block_below, lsn_block, lsn_offset}
 use Rattle.model_core.specs.{Entry, floor, group_bytes, group_end, lsn, SharedWords, UserState}
 use Rattle.model_core.specs.LogSide.{LogSide}
@@ -34,4 +35,4 @@ hand_end_near D c m g p seat u G h all stored some =
       | no n ↦ (let two = G.written_links.linked u.start (omega arith) (omega arith) in absurd (omega arith))
     ] in
     let O = G.order in let read = O.read_wtail in let tail = O.wtail_tail in
-    end_near c.base m.firsts m.write g.write g.log g.first g.state g.entered u.start u.start (group_end u) O.write_is G.first_offsets (omega arith) (G.ring_cells.each u.start (omega arith) (omega arith) (omega arith)).1 stored
+    end_near c.base m.firsts m.write g.write g.log g.first g.state g.entered u.start u.start (group_end u) O.write_is G.first_offsets (omega arith) (G.ring_cells.stands u.start (word_grows g.read u.start (omega arith)) (omega arith) (omega arith)).1 stored

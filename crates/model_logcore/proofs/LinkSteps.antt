@@ -65,6 +65,16 @@ module _ (D : LogSide) (L : LogLaws D) (c : Setup) (spare : ℕ) (m : SharedWord
           | no d ↦ inl (sym (outside e.start (λ l r. omega arith)) ∙ two)
         ]
 
+    -- what isn't copied then wasn't before
+    still_none : (x : ℕ) → tied.state x ≡ 0 → g.state x ≡ 0
+    still_none x none = elim (dec_le u.start x) [
+      | yes d ↦ elim (dec_le (group_end u) x) [
+        | yes z ↦ sym (outside x (λ l r. omega arith)) ∙ none
+        | no z ↦ (let t = inside x d (omega arith) in absurd (omega arith))
+      ]
+      | no d ↦ sym (outside x (λ l r. omega arith)) ∙ none
+    ]
+
     slot : i < length m.wlinks
     slot = omega (arith, before.sized.wlinks)
 
@@ -99,13 +109,15 @@ module _ (D : LogSide) (L : LogLaws D) (c : Setup) (spare : ℕ) (m : SharedWord
           tiled = G.tiled;
           order = G.order;
           ring_cells = record {
-            each = λ x l r s. elim (dec_le u.start x) [
+            wide = G.ring_cells.wide;
+            stands = λ x l r s. elim (dec_le u.start x) [
               | yes d ↦ elim (dec_le (group_end u) x) [
-                | yes z ↦ G.ring_cells.each x l r (subst (λ (k : ℕ). 0 < k) (outside x (λ a b. omega arith)) s)
-                | no z ↦ G.ring_cells.each x l r (let o = one x d (omega arith) in omega arith)
+                | yes z ↦ G.ring_cells.stands x l r (subst (λ (k : ℕ). 0 < k) (outside x (λ a b. omega arith)) s)
+                | no z ↦ G.ring_cells.stands x l r (let o = one x d (omega arith) in omega arith)
               ]
-              | no d ↦ G.ring_cells.each x l r (subst (λ (k : ℕ). 0 < k) (outside x (λ a b. omega arith)) s)
+              | no d ↦ G.ring_cells.stands x l r (subst (λ (k : ℕ). 0 < k) (outside x (λ a b. omega arith)) s)
             ];
+            bare = λ x lo hi b. G.ring_cells.bare x lo hi (⊎_elim (λ z. inl z) (λ z. ⊎_elim (λ y. inr (inl y)) (λ y. inr (inr (still_none x y))) z) b);
           };
           first_offsets = record {
             slots_are = G.first_offsets.slots_are;

@@ -1,9 +1,10 @@
 -- Whatever an actor's next Op is, its turn over the words by name keeps the invariant.
-use Rattle.std.proofs.Common.{Bool, List, [], ap, arith, cond, drop, eqb, eqb-true, false, leb, length, ltb, refl, set, subst, sym, true, ℕ, ◌%◌, ◌++◌, ◌+◌, ◌-◌, ◌<◌, ◌∙◌, ◌∷◌, ◌≡◌, ◌≤◌}
+use Rattle.std.proofs.Common.{Bool, List, [], ap, arith, cond, drop, eqb, eqb-true, false, leb, length, ltb, refl, set, subst, sym, true, ℕ, ◌%◌, ◌++◌, ◌+◌, ◌-◌, ◌/◌, ◌<◌, ◌∙◌, ◌∷◌, ◌≡◌, ◌≤◌}
 use Rattle.std.proofs.lemmas.Bool.{eqb-false}
 use Rattle.std.specs.Prelude.{None, min, slice_index, slice_set}
 use lib.ListN.{get_elem?}
 use Rattle.model_core.proofs.Lists.{set_again}
+unfoldable use Rattle.model_core.specs.{lanes}
 use Rattle.model_core.specs.{Actor, Batch, Blocks, checked, checkpointer_holds, checkpointer_op, checkpointer_took, CheckpointerState, cleaner_op, cleaner_took, CleanerState, closer_op, closer_took, CloserState, Entry, first_of_batch, floor, flusher_holds, flusher_op, flusher_took, FlusherState, heard, IsSized, lent, Listed, log_left, LogServed, lowered, next, next_in_round, Nothing, old_of, oldest_end, own_took, page_loaded, page_of, page_words_at, PageWords, phase_log, shared_answer, shared_left, SharedWords, took, user_op, user_took, UserState, with_page_words, writer_holds, writer_op, writer_took, WriterState}
 use Rattle.model_core.specs.LogSide.{LogSide}
 use Rattle.model_core.specs.Setup.{Setup}
@@ -20,7 +21,7 @@ use Rattle.model_logcore.proofs.DeviceSteps.{can_write, gives, stays, takes, wri
 use Rattle.model_logcore.proofs.FlusherSteps.{flusher_checked, keeps_fault, keeps_flushed, keeps_watch, syncs_by}
 use Rattle.model_logcore.proofs.Same.{clinks_sized, lists_sized, numbers_sized, page_sized}
 use Rattle.model_logcore.proofs.UserSteps.{user_give, user_keeps, user_list, user_checked}
-use Rattle.model_logcore.proofs.WriterCells.{keeps_clear_first, keeps_load_cell, keeps_load_checkpoint, keeps_load_first, writer_checked}
+use Rattle.model_logcore.proofs.WriterCells.{keeps_clear_cell, keeps_clear_first, keeps_load_cell, keeps_load_checkpoint, keeps_load_first, writer_checked}
 use Rattle.model_logcore.proofs.WriterSteps.{keeps_clear_link, keeps_load_link, staged}
 use Rattle.model_logcore.proofs.WriterStores.{keeps_store_failed, keeps_store_write, keeps_store_wtail}
 use Rattle.model_logcore.specs.LogFacts.{LogGhost}
@@ -60,11 +61,12 @@ module _ (D : LogSide) (L : LogLaws D) (c : Setup) (spare : ℕ) (m : SharedWord
     user_own user_step.TakeLatch is h s = same _ _ s (user_keeps D L c spare m g p actors seat u before at user_step.TakeLatch is h tt)
     user_own user_step.Reserve is h s = same _ _ s (user_keeps D L c spare m g p actors seat u before at user_step.Reserve is h tt)
     user_own user_step.LoadWrite is h s = same _ _ s (user_keeps D L c spare m g p actors seat u before at user_step.LoadWrite is h tt)
-    user_own user_step.StoreCell is h s = same _ _ s (user_keeps D L c spare m g p actors seat u before at user_step.StoreCell is h tt)
+    user_own user_step.AddCell is h s = same _ _ s (user_keeps D L c spare m g p actors seat u before at user_step.AddCell is h tt)
     user_own user_step.StoreFirst is h s = same _ _ s (user_keeps D L c spare m g p actors seat u before at user_step.StoreFirst is h tt)
     user_own user_step.LoadWtail is h s = same _ _ s (user_keeps D L c spare m g p actors seat u before at user_step.LoadWtail is h tt)
     user_own user_step.StoreLink is h s = same _ _ s (user_keeps D L c spare m g p actors seat u before at user_step.StoreLink is h tt)
     user_own user_step.LoadCtail is h s = same _ _ s (user_keeps D L c spare m g p actors seat u before at user_step.LoadCtail is h tt)
+    user_own user_step.LoadFrame is h s = same _ _ s (user_keeps D L c spare m g p actors seat u before at user_step.LoadFrame is h tt)
     user_own user_step.StoreFrame is h s = same _ _ s (user_keeps D L c spare m g p actors seat u before at user_step.StoreFrame is h tt)
     user_own user_step.StoreNewest is h s = same _ _ s (user_keeps D L c spare m g p actors seat u before at user_step.StoreNewest is h tt)
     user_own user_step.LoadOldest is h s = same _ _ s (user_keeps D L c spare m g p actors seat u before at user_step.LoadOldest is h tt)
@@ -117,6 +119,7 @@ module _ (D : LogSide) (L : LogLaws D) (c : Setup) (spare : ℕ) (m : SharedWord
     writer_own writer_step.LoadFirst is h v = same _ _ v (g, keeps_load_first D c spare m g p actors seat s before at is h, refl)
     writer_own writer_step.ClearFirst is h v = same _ _ v (keeps_clear_first D c spare m g p actors seat s before at is h)
     writer_own writer_step.LoadCell is h v = same _ _ v (keeps_load_cell D c spare m g p actors seat s before at is h)
+    writer_own writer_step.ClearCell is h v = same _ _ v (keeps_clear_cell D c spare m g p actors seat s before at is h)
     writer_own writer_step.TakeDevice is h v = seize (eqb m.device 0) (D.failed p) refl refl v is h
     writer_own writer_step.GiveBroken is h v = give true writer_step.TakeDevice v (ap writer_holds is) refl h
     writer_own writer_step.WriteTo is h v = (
@@ -246,11 +249,11 @@ module _ (D : LogSide) (L : LogLaws D) (c : Setup) (spare : ℕ) (m : SharedWord
         by true = plain (record x { newest = (page_words_at m.page_words x.page).newest; kept = []; step = cleaner_step.LoadFrame }) (λ z. absurd (cc)) (λ z. absurd (cc)) v
         by false = plain (record x { step = cleaner_step.ReleaseSkipped }) (λ z. absurd (cc)) (λ z. absurd (cc)) v
     cleaner_own cleaner_step.ReleaseSkipped is v = leafy x.page (record (page_words_at m.page_words x.page) { latch = 0 }) refl (next_in_round x) (next_in_round_on x).0 (next_in_round_on x).1 v
-    cleaner_own cleaner_step.LoadFrame is v = by (eqb (length x.kept + 1) 4096)
+    cleaner_own cleaner_step.LoadFrame is v = by (eqb (length x.kept + 8) 4096)
       where
-        by : (b : Bool) → CleanerDone m (cond b (next_in_round (record x { batch = x.batch ++ page_loaded x (slice_index (page_words_at m.page_words x.page).frame (length x.kept)) ∷ [] })) (record x { kept = x.kept ++ slice_index (page_words_at m.page_words x.page).frame (length x.kept) ∷ []; step = cleaner_step.LoadFrame }))
-        by true = let y : CleanerState = record x { batch = x.batch ++ page_loaded x (slice_index (page_words_at m.page_words x.page).frame (length x.kept)) ∷ [] } in plain (next_in_round y) (next_in_round_on y).0 (next_in_round_on y).1 v
-        by false = plain (record x { kept = x.kept ++ slice_index (page_words_at m.page_words x.page).frame (length x.kept) ∷ []; step = cleaner_step.LoadFrame }) (λ z. absurd (cc)) (λ z. absurd (cc)) v
+        by : (b : Bool) → CleanerDone m (cond b (next_in_round (record x { batch = x.batch ++ page_loaded x (slice_index (page_words_at m.page_words x.page).frame (length x.kept / 8)) ∷ [] })) (record x { kept = x.kept ++ lanes 0 8 (slice_index (page_words_at m.page_words x.page).frame (length x.kept / 8)); step = cleaner_step.LoadFrame }))
+        by true = let y : CleanerState = record x { batch = x.batch ++ page_loaded x (slice_index (page_words_at m.page_words x.page).frame (length x.kept / 8)) ∷ [] } in plain (next_in_round y) (next_in_round_on y).0 (next_in_round_on y).1 v
+        by false = plain (record x { kept = x.kept ++ lanes 0 8 (slice_index (page_words_at m.page_words x.page).frame (length x.kept / 8)); step = cleaner_step.LoadFrame }) (λ z. absurd (cc)) (λ z. absurd (cc)) v
     cleaner_own cleaner_step.WriteBatch is v = by (eqb code 0) refl
       where
         by : (b : Bool) → eqb code 0 ≡ b → CleanerDone m (cleaner_took x (cond b (answer.Called 0) (answer.Failed code)) cleaner_step.WriteBatch)

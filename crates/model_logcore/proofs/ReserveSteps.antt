@@ -1,5 +1,5 @@
 -- A user reserves a group.
-use Rattle.std.proofs.Common.{List, [], ap, arith, drop, length, length-append, refl, set, subst, sym, take, ℕ, ⊎_elim, ◌*◌, ◌++◌, ◌+◌, ◌-◌, ◌/◌, ◌<◌, ◌∙◌, ◌∷◌, ◌≡◌, ◌≤◌}
+use Rattle.std.proofs.Common.{List, [], ap, arith, drop, inl, inr, length, length-append, refl, set, subst, sym, take, ℕ, ⊎_elim, ◌*◌, ◌++◌, ◌+◌, ◌-◌, ◌/◌, ◌<◌, ◌∙◌, ◌∷◌, ◌≡◌, ◌≤◌}
 use Rattle.std.proofs.Math.Seq.{take-append_seam}
 use Rattle.std.proofs.lemmas.List.{take-append-le}
 use Rattle.std.specs.Prelude.{slice_index}
@@ -9,6 +9,7 @@ use native.Mathlib.Decide.{dec_le, ℕ_discrete}
 use Rattle.model_base.specs.declared.limits.TheConstants.{LSN_LIMIT}
 use Rattle.model_core.proofs.Lists.{at_last, at_longer}
 use Rattle.model_core.proofs.Groups.{at_end, at_less, back, bound_snoc, byte_snoc, crosses_is, first_from, first_snoc, ranged, ranged_below, ranged_in, stream_long, stream_snoc, tiles_at, tiles_snoc, sum_of_append}
+use Rattle.model_core.proofs.Lanes.{base_word}
 use Rattle.model_core.proofs.Lsns.{lsn_below, lsn_le}
 use Rattle.model_core.specs.{Actor, byte_at, end_of, entries, Entry, entry, first_of, group_bytes, Line, line, line_at, PageChange, SharedWords, stream, sum_of, Tiles, user_took, UserState}
 use Rattle.model_core.specs.LogSide.{LogSide}
@@ -112,10 +113,15 @@ module _ (D : LogSide) (L : LogLaws D) (c : Setup) (spare : ℕ) (m : SharedWord
                 flushed_bound = bound_snoc g.log c.base g.flushed e O.flushed_bound;
               };
               ring_cells = record {
-                each = λ x l r s. elim (dec_le n x) [
+                wide = G.ring_cells.wide;
+                stands = λ x l r s. elim (dec_le n x) [
                   | yes d ↦ (let z = state_in x d r in absurd (omega arith))
-                  | no d ↦ (let lt : x < n = omega arith in let o = G.ring_cells.each x l lt (let z = state_below x lt in omega arith) in (o.0 ∙ sym (old x (omega arith) lt), o.1))
+                  | no d ↦ (let lt : x < n = omega arith in let o = G.ring_cells.stands x l lt (let z = state_below x lt in omega arith) in (o.0 ∙ sym (old x (base_word c.base g.read x O.base_even (omega arith) l) lt), o.1))
                 ];
+                bare = λ x lo hi z. G.ring_cells.bare x lo hi (elim (dec_le n x) [
+                  | yes d ↦ inr (inl d)
+                  | no d ↦ ⊎_elim (λ y. inl y) (λ y. ⊎_elim (λ w. absurd (omega arith)) (λ w. inr (inr (sym (state_below x (omega arith)) ∙ w))) y) z
+                ]);
               };
               first_offsets = record {
                 slots_are = G.first_offsets.slots_are;

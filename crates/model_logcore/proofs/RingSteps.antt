@@ -1,20 +1,22 @@
--- A user stores a cell, and the first offset of the block in which its group ends.
-use Rattle.std.proofs.Common.{Bool, List, ap, arith, cond, eqb, eqb-true, false, get_or-set_other, get_or-set_same, length, ltb, ltb-false, ltb-true, refl, set, subst, sym, true, ℕ, ◌%◌, ◌*◌, ◌+◌, ◌/◌, ◌<◌, ◌∙◌, ◌≡◌, ◌≢◌, ◌≤◌}
+-- A user adds its next bytes onto a word, and stores the first offset of the block in which its group ends.
+use Rattle.std.proofs.Common.{Bool, List, ap, arith, cond, eqb, eqb-true, false, inl, inr, length, ltb, ltb-false, ltb-true, refl, set, subst, sym, true, ℕ, ⊎_elim, ◌%◌, ◌*◌, ◌+◌, ◌-◌, ◌/◌, ◌<◌, ◌^◌, ◌∙◌, ◌≡◌, ◌≢◌, ◌≤◌, ◌⊎◌}
 use Rattle.std.proofs.lemmas.Bool.{eqb-false}
 use Rattle.std.specs.Prelude.{slice_index, slice_set}
 use lib.ListN.{get_elem?}
 use mathlib.Core.Option.{some}
 use native.Mathlib.Decide.{dec_le, ℕ_discrete}
-use Rattle.model_core.proofs.Groups.{changed, changed_else, changed_here, entry_byte, is_crosses, tiles_at}
-use Rattle.model_core.proofs.Lsns.{block_below, block_window, cell_same, lsn_block, lsn_less, lsn_offset, ring_same}
-use Rattle.model_core.specs.{Actor, byte_at, end_of, entries, Entry, entry, first_of, floor, group_bytes, group_end, IsSized, line, LoadedMarks, lsn, SharedWords, user_took, UserState}
+use Rattle.model_core.proofs.Groups.{changed, changed_else, changed_here, entry_byte, is_crosses, ranged, ranged_in, ranged_out, tiles_at}
+use Rattle.model_core.proofs.Lanes.{add_else, add_here, add_wide, cell_word, left_fits, next_are, next_few, next_lanes, next_long, next_some, next_within, same_word, word_grows, word_up}
+use Rattle.model_core.proofs.Lsns.{block_below, block_window, floor_grows, lsn_block, lsn_le, lsn_less, lsn_offset, lsn_wide, ring_same}
+unfoldable use Rattle.model_core.specs.{lane, packed}
+use Rattle.model_core.specs.{Actor, byte_at, byte_in, cell_of, copy_place, end_of, entries, Entry, entry, first_of, floor, group_bytes, group_end, IsSized, lane_of, line, LoadedMarks, lsn, next_bytes, next_count, SharedWords, user_took, UserState}
 use Rattle.model_core.specs.LogSide.{LogSide}
 use Rattle.model_core.specs.Setup.{Setup}
 use Rattle.model_core.specs.declared.steps.UserStep.{UserStep}
 use Rattle.model_logcore.proofs.UserGroups.{first_is}
 use Rattle.model_logcore.proofs.Frame.{Later, Still, others_later, moved_on}
 use Rattle.model_logcore.proofs.Same.{cells_sized, firsts_sized, stored_here, stored_else}
-use Rattle.model_logcore.specs.LogFacts.{WrittenLinks, LogGhost, LogFacts, FirstOffsets, InHand, count_of, Commits}
+use Rattle.model_logcore.specs.LogFacts.{WrittenLinks, IsBare, LogGhost, LogFacts, FirstOffsets, InHand, RingCells, count_of, Commits}
 use Rattle.model_logcore.specs.LogFits.{AreBelow, Hand, UserAt, UserFits}
 use Rattle.model_logcore.specs.LogHalf.{LogHalf, left_to_reserve}
 use Rattle.model_core.specs.declared.steps.UserStep.TheVariants as user_step
@@ -93,70 +95,216 @@ module _ (D : LogSide) (c : Setup) (spare : ℕ) (m : SharedWords) (g : LogGhost
     written = refl;
   }
 
-  copy_tested : (m' : SharedWords) (g' : LogGhost) (b d : Bool) → eqb (u.copied + 1) (length (group_bytes u)) ≡ b → ltb (u.start / 496) (group_end u / 496) ≡ d → m'.write ≡ m.write
-      → InHand g'.log g'.place g'.state seat u.user u.k u.start (u.copied + 1) (line u) → UserAt D c m g p seat u user_step.StoreCell
-      → UserAt D c m' g' p seat (record u { copied = u.copied + 1; step = cond b (cond d user_step.StoreFirst user_step.LoadWtail) user_step.StoreCell }) (cond b (cond d user_step.StoreFirst user_step.LoadWtail) user_step.StoreCell)
-  copy_tested m' g' true true e f w i h = (h.0, h.1, i, eqb-true (u.copied + 1) (length (group_bytes u)) e, subst (λ (k : ℕ). lsn (group_end u) < floor k + 65536) (sym w) h.4, ltb-true (u.start / 496) (group_end u / 496) f)
-  copy_tested m' g' true false e f w i h = (h.0, h.1, i, eqb-true (u.copied + 1) (length (group_bytes u)) e, λ l. let n = ltb-false (u.start / 496) (group_end u / 496) f in absurd (omega arith))
-  copy_tested m' g' false d e f w i h = (h.0, h.1, i, (let n = eqb-false (u.copied + 1) (length (group_bytes u)) e in let l = h.3 in omega arith), subst (λ (k : ℕ). lsn (group_end u) < floor k + 65536) (sym w) h.4)
+  copy_tested : (m' : SharedWords) (g' : LogGhost) (b d : Bool) → eqb (u.copied + next_count u) (length (group_bytes u)) ≡ b → ltb (u.start / 496) (group_end u / 496) ≡ d → m'.write ≡ m.write → u.copied + next_count u ≤ length (group_bytes u)
+      → InHand g'.log g'.place g'.state seat u.user u.k u.start (u.copied + next_count u) (line u) → UserAt D c m g p seat u user_step.AddCell
+      → UserAt D c m' g' p seat (record u { copied = u.copied + next_count u; step = cond b (cond d user_step.StoreFirst user_step.LoadWtail) user_step.AddCell }) (cond b (cond d user_step.StoreFirst user_step.LoadWtail) user_step.AddCell)
+  copy_tested m' g' true true e f w few i h = (h.0, h.1, i, eqb-true (u.copied + next_count u) (length (group_bytes u)) e, subst (λ (k : ℕ). lsn (group_end u) < floor k + 65536) (sym w) h.4, ltb-true (u.start / 496) (group_end u / 496) f)
+  copy_tested m' g' true false e f w few i h = (h.0, h.1, i, eqb-true (u.copied + next_count u) (length (group_bytes u)) e, λ l. let n = ltb-false (u.start / 496) (group_end u / 496) f in absurd (omega arith))
+  copy_tested m' g' false d e f w few i h = (h.0, h.1, i, (let n = eqb-false (u.copied + next_count u) (length (group_bytes u)) e in below_of (u.copied + next_count u) (length (group_bytes u)) few n), subst (λ (k : ℕ). lsn (group_end u) < floor k + 65536) (sym w) h.4)
+    where
+      below_of : (a b : ℕ) → a ≤ b → a ≢ b → a < b
+      below_of a b l n = omega arith
 
-  -- it stores a cell
-  pub keeps_store_cell : u.step ≡ user_step.StoreCell → UserAt D c m g p seat u user_step.StoreCell
-      → (h : LogGhost) × LogHalf D c spare (record m { cells = slice_set m.cells (lsn (u.start + u.copied) % 65536) (slice_index (group_bytes u) u.copied) }) h p (set actors seat (actor.User (user_took u 0 user_step.StoreCell))) × (◌≡◌ {A = List Entry} (h.log) (g.log))
-  keeps_store_cell is h =
-      let k : ℕ = u.start + u.copied in
-      let ch : ℕ = slice_index (group_bytes u) u.copied in
-      let m' : SharedWords = record m { cells = slice_set m.cells (lsn k % 65536) ch } in
-      let g' : LogGhost = record g { state = changed g.state k 1 } in
-      let b : Bool = eqb (u.copied + 1) (length (group_bytes u)) in
+  -- ADDING THE NEXT BYTES ONTO THEIR WORD. Each of their lanes is 0, since their places aren't copied; and all other places of
+  -- the window keep their bytes
+  module _ (h : UserAt D c m g p seat u user_step.AddCell) where
+    -- where they go, and how many they are
+    abbrev place : ℕ
+    place = copy_place u
+
+    abbrev count : ℕ
+    count = next_count u
+
+    abbrev old_word : ℕ
+    old_word = slice_index m.cells (cell_of place)
+
+    abbrev new_cells : List ℕ
+    new_cells = slice_set m.cells (cell_of place) (slice_index m.cells (cell_of place) + packed (lane_of place) (next_bytes u))
+
+    pub copies : ℕ → ℕ
+    copies = ranged g.state place (place + count) 1
+
+    count_few : u.copied + count ≤ length (group_bytes u)
+    count_few = next_few u (let l = h.3 in omega arith)
+
+    count_some : 0 < count
+    count_some = next_some u h.3
+
+    long : length (next_bytes u) ≡ count
+    long = next_long u (let l = h.3 in omega arith)
+
+    lies : (c.base ≤ u.start) × (group_end u ≤ m.sn) × (0 < length (group_bytes u)) × (length (group_bytes u) ≤ 8192)
+    lies = hand_lies h.2
+
+    up : g.tail ≤ place
+    up = let w = lies.0 in let l = h.3 in let z = h.2.bare place (omega arith) (omega arith) in above_tail place (omega arith) (λ e. omega arith)
+
+    from_read : g.read ≤ place
+    from_read = let o2 = before.global.order.read_wtail in let o3 = before.global.order.wtail_tail in let z = up in omega arith
+
+    low : floor m.write ≤ lsn place
+    low = let O = before.global.order in let a = O.write_is in let w = lsn_le g.write place (let o1 = O.write_read in let z = from_read in omega arith) in omega arith
+
+    inside_sn : (x : ℕ) → x < place + count → x < m.sn
+    inside_sn x l = let f = count_few in let w = lies.1 in omega arith
+
+    near : (x : ℕ) → x < place + count → lsn x < floor m.write + 65536
+    near x l = let f = count_few in let z = lsn_le x (group_end u) (omega arith) in let e = h.4 in omega arith
+
+    low_at : (x : ℕ) → place ≤ x → floor m.write ≤ lsn x
+    low_at x l = let z = lsn_le place x l in let k = low in omega arith
+
+    slot : cell_of place < length m.cells
+    slot = let z = before.sized.cells in subst (λ (n : ℕ). cell_of place < n) (sym z) (small_of (lsn place / 8))
+      where
+        small_of : (n : ℕ) → n % 8192 < 8192
+        small_of n = omega arith
+
+    in_cell : (j : ℕ) → j < count → cell_of (place + j) ≡ cell_of place
+    in_cell j l = ap (λ (n : ℕ). n % 8192) (same_word place j (let w = next_within u in omega arith))
+
+    in_lane : (j : ℕ) → j < count → lane_of (place + j) ≡ lane_of place + j
+    in_lane j l = next_lanes place j (let w = next_within u in omega arith)
+
+    bare_lane : (j : ℕ) → j < length (next_bytes u) → lane (lane_of place + j) old_word ≡ 0
+    bare_lane j l =
+        let n = long in let f = count_few in let lt : j < count = omega arith in
+        let zero_at : g.state (place + j) ≡ 0 = h.2.bare (place + j) (omega arith) (omega arith) in
+        let z = before.global.ring_cells.bare (place + j) (low_at (place + j) (omega arith)) (near (place + j) (omega arith)) (inr (inr zero_at)) in
+        ap (λ (k : ℕ). lane k (slice_index m.cells (cell_of place))) (sym (in_lane j lt)) ∙ ap (λ (k : ℕ). lane (lane_of (place + j)) (slice_index m.cells k)) (sym (in_cell j lt)) ∙ z
+
+    few_lanes : lane_of place + length (next_bytes u) ≤ 8
+    few_lanes = let n = long in let w = next_within u in let f = left_fits place in omega arith
+
+    next_bytes_small : (i : ℕ) → i < length (next_bytes u) → slice_index (next_bytes u) i < 256
+    next_bytes_small i l = let n = long in let f = count_few in let z = next_are u i (omega arith) in let b = fits.are_bytes u.k (u.copied + i) (omega arith) in omega arith
+
+    wide_word : old_word < 2 ^ 64
+    wide_word = before.global.ring_cells.wide (cell_of place)
+
+    pub sum_small : slice_index m.cells (cell_of place) + packed (lane_of place) (next_bytes u) < 2 ^ 64
+    sum_small = add_wide old_word (lane_of place) (next_bytes u) wide_word few_lanes next_bytes_small bare_lane
+
+    wide_cells : (i : ℕ) → slice_index new_cells i < 2 ^ 64
+    wide_cells i = elim (ℕ_discrete i (cell_of place)) [
+      | yes e ↦ subst (λ (n : ℕ). n < 2 ^ 64) (sym (stored_here m.cells (cell_of place) (slice_index m.cells (cell_of place) + packed (lane_of place) (next_bytes u)) i e slot)) sum_small
+      | no n ↦ subst (λ (n : ℕ). n < 2 ^ 64) (sym (stored_else m.cells (cell_of place) (slice_index m.cells (cell_of place) + packed (lane_of place) (next_bytes u)) i n)) (before.global.ring_cells.wide i)
+    ]
+
+    -- what stands in any lane of that word
+    lane_then : (x : ℕ) → cell_of x ≡ cell_of place → byte_in new_cells x ≡ lane (lane_of x) (old_word + packed (lane_of place) (next_bytes u))
+    lane_then x e = ap (lane (lane_of x)) (stored_here m.cells (cell_of place) (slice_index m.cells (cell_of place) + packed (lane_of place) (next_bytes u)) (cell_of x) e slot)
+
+    copied_here : (j : ℕ) → j < count → byte_in new_cells (place + j) ≡ byte_at c.base g.log (place + j)
+    copied_here j l =
+        let f = count_few in let n = long in
+        let sum = add_here old_word (lane_of place) (next_bytes u) wide_word few_lanes next_bytes_small bare_lane j (omega arith) in
+        let byte = entry_byte g.log c.base m.sn h.2.at _ (u.copied + j) before.global.tiled.tiles h.2.is (omega arith) in
+        lane_then (place + j) (in_cell j l) ∙ ap (λ (k : ℕ). lane k (old_word + packed (lane_of place) (next_bytes u))) (in_lane j l) ∙ sum ∙ next_are u j l ∙ sym byte ∙ ap (byte_at c.base g.log) (let z : u.start + (u.copied + j) ≡ place + j = omega arith in z)
+
+    copied_else : (x : ℕ) → floor m.write ≤ lsn x → lsn x < floor m.write + 65536 → (place ≤ x → x < place + count → ⊥) → byte_in new_cells x ≡ byte_in m.cells x
+    copied_else x lo hi out = elim (ℕ_discrete (cell_of x) (cell_of place)) [
+      | no n ↦ ap (lane (lane_of x)) (stored_else m.cells (cell_of place) (slice_index m.cells (cell_of place) + packed (lane_of place) (next_bytes u)) (cell_of x) n)
+      | yes e ↦ (let w : lsn x / 8 ≡ lsn place / 8 = cell_word x place m.write lo low hi (near place (let s = count_some in omega arith)) e in
+          lane_then x e ∙ add_else old_word (lane_of place) (next_bytes u) wide_word few_lanes next_bytes_small bare_lane (lane_of x) (omega arith) (outside w) ∙ there e)
+    ]
+      where
+        outside : lsn x / 8 ≡ lsn place / 8 → (lane_of x < lane_of place) ⊎ (lane_of place + length (next_bytes u) ≤ lane_of x)
+        outside w = elim (dec_le place x) [
+          | yes d ↦ elim (dec_le (place + count) x) [
+            | yes q ↦ (let a = lsn_wide place count in let b = lsn_le (place + count) x q in let n = long in inr (omega arith))
+            | no q ↦ absurd (out d (omega arith))
+          ]
+          | no d ↦ (let a = lsn_less x place (omega arith) in inl (omega arith))
+        ]
+
+        there : cell_of x ≡ cell_of place → lane (lane_of x) old_word ≡ byte_in m.cells x
+        there e = ap (λ (k : ℕ). lane (lane_of x) (slice_index m.cells k)) (sym e)
+
+    copies_in : (x : ℕ) → place ≤ x → x < place + count → copies x ≡ 1
+    unfolding copies
+    copies_in x l r = ranged_in g.state place (place + count) 1 x l r
+
+    copies_out : (x : ℕ) → (place ≤ x → x < place + count → ⊥) → copies x ≡ g.state x
+    unfolding copies
+    copies_out x n = ranged_out g.state place (place + count) 1 x n
+
+    pub added_cells : RingCells c.base m.sn new_cells m.write g.log copies g.read
+    added_cells = record {
+      wide = wide_cells;
+      stands = λ x l r s. by x l r s (dec_le place x) (dec_le (place + count) x);
+      bare = λ x lo hi b. bare_by x lo hi b (dec_le place x) (dec_le (place + count) x);
+    }
+      where
+        old_stands : (x : ℕ) → lsn g.read / 8 ≤ lsn x / 8 → x < m.sn → 0 < copies x → (place ≤ x → x < place + count → ⊥) → (byte_in new_cells x ≡ byte_at c.base g.log x) × (lsn x < floor m.write + 65536)
+        old_stands x l r s out =
+            let o = before.global.ring_cells.stands x l r (let z = copies_out x out in omega arith) in
+            let O = before.global.order in
+            let z = word_up g.read x l in let a = O.write_is in let w = lsn_le g.write g.read O.write_read in
+            (copied_else x (let y = floor_grows (lsn g.write) (lsn g.read) w in let v : floor m.write ≡ floor (lsn g.write) = ap floor a in omega arith) o.1 out ∙ o.0, o.1)
+
+        by : (x : ℕ) → lsn g.read / 8 ≤ lsn x / 8 → x < m.sn → 0 < copies x → Dec (place ≤ x) → Dec (place + count ≤ x) → (byte_in new_cells x ≡ byte_at c.base g.log x) × (lsn x < floor m.write + 65536)
+        by x l r s (yes d) (no q) =
+            let j : ℕ = x - place in let is : place + j ≡ x = omega arith in
+            (subst (λ (y : ℕ). byte_in new_cells y ≡ byte_at c.base g.log y) is (copied_here j (omega arith)), near x (omega arith))
+        by x l r s (yes d) (yes q) = old_stands x l r s (λ a b. omega arith)
+        by x l r s (no d) q = old_stands x l r s (λ a b. omega arith)
+
+        old_bare : (x : ℕ) → floor m.write ≤ lsn x → lsn x < floor m.write + 65536 → IsBare m.sn copies g.read x → (place ≤ x → x < place + count → ⊥) → byte_in new_cells x ≡ 0
+        old_bare x lo hi b out = copied_else x lo hi out ∙ before.global.ring_cells.bare x lo hi (⊎_elim (λ z. inl z) (λ z. ⊎_elim (λ y. inr (inl y)) (λ y. inr (inr (sym (copies_out x out) ∙ y))) z) b)
+
+        bare_by : (x : ℕ) → floor m.write ≤ lsn x → lsn x < floor m.write + 65536 → IsBare m.sn copies g.read x → Dec (place ≤ x) → Dec (place + count ≤ x) → byte_in new_cells x ≡ 0
+        bare_by x lo hi b (yes d) (no q) =
+            let one = copies_in x d (omega arith) in let less = inside_sn x (omega arith) in let w = word_grows g.read x (let f = from_read in omega arith) in
+            absurd (⊎_elim (λ z. omega arith) (λ z. ⊎_elim (λ y. omega arith) (λ y. omega arith) z) b)
+        bare_by x lo hi b (yes d) (yes q) = old_bare x lo hi b (λ a e. omega arith)
+        bare_by x lo hi b (no d) q = old_bare x lo hi b (λ a e. omega arith)
+
+  -- it adds its next bytes
+  pub keeps_add_cell : u.step ≡ user_step.AddCell → UserAt D c m g p seat u user_step.AddCell
+      → (h : LogGhost) × LogHalf D c spare (record m { cells = slice_set m.cells (cell_of (copy_place u)) (slice_index m.cells (cell_of (copy_place u)) + packed (lane_of (copy_place u)) (next_bytes u)) }) h p (set actors seat (actor.User (user_took u 0 user_step.AddCell))) × (◌≡◌ {A = List Entry} (h.log) (g.log))
+  keeps_add_cell is h =
+      let k : ℕ = copy_place u in
+      let n : ℕ = next_count u in
+      let m' : SharedWords = record m { cells = slice_set m.cells (cell_of k) (slice_index m.cells (cell_of k) + packed (lane_of k) (next_bytes u)) } in
+      let g' : LogGhost = record g { state = copies h } in
+      let b : Bool = eqb (u.copied + n) (length (group_bytes u)) in
       let d : Bool = ltb (u.start / 496) (group_end u / 496) in
       let G = before.global in
-      let O = G.order in
       let hand = h.2 in
-      let lt = h.3 in
-      let hi = h.4 in
-      let lies = hand_lies hand in
-      let lies0 = lies.0 in let lies1 = lies.1 in
-      let zero_at : g.state k ≡ 0 = hand.bare k (omega arith) (omega arith) in
-      let up : g.tail ≤ k = above_tail k (omega arith) (λ z. omega arith) in
-      let o1 = O.write_read in let o2 = O.read_wtail in let o3 = O.wtail_tail in
-      let near : lsn k < floor m.write + 65536 = let z = lsn_less k (group_end u) (omega arith) in omega arith in
-      let here : g'.state k ≡ 1 = changed_here g.state k 1 k refl in
-      let else : (x : ℕ) → x ≢ k → g'.state x ≡ g.state x = λ x n. changed_else g.state k 1 x n in
-      let old_two : (x : ℕ) → g'.state x ≡ 2 → g.state x ≡ 2 = λ x two. elim (ℕ_discrete x k) [
-        | yes e ↦ (let z : g'.state x ≡ 1 = changed_here g.state k 1 x e in absurd (omega arith))
-        | no n ↦ sym (else x n) ∙ two
+      let few = count_few h in
+      let some_new = count_some h in
+      let old_two : (x : ℕ) → g'.state x ≡ 2 → g.state x ≡ 2 = λ x two. elim (dec_le k x) [
+        | yes l ↦ elim (dec_le (k + n) x) [
+          | yes r ↦ sym (copies_out h x (λ a e. omega arith)) ∙ two
+          | no r ↦ (let z = copies_in h x l (omega arith) in absurd (omega arith))
+        ]
+        | no l ↦ sym (copies_out h x (λ a e. omega arith)) ∙ two
       ] in
-      let new_two : (x : ℕ) → g.state x ≡ 2 → g'.state x ≡ 2 = λ x two. else x (λ e. let z : g.state x ≡ 0 = ap g.state e ∙ zero_at in omega arith) ∙ two in
-      let in_hand : InHand g'.log g'.place g'.state seat u.user u.k u.start (u.copied + 1) (line u) = record {
+      let new_two : (x : ℕ) → g.state x ≡ 2 → g'.state x ≡ 2 = λ x two. copies_out h x (λ l r. let z = hand.bare x (omega arith) (omega arith) in omega arith) ∙ two in
+      let in_hand : InHand g'.log g'.place g'.state seat u.user u.k u.start (u.copied + n) (line u) = record {
         at = hand.at;
         is = hand.is;
         own = hand.own;
-        done = λ x l r. elim (ℕ_discrete x k) [
-          | yes e ↦ changed_here g.state k 1 x e
-          | no n ↦ else x n ∙ hand.done x l (omega arith)
+        done = λ x l r. elim (dec_le k x) [
+          | yes d ↦ copies_in h x d (omega arith)
+          | no d ↦ copies_out h x (λ a e. omega arith) ∙ hand.done x l (omega arith)
         ];
-        bare = λ x l r. else x (λ e. omega arith) ∙ hand.bare x (omega arith) r;
+        bare = λ x l r. copies_out h x (λ a e. omega arith) ∙ hand.bare x (omega arith) r;
       } in (
         g',
-        steps m' g' (user_took u 0 user_step.StoreCell)
-            (cells_sized (lsn k % 65536) ch before.sized)
+        steps m' g' (user_took u 0 user_step.AddCell)
+            (cells_sized (cell_of k) (slice_index m.cells (cell_of k) + packed (lane_of k) (next_bytes u)) before.sized)
             (record {
               tiled = G.tiled;
               order = G.order;
-              ring_cells = record {
-                each = λ x l r s. elim (ℕ_discrete x k) [
-                  | yes e ↦ (copied_here x k e ch (omega (arith, before.sized.cells)) (entry_byte g.log c.base m.sn hand.at _ u.copied G.tiled.tiles hand.is lt), subst (λ (y : ℕ). lsn y < floor m.write + 65536) (sym e) near)
-                  | no n ↦ (let o = G.ring_cells.each x l r (subst (λ (y : ℕ). 0 < y) (else x n) s) in
-                      (copied_else x k ch (λ e. n (cell_same x k g.write m.write O.write_is (omega arith) (omega arith) o.1 near e)) o.0, o.1))
-                ];
-              };
+              ring_cells = added_cells h;
               first_offsets = heads_states g.state g'.state old_two G.first_offsets;
               written_links = chain_states g.state g'.state old_two new_two G.written_links;
               commits = commits_states g.state g'.state new_two G.commits;
               part = G.part;
             })
-            (refit m' g' u.page u.cell (u.copied + 1) u.loaded u.code u.checks (cond b (cond d user_step.StoreFirst user_step.LoadWtail) user_step.StoreCell) refl refl refl fits.loaded (copy_tested m' g' b d refl refl refl in_hand h))
+            (refit m' g' u.page u.cell (u.copied + n) u.loaded u.code u.checks (cond b (cond d user_step.StoreFirst user_step.LoadWtail) user_step.AddCell) refl refl refl fits.loaded (copy_tested m' g' b d refl refl refl few in_hand h))
             (record {
               write = omega arith;
               wtail = omega arith;
@@ -166,7 +314,7 @@ module _ (D : LogSide) (c : Setup) (spare : ℕ) (m : SharedWords) (g : LogGhost
               logs = λ i e z. z;
               places = λ x l o. refl;
               linked = λ x l two. new_two x two;
-              states = λ x l o. else x (λ e. o (ap (λ (y : ℕ). (g.place y).owner) e ∙ hand.own k (omega arith) (omega arith)));
+              states = λ x l o. copies_out h x (λ a e. o (hand.own x (omega arith) (omega arith)));
               firsts = λ q z. z;
               seats = λ v. refl;
               counts = λ v n. refl;
@@ -176,12 +324,6 @@ module _ (D : LogSide) (c : Setup) (spare : ℕ) (m : SharedWords) (g : LogGhost
             refl refl refl refl refl refl (omega arith),
         refl,
       )
-    where
-      copied_here : (x k : ℕ) → x ≡ k → (ch : ℕ) → lsn k % 65536 < length m.cells → byte_at c.base g.log k ≡ ch → slice_index (slice_set m.cells (lsn k % 65536) ch) (lsn x % 65536) ≡ byte_at c.base g.log x
-      copied_here x k e ch l t = subst (λ (y : ℕ). slice_index (slice_set m.cells (lsn k % 65536) ch) (lsn y % 65536) ≡ byte_at c.base g.log y) (sym e) (get_or-set_same m.cells (lsn k % 65536) ch 0 l ∙ sym t)
-
-      copied_else : (x k ch : ℕ) → lsn x % 65536 ≢ lsn k % 65536 → slice_index m.cells (lsn x % 65536) ≡ byte_at c.base g.log x → slice_index (slice_set m.cells (lsn k % 65536) ch) (lsn x % 65536) ≡ byte_at c.base g.log x
-      copied_else x k ch n t = rw get_or-set_other t
 
   -- it stores the first offset of the block in which the group ends
   pub keeps_store_first : u.step ≡ user_step.StoreFirst → UserAt D c m g p seat u user_step.StoreFirst

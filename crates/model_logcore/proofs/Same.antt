@@ -52,7 +52,7 @@ page_sized {m = m} p w e z = record {
   firsts = z.firsts;
   page_words = length-set m.page_words p w ∙ z.page_words;
   frames = λ q l. elim (ℕ_discrete q p) [
-    | yes y ↦ subst (λ (r : ℕ). length (page_words_at (set m.page_words p w) r).frame ≡ 4096) (sym y) (ap (λ (x : PageWords). length x.frame) (get_or-set_same m.page_words p w blank_words (let k = z.page_words in omega arith)) ∙ e ∙ ap (λ (r : ℕ). length (page_words_at m.page_words r).frame) (sym y) ∙ z.frames q l)
+    | yes y ↦ subst (λ (r : ℕ). length (page_words_at (set m.page_words p w) r).frame ≡ 512) (sym y) (ap (λ (x : PageWords). length x.frame) (get_or-set_same m.page_words p w blank_words (let k = z.page_words in omega arith)) ∙ e ∙ ap (λ (r : ℕ). length (page_words_at m.page_words r).frame) (sym y) ∙ z.frames q l)
     | no n ↦ ap (λ (x : PageWords). length x.frame) (get_or-set_other m.page_words p q w blank_words n) ∙ z.frames q l
   ];
 }

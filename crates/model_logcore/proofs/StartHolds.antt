@@ -4,8 +4,10 @@ use lib.ListN.{get_elem?}
 use native.Mathlib.Decide.{ℕ_discrete}
 use Rattle.model_base.specs.declared.limits.TheConstants.{LSN_LIMIT}
 use Rattle.model_core.proofs.Groups.{first_base}
+use Rattle.model_core.proofs.Lanes.{base_word, lane_of_zero}
 use Rattle.model_core.proofs.Lsns.{floor_lsn, lsn_block}
-use Rattle.model_core.specs.{Actor, CheckpointerState, CleanerState, CloserState, entries, entries_from, first_of, floor, FlusherState, holds, LoadedMarks, lsn, SharedWords, sum_of, WriterState}
+unfoldable use Rattle.model_core.specs.{lane}
+use Rattle.model_core.specs.{Actor, cell_of, CheckpointerState, CleanerState, CloserState, entries, entries_from, first_of, floor, FlusherState, holds, lane_of, LoadedMarks, lsn, SharedWords, sum_of, WriterState}
 use Rattle.model_core.specs.LogSide.{LogSide}
 use Rattle.model_core.specs.Setup.{Setup}
 use Rattle.model_logcore.proofs.NewUsers.{new_user_is}
@@ -71,7 +73,11 @@ module _ (D : LogSide) (c : Setup) (m : SharedWords) (p : D.Part) (seat_of : ℕ
           tail_bound = refl;
           flushed_bound = refl;
         };
-        ring_cells = record { each = λ x l h. absurd (omega arith) };
+        ring_cells = record {
+          wide = λ i. (let z = W.cells i in omega arith);
+          stands = λ x w l. (let b = base_word c.base c.base x e (omega arith) w in absurd (omega arith));
+          bare = λ x lo hi z. ap (lane (lane_of x)) (W.cells (cell_of x)) ∙ lane_of_zero (lane_of x);
+        };
         first_offsets = record {
           slots_are = W.firsts;
           near = λ q h. (let z = only_base q h in let k = floor_lsn c.base in let y : floor m.write ≡ floor (lsn c.base) = ap floor w in omega arith);

@@ -1,11 +1,11 @@
 -- A user's loads keep the invariant; and so each of its steps.
 use Rattle.std.proofs.Common.{Bool, List, ap, arith, cond, eq-eqb, eqb, eqb-true, false, leb-true, length, length-set, ltb, ltb-true, ne_eqb, refl, set, true, ℕ, ◌%◌, ◌*◌, ◌+◌, ◌-◌, ◌∙◌, ◌≡◌, ◌≤◌, inl, inr}
 use Rattle.std.proofs.lemmas.Bool.{eqb-false}
-use Rattle.std.specs.Prelude.{nat_le, slice_set}
+use Rattle.std.specs.Prelude.{nat_le, slice_index, slice_set}
 use lib.ListN.{get_elem?}
 use mathlib.Core.Option.{some}
 use Rattle.model_core.proofs.Groups.{changed, changed_else, changed_here}
-use Rattle.model_core.specs.{Actor, after, answered, cells_of, change_at, changes, entries, Entry, floor, found, group_end, IsSized, LoadedMarks, lsn, mode, OnWord, page_of, page_words_at, PageWords, phase_log, put_of, SharedWords, to_next_page, user_op, user_took, UserState, with_mark, with_page_words}
+use Rattle.model_core.specs.{Actor, after, answered, cells_of, change_at, changes, entries, Entry, floor, found, frame_count, frame_word, group_end, is_whole, IsSized, LoadedMarks, lsn, mode, OnWord, page_of, page_words_at, PageWords, phase_log, SharedWords, stored_word, to_next_page, user_op, user_took, UserState, with_mark, with_page_words}
 use Rattle.model_core.specs.LogSide.{LogSide}
 use Rattle.model_core.specs.Setup.{Setup}
 use Rattle.model_core.specs.declared.ops.Op.{Op}
@@ -15,7 +15,7 @@ use Rattle.model_logcore.proofs.GroupEnds.{hand_end_near}
 use Rattle.model_logcore.proofs.AnswerSteps.{answer_global, answered_fits}
 use Rattle.model_logcore.proofs.LinkSteps.{keeps_store_link}
 use Rattle.model_logcore.proofs.ReserveSteps.{keeps_reserve}
-use Rattle.model_logcore.proofs.RingSteps.{keeps_store_cell, keeps_store_first, refit, shifted, steps, still_words}
+use Rattle.model_logcore.proofs.RingSteps.{keeps_add_cell, keeps_store_first, refit, shifted, steps, still_words}
 use Rattle.model_logcore.proofs.Same.{clinks_sized, facts_same, later_marks, lists_sized, page_sized}
 use Rattle.model_logcore.specs.LogFacts.{LogGhost, LogFacts}
 use Rattle.model_logcore.specs.LogFits.{AreBelow, HasStoppedAt, UserAt, UserFits}
@@ -68,8 +68,8 @@ module _ (D : LogSide) (L : LogLaws D) (c : Setup) (spare : ℕ) (m : SharedWord
   ctail_loaded : AreBelow (record u.loaded { ctail = m.ctail }) m.ckpt m.write m.wtail m.flushed
   ctail_loaded = record { ckpt_below = mine.loaded.ckpt_below; write_below = mine.loaded.write_below; wtail_below = mine.loaded.wtail_below; flushed_below = mine.loaded.flushed_below }
 
-  room_by : (b : Bool) → ltb (lsn (group_end u)) (floor m.write + 65536) ≡ b → UserAt D c m g p seat u user_step.LoadWrite → Now (cond b (record u { loaded = record u.loaded { write = m.write }; step = user_step.StoreCell }) (record u { loaded = record u.loaded { write = m.write }; checks = true; step = user_step.LoadWrite }))
-  room_by true e h = shift u.page u.cell u.copied (record u.loaded { write = m.write }) u.code u.checks user_step.StoreCell write_loaded (h.0, h.1, h.2, (let z = h.3 in let s = (mine.sound u.k h.1).0 in omega arith), ltb-true (lsn (group_end u)) (floor m.write + 65536) e)
+  room_by : (b : Bool) → ltb (lsn (group_end u)) (floor m.write + 65536) ≡ b → UserAt D c m g p seat u user_step.LoadWrite → Now (cond b (record u { loaded = record u.loaded { write = m.write }; step = user_step.AddCell }) (record u { loaded = record u.loaded { write = m.write }; checks = true; step = user_step.LoadWrite }))
+  room_by true e h = shift u.page u.cell u.copied (record u.loaded { write = m.write }) u.code u.checks user_step.AddCell write_loaded (h.0, h.1, h.2, (let z = h.3 in let s = (mine.sound u.k h.1).0 in omega arith), ltb-true (lsn (group_end u)) (floor m.write + 65536) e)
   room_by false e h = shift u.page u.cell u.copied (record u.loaded { write = m.write }) u.code true user_step.LoadWrite write_loaded h
 
   space_by : (b : Bool) → ltb (lsn u.start) (m.wtail + 32768) ≡ b → UserAt D c m g p seat u user_step.LoadWtail → Now (cond b (record u { loaded = record u.loaded { wtail = m.wtail }; step = user_step.StoreLink }) (record u { loaded = record u.loaded { wtail = m.wtail }; checks = true; step = user_step.LoadWtail }))
@@ -101,11 +101,12 @@ module _ (D : LogSide) (L : LogLaws D) (c : Setup) (spare : ℕ) (m : SharedWord
   dead_at user_step.TakeLatch h = let z = h.0 in (omega arith, λ held. absurd (omega arith))
   dead_at user_step.Done h = let z = h.0 in (omega arith, λ held. absurd (omega arith))
   dead_at user_step.LoadWrite h = let z = h.0 in let y = h.3 in (omega arith, λ held. inl (h.2, omega arith, λ some. absurd (omega arith)))
-  dead_at user_step.StoreCell h = let z = h.0 in let y = h.3 in (omega arith, λ held. inl (h.2, omega arith, λ some. h.4))
+  dead_at user_step.AddCell h = let z = h.0 in let y = h.3 in (omega arith, λ held. inl (h.2, omega arith, λ some. h.4))
   dead_at user_step.StoreFirst h = let z = h.0 in let y = h.3 in (omega arith, λ held. inl (h.2, omega arith, λ some. h.4))
   dead_at user_step.LoadWtail h = let z = h.0 in let y = h.3 in (omega arith, λ held. inl (h.2, omega arith, λ some. hand_end_near D c m g p seat u before.global h.2 h.3 h.4 some))
   dead_at user_step.StoreLink h = let z = h.0 in let y = h.3 in (omega arith, λ held. inl (h.2, omega arith, λ some. hand_end_near D c m g p seat u before.global h.2 h.3 h.4 some))
   dead_at user_step.LoadCtail h = let z = h.0 in (omega arith, λ held. inr h.2)
+  dead_at user_step.LoadFrame h = let z = h.0 in (omega arith, λ held. inr h.2)
   dead_at user_step.StoreFrame h = let z = h.0 in (omega arith, λ held. inr h.2)
   dead_at user_step.StoreNewest h = let z = h.0 in (omega arith, λ held. inr h.2)
   dead_at user_step.LoadOldest h = let z = h.0 in (omega arith, λ held. inr h.2)
@@ -148,11 +149,12 @@ module _ (D : LogSide) (L : LogLaws D) (c : Setup) (spare : ℕ) (m : SharedWord
       → LogHalf D c spare (record m { lists = lists; clinks = clinks; page_words = page_words; ctail = ctail }) g p (set actors seat (actor.User (shifted D c spare m g p actors seat u before at page cell u.copied u.loaded u.code checks ph)))
   moves lists clinks page_words ctail sized page cell checks ph h = aside lists clinks page_words ctail (shifted D c spare m g p actors seat u before at page cell u.copied u.loaded u.code checks ph) sized (refit D c spare m g p actors seat u before at m g page cell u.copied u.loaded u.code checks ph refl refl refl mine.loaded h) refl (omega arith)
 
-  turned_any : (lists clinks : List ℕ) (page_words : List PageWords) (ctail : ℕ) → IsSized c.pages (record m { lists = lists; clinks = clinks; page_words = page_words; ctail = ctail }) → UserAt D c m g p seat u user_step.StoreClosedLink → (b d : Bool)
-      → LogHalf D c spare (record m { lists = lists; clinks = clinks; page_words = page_words; ctail = ctail }) g p (set actors seat (actor.User (record u { page = u.page + 1; cell = 0; step = cond b user_step.StoreClosedLink (cond d user_step.StoreNewest user_step.StoreFrame) })))
-  turned_any lists clinks page_words ctail sized h true d = moves lists clinks page_words ctail sized (u.page + 1) 0 u.checks user_step.StoreClosedLink h
-  turned_any lists clinks page_words ctail sized h false true = moves lists clinks page_words ctail sized (u.page + 1) 0 u.checks user_step.StoreNewest h
-  turned_any lists clinks page_words ctail sized h false false = moves lists clinks page_words ctail sized (u.page + 1) 0 u.checks user_step.StoreFrame h
+  turned_any : (lists clinks : List ℕ) (page_words : List PageWords) (ctail : ℕ) → IsSized c.pages (record m { lists = lists; clinks = clinks; page_words = page_words; ctail = ctail }) → UserAt D c m g p seat u user_step.StoreClosedLink → (b d e : Bool)
+      → LogHalf D c spare (record m { lists = lists; clinks = clinks; page_words = page_words; ctail = ctail }) g p (set actors seat (actor.User (record u { page = u.page + 1; cell = 0; step = cond b user_step.StoreClosedLink (cond d user_step.StoreNewest (cond e user_step.StoreFrame user_step.LoadFrame)) })))
+  turned_any lists clinks page_words ctail sized h true d e = moves lists clinks page_words ctail sized (u.page + 1) 0 u.checks user_step.StoreClosedLink h
+  turned_any lists clinks page_words ctail sized h false true e = moves lists clinks page_words ctail sized (u.page + 1) 0 u.checks user_step.StoreNewest h
+  turned_any lists clinks page_words ctail sized h false false true = moves lists clinks page_words ctail sized (u.page + 1) 0 u.checks user_step.StoreFrame h
+  turned_any lists clinks page_words ctail sized h false false false = moves lists clinks page_words ctail sized (u.page + 1) 0 u.checks user_step.LoadFrame h
 
   latch_by : (b d : Bool) → UserAt D c m g p seat u user_step.TakeLatch
       → LogHalf D c spare (cond b (with_page_words m (page_of u) (record (page_words_at m.page_words (page_of u)) { latch = 1 })) m) g p (set actors seat (actor.User (cond b (record u { page = u.page + 1; step = cond d user_step.Reserve user_step.TakeLatch }) (record u { checks = true; step = user_step.TakeLatch }))))
@@ -160,18 +162,26 @@ module _ (D : LogSide) (L : LogLaws D) (c : Setup) (spare : ℕ) (m : SharedWord
   latch_by true false h = moves m.lists m.clinks (slice_set m.page_words (page_of u) (record (page_words_at m.page_words (page_of u)) { latch = 1 })) m.ctail (page_sized (page_of u) (record (page_words_at m.page_words (page_of u)) { latch = 1 }) refl before.sized) (u.page + 1) u.cell u.checks user_step.TakeLatch h
   latch_by false d h = shift u.page u.cell u.copied u.loaded u.code true user_step.TakeLatch mine.loaded h
 
-  tail_by : (b d : Bool) → UserAt D c m g p seat u user_step.LoadCtail → Now (cond b (record u { loaded = record u.loaded { ctail = m.ctail }; step = cond d user_step.StoreNewest user_step.StoreFrame }) (record u { loaded = record u.loaded { ctail = m.ctail }; checks = true; step = user_step.LoadCtail }))
-  tail_by true true h = shift u.page u.cell u.copied (record u.loaded { ctail = m.ctail }) u.code u.checks user_step.StoreNewest ctail_loaded h
-  tail_by true false h = shift u.page u.cell u.copied (record u.loaded { ctail = m.ctail }) u.code u.checks user_step.StoreFrame ctail_loaded h
-  tail_by false d h = shift u.page u.cell u.copied (record u.loaded { ctail = m.ctail }) u.code true user_step.LoadCtail ctail_loaded h
+  tail_by : (b d e : Bool) → UserAt D c m g p seat u user_step.LoadCtail → Now (cond b (record u { loaded = record u.loaded { ctail = m.ctail }; step = cond d user_step.StoreNewest (cond e user_step.StoreFrame user_step.LoadFrame) }) (record u { loaded = record u.loaded { ctail = m.ctail }; checks = true; step = user_step.LoadCtail }))
+  tail_by true true e h = shift u.page u.cell u.copied (record u.loaded { ctail = m.ctail }) u.code u.checks user_step.StoreNewest ctail_loaded h
+  tail_by true false true h = shift u.page u.cell u.copied (record u.loaded { ctail = m.ctail }) u.code u.checks user_step.StoreFrame ctail_loaded h
+  tail_by true false false h = shift u.page u.cell u.copied (record u.loaded { ctail = m.ctail }) u.code u.checks user_step.LoadFrame ctail_loaded h
+  tail_by false d e h = shift u.page u.cell u.copied (record u.loaded { ctail = m.ctail }) u.code true user_step.LoadCtail ctail_loaded h
 
-  cell_by : (page_words : List PageWords) → IsSized c.pages (record m { page_words = page_words }) → (d : Bool) → UserAt D c m g p seat u user_step.StoreFrame → LogHalf D c spare (record m { page_words = page_words }) g p (set actors seat (actor.User (record u { cell = u.cell + 1; step = cond d user_step.StoreNewest user_step.StoreFrame })))
-  cell_by page_words sized true h = moves m.lists m.clinks page_words m.ctail sized u.page (u.cell + 1) u.checks user_step.StoreNewest h
-  cell_by page_words sized false h = moves m.lists m.clinks page_words m.ctail sized u.page (u.cell + 1) u.checks user_step.StoreFrame h
+  -- the word that it has loaded changes too
+  worded : (page_words : List PageWords) → IsSized c.pages (record m { page_words = page_words }) → (cell word : ℕ) (ph : UserStep) → UserAt D c m g p seat (record u { cell = cell; word = word; step = ph }) ph
+      → LogHalf D c spare (record m { page_words = page_words }) g p (set actors seat (actor.User (record u { cell = cell; word = word; step = ph })))
+  worded page_words sized cell word ph h = aside m.lists m.clinks page_words m.ctail (record u { cell = cell; word = word; step = ph }) sized
+      (record { own_seat = mine.own_seat; blocks = mine.blocks; lines = mine.lines; sound = mine.sound; are_bytes = mine.are_bytes; counted = mine.counted; answers = mine.answers; loaded = mine.loaded; step = h }) refl (omega arith)
+
+  cell_by : (page_words : List PageWords) → IsSized c.pages (record m { page_words = page_words }) → (cell : ℕ) (d e : Bool) → UserAt D c m g p seat u user_step.StoreFrame → LogHalf D c spare (record m { page_words = page_words }) g p (set actors seat (actor.User (record u { cell = cell; word = 0; step = cond d user_step.StoreNewest (cond e user_step.StoreFrame user_step.LoadFrame) })))
+  cell_by page_words sized cell true e h = worded page_words sized cell 0 user_step.StoreNewest h
+  cell_by page_words sized cell false true h = worded page_words sized cell 0 user_step.StoreFrame h
+  cell_by page_words sized cell false false h = worded page_words sized cell 0 user_step.LoadFrame h
 
   oldest_by : (b : Bool) → UserAt D c m g p seat u user_step.LoadOldest → Now (cond b (record u { step = user_step.AddToList }) (to_next_page u))
   oldest_by true h = shift u.page u.cell u.copied u.loaded u.code u.checks user_step.AddToList mine.loaded h
-  oldest_by false h = turned_any m.lists m.clinks m.page_words m.ctail before.sized h (eqb (u.page + 1) (length (changes u))) (eqb 0 (length (change_at (changes u) (u.page + 1)).cells))
+  oldest_by false h = turned_any m.lists m.clinks m.page_words m.ctail before.sized h (eqb (u.page + 1) (length (changes u))) (eqb 0 (length (change_at (changes u) (u.page + 1)).cells)) (is_whole (change_at (changes u) (u.page + 1)).cells 0)
 
   -- with its last latch free it is answered, or waits for its mark
   free_by : (page_words : List PageWords) → IsSized c.pages (record m { page_words = page_words }) → (b d : Bool) → eqb (mode u) 0 ≡ d → UserAt D c m g p seat u user_step.ReleaseLatch
@@ -200,7 +210,7 @@ module _ (D : LogSide) (L : LogLaws D) (c : Setup) (spare : ℕ) (m : SharedWord
   user_list false h = shift u.page u.cell u.copied u.loaded u.code true user_step.AddToList mine.loaded h
 
   pub user_give : UserAt D c m g p seat u user_step.GiveList → LogHalf D c spare (record m { lists = slice_set m.lists (page_of u % 4) 0 }) g p (set actors seat (actor.User (to_next_page u)))
-  user_give h = turned_any (slice_set m.lists (page_of u % 4) 0) m.clinks m.page_words m.ctail (lists_sized (page_of u % 4) 0 before.sized) h (eqb (u.page + 1) (length (changes u))) (eqb 0 (length (change_at (changes u) (u.page + 1)).cells))
+  user_give h = turned_any (slice_set m.lists (page_of u % 4) 0) m.clinks m.page_words m.ctail (lists_sized (page_of u % 4) 0 before.sized) h (eqb (u.page + 1) (length (changes u))) (eqb 0 (length (change_at (changes u) (u.page + 1)).cells)) (is_whole (change_at (changes u) (u.page + 1)).cells 0)
 
   abbrev KeptSo : Op → UserState → UserStep → Type 0
   KeptSo o w f = (h : LogGhost) × LogHalf D c spare (after o m) h p (set actors seat (actor.User w)) × (◌≡◌ {A = List Entry} (h.log) (phase_log g.log m.sn u f))
@@ -221,14 +231,15 @@ module _ (D : LogSide) (L : LogLaws D) (c : Setup) (spare : ℕ) (m : SharedWord
   user_keeps user_step.LoadSn is h on = (g, total_by (nat_le (lsn m.sn + 278528) (u.loaded.ckpt + 512 * u.blocks)) h, refl)
   user_keeps user_step.Reserve is h on = keeps_reserve D L c spare m g p actors seat u before at h
   user_keeps user_step.LoadWrite is h on = (g, room_by (ltb (lsn (group_end u)) (floor m.write + 65536)) refl h, refl)
-  user_keeps user_step.StoreCell is h on = keeps_store_cell D c spare m g p actors seat u before at is h
+  user_keeps user_step.AddCell is h on = keeps_add_cell D c spare m g p actors seat u before at is h
   user_keeps user_step.StoreFirst is h on = keeps_store_first D c spare m g p actors seat u before at is h
   user_keeps user_step.LoadWtail is h on = (g, space_by (ltb (lsn u.start) (m.wtail + 32768)) refl h, refl)
   user_keeps user_step.StoreLink is h on = keeps_store_link D L c spare m g p actors seat u before at h
   user_keeps user_step.AwaitMark is h on = await_by (found (user_op u user_step.AwaitMark) m) (nat_le (lsn (group_end u)) (found (user_op u user_step.AwaitMark) m)) refl mode_flush mode_write (mark_loaded (eqb (mode u) 1)) h
   user_keeps user_step.TakeLatch is h on = (g, latch_by (eqb (page_words_at m.page_words (page_of u)).latch 0) (eqb (u.page + 1) (length (changes u))) h, refl)
-  user_keeps user_step.LoadCtail is h on = (g, tail_by (ltb (lsn u.start) (m.ctail + 16384)) (eqb u.cell (length (cells_of u))) h, refl)
-  user_keeps user_step.StoreFrame is h on = (g, cell_by (slice_set m.page_words (page_of u) (record (page_words_at m.page_words (page_of u)) { frame = slice_set (page_words_at m.page_words (page_of u)).frame (put_of u).at (put_of u).value })) (page_sized (page_of u) (record (page_words_at m.page_words (page_of u)) { frame = slice_set (page_words_at m.page_words (page_of u)).frame (put_of u).at (put_of u).value }) (length-set (page_words_at m.page_words (page_of u)).frame (put_of u).at (put_of u).value) before.sized) (eqb (u.cell + 1) (length (cells_of u))) h, refl)
+  user_keeps user_step.LoadCtail is h on = (g, tail_by (ltb (lsn u.start) (m.ctail + 16384)) (eqb u.cell (length (cells_of u))) (is_whole (cells_of u) u.cell) h, refl)
+  user_keeps user_step.LoadFrame is h on = (g, worded m.page_words before.sized u.cell (slice_index (page_words_at m.page_words (page_of u)).frame (frame_word u)) user_step.StoreFrame h, refl)
+  user_keeps user_step.StoreFrame is h on = (g, cell_by (slice_set m.page_words (page_of u) (record (page_words_at m.page_words (page_of u)) { frame = slice_set (page_words_at m.page_words (page_of u)).frame (frame_word u) (stored_word u) })) (page_sized (page_of u) (record (page_words_at m.page_words (page_of u)) { frame = slice_set (page_words_at m.page_words (page_of u)).frame (frame_word u) (stored_word u) }) (length-set (page_words_at m.page_words (page_of u)).frame (frame_word u) (stored_word u)) before.sized) (u.cell + frame_count u) (eqb (u.cell + frame_count u) (length (cells_of u))) (is_whole (cells_of u) (u.cell + frame_count u)) h, refl)
   user_keeps user_step.StoreNewest is h on = (g, moves m.lists m.clinks (slice_set m.page_words (page_of u) (record (page_words_at m.page_words (page_of u)) { newest = lsn (group_end u) })) m.ctail (page_sized (page_of u) (record (page_words_at m.page_words (page_of u)) { newest = lsn (group_end u) }) refl before.sized) u.page u.cell u.checks user_step.LoadOldest h, refl)
   user_keeps user_step.LoadOldest is h on = (g, oldest_by (eqb (page_words_at m.page_words (page_of u)).oldest 0) h, refl)
   user_keeps user_step.AddToList is h on = absurd on

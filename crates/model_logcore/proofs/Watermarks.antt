@@ -3,6 +3,8 @@ use Rattle.std.proofs.Common.{List, ap, arith, inl, inr, length, refl, subst, �
 use lib.ListN.{get_elem?}
 use native.Mathlib.Decide.{dec_le}
 use Rattle.model_core.proofs.Groups.{tiles_at}
+use Rattle.model_core.proofs.Lanes.{word_grows}
+use Rattle.model_core.proofs.Lsns.{lsn_le}
 use Rattle.model_core.specs.{Actor, end_of, Entry, first_of, floor, lsn, SharedWords, UserState}
 use Rattle.model_core.specs.LogSide.{LogSide}
 use Rattle.model_core.specs.Setup.{Setup}
@@ -64,7 +66,7 @@ module _ (D : LogSide) (c : Setup) (spare : ℕ) (m : SharedWords) (g : LogGhost
   hand_agrees seat u user_step.TakeLatch h = h.0
   hand_agrees seat u user_step.Reserve h = h.0
   hand_agrees seat u user_step.LoadWrite h = hand_copied seat u h.2
-  hand_agrees seat u user_step.StoreCell h = hand_copied seat u h.2
+  hand_agrees seat u user_step.AddCell h = hand_copied seat u h.2
   hand_agrees seat u user_step.StoreFirst h = hand_copied seat u h.2
   hand_agrees seat u user_step.LoadWtail h = hand_copied seat u h.2
   hand_agrees seat u user_step.StoreLink h = hand_copied seat u h.2
@@ -94,7 +96,7 @@ module _ (D : LogSide) (c : Setup) (spare : ℕ) (m : SharedWords) (g : LogGhost
       let w1 = w.1 in let w2 = w.2 in
       let two : g.state e.start ≡ 2 = linked e.start (omega arith) (omega arith) in
       let by : (x : ℕ) → g.read ≤ x → e.start ≤ x → x < end_of e → lsn (end_of e) < floor m.write + 65536 = λ x above lo hi. let copied = linked x lo hi in
-      end_near c.base m.firsts m.write g.write g.log g.first g.state g.entered e.start x (end_of e) G.order.write_is G.first_offsets lo (G.ring_cells.each x above (omega arith) (omega arith)).1 (λ crosses. G.first_offsets.stored i e is two crosses) in
+      end_near c.base m.firsts m.write g.write g.log g.first g.state g.entered e.start x (end_of e) G.order.write_is G.first_offsets lo (G.ring_cells.stands x (word_grows g.read x above) (omega arith) (omega arith)).1 (λ crosses. G.first_offsets.stored i e is two crosses) in
       elim (dec_le g.read e.start) [ yes d ↦ by e.start d (omega arith) (omega arith) | no n ↦ by g.read (omega arith) (omega arith) unread ]
 
   -- what a step says of a group in hand of which a byte is copied and none is linked
@@ -104,7 +106,7 @@ module _ (D : LogSide) (c : Setup) (spare : ℕ) (m : SharedWords) (g : LogGhost
   hand_near seat u user_step.TakeLatch h held copied some = let z = h.0 in absurd (omega arith)
   hand_near seat u user_step.Reserve h held copied some = let z = h.0 in absurd (omega arith)
   hand_near seat u user_step.LoadWrite h held copied some = let z = h.3 in absurd (omega arith)
-  hand_near seat u user_step.StoreCell h held copied some = h.4
+  hand_near seat u user_step.AddCell h held copied some = h.4
   hand_near seat u user_step.StoreFirst h held copied some = h.4
   hand_near seat u user_step.LoadWtail h held copied some = hand_end_near D c m g p seat u half.global h.2 h.3 h.4 some
   hand_near seat u user_step.StoreLink h held copied some = hand_end_near D c m g p seat u half.global h.2 h.3 h.4 some
@@ -126,8 +128,10 @@ module _ (D : LogSide) (c : Setup) (spare : ℕ) (m : SharedWords) (g : LogGhost
     groups_tile = record { tile = G.tiled.tiles; are_of_actors = half.counted; in_order = G.tiled.ranks; of_lines = G.tiled.lines };
     users_agree = users_agree;
     copied_bytes_stand = record {
-      cell = λ x lo hi copied. (G.ring_cells.each x lo hi copied).0;
-      below = λ x lo hi copied. (G.ring_cells.each x lo hi copied).1;
+      lane_stands = λ x lo hi copied. (G.ring_cells.stands x lo hi copied).0;
+      lane_bare = G.ring_cells.bare;
+      cleared_below = λ x lo low. (let w = lsn_le g.write g.read O.write_read in let k = O.write_is in omega arith);
+      below = λ x lo hi copied. (G.ring_cells.stands x (word_grows g.read x lo) hi copied).1;
       tail_below = λ seat s at. let f : WriterFits D c m g p seat s = half.each seat (actor.Writer s) at in let w = f.write in let n = f.small in omega arith;
       end_below = end_below;
       hand_below = λ seat u at. let f = user_fits seat u at in hand_near seat u u.step f.step;

@@ -1,18 +1,20 @@
--- The writer loads CKPT, enters blocks, loads cells, and loads FAILED.
-use Rattle.std.proofs.Common.{Bool, List, [], ap, arith, cond, eqb, eqb-true, false, leb-true, length, length-append, refl, set, subst, sym, true, ℕ, ⊎_elim, ◌%◌, ◌*◌, ◌++◌, ◌+◌, ◌/◌, ◌<◌, ◌∙◌, ◌∷◌, ◌≡◌, ◌≢◌, ◌≤◌}
-use Rattle.std.proofs.lemmas.Bool.{eqb-false}
+-- The writer loads CKPT, enters blocks, loads and clears the words of the log buffer, and loads FAILED.
+use Rattle.std.proofs.Common.{Bool, List, [], ap, arith, cond, eqb, eqb-true, false, inl, inr, leb-true, length, length-append, refl, set, subst, sym, true, ℕ, ⊎_elim, ◌%◌, ◌*◌, ◌++◌, ◌+◌, ◌-◌, ◌/◌, ◌<◌, ◌^◌, ◌∙◌, ◌∷◌, ◌≡◌, ◌≢◌, ◌≤◌}
+use Rattle.std.proofs.lemmas.Bool.{eqb-false, leb-false}
 use Rattle.std.specs.Prelude.{nat_le, slice_index, slice_set}
 use lib.ListN.{get_elem?}
 use native.Mathlib.Decide.{dec_le, ℕ_discrete}
 use Rattle.model_core.proofs.Groups.{back, crosses_is, first_from, front, tiles_at}
-use Rattle.model_core.proofs.Lsns.{floor_lsn, lsn_block, lsn_same, ring_same}
-use Rattle.model_core.specs.{Actor, byte_at, ceiling, end_of, Entry, first_of, floor, IsLent, lsn, read_place, SharedWords, stands_outside, writer_holds, writer_took, WriterState}
+use Rattle.model_core.proofs.Lanes.{cell_word, in_later_word, lane_of_zero, lanes_are, lanes_long, later_word, left_block, next_lanes, part_word, same_word, whole_word, word_grows, word_up}
+use Rattle.model_core.proofs.Lsns.{floor_grows, floor_lsn, lsn_block, lsn_le, lsn_same, ring_same}
+unfoldable use Rattle.model_core.specs.{lane, lanes}
+use Rattle.model_core.specs.{Actor, byte_at, ceiling, cell_of, end_of, Entry, first_of, floor, has_whole_word, IsLent, lane_of, left_in_word, lsn, read_place, SharedWords, stands_outside, word_end, writer_holds, writer_took, WriterState}
 use Rattle.model_core.specs.LogSide.{LogSide}
 use Rattle.model_core.specs.Setup.{Setup}
 use Rattle.model_core.specs.declared.steps.WriterStep.{WriterStep}
-use Rattle.model_logcore.proofs.Same.{firsts_sized, later_marks, order_on, stored_here, stored_else}
+use Rattle.model_logcore.proofs.Same.{cells_sized, firsts_sized, later_marks, order_on, stored_here, stored_else}
 use Rattle.model_logcore.proofs.WriterSteps.{WNow, own, ranks, wquiet, wsteps}
-use Rattle.model_logcore.specs.LogFacts.{LogGhost}
+use Rattle.model_logcore.specs.LogFacts.{LogGhost, RingCells}
 use Rattle.model_logcore.specs.LogFits.{WriterAt, WriterFits}
 use Rattle.model_logcore.specs.LogHalf.{LogHalf}
 use mathlib.Core.Option as maybe
@@ -149,86 +151,267 @@ module _ (D : LogSide) (c : Setup) (spare : ℕ) (m : SharedWords) (g : LogGhost
             refl,
           )
 
-  -- the cell at the read place is the stream's byte
-  pub cell_true : g.read < g.tail → slice_index m.cells (lsn (read_place s) % 65536) ≡ byte_at c.base g.log g.read
-  cell_true l = let r = order in let r0 = r.0 in let r3 = r.3 in let r4 = r.4 in
-      let two = before.global.written_links.linked g.read (omega arith) l in
-      ap (λ (x : ℕ). slice_index m.cells (lsn x % 65536)) fit.long ∙ (before.global.ring_cells.each g.read (omega arith) (omega arith) (omega arith)).0
-
-  abbrev reads : ℕ → Bool → Bool → WriterState
-  reads n b d = record s { kept = s.kept ++ n ∷ []; step = cond b writer_step.TakeDevice (cond d writer_step.LoadFirst writer_step.LoadCell) }
-
-  free_read : (b d : Bool) → writer_holds (cond b writer_step.TakeDevice (cond d writer_step.LoadFirst writer_step.LoadCell)) ≡ false
-  free_read true d = refl
-  free_read false true = refl
-  free_read false false = refl
-
-  read_at : (n : ℕ) (b d : Bool) → eqb (lsn (read_place s + 1)) s.tail ≡ b → eqb (length s.kept + 1) (496 * length s.firsts) ≡ d → WriterAt D c m g p seat s writer_step.LoadCell
-      → WriterAt D c m (record g { read = g.read + 1 }) p seat (reads n b d) (cond b writer_step.TakeDevice (cond d writer_step.LoadFirst writer_step.LoadCell))
-  read_at n true d e f h = (h.0, (let z : lsn (read_place s + 1) ≡ lsn g.tail = eqb-true (lsn (read_place s + 1)) s.tail e ∙ fit.tail in let k = lsn_same (read_place s + 1) g.tail z in let a = fit.long in omega arith), h.2)
-  read_at n false true e f h = (h.0, further e (h.1), h.2, (let z = eqb-true (length s.kept + 1) (496 * length s.firsts) f in omega (arith, length-append s.kept (n ∷ []))))
+  -- a block that it has entered ends at or before the first one that it hasn't
+  from_even : s.from % 496 ≡ 0
+  from_even = let f = fit.from in even_of (g.write / 496) s.from f
     where
-      further : eqb (lsn (read_place s + 1)) s.tail ≡ false → g.read < g.tail → g.read + 1 < g.tail
-      further e l = let ne = eqb-false (lsn (read_place s + 1)) s.tail e in elim (ℕ_discrete (g.read + 1) g.tail) [
-        | yes z ↦ absurd (ne (ap lsn (let a = fit.long in let k : read_place s + 1 ≡ g.tail = omega arith in k) ∙ sym fit.tail))
-        | no z ↦ omega arith
-      ]
-  read_at n false false e f h = (h.0, further e (h.1), h.2, (let z = eqb-false (length s.kept + 1) (496 * length s.firsts) f in let l = h.3 in omega (arith, length-append s.kept (n ∷ []))))
-    where
-      further : eqb (lsn (read_place s + 1)) s.tail ≡ false → g.read < g.tail → g.read + 1 < g.tail
-      further e l = let ne = eqb-false (lsn (read_place s + 1)) s.tail e in elim (ℕ_discrete (g.read + 1) g.tail) [
-        | yes z ↦ absurd (ne (ap lsn (let a = fit.long in let k : read_place s + 1 ≡ g.tail = omega arith in k) ∙ sym fit.tail))
-        | no z ↦ omega arith
-      ]
+      even_of : (q n : ℕ) → n ≡ q * 496 → n % 496 ≡ 0
+      even_of q n e = omega arith
 
-  -- it loads a cell
+  end_before : (k n entered kept firsts from : ℕ) → k ≡ from + kept → from + 496 * firsts ≡ 496 * entered → kept < 496 * firsts → from % 496 ≡ 0 → k + n ≤ (k / 496 + 1) * 496 → k + n ≤ 496 * entered
+  end_before k n entered kept firsts from k_is wide room even le = omega arith
+
+  end_within : (k n left entered kept firsts from : ℕ) → k ≡ from + kept → from + 496 * firsts ≡ 496 * entered → kept < 496 * firsts → from % 496 ≡ 0 → n < left → k + left ≤ (k / 496 + 1) * 496 → k + n ≡ g.tail → g.tail ≤ 496 * entered
+  end_within k n left entered kept firsts from k_is wide room even few le is = let z = end_before k left entered kept firsts from k_is wide room even le in omega arith
+
+  -- the lanes of the word at the read place hold the stream's bytes, up to the tail
+  pub word_true : (j : ℕ) → j < left_in_word (read_place s) → read_place s + j < g.tail → lane (lane_of (read_place s) + j) (slice_index m.cells (cell_of (read_place s))) ≡ byte_at c.base g.log (read_place s + j)
+  word_true j l below = true_of (read_place s) fit.long l below
+    where
+      true_of : (k : ℕ) → k ≡ g.read → j < left_in_word k → k + j < g.tail → lane (lane_of k + j) (slice_index m.cells (cell_of k)) ≡ byte_at c.base g.log (k + j)
+      true_of k k_is l below = let r = order in let r0 = r.0 in let r3 = r.3 in let r4 = r.4 in
+          let two = before.global.written_links.linked (k + j) (omega arith) below in
+          let z = before.global.ring_cells.stands (k + j) (word_grows g.read (k + j) (omega arith)) (omega arith) (omega arith) in
+          ap (λ (y : ℕ). lane y (slice_index m.cells (cell_of k))) (sym (next_lanes k j l))
+          ∙ ap (λ (y : ℕ). lane (lane_of (k + j)) (slice_index m.cells (y % 8192))) (sym (same_word k j l)) ∙ z.0
+
+  -- it keeps so many bytes more, from the lanes of a word that has them
+  kept_on : (n w : ℕ) → ((j : ℕ) → j < n → lane (lane_of (read_place s) + j) w ≡ byte_at c.base g.log (read_place s + j)) → (i : ℕ) → i < length (s.kept ++ lanes (lane_of (read_place s)) n w)
+      → slice_index (s.kept ++ lanes (lane_of (read_place s)) n w) i ≡ byte_at c.base g.log (s.from + i)
+  kept_on n w true_lanes i l = elim (dec_le (length s.kept) i) [
+    | yes q ↦ (let j : ℕ = i - length s.kept in
+        let z : length s.kept + j ≡ i = omega arith in
+        let lt : j < n = omega (arith, l, length-append s.kept (lanes (lane_of (read_place s)) n w), lanes_long (lane_of (read_place s)) n w) in
+        subst (λ (y : ℕ). slice_index (s.kept ++ lanes (lane_of (read_place s)) n w) y ≡ byte_at c.base g.log (s.from + y)) z
+        (back s.kept (lanes (lane_of (read_place s)) n w) (length s.kept) j refl ∙ lanes_are (lane_of (read_place s)) n w j lt ∙ true_lanes j lt ∙ ap (byte_at c.base g.log) (let f : read_place s + j ≡ s.from + (length s.kept + j) = omega arith in f)))
+    | no q ↦ front s.kept (lanes (lane_of (read_place s)) n w) i (omega arith) ∙ fit.kept i (omega arith)
+  ]
+
+  kept_long : (n w : ℕ) → s.from + length (s.kept ++ lanes (lane_of (read_place s)) n w) ≡ read_place s + n
+  kept_long n w = omega (arith, length-append s.kept (lanes (lane_of (read_place s)) n w), lanes_long (lane_of (read_place s)) n w)
+
+  -- the read place goes on within its word
+  read_within : (e : ℕ) → lsn e / 8 ≡ lsn g.read / 8 → RingCells c.base m.sn m.cells m.write g.log g.state e
+  read_within e same = record {
+    wide = before.global.ring_cells.wide;
+    stands = λ x l. before.global.ring_cells.stands x (omega arith);
+    bare = λ x lo hi b. before.global.ring_cells.bare x lo hi (⊎_elim (λ z. inl (omega arith)) (λ z. inr z) b);
+  }
+
+  -- it loads the word of its read place. Where that ends beyond the tail, it keeps what is below, and the word stays
   pub keeps_load_cell : s.step ≡ writer_step.LoadCell → WriterAt D c m g p seat s writer_step.LoadCell
-      → (h : LogGhost) × LogHalf D c spare m h p (set actors seat (actor.Writer (writer_took s (answer.Old (slice_index m.cells (lsn (read_place s) % 65536))) writer_step.LoadCell))) × (◌≡◌ {A = List Entry} (h.log) (g.log))
-  keeps_load_cell is h =
-      let n : ℕ = slice_index m.cells (lsn (read_place s) % 65536) in
-      let b : Bool = eqb (lsn (read_place s + 1)) s.tail in
-      let d : Bool = eqb (length s.kept + 1) (496 * length s.firsts) in
-      let g' : LogGhost = record g { read = g.read + 1 } in
-      let w : WriterState = reads n b d in
-      let G = before.global in let O = G.order in
-      let r = order in let r0 = r.0 in let r1 = r.1 in let r2 = r.2 in
-      let lg = fit.long in let wi = fit.wide in
-      let k0 = h.0.0 in let k1 = h.1 in let k3 = h.3 in (
-        g',
-        wsteps D c spare m g p actors seat s before at m g' p refl w before.sized
-            (record {
-              tiled = G.tiled;
-              order = order_on D c m g p O (omega arith) (omega arith) O.wtail_tail O.tail_sn (omega arith) O.entered_tail O.tail_bound;
-              ring_cells = record { each = λ x l. G.ring_cells.each x (omega arith) };
-              first_offsets = G.first_offsets;
-              written_links = G.written_links;
-              commits = G.commits;
-              part = G.part;
-            })
+      → (h : LogGhost) × LogHalf D c spare m h p (set actors seat (actor.Writer (writer_took s (answer.Old (slice_index m.cells (cell_of (read_place s)))) writer_step.LoadCell))) × (◌≡◌ {A = List Entry} (h.log) (g.log))
+  keeps_load_cell is h = by (has_whole_word s) refl
+    where
+      w : ℕ
+      w = slice_index m.cells (cell_of (read_place s))
+
+      le_tail : read_place s ≤ g.tail
+      le_tail = let a = fit.long in let b = h.1 in omega arith
+
+      below : (j n : ℕ) → j < n → read_place s + n ≤ g.tail → read_place s + j < g.tail
+      below j n l le = omega arith
+
+      whole : has_whole_word s ≡ true → word_end s ≤ g.tail
+      whole e = whole_word (read_place s) g.tail le_tail (subst (λ (t : ℕ). left_in_word (read_place s) ≤ t - lsn (read_place s)) fit.tail (leb-true (left_in_word (read_place s)) (s.tail - lsn (read_place s)) e))
+
+      part : (n : ℕ) → n ≡ s.tail - lsn (read_place s) → nat_le (left_in_word (read_place s)) n ≡ false → (n < left_in_word (read_place s)) × (read_place s + n ≡ g.tail)
+      part n n_is e =
+          let few = leb-false (left_in_word (read_place s)) n e in
+          let is_lsn : n ≡ lsn g.tail - lsn (read_place s) = n_is ∙ ap (λ (t : ℕ). t - lsn (read_place s)) fit.tail in
+          (few, ap (λ (y : ℕ). read_place s + y) is_lsn ∙ part_word (read_place s) g.tail le_tail (subst (λ (y : ℕ). y < left_in_word (read_place s)) is_lsn few))
+
+      by : (b : Bool) → has_whole_word s ≡ b
+          → (h : LogGhost) × LogHalf D c spare m h p (set actors seat (actor.Writer (cond b (record s { word = slice_index m.cells (cell_of (read_place s)); step = writer_step.ClearCell }) (record s { kept = s.kept ++ lanes (lane_of (read_place s)) (s.tail - lsn (read_place s)) (slice_index m.cells (cell_of (read_place s))); step = writer_step.TakeDevice })))) × (◌≡◌ {A = List Entry} (h.log) (g.log))
+      by true e = (
+        g,
+        wsteps D c spare m g p actors seat s before at m g p refl (record s { word = slice_index m.cells (cell_of (read_place s)); step = writer_step.ClearCell }) before.sized before.global
             (record {
               alone = fit.alone;
               blocks = fit.blocks;
               tail = fit.tail;
               write = fit.write;
               from = fit.from;
-              long = omega (arith, length-append s.kept (n ∷ []));
-              kept = λ j l. elim (dec_le (length s.kept) j) [
-                | yes q ↦ (let z : j ≡ length s.kept + 0 = omega (arith, length-append s.kept (n ∷ [])) in
-                    subst (λ (y : ℕ). slice_index (s.kept ++ n ∷ []) y ≡ byte_at c.base g.log (s.from + y)) (sym z)
-                    (back s.kept (n ∷ []) (length s.kept) 0 refl ∙ cell_true k1 ∙ ap (byte_at c.base g.log) (let f : g.read ≡ s.from + (length s.kept + 0) = omega arith in f)))
-                | no q ↦ front s.kept (n ∷ []) j (omega arith) ∙ fit.kept j (omega arith)
-              ];
-              wide = wi;
+              long = fit.long;
+              kept = fit.kept;
+              wide = fit.wide;
               firsts = fit.firsts;
               small = fit.small;
               ckpt = fit.ckpt;
-              no_device_while_checking = λ z. free_read b d;
-              step = read_at n b d refl refl h;
+              no_device_while_checking = λ z. refl;
+              step = (h.0, h.1, h.2, h.3, whole e, λ j l. word_true j l (below j (left_in_word (read_place s)) l (whole e)));
             })
             (later_marks D c m g p (omega arith) (omega arith) (omega arith) (omega arith) (λ z. z))
-            refl refl refl refl refl (free_read b d ∙ sym (ap writer_holds is)) (λ z. refl),
+            refl refl refl refl refl (sym (ap writer_holds is)) (λ z. refl),
         refl,
       )
+      by false e = kept_part (s.tail - lsn (read_place s)) (part (s.tail - lsn (read_place s)) refl e)
+        where
+          kept_part : (n : ℕ) → (n < left_in_word (read_place s)) × (read_place s + n ≡ g.tail)
+              → (h : LogGhost) × LogHalf D c spare m h p (set actors seat (actor.Writer (record s { kept = s.kept ++ lanes (lane_of (read_place s)) n (slice_index m.cells (cell_of (read_place s))); step = writer_step.TakeDevice }))) × (◌≡◌ {A = List Entry} (h.log) (g.log))
+          kept_part n q =
+              let g' : LogGhost = record g { read = g.tail } in
+              let G = before.global in let O = G.order in
+              let r = order in let r0 = r.0 in let r1 = r.1 in let r2 = r.2 in
+              let k0 = h.0.0 in
+              let same : lsn g.tail / 8 ≡ lsn g.read / 8 = ap (λ (x : ℕ). lsn x / 8) (sym q.1) ∙ same_word (read_place s) n q.0 ∙ ap (λ (x : ℕ). lsn x / 8) fit.long in
+              let in_block = left_block (read_place s) in
+              let wi = fit.wide in let k3 = h.3 in let q0 = q.0 in let q1 = q.1 in
+              let to : g.tail ≤ 496 * g.entered = end_within (read_place s) n (left_in_word (read_place s)) g.entered (length s.kept) (length s.firsts) s.from refl wi k3 (from_even) q0 in_block q1 in (
+                g',
+                wsteps D c spare m g p actors seat s before at m g' p refl (record s { kept = s.kept ++ lanes (lane_of (read_place s)) n (slice_index m.cells (cell_of (read_place s))); step = writer_step.TakeDevice }) before.sized
+                    (record {
+                      tiled = G.tiled;
+                      order = order_on D c m g p O (omega arith) (omega arith) O.wtail_tail O.tail_sn to O.entered_tail O.tail_bound;
+                      ring_cells = read_within g.tail same;
+                      first_offsets = G.first_offsets;
+                      written_links = G.written_links;
+                      commits = G.commits;
+                      part = G.part;
+                    })
+                    (record {
+                      alone = fit.alone;
+                      blocks = fit.blocks;
+                      tail = fit.tail;
+                      write = fit.write;
+                      from = fit.from;
+                      long = kept_long n (slice_index m.cells (cell_of (read_place s))) ∙ q.1;
+                      kept = kept_on n (slice_index m.cells (cell_of (read_place s))) (λ j l. word_true j (omega arith) (below j n l (omega arith)));
+                      wide = wi;
+                      firsts = fit.firsts;
+                      small = fit.small;
+                      ckpt = fit.ckpt;
+                      no_device_while_checking = λ z. refl;
+                      step = (h.0, refl, h.2);
+                    })
+                    (later_marks D c m g p (omega arith) (omega arith) (omega arith) (omega arith) (λ z. z))
+                    refl refl refl refl refl (sym (ap writer_holds is)) (λ z. refl),
+                refl,
+              )
+
+  -- what it does once it has read on to a place
+  abbrev after_word : Bool → Bool → WriterStep
+  after_word b d = cond b writer_step.TakeDevice (cond d writer_step.LoadFirst writer_step.LoadCell)
+
+  free_word : (b d : Bool) → writer_holds (after_word b d) ≡ false
+  free_word true d = refl
+  free_word false true = refl
+  free_word false false = refl
+
+  -- it clears the word that it has loaded, and keeps its bytes
+  pub keeps_clear_cell : s.step ≡ writer_step.ClearCell → WriterAt D c m g p seat s writer_step.ClearCell
+      → (h : LogGhost) × LogHalf D c spare (record m { cells = slice_set m.cells (cell_of (read_place s)) 0 }) h p (set actors seat (actor.Writer (writer_took s (answer.Old 0) writer_step.ClearCell))) × (◌≡◌ {A = List Entry} (h.log) (g.log))
+  keeps_clear_cell is h = cleared (left_in_word (read_place s)) refl (eqb (lsn (word_end s)) s.tail) (eqb (length s.kept + left_in_word (read_place s)) (496 * length s.firsts)) refl refl
+    where
+      slot : cell_of (read_place s) < length m.cells
+      slot = let z = before.sized.cells in subst (λ (n : ℕ). cell_of (read_place s) < n) (sym z) (small_of (lsn (read_place s) / 8))
+        where
+          small_of : (n : ℕ) → n % 8192 < 8192
+          small_of n = omega arith
+
+      entered_end : word_end s ≤ 496 * g.entered
+      entered_end = end_before (read_place s) (left_in_word (read_place s)) g.entered (length s.kept) (length s.firsts) s.from refl fit.wide h.3 from_even (left_block (read_place s))
+
+      low : floor m.write ≤ lsn (read_place s)
+      low = let O = before.global.order in let a = O.write_is in let w = lsn_le g.write g.read O.write_read in let e : lsn (read_place s) ≡ lsn g.read = ap lsn fit.long in omega arith
+
+      here_near : lsn (read_place s) < floor m.write + 65536
+      here_near = let r = order in let r0 = r.0 in let r3 = r.3 in let r4 = r.4 in let l = h.1 in
+          let two = before.global.written_links.linked g.read (omega arith) (omega arith) in
+          let e : lsn (read_place s) ≡ lsn g.read = ap lsn fit.long in
+          let z = (before.global.ring_cells.stands g.read (omega arith) (omega arith) (omega arith)).1 in omega arith
+
+      cleared_cells : RingCells c.base m.sn (slice_set m.cells (cell_of (read_place s)) 0) m.write g.log g.state (word_end s)
+      cleared_cells = record {
+        wide = λ i. elim (ℕ_discrete i (cell_of (read_place s))) [
+          | yes e ↦ (let z = stored_here m.cells (cell_of (read_place s)) 0 i e slot in omega arith)
+          | no n ↦ subst (λ (v : ℕ). v < 2 ^ 64) (sym (stored_else m.cells (cell_of (read_place s)) 0 i n)) (before.global.ring_cells.wide i)
+        ];
+        stands = λ x l r t.
+            let next = later_word (read_place s) (word_end s) (omega arith) in
+            let e : lsn (read_place s) ≡ lsn g.read = ap lsn fit.long in
+            let o = before.global.ring_cells.stands x (omega arith) r t in
+            let up = word_up (read_place s) x (omega arith) in
+            let fl = floor_grows m.write (lsn (read_place s)) (let O = before.global.order in let a = O.write_is in let w = lsn_le g.write g.read O.write_read in omega arith) in
+            (ap (lane (lane_of x)) (stored_else m.cells (cell_of (read_place s)) 0 (cell_of x) (λ same. let w = cell_word x (read_place s) m.write (omega arith) low o.1 here_near same in omega arith)) ∙ o.0, o.1);
+        bare = λ x lo hi b. elim (ℕ_discrete (cell_of x) (cell_of (read_place s))) [
+          | yes e ↦ ap (lane (lane_of x)) (stored_here m.cells (cell_of (read_place s)) 0 (cell_of x) e slot) ∙ lane_of_zero (lane_of x)
+          | no n ↦ (let e : lsn (read_place s) ≡ lsn g.read = ap lsn fit.long in
+              ap (lane (lane_of x)) (stored_else m.cells (cell_of (read_place s)) 0 (cell_of x) n) ∙ before.global.ring_cells.bare x lo hi (⊎_elim
+              (λ z. inl (elim (dec_le (lsn (read_place s) / 8) (lsn x / 8)) [
+                | no d ↦ omega arith
+                | yes d ↦ elim (ℕ_discrete (lsn x / 8) (lsn (read_place s) / 8)) [
+                  | yes q ↦ absurd (n (ap (λ (y : ℕ). y % 8192) q))
+                  | no q ↦ (let past = in_later_word (read_place s) x (omega arith) in let w = word_grows (word_end s) x past in absurd (omega arith))
+                ]
+              ]))
+              (λ z. inr z) b))
+        ];
+      }
+
+      cleared : (n : ℕ) → n ≡ left_in_word (read_place s) → (b d : Bool) → eqb (lsn (word_end s)) s.tail ≡ b → eqb (length s.kept + left_in_word (read_place s)) (496 * length s.firsts) ≡ d
+          → (h : LogGhost) × LogHalf D c spare (record m { cells = slice_set m.cells (cell_of (read_place s)) 0 }) h p (set actors seat (actor.Writer (record s { kept = s.kept ++ lanes (lane_of (read_place s)) (left_in_word (read_place s)) s.word; word = 0; step = after_word b d }))) × (◌≡◌ {A = List Entry} (h.log) (g.log))
+      cleared n n_is b d e f =
+          let g' : LogGhost = record g { read = word_end s } in
+          let m' : SharedWords = record m { cells = slice_set m.cells (cell_of (read_place s)) 0 } in
+          let G = before.global in let O = G.order in
+          let r = order in let r0 = r.0 in let r1 = r.1 in let r2 = r.2 in
+          let k0 = h.0.0 in let k3 = h.3 in let k4 = h.4 in
+          let lg = fit.long in let wi = fit.wide in
+          let end_is : read_place s + n ≡ word_end s = ap (λ (y : ℕ). read_place s + y) n_is in
+          let up : read_place s + n ≤ g.tail = subst (λ (y : ℕ). y ≤ g.tail) (sym end_is) h.4 in (
+            g',
+            wsteps D c spare m g p actors seat s before at m' g' p refl (record s { kept = s.kept ++ lanes (lane_of (read_place s)) (left_in_word (read_place s)) s.word; word = 0; step = after_word b d })
+                (cells_sized (cell_of (read_place s)) 0 before.sized)
+                (record {
+                  tiled = G.tiled;
+                  order = order_on D c m g p O (subst (λ (y : ℕ). g.write ≤ y) end_is (omega arith)) (subst (λ (y : ℕ). y ≤ g.wtail) end_is (omega arith)) O.wtail_tail O.tail_sn entered_end O.entered_tail O.tail_bound;
+                  ring_cells = cleared_cells;
+                  first_offsets = G.first_offsets;
+                  written_links = G.written_links;
+                  commits = G.commits;
+                  part = G.part;
+                })
+                (record {
+                  alone = fit.alone;
+                  blocks = fit.blocks;
+                  tail = fit.tail;
+                  write = fit.write;
+                  from = fit.from;
+                  long = kept_long (left_in_word (read_place s)) s.word;
+                  kept = kept_on (left_in_word (read_place s)) s.word h.5;
+                  wide = wi;
+                  firsts = fit.firsts;
+                  small = fit.small;
+                  ckpt = fit.ckpt;
+                  no_device_while_checking = λ z. free_word b d;
+                  step = goes b d e f;
+                })
+                (later_marks D c m g p (omega arith) (omega arith) (omega arith) (omega arith) (λ z. z))
+                refl refl refl refl refl (free_word b d ∙ sym (ap writer_holds is)) (λ z. refl),
+            refl,
+          )
+        where
+          further : eqb (lsn (word_end s)) s.tail ≡ false → word_end s < g.tail
+          further e = let ne = eqb-false (lsn (word_end s)) s.tail e in elim (ℕ_discrete (word_end s) g.tail) [
+            | yes z ↦ absurd (ne (ap lsn z ∙ sym fit.tail))
+            | no z ↦ below_of (word_end s) g.tail h.4 z
+          ]
+            where
+              below_of : (a b : ℕ) → a ≤ b → a ≢ b → a < b
+              below_of a b l n = omega arith
+
+          kept_count : length (s.kept ++ lanes (lane_of (read_place s)) (left_in_word (read_place s)) s.word) ≡ length s.kept + left_in_word (read_place s)
+          kept_count = length-append s.kept (lanes (lane_of (read_place s)) (left_in_word (read_place s)) s.word) ∙ ap (λ (y : ℕ). length s.kept + y) (lanes_long (lane_of (read_place s)) (left_in_word (read_place s)) s.word)
+
+          room : (n l : ℕ) → l ≡ length s.kept + n → length s.kept + n ≢ 496 * length s.firsts → read_place s + n ≤ 496 * g.entered → l < 496 * length s.firsts
+          room n l l_is ne le = let w = fit.wide in omega arith
+
+          goes : (b d : Bool) → eqb (lsn (word_end s)) s.tail ≡ b → eqb (length s.kept + left_in_word (read_place s)) (496 * length s.firsts) ≡ d
+              → WriterAt D c (record m { cells = slice_set m.cells (cell_of (read_place s)) 0 }) (record g { read = word_end s }) p seat (record s { kept = s.kept ++ lanes (lane_of (read_place s)) (left_in_word (read_place s)) s.word; word = 0; step = after_word b d }) (after_word b d)
+          goes true d e f = (h.0, lsn_same (word_end s) g.tail (eqb-true (lsn (word_end s)) s.tail e ∙ fit.tail), h.2)
+          goes false true e f = (h.0, further e, h.2, kept_count ∙ eqb-true (length s.kept + left_in_word (read_place s)) (496 * length s.firsts) f)
+          goes false false e f = (h.0, further e, h.2, (let z = eqb-false (length s.kept + left_in_word (read_place s)) (496 * length s.firsts) f in room (left_in_word (read_place s)) (length (s.kept ++ lanes (lane_of (read_place s)) (left_in_word (read_place s)) s.word)) kept_count z entered_end))
 
   -- what it hands to write_to
   pub lends : g.read ≡ g.tail → IsLent c.base g.log g.write g.tail s.kept s.firsts

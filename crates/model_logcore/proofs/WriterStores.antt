@@ -1,9 +1,13 @@
 -- The writer stores WTAIL, WRITE, or FAILED.
-use Rattle.std.proofs.Common.{List, ap, arith, false, length-drop, refl, set, sym, true, ℕ, ◌*◌, ◌+◌, ◌/◌, ◌∙◌, ◌≡◌, ◌≤◌}
+use Rattle.std.proofs.Common.{List, ap, arith, false, inl, length-drop, refl, set, sym, true, ℕ, ◌%◌, ◌*◌, ◌+◌, ◌-◌, ◌/◌, ◌∙◌, ◌≡◌, ◌≤◌}
 use Rattle.std.proofs.lemmas.List.{get_or-drop}
 use lib.ListN.{get_elem?}
+use native.Mathlib.Decide.{dec_le}
+use Rattle.std.specs.Prelude.{slice_index}
+use Rattle.model_core.proofs.Lanes.{turn_before, turned_far}
 use Rattle.model_core.proofs.Lsns.{floor_grows, lsn_le}
-use Rattle.model_core.specs.{Actor, byte_at, Entry, first_of, floor, full_blocks, SharedWords, writer_holds, writer_took, WriterState}
+unfoldable use Rattle.model_core.specs.{lane}
+use Rattle.model_core.specs.{Actor, byte_at, byte_in, Entry, first_of, floor, full_blocks, lsn, SharedWords, writer_holds, writer_took, WriterState}
 use Rattle.model_core.specs.LogSide.{LogSide}
 use Rattle.model_core.specs.Setup.{Setup}
 use Rattle.model_logcore.proofs.Same.{facts_same, later_marks, numbers_sized, part_same, writer_same}
@@ -71,6 +75,18 @@ module _ (D : LogSide) (c : Setup) (spare : ℕ) (m : SharedWords) (g : LogGhost
         refl,
       )
 
+  floor_near : (w t : ℕ) → t ≤ w + 41240 → floor t ≤ floor w + 65536
+  floor_near w t h = omega arith
+
+  lane_turned : (cells : List ℕ) (a b : ℕ) → a + 65536 ≡ b → lane (a % 8) (slice_index cells (a / 8 % 8192)) ≡ lane (b % 8) (slice_index cells (b / 8 % 8192))
+  lane_turned cells a b e = (λ i. lane (lanes_same i) (slice_index cells (words_same i)))
+    where
+      lanes_same : a % 8 ≡ b % 8
+      lanes_same = omega arith
+
+      words_same : a / 8 % 8192 ≡ b / 8 % 8192
+      words_same = omega arith
+
   -- it stores WRITE, and keeps the last block, where that isn't full
   pub keeps_store_write : s.step ≡ writer_step.StoreWrite → WriterAt D c m g p seat s writer_step.StoreWrite → (h : LogGhost) × LogHalf D c spare (record m { write = s.tail }) h p (set actors seat (actor.Writer (writer_took s (answer.Old 0) writer_step.StoreWrite))) × (◌≡◌ {A = List Entry} (h.log) (g.log))
   keeps_store_write is h =
@@ -105,7 +121,22 @@ module _ (D : LogSide) (c : Setup) (spare : ℕ) (m : SharedWords) (g : LogGhost
                 tail_bound = O.tail_bound;
                 flushed_bound = O.flushed_bound;
               };
-              ring_cells = record { each = λ x l q z. let o = G.ring_cells.each x l q z in let o1 = o.1 in (o.0, omega arith) };
+              ring_cells = record {
+                wide = G.ring_cells.wide;
+                stands = λ x l q z. let o = G.ring_cells.stands x l q z in let o1 = o.1 in (o.0, omega arith);
+                bare = λ x lo hi z. elim (dec_le (floor m.write + 65536) (lsn x)) [
+                  | no d ↦ G.ring_cells.bare x (omega arith) (omega arith) z
+                  | yes d ↦ (let far = turned_far x m.write d in
+                      let y : ℕ = x - 63488 in
+                      let back = turn_before x far in
+                      let sm = fit.small in let wr = fit.write in let tl = fit.tail in
+                      let same_mark : floor s.tail ≡ floor (lsn g.tail) = ap floor tl in
+                      let step : floor s.tail ≤ floor m.write + 65536 = floor_near m.write s.tail (omega arith) in
+                      let read_is : lsn g.read ≡ lsn g.tail = ap lsn k3 in
+                      let one : byte_in m.cells y ≡ byte_in m.cells x = lane_turned m.cells (lsn y) (lsn x) back in
+                      sym one ∙ G.ring_cells.bare y (omega arith) (omega arith) (inl (omega arith)))
+                ];
+              };
               first_offsets = record { slots_are = G.first_offsets.slots_are; near = λ q z. let o = G.first_offsets.near q z in omega arith; true_first = G.first_offsets.true_first; stored = G.first_offsets.stored; begun = G.first_offsets.begun };
               written_links = G.written_links;
               commits = record { flush = G.commits.flush; wrote = λ i e a b d. let o = G.commits.wrote i e a b d in omega arith; linked = G.commits.linked; last = G.commits.last };

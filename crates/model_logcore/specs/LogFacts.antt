@@ -1,13 +1,13 @@
 -- The log half of the invariant: what holds of the words of the log and of the log part.
-use Rattle.std.specs.Prelude.{List, [], cond, length, slice_index, take, ℕ, ◌%◌, ◌*◌, ◌+◌, ◌/◌, ◌<◌, ◌==◌, ◌∷◌, ◌≡◌, ◌≤◌}
+use Rattle.std.specs.Prelude.{List, [], cond, length, slice_index, take, ℕ, ◌%◌, ◌*◌, ◌+◌, ◌/◌, ◌<◌, ◌==◌, ◌^◌, ◌∷◌, ◌≡◌, ◌≤◌, ◌⊎◌}
 use lib.ListN.{get_elem?}
 use mathlib.Core.Option.{some}
-use Rattle.model_core.specs.{byte_at, end_of, Entry, entry, first_of, floor, IsBound, Line, line_at, lsn, PageChange, SharedWords, sum_of, Tiles}
+use Rattle.model_core.specs.{byte_at, byte_in, end_of, Entry, entry, first_of, floor, IsBound, Line, line_at, lsn, PageChange, SharedWords, sum_of, Tiles}
 use Rattle.model_core.specs.LogSide.{LogSide}
 use Rattle.model_core.specs.Setup.{Setup}
 use Rattle.model_base.specs.declared.limits.TheConstants.{BLOCK_SIZE}
 use Rattle.model_log.specs.declared.layout.TheConstants.{BLOCK_DATA}
-use Rattle.model_core.specs.declared.limits.TheConstants.{LOG_BUFFER, BUFFER_BLOCKS, WRITTEN_LINKS}
+use Rattle.model_core.specs.declared.limits.TheConstants.{LOG_BUFFER, BUFFER_BLOCKS, WORD_LANES, WRITTEN_LINKS}
 
 -- of a place of the stream: which seat reserved it, and where its group starts and ends
 pub record Place : Type 0 where
@@ -71,9 +71,16 @@ pub record MarkOrder (base : ℕ) (log : List Entry) (sn write wtail flushed gwr
   pub tail_bound : IsBound base log tail
   pub flushed_bound : IsBound base log gflushed
 
--- copied bytes: each that isn't read stands in its cell, below the block floor of WRITE plus 65,536
+-- The place's lane is 0: its word was cleared, as each one is all of whose places are read; or its byte isn't copied.
+abbrev pub IsBare : ℕ → (ℕ → ℕ) → ℕ → ℕ → Type 0
+IsBare sn state read x = (lsn x / WORD_LANES < lsn read / WORD_LANES) ⊎ (sn ≤ x) ⊎ (state x ≡ 0)
+
+-- Copied bytes. In the window of the log buffer, from the block floor of WRITE to that plus 65,536, each lane holds the copied
+-- byte of the one place that it stands for, or 0 where that byte isn't copied or its word was cleared.
 pub record RingCells (base sn : ℕ) (cells : List ℕ) (write : ℕ) (log : List Entry) (state : ℕ → ℕ) (read : ℕ) : Type 0 where
-  pub each : (x : ℕ) → read ≤ x → x < sn → 0 < state x → (slice_index cells (lsn x % LOG_BUFFER) ≡ byte_at base log x) × (lsn x < floor write + LOG_BUFFER)
+  pub wide : (i : ℕ) → slice_index cells i < 2 ^ 64
+  pub stands : (x : ℕ) → lsn read / WORD_LANES ≤ lsn x / WORD_LANES → x < sn → 0 < state x → (byte_in cells x ≡ byte_at base log x) × (lsn x < floor write + LOG_BUFFER)
+  pub bare : (x : ℕ) → floor write ≤ lsn x → lsn x < floor write + LOG_BUFFER → IsBare sn state read x → byte_in cells x ≡ 0
 
 -- first offsets: FIRST of each block that the writer hasn't entered is what was stored there, or 0
 pub record FirstOffsets (base : ℕ) (slots : List ℕ) (write : ℕ) (log : List Entry) (first state : ℕ → ℕ) (entered : ℕ) : Type 0 where

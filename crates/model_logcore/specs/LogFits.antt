@@ -2,7 +2,8 @@
 use Rattle.std.specs.Prelude.{false, length, slice_index, true, ℕ, ◌%◌, ◌*◌, ◌+◌, ◌/◌, ◌<◌, ◌≡◌, ◌≢◌, ◌≤◌, ◌⊎◌}
 use lib.ListN.{get_elem?}
 use mathlib.Core.Option.{some}
-use Rattle.model_core.specs.{Actor, byte_at, ceiling, checkpointer_holds, CheckpointerState, CleanerState, entry, first_of, floor, flusher_holds, FlusherState, group_bytes, group_end, line, line_at, LoadedMarks, lsn, mode, SharedWords, UserState, writer_holds, WriterState}
+use Rattle.model_core.specs.{Actor, byte_at, ceiling, checkpointer_holds, CheckpointerState, CleanerState, entry, first_of, floor, flusher_holds, FlusherState, group_bytes, group_end, lane_of, left_in_word, line, line_at, LoadedMarks, lsn, mode, read_place, SharedWords, UserState, word_end, writer_holds, WriterState}
+unfoldable use Rattle.model_core.specs.{lane}
 use Rattle.model_core.specs.LogSide.{LogSide}
 use Rattle.model_core.specs.Setup.{Setup}
 use Rattle.model_core.specs.declared.steps.UserStep.{UserStep}
@@ -61,12 +62,13 @@ module _ (D : LogSide) (c : Setup) (m : SharedWords) (g : LogGhost) (p : D.Part)
   UserAt seat u user_step.LoadSn = IsBefore u
   UserAt seat u user_step.Reserve = IsBefore u
   UserAt seat u user_step.LoadWrite = (length u.starts ≡ u.k + 1) × (u.k < length u.lines) × Hand seat u × (u.copied ≡ 0)
-  UserAt seat u user_step.StoreCell = (length u.starts ≡ u.k + 1) × (u.k < length u.lines) × Hand seat u × (u.copied < length (group_bytes u)) × EndIsNear u
+  UserAt seat u user_step.AddCell = (length u.starts ≡ u.k + 1) × (u.k < length u.lines) × Hand seat u × (u.copied < length (group_bytes u)) × EndIsNear u
   UserAt seat u user_step.StoreFirst = (length u.starts ≡ u.k + 1) × (u.k < length u.lines) × Hand seat u × (u.copied ≡ length (group_bytes u)) × EndIsNear u × (u.start / BLOCK_DATA < group_end u / BLOCK_DATA)
   UserAt seat u user_step.LoadWtail = (length u.starts ≡ u.k + 1) × (u.k < length u.lines) × Hand seat u × (u.copied ≡ length (group_bytes u)) × HasFirst u
   UserAt seat u user_step.StoreLink = (length u.starts ≡ u.k + 1) × (u.k < length u.lines) × Hand seat u × (u.copied ≡ length (group_bytes u)) × HasFirst u × (lsn u.start < m.wtail + WRITTEN_LINKS)
   UserAt seat u user_step.TakeLatch = IsBefore u
   UserAt seat u user_step.LoadCtail = IsLinked u
+  UserAt seat u user_step.LoadFrame = IsLinked u
   UserAt seat u user_step.StoreFrame = IsLinked u
   UserAt seat u user_step.StoreNewest = IsLinked u
   UserAt seat u user_step.LoadOldest = IsLinked u
@@ -101,6 +103,10 @@ module _ (D : LogSide) (c : Setup) (m : SharedWords) (g : LogGhost) (p : D.Part)
   abbrev pub IsWithin : WriterState → Type 0
   IsWithin s = ceiling s.tail ≤ s.ckpt + BLOCK_SIZE * s.blocks
 
+  -- it has loaded the word of its read place, which holds the stream's bytes
+  abbrev pub HasWord : WriterState → Type 0
+  HasWord s = (j : ℕ) → j < left_in_word (read_place s) → lane (lane_of (read_place s) + j) s.word ≡ byte_at c.base g.log (read_place s + j)
+
   abbrev pub WriterAt : ℕ → WriterState → WriterStep → Type 0
   WriterAt seat s writer_step.LoadLink = IsIdle s × (s.tail < s.write + WRITTEN_LINKS)
   WriterAt seat s writer_step.ClearLink = IsIdle s × (s.tail < s.write + WRITTEN_LINKS) × (0 < s.link) × (slice_index m.wlinks (s.tail % WRITTEN_LINKS) ≡ s.link)
@@ -109,6 +115,7 @@ module _ (D : LogSide) (c : Setup) (m : SharedWords) (g : LogGhost) (p : D.Part)
   WriterAt seat s writer_step.LoadFirst = IsBusy s × (g.read < g.tail) × IsWithin s × (length s.kept ≡ BLOCK_DATA * length s.firsts)
   WriterAt seat s writer_step.ClearFirst = IsBusy s × (g.read < g.tail) × IsWithin s × (length s.kept ≡ BLOCK_DATA * length s.firsts) × (s.first ≡ first_of c.base g.log g.entered)
   WriterAt seat s writer_step.LoadCell = IsBusy s × (g.read < g.tail) × IsWithin s × (length s.kept < BLOCK_DATA * length s.firsts)
+  WriterAt seat s writer_step.ClearCell = IsBusy s × (g.read < g.tail) × IsWithin s × (length s.kept < BLOCK_DATA * length s.firsts) × (word_end s ≤ g.tail) × HasWord s
   WriterAt seat s writer_step.TakeDevice = IsBusy s × (g.read ≡ g.tail) × IsWithin s
   WriterAt seat s writer_step.GiveBroken = IsBusy s × (g.read ≡ g.tail) × IsWithin s
   WriterAt seat s writer_step.WriteTo = IsBusy s × (g.read ≡ g.tail) × IsWithin s × (D.failed p ≡ false)

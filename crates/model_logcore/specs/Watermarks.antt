@@ -4,12 +4,12 @@ use Rattle.std.specs.Prelude.{List, length, slice_index, take, ℕ, ◌%◌, ◌
 use lib.ListN.{get_elem?}
 use mathlib.Core.Option.{some}
 use Rattle.model_base.specs.declared.limits.TheConstants.{BLOCK_SIZE}
-use Rattle.model_core.specs.{Actor, byte_at, end_of, Entry, first_of, floor, group_end, IsBound, line_at, lsn, PageChange, read_place, SharedWords, Tiles, UserState, WriterState}
+use Rattle.model_core.specs.{Actor, byte_at, byte_in, end_of, Entry, first_of, floor, group_end, IsBound, line_at, lsn, PageChange, read_place, SharedWords, Tiles, UserState, WriterState}
 use Rattle.model_core.specs.LogSide.{LogSide}
 use Rattle.model_core.specs.Setup.{Setup}
-use Rattle.model_core.specs.declared.limits.TheConstants.{BUFFER_BLOCKS, LOG_BUFFER, WRITTEN_LINKS}
+use Rattle.model_core.specs.declared.limits.TheConstants.{BUFFER_BLOCKS, LOG_BUFFER, WORD_LANES, WRITTEN_LINKS}
 use Rattle.model_log.specs.declared.layout.TheConstants.{BLOCK_DATA}
-use Rattle.model_logcore.specs.LogFacts.{WrittenLink, count_of}
+use Rattle.model_logcore.specs.LogFacts.{IsBare, WrittenLink, count_of}
 use Rattle.model_logcore.specs.LogFits.{AreBelow}
 use Rattle.model_logcore.specs.LogHalf.{Counted}
 use Rattle.model_core.specs.declared.steps.UserStep.{UserStep}
@@ -43,7 +43,7 @@ HandAgrees progress u user_step.LoadSn = length u.starts ≡ u.k
 HandAgrees progress u user_step.TakeLatch = length u.starts ≡ u.k
 HandAgrees progress u user_step.Reserve = length u.starts ≡ u.k
 HandAgrees progress u user_step.LoadWrite = HasCopied progress u
-HandAgrees progress u user_step.StoreCell = HasCopied progress u
+HandAgrees progress u user_step.AddCell = HasCopied progress u
 HandAgrees progress u user_step.StoreFirst = HasCopied progress u
 HandAgrees progress u user_step.LoadWtail = HasCopied progress u
 HandAgrees progress u user_step.StoreLink = HasCopied progress u
@@ -68,12 +68,15 @@ pub record GroupsTile (c : Setup) (sn : ℕ) (actors : List Actor) (log : List E
   pub in_order : (i : ℕ) (e : Entry) → get_elem? log i ≡ some e → e.k ≡ count_of e.user (take i log)
   pub of_lines : (i : ℕ) (e : Entry) → get_elem? log i ≡ some e → (e.k < length (c.script e.user)) × (e.bytes ≡ (line_at (c.script e.user) e.k).bytes) × ◌≡◌ {A = List PageChange} e.changes (line_at (c.script e.user) e.k).changes
 
--- COPIED BYTES STAND IN THEIR CELLS: each that the writer hasn't read, below the block floor of WRITE plus the log buffer. So
--- low are the writer's tail, the end of each linked group that isn't wholly read, and that of a user's group in hand once a
+-- COPIED BYTES STAND IN THEIR LANES: from the block floor of WRITE to that plus the log buffer each lane holds the copied byte
+-- of the one place that it stands for, or 0 where that byte isn't copied or its word was cleared. A word is cleared where all
+-- its places are read; so each one below the block floor of WRITE was. So low are the writer's tail, the end of each linked group that isn't wholly read, and that of a user's group in hand once a
 -- byte of it is copied. A first offset that was stored stands until the writer enters its block, and is the true one; the
 -- others are 0.
 pub record CopiedBytesStand (base : ℕ) (m : SharedWords) (actors : List Actor) (log : List Entry) (progress first : ℕ → ℕ) (read entered : ℕ) : Type 0 where
-  pub cell : (x : ℕ) → read ≤ x → x < m.sn → IsCopied progress x → slice_index m.cells (lsn x % LOG_BUFFER) ≡ byte_at base log x
+  pub lane_stands : (x : ℕ) → lsn read / WORD_LANES ≤ lsn x / WORD_LANES → x < m.sn → IsCopied progress x → byte_in m.cells x ≡ byte_at base log x
+  pub lane_bare : (x : ℕ) → floor m.write ≤ lsn x → lsn x < floor m.write + LOG_BUFFER → IsBare m.sn progress read x → byte_in m.cells x ≡ 0
+  pub cleared_below : (x : ℕ) → base ≤ x → lsn x < floor m.write → lsn x / WORD_LANES < lsn read / WORD_LANES
   pub below : (x : ℕ) → read ≤ x → x < m.sn → IsCopied progress x → lsn x < floor m.write + LOG_BUFFER
   pub tail_below : (seat : ℕ) (s : WriterState) → get_elem? actors seat ≡ some (actor.Writer s) → s.tail < floor m.write + LOG_BUFFER
   pub end_below : (i : ℕ) (e : Entry) → get_elem? log i ≡ some e → read < end_of e → IsGroupLinked progress e → lsn (end_of e) < floor m.write + LOG_BUFFER

@@ -1,12 +1,12 @@
 -- The cleaner's batch is written, or fails.
-use Rattle.std.proofs.Common.{Bool, List, [], ap, arith, cond, eqb, eqb-true, false, inl, inr, length, refl, set, subst, suc, sym, true, zero, ℕ, ⊎_elim, ◌<◌, ◌∙◌, ◌∷◌, ◌≡◌, ◌≢◌, ◌≤◌, ◌⊎◌}
+use Rattle.std.proofs.Common.{Bool, List, [], ap, arith, cond, eqb, eqb-true, false, inl, inr, length, refl, set, subst, suc, sym, true, zero, ℕ, ⊎_elim, ◌*◌, ◌<◌, ◌∙◌, ◌∷◌, ◌≡◌, ◌≢◌, ◌≤◌, ◌⊎◌}
 use Rattle.std.proofs.lemmas.Bool.{eqb-false}
 use lib.ListN.{get_elem?}
 use mathlib.Core.Option.{some, some-injective, some-ne-none}
 use native.Mathlib.Decide.{dec_le, ℕ_discrete}
 use Rattle.model_base.specs.declared.limits.TheConstants.{LSN_LIMIT}
 use Rattle.model_core.proofs.Groups.{some_same}
-use Rattle.model_core.specs.{Actor, BatchPage, CleanerState, Entry, KeptPage, Listed, lsn, page_words_at, SharedWords, UserState}
+use Rattle.model_core.specs.{Actor, BatchPage, CleanerState, Entry, frame_bytes, KeptPage, Listed, lsn, page_words_at, SharedWords, UserState}
 use Rattle.model_core.specs.DataSide.{DataSide}
 use Rattle.model_core.specs.Setup.{Setup}
 use Rattle.model_pagecore.proofs.PageHistory.{last_most, upto_whole}
@@ -20,7 +20,8 @@ use Rattle.model_pagecore.specs.PageHalf.{AreKept, At, CleanerAt, CleanerFits, I
 use Rattle.model_pagecore.specs.Pages.{All, EndsAt, FrameStage, GroupInHand, Laid, Last, NewestStage, OnePage, ListingStage, Agree, none_in_hand, applied_upto}
 use Rattle.model_core.specs.declared.steps.CleanerStep.TheVariants as cleaner_step
 use Rattle.model_core.specs.Actors as actor
-use Rattle.model_core.specs.declared.limits.TheConstants.{FRAME_CELLS}
+use Rattle.model_core.specs.declared.limits.TheConstants.{FRAME_WORDS}
+use Rattle.model_core.proofs.FrameWords.{frame_long}
 
 -- a page with a batch is the batch's, or as it was
 pub kept_cases : (batch : List BatchPage) (q : ℕ) (k : KeptPage) → ((i : ℕ) × (x : BatchPage) × (get_elem? batch i ≡ some x) × (x.page ≡ q) × ◌≡◌ {A = KeptPage} (kept_in batch q k) (record { lsn = x.lsn; bytes = x.bytes })) ⊎ (((i : ℕ) (x : BatchPage) → get_elem? batch i ≡ some x → x.page ≢ q) × ◌≡◌ {A = KeptPage} (kept_in batch q k) k)
@@ -41,7 +42,7 @@ module _ (E : DataSide) (c : Setup) (seat_of : ℕ → ℕ) (m : SharedWords) (l
     (mates : (j : ℕ) (u : UserState) → get_elem? actors j ≡ some (actor.User u) → seat_of u.user ≡ j) (W : Laid (lsn c.base) (lsn m.sn) log) where
   -- what the cleaner knows of a page that it holds, with its lsn and bytes
   pub held_facts : (p : ℕ) → At E c m log h ls d seat p none_in_hand All Last Agree → 0 < (page_words_at m.page_words p).oldest
-      → ((h.kept_page p).lsn ≤ (page_words_at m.page_words p).newest) × EndsAt p log (page_words_at m.page_words p).newest × ((page_words_at m.page_words p).frame ≡ applied_upto p (page_words_at m.page_words p).newest log (c.opened p).bytes)
+      → ((h.kept_page p).lsn ≤ (page_words_at m.page_words p).newest) × EndsAt p log (page_words_at m.page_words p).newest × (frame_bytes (page_words_at m.page_words p).frame ≡ applied_upto p (page_words_at m.page_words p).newest log (c.opened p).bytes)
   held_facts p o pos =
       let S = before.paged.each_page p o.there in
       let st = S.oldest pos in
@@ -61,14 +62,14 @@ module _ (E : DataSide) (c : Setup) (seat_of : ℕ → ℕ) (m : SharedWords) (l
     now : CleanerAt E c m log h ls d seat v cleaner_step.WriteBatch
     now = subst (CleanerAt E c m log h ls d seat v) ph own.step
 
-    pub can_batch : ((p : ℕ) → p < c.pages → length (page_words_at m.page_words p).frame ≡ FRAME_CELLS) → m.flushed < LSN_LIMIT → CanBatch E c.pages h.kept_page v.batch d
+    pub can_batch : ((p : ℕ) → p < c.pages → length (page_words_at m.page_words p).frame ≡ FRAME_WORDS) → m.flushed < LSN_LIMIT → CanBatch E c.pages h.kept_page v.batch d
     can_batch frames small = record {
       sound = (own.sound (ap runs ph)).0;
       some_pages = now.1;
       few = own.few;
       each = λ i x is. let o = now.0 i x (omega arith) is in let low = o.0.low in let of = own.flushed in record {
         there = o.0.held.there;
-        whole = ap length o.0.bytes ∙ frames x.page o.0.held.there;
+        whole = ap length o.0.bytes ∙ frame_long (page_words_at m.page_words x.page).frame ∙ ap (λ (n : ℕ). 8 * n) (frames x.page o.0.held.there);
         small = omega arith;
       };
       newer = λ i x is. let o = now.0 i x (omega arith) is in let f = held_facts x.page o.0.held o.1 in let f0 = f.0 in let nw = o.0.newest in

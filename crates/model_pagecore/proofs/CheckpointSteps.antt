@@ -5,7 +5,7 @@ use Rattle.std.specs.Prelude.{None, min, slice_set}
 use lib.ListN.{get_elem?}
 use mathlib.Core.Option.{some, some-ne-none}
 use Rattle.model_core.proofs.Groups.{some_same}
-use Rattle.model_core.specs.{Actor, BatchPage, checkpointer_took, CheckpointerState, cleaner_took, CleanerState, Entry, first_of_batch, floor, Listed, lsn, no_page, page_words_at, PageWords, SharedWords, UserState, with_page_words}
+use Rattle.model_core.specs.{Actor, BatchPage, checkpointer_took, CheckpointerState, cleaner_took, CleanerState, Entry, first_of_batch, floor, frame_bytes, Listed, lsn, no_page, page_words_at, PageWords, SharedWords, UserState, with_page_words}
 use Rattle.model_core.specs.DataSide.{DataSide}
 use Rattle.model_core.specs.Setup.{Setup}
 use Rattle.model_core.specs.declared.steps.CleanerStep.{CleanerStep}
@@ -67,7 +67,7 @@ module _ (E : DataSide) (c : Setup) (seat_of : ℕ → ℕ) (m : SharedWords) (l
             record {
               held = at_else E c seat_of m log stable h ls d actors seat before mates p w' h.holder a.there long (inr a.mine) (λ _ _. refl) y.page none_in_hand All Last Agree ne r.0.held;
               newest = r.0.newest ∙ sym (ap (λ (k : PageWords). k.newest) ye);
-              bytes = r.0.bytes ∙ sym (ap (λ (k : PageWords). k.frame) ye);
+              bytes = r.0.bytes ∙ sym (ap (λ (k : PageWords). frame_bytes k.frame) ye);
               low = r.0.low;
             },
             subst (λ (k : PageWords). 0 < k.oldest) (sym ye) r.1,
@@ -78,7 +78,7 @@ module _ (E : DataSide) (c : Setup) (seat_of : ℕ → ℕ) (m : SharedWords) (l
           let we = leaf_here E c seat_of m log stable h ls d actors seat before mates p w' (let z = a.there in omega arith) in record {
             held = subst (λ (q : ℕ). At E c (with_page_words m p w') log h ls d seat q none_in_hand All Last t') e held;
             newest = b.newest ∙ ap (λ (q : ℕ). (page_words_at m.page_words q).newest) (sym e) ∙ sym nw ∙ sym (ap (λ (k : PageWords). k.newest) we) ∙ ap (λ (q : ℕ). (page_words_at (with_page_words m p w').page_words q).newest) e;
-            bytes = b.bytes ∙ ap (λ (q : ℕ). (page_words_at m.page_words q).frame) (sym e) ∙ sym fr ∙ sym (ap (λ (k : PageWords). k.frame) we) ∙ ap (λ (q : ℕ). (page_words_at (with_page_words m p w').page_words q).frame) e;
+            bytes = b.bytes ∙ ap (λ (q : ℕ). frame_bytes (page_words_at m.page_words q).frame) (sym e) ∙ sym (ap frame_bytes fr) ∙ sym (ap (λ (k : PageWords). frame_bytes k.frame) we) ∙ ap (λ (q : ℕ). frame_bytes (page_words_at (with_page_words m p w').page_words q).frame) e;
             low = b.low;
           }
 

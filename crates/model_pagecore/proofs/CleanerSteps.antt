@@ -1,11 +1,11 @@
 -- The cleaner's other steps.
-use Rattle.std.proofs.Common.{Bool, List, [], ap, arith, cond, eqb, eqb-true, false, inl, inr, leb, leb-true, length, length-append, refl, set, subst, suc, sym, take, true, zero, ℕ, ⊎_elim, ◌++◌, ◌+◌, ◌-◌, ◌<◌, ◌∙◌, ◌∷◌, ◌≡◌, ◌≢◌, ◌≤◌, ◌⊎◌}
+use Rattle.std.proofs.Common.{Bool, List, [], ap, arith, cond, eqb, eqb-true, false, inl, inr, leb, leb-true, length, length-append, refl, set, subst, suc, sym, take, true, zero, ℕ, ⊎_elim, ◌%◌, ◌*◌, ◌++◌, ◌+◌, ◌-◌, ◌/◌, ◌<◌, ◌∙◌, ◌∷◌, ◌≡◌, ◌≢◌, ◌≤◌, ◌⊎◌}
 use Rattle.std.proofs.lemmas.Bool.{eqb-false}
 use Rattle.std.specs.Prelude.{slice_index}
 use lib.ListN.{get_elem?}
 use mathlib.Core.Option.{some, some-ne-none}
 use Rattle.model_core.proofs.Groups.{at_end, at_less, changed, changed_else, changed_here}
-use Rattle.model_core.specs.{Actor, BatchPage, cleaner_took, CleanerState, Entry, Listed, lsn, next_in_round, page_loaded, page_words_at, PageWords, SharedWords, UserState, with_page_words}
+use Rattle.model_core.specs.{Actor, BatchPage, cleaner_took, CleanerState, Entry, frame_bytes, Listed, lsn, next_in_round, page_loaded, page_words_at, PageWords, SharedWords, UserState, with_page_words}
 use Rattle.model_core.specs.DataSide.{DataSide}
 use Rattle.model_core.specs.Setup.{Setup}
 use Rattle.model_pagecore.proofs.PageStep.{at_else, at_here, freed_sheet, latched_sheet, leaf_else, leaf_here, leaf_step, page_quiet}
@@ -16,12 +16,10 @@ use Rattle.model_pagecore.specs.Pages.{All, Laid, Last, PageIs, Agree, none_in_h
 use Rattle.model_core.specs.declared.ops.Answer.TheVariants as answer
 use Rattle.model_core.specs.declared.steps.CleanerStep.TheVariants as cleaner_step
 use Rattle.model_core.specs.Actors as actor
-use Rattle.model_core.specs.declared.limits.TheConstants.{FRAME_CELLS}
-
-cells_next : (xs : List ℕ) (j : ℕ) → j < length xs → take (j + 1) xs ≡ take j xs ++ slice_index xs j ∷ []
-cells_next [] j h = absurd (omega arith)
-cells_next (x ∷ xs) zero h = refl
-cells_next (x ∷ xs) (suc j) h = let e : suc j + 1 ≡ suc (j + 1) = omega arith in ap (λ (k : ℕ). take k (x ∷ xs)) e ∙ ap (λ z. x ∷ z) (cells_next xs j (omega arith))
+use Rattle.model_core.specs.declared.limits.TheConstants.{FRAME_CELLS, FRAME_WORDS}
+use Rattle.model_core.proofs.FrameWords.{frame_long, frame_next}
+use Rattle.model_core.proofs.Lanes.{lanes_long}
+unfoldable use Rattle.model_core.specs.{lanes}
 
 cells_all : (xs : List ℕ) → take (length xs) xs ≡ xs
 cells_all [] = refl
@@ -161,7 +159,7 @@ module _ (E : DataSide) (c : Setup) (seat_of : ℕ → ℕ) (m : SharedWords) (l
                 record {
                   held = at_else E c seat_of m log stable h ls d actors seat before mates p w' holders there long (inl free) same y.page none_in_hand All Last Agree ne r.0.held;
                   newest = r.0.newest ∙ sym (ap (λ (k : PageWords). k.newest) ye);
-                  bytes = r.0.bytes ∙ sym (ap (λ (k : PageWords). k.frame) ye);
+                  bytes = r.0.bytes ∙ sym (ap (λ (k : PageWords). frame_bytes k.frame) ye);
                   low = r.0.low;
                 },
                 subst (λ (k : PageWords). 0 < k.oldest) (sym ye) r.1,
@@ -187,7 +185,7 @@ module _ (E : DataSide) (c : Setup) (seat_of : ℕ → ℕ) (m : SharedWords) (l
             → Now m h (cond b (record v { newest = (page_words_at m.page_words v.page).newest; kept = []; step = cleaner_step.LoadFrame }) (record v { step = cleaner_step.ReleaseSkipped }))
         by true e o = quiet (record v { newest = (page_words_at m.page_words v.page).newest; kept = []; step = cleaner_step.LoadFrame })
             (at_stage (record v { newest = (page_words_at m.page_words v.page).newest; kept = []; step = cleaner_step.LoadFrame }) (ap runs ph) refl refl refl refl (λ z. absurd (cc)) m h ls refl refl
-            (o.0, o.1, refl, leb-true (page_words_at m.page_words v.page).newest v.flushed e, refl, (omega arith)))
+            (o.0, o.1, refl, leb-true (page_words_at m.page_words v.page).newest v.flushed e, refl, (omega arith), refl))
         by false e o = quiet (record v { step = cleaner_step.ReleaseSkipped }) (at_stage (record v { step = cleaner_step.ReleaseSkipped }) (ap runs ph) refl refl refl refl (λ z. absurd (cc)) m h ls refl refl (o.0, o.1))
 
     -- it frees a page that is too new
@@ -206,40 +204,38 @@ module _ (E : DataSide) (c : Setup) (seat_of : ℕ → ℕ) (m : SharedWords) (l
           record {
             held = at_else E c seat_of m log stable h ls d actors seat before mates p w' h.holder a.there long (inr a.mine) (λ _ _. refl) y.page none_in_hand All Last Agree ne r.0.held;
             newest = r.0.newest ∙ sym (ap (λ (k : PageWords). k.newest) ye);
-            bytes = r.0.bytes ∙ sym (ap (λ (k : PageWords). k.frame) ye);
+            bytes = r.0.bytes ∙ sym (ap (λ (k : PageWords). frame_bytes k.frame) ye);
             low = r.0.low;
           },
           subst (λ (k : PageWords). 0 < k.oldest) (sym ye) r.1,
         ))
         own.few o.0.more o.0.round (λ i y is. inr (o.0.passed i y is)) own.apart)
 
-    -- it loads a cell; with the last the page enters the batch
-    pub keeps_load : ((p : ℕ) → p < c.pages → length (page_words_at m.page_words p).frame ≡ FRAME_CELLS) → v.step ≡ cleaner_step.LoadFrame → Now m h (cleaner_took v (answer.Old (slice_index (page_words_at m.page_words v.page).frame (length v.kept))) cleaner_step.LoadFrame)
-    keeps_load sizes ph = by (eqb (length v.kept + 1) FRAME_CELLS) refl (subst (CleanerAt E c m log h ls d seat v) ph own.step)
+    -- it loads a word; with the last the page enters the batch
+    pub keeps_load : ((p : ℕ) → p < c.pages → length (page_words_at m.page_words p).frame ≡ FRAME_WORDS) → v.step ≡ cleaner_step.LoadFrame → Now m h (cleaner_took v (answer.Old (slice_index (page_words_at m.page_words v.page).frame (length v.kept / 8))) cleaner_step.LoadFrame)
+    keeps_load sizes ph = by (eqb (length v.kept + 8) FRAME_CELLS) refl (subst (CleanerAt E c m log h ls d seat v) ph own.step)
       where
-        frame : List ℕ
-        frame = (page_words_at m.page_words v.page).frame
+        more : v.kept ≡ take (length v.kept) (frame_bytes (page_words_at m.page_words v.page).frame) → length v.kept < FRAME_CELLS → length v.kept % 8 ≡ 0 → v.kept ++ lanes 0 8 (slice_index (page_words_at m.page_words v.page).frame (length v.kept / 8)) ≡ take (length v.kept + 8) (frame_bytes (page_words_at m.page_words v.page).frame)
+        more e lt even = more_of (length v.kept / 8) (let z : length v.kept ≡ 8 * (length v.kept / 8) = omega arith in z) (let s = sizes v.page own.page in omega arith)
+          where
+            more_of : (q : ℕ) → length v.kept ≡ 8 * q → q < length (page_words_at m.page_words v.page).frame → v.kept ++ lanes 0 8 (slice_index (page_words_at m.page_words v.page).frame q) ≡ take (length v.kept + 8) (frame_bytes (page_words_at m.page_words v.page).frame)
+            more_of q is lt = ap (λ (l : List ℕ). l ++ lanes 0 8 (slice_index (page_words_at m.page_words v.page).frame q)) (e ∙ ap (λ (k : ℕ). take k (frame_bytes (page_words_at m.page_words v.page).frame)) is)
+                ∙ sym (frame_next (page_words_at m.page_words v.page).frame q lt) ∙ ap (λ (k : ℕ). take (k + 8) (frame_bytes (page_words_at m.page_words v.page).frame)) (sym is)
 
-        n : ℕ
-        n = slice_index frame (length v.kept)
-
-        more : v.kept ≡ take (length v.kept) (page_words_at m.page_words v.page).frame → length v.kept < FRAME_CELLS → v.kept ++ slice_index (page_words_at m.page_words v.page).frame (length v.kept) ∷ [] ≡ take (length v.kept + 1) (page_words_at m.page_words v.page).frame
-        more e lt = ap (λ (l : List ℕ). l ++ slice_index (page_words_at m.page_words v.page).frame (length v.kept) ∷ []) e ∙ sym (cells_next (page_words_at m.page_words v.page).frame (length v.kept) (let s = sizes v.page own.page in omega arith))
-
-        by : (b : Bool) → eqb (length v.kept + 1) FRAME_CELLS ≡ b → CleanerAt E c m log h ls d seat v cleaner_step.LoadFrame
-            → Now m h (cond b (next_in_round (record v { batch = v.batch ++ page_loaded v (slice_index (page_words_at m.page_words v.page).frame (length v.kept)) ∷ [] })) (record v { kept = v.kept ++ slice_index (page_words_at m.page_words v.page).frame (length v.kept) ∷ []; step = cleaner_step.LoadFrame }))
-        by false e o = let z = eqb-false (length v.kept + 1) FRAME_CELLS e in let lt = o.5 in
-            let long : length (v.kept ++ slice_index (page_words_at m.page_words v.page).frame (length v.kept) ∷ []) ≡ length v.kept + 1 = length-append v.kept (slice_index (page_words_at m.page_words v.page).frame (length v.kept) ∷ []) in
-            let x : CleanerState = record v { kept = v.kept ++ slice_index (page_words_at m.page_words v.page).frame (length v.kept) ∷ []; step = cleaner_step.LoadFrame } in
+        by : (b : Bool) → eqb (length v.kept + 8) FRAME_CELLS ≡ b → CleanerAt E c m log h ls d seat v cleaner_step.LoadFrame
+            → Now m h (cond b (next_in_round (record v { batch = v.batch ++ page_loaded v (slice_index (page_words_at m.page_words v.page).frame (length v.kept / 8)) ∷ [] })) (record v { kept = v.kept ++ lanes 0 8 (slice_index (page_words_at m.page_words v.page).frame (length v.kept / 8)); step = cleaner_step.LoadFrame }))
+        by false e o = let z = eqb-false (length v.kept + 8) FRAME_CELLS e in let lt = o.5 in
+            let long : length (v.kept ++ lanes 0 8 (slice_index (page_words_at m.page_words v.page).frame (length v.kept / 8))) ≡ length v.kept + 8 = length-append v.kept (lanes 0 8 (slice_index (page_words_at m.page_words v.page).frame (length v.kept / 8))) ∙ ap (λ (k : ℕ). length v.kept + k) (lanes_long 0 8 (slice_index (page_words_at m.page_words v.page).frame (length v.kept / 8))) in let even = o.6 in
+            let x : CleanerState = record v { kept = v.kept ++ lanes 0 8 (slice_index (page_words_at m.page_words v.page).frame (length v.kept / 8)); step = cleaner_step.LoadFrame } in
             quiet x (at_stage x (ap runs ph) refl refl refl refl (λ z. absurd (cc)) m h ls refl refl
-            (o.0, o.1, o.2, o.3, more o.4 o.5 ∙ ap (λ (k : ℕ). take k (page_words_at m.page_words v.page).frame) (sym long), (omega arith)))
-        by true e o = let z = eqb-true (length v.kept + 1) FRAME_CELLS e in
-            let t : BatchPage = page_loaded v (slice_index (page_words_at m.page_words v.page).frame (length v.kept)) in
+            (o.0, o.1, o.2, o.3, more o.4 o.5 o.6 ∙ ap (λ (k : ℕ). take k (frame_bytes (page_words_at m.page_words v.page).frame)) (sym long), (omega arith), (omega arith)))
+        by true e o = let z = eqb-true (length v.kept + 8) FRAME_CELLS e in
+            let t : BatchPage = page_loaded v (slice_index (page_words_at m.page_words v.page).frame (length v.kept / 8)) in
             let x : CleanerState = record v { batch = v.batch ++ t ∷ [] } in
             let L = o.0 in
             let few = L.few in
             let s = sizes v.page own.page in
-            let bytes : t.bytes ≡ (page_words_at m.page_words v.page).frame = more o.4 o.5 ∙ ap (λ (k : ℕ). take k (page_words_at m.page_words v.page).frame) (z ∙ sym s) ∙ cells_all (page_words_at m.page_words v.page).frame in
+            let bytes : t.bytes ≡ frame_bytes (page_words_at m.page_words v.page).frame = more o.4 o.5 o.6 ∙ ap (λ (k : ℕ). take k (frame_bytes (page_words_at m.page_words v.page).frame)) (let f = frame_long (page_words_at m.page_words v.page).frame in whole_of (length (frame_bytes (page_words_at m.page_words v.page).frame)) (length (page_words_at m.page_words v.page).frame) z f s) ∙ cells_all (frame_bytes (page_words_at m.page_words v.page).frame) in
             let mine : InBatch E c m log h ls d seat v.flushed t Agree = record { held = o.1.0; newest = o.2; bytes = bytes; low = o.3 } in
             quiet (next_in_round x) (next_in_round_fits m h x refl refl (ap runs ph) refl refl refl
             (λ i y lo is. ⊎_elim (λ k. L.held i y lo k) (λ k. subst (λ (r : BatchPage). InBatch E c m log h ls d seat v.flushed r Agree × (0 < (page_words_at m.page_words r.page).oldest)) k.1 (mine, o.1.1)) (at_end v.batch t y i is))
@@ -249,3 +245,6 @@ module _ (E : DataSide) (c : Setup) (seat_of : ℕ → ℕ) (m : SharedWords) (l
             (λ k. ⊎_elim (λ r. own.apart i j y w k r l) (λ r e. not_in L i y k (e ∙ ap (λ (q : BatchPage). q.page) (sym r.1))) (at_end v.batch t w j jw))
             (λ k. let k0 = k.0 in ⊎_elim (λ r. let q = at_less v.batch j w r in absurd (omega arith)) (λ r. let r0 = r.0 in absurd (omega arith)) (at_end v.batch t w j jw))
             (at_end v.batch t y i iy)))
+          where
+            whole_of : (n k : ℕ) → length v.kept + 8 ≡ FRAME_CELLS → n ≡ 8 * k → k ≡ FRAME_WORDS → length v.kept + 8 ≡ n
+            whole_of n k z f s = omega arith

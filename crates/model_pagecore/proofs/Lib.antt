@@ -4,6 +4,7 @@ pub mod CleanerSteps
 pub mod ClosingSteps
 pub mod Holders
 pub mod ListSteps
+pub mod FrameStores
 pub mod PageFrame
 pub mod PageHistory
 pub mod PageStart

@@ -7,7 +7,7 @@ use mathlib.Core.Option.{some}
 use native.Mathlib.Decide.{dec_le, ℕ_discrete}
 use Rattle.model_core.proofs.Lists.{at_longer, at_set}
 use Rattle.model_core.proofs.Groups.{at_end, at_less}
-use Rattle.model_core.specs.{Actor, BatchPage, cells_of, change_at, changes, CheckpointerState, CleanerState, CloserState, Entry, entry, first_of_batch, KeptPage, line, Listed, page_of, page_words_at, PageWords, SharedWords, UserState}
+use Rattle.model_core.specs.{Actor, BatchPage, cells_of, change_at, changes, CheckpointerState, CleanerState, CloserState, Entry, entry, first_of_batch, frame_bytes, frame_word, KeptPage, line, Listed, page_of, page_words_at, PageWords, SharedWords, UserState}
 use Rattle.model_core.specs.DataSide.{DataSide}
 use Rattle.model_core.specs.Setup.{Setup}
 use Rattle.model_core.specs.declared.steps.CleanerStep.{CleanerStep}
@@ -63,13 +63,13 @@ page_later p b log log' k w w' l l' f n t L tk we le h = record {
   listing = subst (λ (x : ℕ). ListingIs k w'.oldest x t) (sym le) (subst (λ (x : PageWords). ListingIs k x.oldest l t) (sym we) h.listing);
 }
   where
-    fr : w'.frame ≡ w.frame
-    fr = ap (λ (x : PageWords). x.frame) we
+    fr : frame_bytes w'.frame ≡ frame_bytes w.frame
+    fr = ap (λ (x : PageWords). frame_bytes x.frame) we
 
     nw : w'.newest ≡ w.newest
     nw = ap (λ (x : PageWords). x.newest) we
 
-    frame : (f : FrameStage) → FrameIs p b log k w.frame f → FrameIs p b log' k w'.frame f
+    frame : (f : FrameStage) → FrameIs p b log k (frame_bytes w.frame) f → FrameIs p b log' k (frame_bytes w'.frame) f
     frame All e = fr ∙ e ∙ sym (L.applied_all b)
     frame (Cells j) e = fr ∙ e ∙ ap (λ (x : List Entry). write_cells (take j (cells_on p k.changes)) (applied_all p x b)) (sym tk)
 
@@ -189,12 +189,13 @@ module _ (E : DataSide) (c : Setup) (seat_of : ℕ → ℕ) (m m' : SharedWords)
     user_holds_later u own_seat user_step.TakeLatch o = (held_later u 0 u.page o.0, o.1)
     user_holds_later u own_seat user_step.Reserve o = held_later u 0 (length (changes u)) o
     user_holds_later u own_seat user_step.LoadWrite o = fresh_later u own_seat o
-    user_holds_later u own_seat user_step.StoreCell o = fresh_later u own_seat o
+    user_holds_later u own_seat user_step.AddCell o = fresh_later u own_seat o
     user_holds_later u own_seat user_step.StoreFirst o = fresh_later u own_seat o
     user_holds_later u own_seat user_step.LoadWtail o = fresh_later u own_seat o
     user_holds_later u own_seat user_step.StoreLink o = fresh_later u own_seat o
     user_holds_later u own_seat user_step.LoadCtail o = (fresh_later u own_seat o.0, o.1)
-    user_holds_later u own_seat user_step.StoreFrame o = (in_work_later u (Cells u.cell) Before AgreeBelow own_seat o.0, near_later u o.1, o.2)
+    user_holds_later u own_seat user_step.LoadFrame o = (in_work_later u (Cells u.cell) Before AgreeBelow own_seat o.0, near_later u o.1, o.2)
+    user_holds_later u own_seat user_step.StoreFrame o = (in_work_later u (Cells u.cell) Before AgreeBelow own_seat o.0, near_later u o.1, o.2, ⊎_elim (λ z. inl (z ∙ sym (ap (λ (y : PageWords). slice_index y.frame (frame_word u)) (leaf_later _ _ (Cells u.cell) Before AgreeBelow (o.0.here o.1.1))))) (λ z. inr z) o.3)
     user_holds_later u own_seat user_step.StoreNewest o = (in_work_later u (Cells (length (cells_of u))) Before AgreeBelow own_seat o.0, near_later u o.1)
     user_holds_later u own_seat user_step.LoadOldest o = (in_work_later u All Last AgreeBelow own_seat o.0, near_later u o.1)
     user_holds_later u own_seat user_step.AddToList o = (in_work_later u All Last Unlisted own_seat o.0, near_later u o.1)
@@ -211,7 +212,7 @@ module _ (E : DataSide) (c : Setup) (seat_of : ℕ → ℕ) (m m' : SharedWords)
     user_pages_later u own_seat f o = user_holds_later u own_seat f o
 
     pub user_page_fits_later : (u : UserState) → seat_of u.user ≡ j → UserPageFits E c m log h ls d j u → UserPageFits E c m' log' h' ls' d' j u
-    user_page_fits_later u own_seat o = record { there = o.there; apart = o.apart; within = o.within; loaded = (let l = o.loaded in let a = later.ctail in omega arith); step = user_pages_later u own_seat u.step o.step }
+    user_page_fits_later u own_seat o = record { there = o.there; apart = o.apart; within = o.within; ascending = o.ascending; are_bytes = o.are_bytes; loaded = (let l = o.loaded in let a = later.ctail in omega arith); step = user_pages_later u own_seat u.step o.step }
 
     closer_at_later : (t : CloserState) → StillCloser → (f : CloserStep) → CloserAt E c m log h ls d t f → CloserAt E c m' log' h' ls' d' t f
     closer_at_later t still closer_step.LoadClosedLink o = tt
@@ -226,7 +227,7 @@ module _ (E : DataSide) (c : Setup) (seat_of : ℕ → ℕ) (m m' : SharedWords)
     batch_one f x t o = let we = leaf_later x.page none_in_hand All Last t o.held in record {
       held = at_later x.page none_in_hand All Last t refl o.held;
       newest = o.newest ∙ sym (ap (λ (y : PageWords). y.newest) we);
-      bytes = o.bytes ∙ sym (ap (λ (y : PageWords). y.frame) we);
+      bytes = o.bytes ∙ sym (ap (λ (y : PageWords). frame_bytes y.frame) we);
       low = o.low;
     }
 
@@ -252,7 +253,7 @@ module _ (E : DataSide) (c : Setup) (seat_of : ℕ → ℕ) (m m' : SharedWords)
     cleaner_holds_later v still cleaner_step.LoadNewest o = (looking_later v o.0, has_page_later v o.1)
     cleaner_holds_later v still cleaner_step.ReleaseSkipped o = (looking_later v o.0, has_page_later v o.1)
     cleaner_holds_later v still cleaner_step.LoadFrame o = let we = leaf_later v.page none_in_hand All Last Agree o.1.0 in
-        (looking_later v o.0, has_page_later v o.1, o.2 ∙ sym (ap (λ (y : PageWords). y.newest) we), o.3, o.4 ∙ sym (ap (λ (y : PageWords). take (length v.kept) y.frame) we), o.5)
+        (looking_later v o.0, has_page_later v o.1, o.2 ∙ sym (ap (λ (y : PageWords). y.newest) we), o.3, o.4 ∙ sym (ap (λ (y : PageWords). take (length v.kept) (frame_bytes y.frame)) we), o.5, o.6)
     cleaner_holds_later v still cleaner_step.WriteBatch o = (batch_later v 0 o.0, o.1)
     cleaner_holds_later v still cleaner_step.RemoveFromList o = (unlisting_later v Agree still o.0, (λ x is. subst (λ (y : PageWords). 0 < y.oldest) (sym (leaf_later x.page none_in_hand All Last Agree (o.0.2 x is).held)) (o.1 x is)))
     cleaner_holds_later v still cleaner_step.ClearOldest o = (unlisting_later v InWordOnly still o.0, list_later (first_of_batch v % 4) o.1)

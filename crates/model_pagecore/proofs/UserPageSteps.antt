@@ -1,16 +1,21 @@
 -- A user's other steps on its pages.
-use Rattle.std.proofs.Common.{Bool, List, ap, arith, cond, eqb, eqb-true, false, inl, inr, length, ltb, ltb-true, refl, set, subst, sym, take, true, ℕ, ◌%◌, ◌+◌, ◌<◌, ◌∙◌, ◌≡◌, ◌≢◌, ◌≤◌}
+use Rattle.std.proofs.Common.{Bool, List, [], ap, arith, cond, drop, eq-eqb, eqb, eqb-true, false, inl, inr, leb-true, length, length-drop, length-take-le, ltb, ltb-true, refl, set, subst, suc, sym, take, true, ℕ, ⊎_elim, ◌%◌, ◌+◌, ◌-◌, ◌/◌, ◌<◌, ◌∙◌, ◌∷◌, ◌≡◌, ◌≢◌, ◌≤◌, ◌⊎◌}
 use Rattle.std.proofs.lemmas.Bool.{eqb-false}
-use Rattle.std.specs.Prelude.{slice_set}
+use Rattle.std.proofs.lemmas.List.{get_or-drop, get_or-take}
+use Rattle.std.specs.Prelude.{get_or, slice_index, slice_set}
 use lib.ListN.{get_elem?}
 use mathlib.Core.Option.{some}
 use native.Mathlib.Decide.{ℕ_discrete}
 use Rattle.model_core.proofs.Groups.{changed, changed_else, changed_here}
 use Rattle.model_core.proofs.Lsns.{lsn_some}
-use Rattle.model_core.specs.{Actor, after_link, answered, cells_of, CellWrite, change_at, changes, Entry, entry, group_end, line, Listed, lsn, mode, page_of, page_words_at, PageWords, put_of, SharedWords, to_next_page, user_took, UserState, with_page_words}
+unfoldable use Rattle.model_core.specs.{lanes, packed}
+use Rattle.model_core.specs.{Actor, after_link, answered, cells_of, CellWrite, change_at, changes, Entry, entry, frame_bytes, frame_count, frame_word, group_end, is_whole, line, Listed, lsn, mode, page_of, next_puts, page_words_at, PageWords, put_lanes, put_of, same_word, SharedWords, stored_word, to_next_page, user_took, UserState, with_page_words, word_step}
 use Rattle.model_core.specs.DataSide.{DataSide}
 use Rattle.model_core.specs.Setup.{Setup}
-use Rattle.model_pagecore.proofs.PageHistory.{last_after, puts_snoc, take_all, take_next, whole_after}
+use Rattle.model_pagecore.proofs.FrameStores.{word_stored, writes_next}
+use Rattle.model_core.proofs.FrameWords.{Ascend, cell_at, counted_in_word, InWord, whole_word_put}
+use Rattle.model_core.proofs.Lanes.{lanes_long}
+use Rattle.model_pagecore.proofs.PageHistory.{last_after, take_all, whole_after}
 use Rattle.model_pagecore.proofs.PageStep.{at_else, at_here, cells_mine, freed_sheet, latched_sheet, leaf_step, list_at, list_step, page_quiet, work_here}
 use Rattle.model_pagecore.specs.Growing.{Grows}
 use Rattle.model_pagecore.specs.PageFacts.{PageGhost, listed}
@@ -18,7 +23,7 @@ use Rattle.model_pagecore.specs.PageHalf.{At, HasPagesInHand, IsNear, PageHalf, 
 use Rattle.model_pagecore.specs.Pages.{InListOnly, All, Before, AgreeBelow, Cells, FrameStage, Laid, Last, NewestStage, PageIs, ListingStage, IsListed, StartsAt, Agree, cells_on, none_in_hand, write_cells, touches, applied_all}
 use Rattle.model_core.specs.declared.steps.UserStep.TheVariants as user_step
 use Rattle.model_core.specs.Actors as actor
-use Rattle.model_core.specs.declared.limits.TheConstants.{CLOSED_LINKS}
+use Rattle.model_core.specs.declared.limits.TheConstants.{CLOSED_LINKS, FRAME_WORDS}
 
 module _ (E : DataSide) (c : Setup) (seat_of : ℕ → ℕ) (m : SharedWords) (log : List Entry) (stable : ℕ) (h : PageGhost) (ls : ℕ → List Listed) (d : E.Part) (actors : List Actor) (seat : ℕ) (before : PageHalf E c m log stable h ls d actors)
     (mates : (j : ℕ) (u : UserState) → get_elem? actors j ≡ some (actor.User u) → seat_of u.user ≡ j) (W : Laid (lsn c.base) (lsn m.sn) log) where
@@ -31,13 +36,20 @@ module _ (E : DataSide) (c : Setup) (seat_of : ℕ → ℕ) (m : SharedWords) (l
 
     -- with a user's place at a page's cells its next phase follows
     pub framed : (m' : SharedWords) (h' : PageGhost) (ls' : ℕ → List Listed) (w : UserState) → HasPagesInHand E c m' log h' ls' d seat w (Cells w.cell) Before AgreeBelow → IsNear E c m' log h' ls' d w → w.cell ≤ length (cells_of w)
-        → (b : Bool) → eqb w.cell (length (cells_of w)) ≡ b → UserPagesAt E c m' log h' ls' d seat w (cond b user_step.StoreNewest user_step.StoreFrame)
+        → (b : Bool) → eqb w.cell (length (cells_of w)) ≡ b → UserPagesAt E c m' log h' ls' d seat w (cond b user_step.StoreNewest (word_step (cells_of w) w.cell))
     framed m' h' ls' w o n le true e = (subst (λ (k : ℕ). HasPagesInHand E c m' log h' ls' d seat w (Cells k) Before AgreeBelow) (eqb-true w.cell (length (cells_of w)) e) o, n)
-    framed m' h' ls' w o n le false e = (o, n, (let k = eqb-false w.cell (length (cells_of w)) e in omega arith))
+    framed m' h' ls' w o n le false e = by (is_whole (cells_of w) w.cell) refl
+      where
+        less : w.cell < length (cells_of w)
+        less = let k = eqb-false w.cell (length (cells_of w)) e in omega arith
+
+        by : (whole : Bool) → is_whole (cells_of w) w.cell ≡ whole → UserPagesAt E c m' log h' ls' d seat w (cond whole user_step.StoreFrame user_step.LoadFrame)
+        by true f = (o, n, less, inr f)
+        by false f = (o, n, less)
 
     -- after its page is done it goes on to the next, or closes its group
     pub turned_fits : (m' : SharedWords) (h' : PageGhost) (ls' : ℕ → List Listed) → PagesInHand E c m' log h' ls' d seat g u.page All Last IsListed → IsNear E c m' log h' ls' d u → (b : Bool) → eqb (u.page + 1) (length (changes u)) ≡ b
-        → UserPagesAt E c m' log h' ls' d seat (to_next_page u) (cond b user_step.StoreClosedLink (cond (eqb 0 (length (change_at (changes u) (u.page + 1)).cells)) user_step.StoreNewest user_step.StoreFrame))
+        → UserPagesAt E c m' log h' ls' d seat (to_next_page u) (cond b user_step.StoreClosedLink (cond (eqb 0 (length (change_at (changes u) (u.page + 1)).cells)) user_step.StoreNewest (word_step (change_at (changes u) (u.page + 1)).cells 0)))
     turned_fits m' h' ls' o n true e = let z = eqb-true (u.page + 1) (length (changes u)) e in (next_all m' h' ls' o n.1 z, n.0, z, (let l = n.1 in omega arith))
       where
         next_all : (m' : SharedWords) (h' : PageGhost) (ls' : ℕ → List Listed) → PagesInHand E c m' log h' ls' d seat g u.page All Last IsListed → u.page < length (changes u) → u.page + 1 ≡ length (changes u) → PagesInHand E c m' log h' ls' d seat g (u.page + 1) All Last IsListed
@@ -101,43 +113,108 @@ module _ (E : DataSide) (c : Setup) (seat_of : ℕ → ℕ) (m : SharedWords) (l
     keeps_load_ctail ph = by (ltb (lsn u.start) (m.ctail + CLOSED_LINKS)) refl (subst (UserPagesAt E c m log h ls d seat u) ph own.step)
       where
         by : (b : Bool) → ltb (lsn u.start) (m.ctail + CLOSED_LINKS) ≡ b → UserPagesAt E c m log h ls d seat u user_step.LoadCtail
-            → Now m h (cond b (record u { loaded = record u.loaded { ctail = m.ctail }; step = cond (eqb u.cell (length (cells_of u))) user_step.StoreNewest user_step.StoreFrame }) (record u { loaded = record u.loaded { ctail = m.ctail }; checks = true; step = user_step.LoadCtail }))
-        by true e o = let x : UserState = record u { loaded = record u.loaded { ctail = m.ctail }; step = cond (eqb u.cell (length (cells_of u))) user_step.StoreNewest user_step.StoreFrame } in let z = o.0.2 in let y = o.0.1 in let l = o.1 in
+            → Now m h (cond b (record u { loaded = record u.loaded { ctail = m.ctail }; step = cond (eqb u.cell (length (cells_of u))) user_step.StoreNewest (word_step (cells_of u) u.cell) }) (record u { loaded = record u.loaded { ctail = m.ctail }; checks = true; step = user_step.LoadCtail }))
+        by true e o = let x : UserState = record u { loaded = record u.loaded { ctail = m.ctail }; step = cond (eqb u.cell (length (cells_of u))) user_step.StoreNewest (word_step (cells_of u) u.cell) } in let z = o.0.2 in let y = o.0.1 in let l = o.1 in
             page_quiet E c seat_of m log stable h ls d actors seat before mates (actor.User x)
             (record {
               there = own.there;
               apart = own.apart;
               within = own.within;
+              ascending = own.ascending;
+              are_bytes = own.are_bytes;
               loaded = omega arith;
               step = framed m h ls x (subst (λ (k : ℕ). HasPagesInHand E c m log h ls d seat x (Cells k) Before AgreeBelow) (sym z) o.0.0) (ltb-true (lsn u.start) (m.ctail + CLOSED_LINKS) e, (omega arith)) (omega arith) (eqb u.cell (length (cells_of u))) refl;
             })
-        by false e o = page_quiet E c seat_of m log stable h ls d actors seat before mates (actor.User (record u { loaded = record u.loaded { ctail = m.ctail }; checks = true; step = user_step.LoadCtail })) (record { there = own.there; apart = own.apart; within = own.within; loaded = omega arith; step = o })
+        by false e o = page_quiet E c seat_of m log stable h ls d actors seat before mates (actor.User (record u { loaded = record u.loaded { ctail = m.ctail }; checks = true; step = user_step.LoadCtail })) (record { there = own.there; apart = own.apart; within = own.within; ascending = own.ascending; are_bytes = own.are_bytes; loaded = omega arith; step = o })
 
-    -- it stores a cell of its page
-    pub keeps_store_frame : length m.page_words ≡ c.pages → u.step ≡ user_step.StoreFrame → Now (with_page_words m p (record w { frame = slice_set w.frame (put_of u).at (put_of u).value })) h (user_took u 0 user_step.StoreFrame)
-    keeps_store_frame long ph =
+    -- it loads the word of the next cell that it changes
+    pub keeps_load_frame : u.step ≡ user_step.LoadFrame → Now m h (user_took u (slice_index w.frame (frame_word u)) user_step.LoadFrame)
+    keeps_load_frame ph =
+        let o : UserPagesAt E c m log h ls d seat u user_step.LoadFrame = subst (UserPagesAt E c m log h ls d seat u) ph own.step in
+        let x : UserState = record u { word = slice_index w.frame (frame_word u); step = user_step.StoreFrame } in
+        page_quiet E c seat_of m log stable h ls d actors seat before mates (actor.User x)
+        (record { there = own.there; apart = own.apart; within = own.within; ascending = own.ascending; are_bytes = own.are_bytes; loaded = own.loaded; step = (o.0, o.1, o.2, inl refl) })
+
+    counted : (q : ℕ) (xs : List CellWrite) → same_word q xs ≤ length xs
+    counted q [] = omega arith
+    counted q (y ∷ ys) = few_by (eqb (y.at / 8) q) (counted q ys)
+      where
+        few_by : (b : Bool) → same_word q ys ≤ length ys → cond b (suc (same_word q ys)) 0 ≤ suc (length ys)
+        few_by true le = omega arith
+        few_by false le = omega arith
+
+    -- how many of the next cells lie in its word: at least the next one
+    counts : u.cell < length (cells_of u) → (0 < frame_count u) × (u.cell + frame_count u ≤ length (cells_of u))
+    counts lt = by (drop u.cell (cells_of u)) (length-drop u.cell (cells_of u)) (get_or-drop u.cell (cells_of u) 0 (record { at = 0; value = 0 }) ∙ ap (λ (i : ℕ). get_or (cells_of u) i (record { at = 0; value = 0 })) (let e : u.cell + 0 ≡ u.cell = omega arith in e))
+      where
+        by : (xs : List CellWrite) → length xs ≡ length (cells_of u) - u.cell → ◌≡◌ {A = CellWrite} (get_or xs 0 (record { at = 0; value = 0 })) (put_of u) → (0 < same_word (frame_word u) xs) × (u.cell + same_word (frame_word u) xs ≤ length (cells_of u))
+        by [] e f = absurd (omega arith)
+        by (y ∷ ys) e f = (some_of (eqb (y.at / 8) (frame_word u)) (eq-eqb (y.at / 8) (frame_word u) (ap (λ (z : CellWrite). z.at / 8) f)), (let k = counted (frame_word u) (y ∷ ys) in omega arith))
+          where
+            some_of : (b : Bool) → b ≡ true → 0 < cond b (suc (same_word (frame_word u) ys)) 0
+            some_of true e = omega arith
+            some_of false e = absurd (cc)
+
+    -- it stores that word
+    pub keeps_store_frame : length m.page_words ≡ c.pages → ((q : ℕ) → q < c.pages → length (page_words_at m.page_words q).frame ≡ FRAME_WORDS) → u.step ≡ user_step.StoreFrame → Now (with_page_words m p (record w { frame = slice_set w.frame (frame_word u) (stored_word u) })) h (user_took u 0 user_step.StoreFrame)
+    keeps_store_frame long sizes ph =
         let o : UserPagesAt E c m log h ls d seat u user_step.StoreFrame = subst (UserPagesAt E c m log h ls d seat u) ph own.step in
-        let work = o.0 in let near = o.1 in let lt = o.2 in
+        let work = o.0 in let near = o.1 in let lt = o.2 in let word_is = o.3 in
         let a = work.here near.1 in
-        let y = put_of u in
-        let w' : PageWords = record w { frame = slice_set w.frame y.at y.value } in
+        let n : ℕ = frame_count u in
+        let some_cells = counts lt in
+        let w' : PageWords = record w { frame = slice_set w.frame (frame_word u) (stored_word u) } in
         let b0 : List ℕ = applied_all p (take work.at log) (c.opened p).bytes in
         let cells = (mine_cells near.1).0 in
-        let old : w.frame ≡ write_cells (take u.cell (cells_of u)) b0 = a.page.frame ∙ ap (λ (l : List CellWrite). write_cells (take u.cell l) b0) cells in
-        let new : slice_set w.frame y.at y.value ≡ write_cells (take (u.cell + 1) (cells_on p (changes u))) b0 =
-        ap (λ (l : List ℕ). slice_set l y.at y.value) old ∙ sym (puts_snoc (take u.cell (cells_of u)) y b0) ∙ ap (λ (l : List CellWrite). write_cells l b0) (sym (take_next (cells_of u) u.cell (record { at = 0; value = 0 }) lt)) ∙ ap (λ (l : List CellWrite). write_cells (take (u.cell + 1) l) b0) (sym cells) in
-        let x : UserState = record u { cell = u.cell + 1; step = cond (eqb (u.cell + 1) (length (cells_of u))) user_step.StoreNewest user_step.StoreFrame } in
+        let old : frame_bytes w.frame ≡ write_cells (take u.cell (cells_of u)) b0 = a.page.frame ∙ ap (λ (l : List CellWrite). write_cells (take u.cell l) b0) cells in
+        let there : frame_word u < length w.frame = within_word (sizes p a.there) (own.within u.k u.page u.cell near.1) in
+        let in_word : InWord (frame_word u) (next_puts u) = counted_in_word (frame_word u) (drop u.cell (cells_of u)) (λ i. subst (λ (z : CellWrite). z.value < 256) (sym (get_or-drop u.cell (cells_of u) i (record { at = 0; value = 0 }))) (own.are_bytes u.k u.page (u.cell + i))) in
+        let new : frame_bytes (slice_set w.frame (frame_word u) (stored_word u)) ≡ write_cells (take (u.cell + n) (cells_on p (changes u))) b0 =
+        ap (λ (l : List ℕ). frame_bytes (slice_set w.frame (frame_word u) (packed 0 l))) (same_lanes in_word word_is)
+        ∙ word_stored w.frame (frame_word u) (next_puts u) there in_word ∙ ap (write_cells (next_puts u)) old ∙ sym (writes_next (cells_of u) u.cell n b0)
+        ∙ ap (λ (l : List CellWrite). write_cells (take (u.cell + n) l) b0) (sym cells) in
+        let x : UserState = record u { cell = u.cell + n; word = 0; step = cond (eqb (u.cell + n) (length (cells_of u))) user_step.StoreNewest (word_step (cells_of u) (u.cell + n)) } in
         let old_ok : 0 < w'.oldest → StartsAt p log w'.oldest = (before.paged.each_page p a.there).oldest in
         own_step long near.1 (Cells u.cell) Before AgreeBelow work w' a.latched old_ok (λ z. z) x
         (record {
           there = own.there;
           apart = own.apart;
           within = own.within;
+          ascending = own.ascending;
+          are_bytes = own.are_bytes;
           loaded = own.loaded;
           step = framed (with_page_words m p w') h ls x
-              (own_leaf long near.1 (Cells u.cell) Before AgreeBelow work w' a.latched old_ok (λ z. z) (Cells (u.cell + 1)) Before AgreeBelow (record { frame = new; newest = a.page.newest; listing = a.page.listing }))
-              near (omega arith) (eqb (u.cell + 1) (length (cells_of u))) refl;
+              (own_leaf long near.1 (Cells u.cell) Before AgreeBelow work w' a.latched old_ok (λ z. z) (Cells (u.cell + n)) Before AgreeBelow (record { frame = new; newest = a.page.newest; listing = a.page.listing }))
+              near some_cells.1 (eqb (u.cell + n) (length (cells_of u))) refl;
         })
+      where
+        same_lanes : InWord (frame_word u) (next_puts u) → (u.word ≡ slice_index w.frame (frame_word u)) ⊎ (is_whole (cells_of u) u.cell ≡ true) → put_lanes (next_puts u) (lanes 0 8 u.word) ≡ put_lanes (next_puts u) (lanes 0 8 (slice_index w.frame (frame_word u)))
+        same_lanes in_word = ⊎_elim (λ e. ap (λ (k : ℕ). put_lanes (next_puts u) (lanes 0 8 k)) e)
+            (λ e. whole_word_put (frame_word u) (next_puts u) (lanes 0 8 u.word) (lanes 0 8 (slice_index w.frame (frame_word u))) in_word up (eight (leb-true 8 (frame_count u) e)) (lanes_long 0 8 u.word) (lanes_long 0 8 (slice_index w.frame (frame_word u))))
+          where
+            rest : List CellWrite
+            rest = drop u.cell (cells_of u)
+
+            few : frame_count u ≤ length (drop u.cell (cells_of u))
+            few = counted (frame_word u) (drop u.cell (cells_of u))
+
+            eight : 8 ≤ frame_count u → 8 ≤ length (next_puts u)
+            eight le = let l = length-take-le (frame_count u) (drop u.cell (cells_of u)) few in omega arith
+
+            up : Ascend (next_puts u)
+            up a b lt below =
+                let l = length-take-le (frame_count u) (drop u.cell (cells_of u)) few in
+                let k = length-drop u.cell (cells_of u) in
+                let f = few in
+                let at_a : ◌≡◌ {A = CellWrite} (cell_at (next_puts u) a) (cell_at (cells_of u) (u.cell + a)) = get_or-take (frame_count u) (drop u.cell (cells_of u)) a (record { at = 0; value = 0 }) (omega arith) ∙ get_or-drop u.cell (cells_of u) a (record { at = 0; value = 0 }) in
+                let at_b : ◌≡◌ {A = CellWrite} (cell_at (next_puts u) b) (cell_at (cells_of u) (u.cell + b)) = get_or-take (frame_count u) (drop u.cell (cells_of u)) b (record { at = 0; value = 0 }) (omega arith) ∙ get_or-drop u.cell (cells_of u) b (record { at = 0; value = 0 }) in
+                let z = own.ascending u.k u.page (u.cell + a) (u.cell + b) (omega arith) (omega arith) in
+                let ea : (cell_at (next_puts u) a).at ≡ (cell_at (cells_of u) (u.cell + a)).at = ap (λ (x : CellWrite). x.at) at_a in
+                let eb : (cell_at (next_puts u) b).at ≡ (cell_at (cells_of u) (u.cell + b)).at = ap (λ (x : CellWrite). x.at) at_b in
+                omega arith
+
+        within_word : length w.frame ≡ FRAME_WORDS → (put_of u).at < 4096 → frame_word u < length w.frame
+        within_word long lt = omega arith
 
     -- it stores NEWEST
     pub keeps_store_newest : length m.page_words ≡ c.pages → u.step ≡ user_step.StoreNewest → Now (with_page_words m p (record w { newest = lsn (group_end u) })) h (user_took u 0 user_step.StoreNewest)
@@ -149,7 +226,7 @@ module _ (E : DataSide) (c : Setup) (seat_of : ℕ → ℕ) (m : SharedWords) (l
         let b0 : List ℕ = applied_all p (take work.at log) (c.opened p).bytes in
         let k = mine_cells near.1 in
         let later : (i : ℕ) (e : Entry) → get_elem? log i ≡ some e → work.at < i → touches p e.changes ≡ false = λ i e is l. work.last i e is l u.page near.1 in
-        let all : w.frame ≡ applied_all p log (c.opened p).bytes = a.page.frame ∙ ap (λ (l : List CellWrite). write_cells (take (length (cells_of u)) l) b0) k.0 ∙ ap (λ (l : List CellWrite). write_cells l b0) (take_all (cells_of u)) ∙ ap (λ (l : List CellWrite). write_cells l b0) (sym k.0)
+        let all : frame_bytes w.frame ≡ applied_all p log (c.opened p).bytes = a.page.frame ∙ ap (λ (l : List CellWrite). write_cells (take (length (cells_of u)) l) b0) k.0 ∙ ap (λ (l : List CellWrite). write_cells l b0) (take_all (cells_of u)) ∙ ap (λ (l : List CellWrite). write_cells l b0) (sym k.0)
         ∙ sym (whole_after p log work.at g (c.opened p).bytes work.is later) in
         let old_ok : 0 < w'.oldest → StartsAt p log w'.oldest = (before.paged.each_page p a.there).oldest in
         own_step long near.1 (Cells (length (cells_of u))) Before AgreeBelow work w' a.latched old_ok (λ z. z) (record u { step = user_step.LoadOldest })
@@ -157,6 +234,8 @@ module _ (E : DataSide) (c : Setup) (seat_of : ℕ → ℕ) (m : SharedWords) (l
           there = own.there;
           apart = own.apart;
           within = own.within;
+          ascending = own.ascending;
+          are_bytes = own.are_bytes;
           loaded = own.loaded;
           step = (own_leaf long near.1 (Cells (length (cells_of u))) Before AgreeBelow work w' a.latched old_ok (λ z. z) All Last AgreeBelow (record { frame = all; newest = sym (last_after p log work.at g 0 work.is k.1 later); listing = a.page.listing }), near);
         })
@@ -172,6 +251,8 @@ module _ (E : DataSide) (c : Setup) (seat_of : ℕ → ℕ) (m : SharedWords) (l
               there = own.there;
               apart = own.apart;
               within = own.within;
+              ascending = own.ascending;
+              are_bytes = own.are_bytes;
               loaded = own.loaded;
               step = (
                 record { at = o.0.at; is = o.0.is; not_closed = o.0.not_closed; last = o.0.last; before = o.0.before; here = λ l. record { there = a.there; latched = a.latched; mine = a.mine; page = record { frame = a.page.frame; newest = a.page.newest; listing = (z, (omega arith)) } }; after = o.0.after },
@@ -184,6 +265,8 @@ module _ (E : DataSide) (c : Setup) (seat_of : ℕ → ℕ) (m : SharedWords) (l
               there = own.there;
               apart = own.apart;
               within = own.within;
+              ascending = own.ascending;
+              are_bytes = own.are_bytes;
               loaded = own.loaded;
               step = turned_fits m h ls
                   (record { at = o.0.at; is = o.0.is; not_closed = o.0.not_closed; last = o.0.last; before = o.0.before; here = λ l. record { there = a.there; latched = a.latched; mine = a.mine; page = record { frame = a.page.frame; newest = a.page.newest; listing = (s0, (omega arith), (omega arith)) } }; after = o.0.after })
@@ -205,6 +288,8 @@ module _ (E : DataSide) (c : Setup) (seat_of : ℕ → ℕ) (m : SharedWords) (l
           there = own.there;
           apart = own.apart;
           within = own.within;
+          ascending = own.ascending;
+          are_bytes = own.are_bytes;
           loaded = own.loaded;
           step = (own_leaf long near.1 All Last InListOnly work w' a.latched old_ok (λ _. pos) All Last IsListed (record { frame = a.page.frame; newest = a.page.newest; listing = (sym st, (omega arith), (omega arith)) }), near, o.2);
         })
@@ -221,6 +306,8 @@ module _ (E : DataSide) (c : Setup) (seat_of : ℕ → ℕ) (m : SharedWords) (l
           there = own.there;
           apart = own.apart;
           within = own.within;
+          ascending = own.ascending;
+          are_bytes = own.are_bytes;
           loaded = own.loaded;
           step = turned_fits m' h ls
               (record { at = work.at; is = work.is; not_closed = work.not_closed; last = work.last; before = λ k a b. same _ _ All Last IsListed refl (work.before k a b); here = λ l. same _ _ All Last IsListed refl (work.here l); after = λ k a b. same _ _ (Cells 0) Before AgreeBelow refl (work.after k a b) })
@@ -252,14 +339,14 @@ module _ (E : DataSide) (c : Setup) (seat_of : ℕ → ℕ) (m : SharedWords) (l
           h',
           leaf_step E c seat_of m log stable h ls d actors seat before mates p w' holders there long (inl free) same (actor.User (user_took u 0 user_step.TakeLatch))
               (latched_sheet E c seat_of m log stable h ls d actors seat before mates p w' there refl S.oldest) (λ _ z. z) (λ _. changed_here h.holder p seat p refl)
-              (record { there = own.there; apart = own.apart; within = own.within; loaded = own.loaded; step = next (eqb (u.page + 1) (length (changes u))) refl }),
+              (record { there = own.there; apart = own.apart; within = own.within; ascending = own.ascending; are_bytes = own.are_bytes; loaded = own.loaded; step = next (eqb (u.page + 1) (length (changes u))) refl }),
           record { given = omega arith; closed = λ x z. z; holder = λ q la. same q (λ e. let one : (page_words_at m.page_words p).latch ≡ 1 = subst (λ (x : ℕ). (page_words_at m.page_words x).latch ≡ 1) e la in absurd (omega arith)) },
         )
 
     -- nothing is said of the pages of a user whose commit is answered or awaited
     pub tied_fits : (m' : SharedWords) (h' : PageGhost) (ls' : ℕ → List Listed) → u.loaded.ctail ≤ m'.ctail → (b : Bool) → eqb (mode u) 0 ≡ b → UserPageFits E c m' log h' ls' d seat (cond b (answered u) (record u { step = user_step.AwaitMark }))
-    tied_fits m' h' ls' lo false e = record { there = own.there; apart = own.apart; within = own.within; loaded = lo; step = tt }
-    tied_fits m' h' ls' lo true e = record { there = own.there; apart = own.apart; within = own.within; loaded = lo; step = by (eqb (u.k + 1) (length u.lines)) }
+    tied_fits m' h' ls' lo false e = record { there = own.there; apart = own.apart; within = own.within; ascending = own.ascending; are_bytes = own.are_bytes; loaded = lo; step = tt }
+    tied_fits m' h' ls' lo true e = record { there = own.there; apart = own.apart; within = own.within; ascending = own.ascending; are_bytes = own.are_bytes; loaded = lo; step = by (eqb (u.k + 1) (length u.lines)) }
       where
         by : (b : Bool) → UserPagesAt E c m' log h' ls' d seat (record u { k = u.k + 1; checks = cond b false true; step = cond b user_step.Done user_step.LoadCheckpoint }) (cond b user_step.Done user_step.LoadCheckpoint)
         by true = tt
@@ -282,6 +369,8 @@ module _ (E : DataSide) (c : Setup) (seat_of : ℕ → ℕ) (m : SharedWords) (l
               there = own.there;
               apart = own.apart;
               within = own.within;
+              ascending = own.ascending;
+              are_bytes = own.are_bytes;
               loaded = own.loaded;
               step = (
                 (λ k lo hi. at_else E c seat_of m log stable h ls d actors seat before mates p (record w { latch = 0 }) h.holder a.there long (inr a.mine) (λ _ _. refl) ((change_at (changes u) k).page) none_in_hand All Last Agree (λ y. own.apart u.k u.page k (omega arith) hi (sym y)) (o.0 k (omega arith) hi)),

@@ -1,8 +1,8 @@
 -- The page half of the invariant: what holds of each actor, and the whole.
-use Rattle.std.specs.Prelude.{Bool, List, [], false, get_or, length, slice_index, take, true, ℕ, ◌%◌, ◌+◌, ◌<◌, ◌≡◌, ◌≢◌, ◌≤◌}
+use Rattle.std.specs.Prelude.{Bool, List, [], false, get_or, length, slice_index, take, true, ℕ, ◌%◌, ◌+◌, ◌<◌, ◌≡◌, ◌≢◌, ◌≤◌, ◌⊎◌}
 use lib.ListN.{get_elem?}
 use mathlib.Core.Option.{some}
-use Rattle.model_core.specs.{Actor, BatchPage, cells_of, change_at, changes, CheckpointerState, CleanerState, CloserState, Entry, entry, first_of_batch, line, line_at, Listed, lsn, page_of, page_words_at, PageWords, SharedWords, UserState}
+use Rattle.model_core.specs.{Actor, BatchPage, cells_of, change_at, changes, CheckpointerState, CleanerState, CloserState, Entry, entry, first_of_batch, frame_bytes, frame_word, is_whole, line, line_at, Listed, lsn, page_of, page_words_at, PageWords, SharedWords, UserState}
 use Rattle.model_core.specs.DataSide.{DataSide}
 use Rattle.model_core.specs.Setup.{Setup}
 use Rattle.model_core.specs.declared.steps.CleanerStep.{CleanerStep}
@@ -19,7 +19,7 @@ use Rattle.model_core.specs.declared.steps.CleanerStep.TheVariants as cleaner_st
 use Rattle.model_core.specs.declared.steps.CheckpointerStep.TheVariants as checkpointer_step
 use Rattle.model_core.specs.Actors as actor
 use Rattle.model_base.specs.declared.limits.TheConstants.{BLOCK_SIZE}
-use Rattle.model_core.specs.declared.limits.TheConstants.{CLOSED_LINKS, FLUSH_LISTS, FRAME_CELLS, BATCH_PAGES}
+use Rattle.model_core.specs.declared.limits.TheConstants.{CLOSED_LINKS, FLUSH_LISTS, FRAME_CELLS, BATCH_PAGES, WORD_LANES}
 
 -- until the cleaner ends the data part hasn't failed
 abbrev pub runs : CleanerStep → Bool
@@ -87,12 +87,13 @@ module _ (E : DataSide) (c : Setup) (m : SharedWords) (log : List Entry) (h : Pa
   UserHolds seat u user_step.TakeLatch = AreHeld seat u 0 u.page × (u.page < length (changes u))
   UserHolds seat u user_step.Reserve = AreHeld seat u 0 (length (changes u))
   UserHolds seat u user_step.LoadWrite = IsFresh seat u
-  UserHolds seat u user_step.StoreCell = IsFresh seat u
+  UserHolds seat u user_step.AddCell = IsFresh seat u
   UserHolds seat u user_step.StoreFirst = IsFresh seat u
   UserHolds seat u user_step.LoadWtail = IsFresh seat u
   UserHolds seat u user_step.StoreLink = IsFresh seat u
   UserHolds seat u user_step.LoadCtail = IsFresh seat u × (0 < length (changes u))
-  UserHolds seat u user_step.StoreFrame = HasPagesInHand seat u (Cells u.cell) Before AgreeBelow × IsNear u × (u.cell < length (cells_of u))
+  UserHolds seat u user_step.LoadFrame = HasPagesInHand seat u (Cells u.cell) Before AgreeBelow × IsNear u × (u.cell < length (cells_of u))
+  UserHolds seat u user_step.StoreFrame = HasPagesInHand seat u (Cells u.cell) Before AgreeBelow × IsNear u × (u.cell < length (cells_of u)) × ((u.word ≡ slice_index (page_words_at m.page_words (page_of u)).frame (frame_word u)) ⊎ (is_whole (cells_of u) u.cell ≡ true))
   UserHolds seat u user_step.StoreNewest = HasPagesInHand seat u (Cells (length (cells_of u))) Before AgreeBelow × IsNear u
   UserHolds seat u user_step.LoadOldest = HasPagesInHand seat u All Last AgreeBelow × IsNear u
   UserHolds seat u user_step.AddToList = HasPagesInHand seat u All Last Unlisted × IsNear u
@@ -118,6 +119,8 @@ module _ (E : DataSide) (c : Setup) (m : SharedWords) (log : List Entry) (h : Pa
     pub there : (j k : ℕ) → k < length (line_at u.lines j).changes → (change_at (line_at u.lines j).changes k).page < c.pages
     pub apart : (j i k : ℕ) → i < k → k < length (line_at u.lines j).changes → (change_at (line_at u.lines j).changes i).page ≢ (change_at (line_at u.lines j).changes k).page
     pub within : (j k i : ℕ) → k < length (line_at u.lines j).changes → (get_or (change_at (line_at u.lines j).changes k).cells i (record { at = 0; value = 0 })).at < FRAME_CELLS
+    pub ascending : (j k a b : ℕ) → a < b → b < length (change_at (line_at u.lines j).changes k).cells → (get_or (change_at (line_at u.lines j).changes k).cells a (record { at = 0; value = 0 })).at < (get_or (change_at (line_at u.lines j).changes k).cells b (record { at = 0; value = 0 })).at
+    pub are_bytes : (j k i : ℕ) → (get_or (change_at (line_at u.lines j).changes k).cells i (record { at = 0; value = 0 })).value < 256
     pub loaded : u.loaded.ctail ≤ m.ctail
     pub step : UserPagesAt seat u u.step
 
@@ -134,7 +137,7 @@ module _ (E : DataSide) (c : Setup) (m : SharedWords) (log : List Entry) (h : Pa
   pub record InBatch (seat flushed : ℕ) (x : BatchPage) (t : ListingStage) : Type 0 where
     pub held : At seat x.page none_in_hand All Last t
     pub newest : x.lsn ≡ (page_words_at m.page_words x.page).newest
-    pub bytes : x.bytes ≡ (page_words_at m.page_words x.page).frame
+    pub bytes : x.bytes ≡ frame_bytes (page_words_at m.page_words x.page).frame
     pub low : x.lsn ≤ flushed
 
   abbrev pub AreIn : ℕ → ℕ → List BatchPage → ℕ → Type 0
@@ -172,7 +175,7 @@ module _ (E : DataSide) (c : Setup) (m : SharedWords) (log : List Entry) (h : Pa
   CleanerHolds seat v cleaner_step.TakeLatch = Looking seat v × (0 < (page_words_at m.page_words v.page).oldest)
   CleanerHolds seat v cleaner_step.LoadNewest = Looking seat v × HasPage seat v
   CleanerHolds seat v cleaner_step.ReleaseSkipped = Looking seat v × HasPage seat v
-  CleanerHolds seat v cleaner_step.LoadFrame = Looking seat v × HasPage seat v × (v.newest ≡ (page_words_at m.page_words v.page).newest) × (v.newest ≤ v.flushed) × (v.kept ≡ take (length v.kept) (page_words_at m.page_words v.page).frame) × (length v.kept < FRAME_CELLS)
+  CleanerHolds seat v cleaner_step.LoadFrame = Looking seat v × HasPage seat v × (v.newest ≡ (page_words_at m.page_words v.page).newest) × (v.newest ≤ v.flushed) × (v.kept ≡ take (length v.kept) (frame_bytes (page_words_at m.page_words v.page).frame)) × (length v.kept < FRAME_CELLS) × (length v.kept % WORD_LANES ≡ 0)
   CleanerHolds seat v cleaner_step.WriteBatch = AreBatch seat v 0 × (0 < length v.batch)
   CleanerHolds seat v cleaner_step.RemoveFromList = Unlisting seat v Agree × ((x : BatchPage) → get_elem? v.batch 0 ≡ some x → 0 < (page_words_at m.page_words x.page).oldest)
   CleanerHolds seat v cleaner_step.ClearOldest = Unlisting seat v InWordOnly × HasList seat (first_of_batch v % FLUSH_LISTS)

@@ -2,7 +2,7 @@
 use Rattle.std.specs.Prelude.{Bool, List, [], cond, false, nat_le, slice_set, take, true, ℕ, ◌<◌, ◌==◌, ◌∷◌, ◌≡◌, ◌≤◌, ◌⊎◌}
 use lib.ListN.{get_elem?}
 use mathlib.Core.Option.{some}
-use Rattle.model_core.specs.{CellWrite, end_of, Entry, KeptPage, lsn, PageChange, PageWords}
+use Rattle.model_core.specs.{CellWrite, end_of, Entry, frame_bytes, KeptPage, lsn, PageChange, PageWords}
 
 -- where a group starts and ends
 abbrev pub start_lsn : Entry → ℕ
@@ -56,7 +56,7 @@ pub record Laid (from top : ℕ) (log : List Entry) : Type 0 where
   pub apart : (i j : ℕ) (e f : Entry) → get_elem? log i ≡ some e → get_elem? log j ≡ some f → i < j → end_lsn e ≤ start_lsn f
   pub early : from ≤ top
 
--- stages of a page: its frame has all groups, or all before the one in hand and so many cells of that
+-- stages of a page: its frame's bytes have all groups, or all before the one in hand and so many cells of that
 pub data FrameStage : Type 0 where
   All : FrameStage
   Cells : ℕ → FrameStage
@@ -101,7 +101,7 @@ ListingIs k o l IsListed = (o ≡ l) × (0 < l) × (l ≤ k.from)
 ListingIs k o l InWordOnly = (0 < o) × (l ≡ 0)
 
 pub record PageIs (p : ℕ) (b : List ℕ) (log : List Entry) (k : GroupInHand) (w : PageWords) (l : ℕ) (f : FrameStage) (n : NewestStage) (t : ListingStage) : Type 0 where
-  pub frame : FrameIs p b log k w.frame f
+  pub frame : FrameIs p b log k (frame_bytes w.frame) f
   pub newest : NewestIs p log k w.newest n
   pub listing : ListingIs k w.oldest l t
 

@@ -77,10 +77,7 @@ module _ (D : LogSide) (E : DataSide) (c : Setup) (spare : ℕ) (m : SharedWords
   cell_small n e is k = let l = both.logged.global.tiled.lines n e is in subst (λ (cs : List PageChange). AreSmall (change_at cs k).cells) (sym l.2) (bytes.cells e.user e.k k)
 
   cleaner_can : (v : CleanerState) → (f : CleanerStep) → CleanerAt E c m g.log h ls d seat v f → cleaner_fits (old_of (shared_answer ls broken code mark m (cleaner_op v f))) f
-  cleaner_can v cleaner_step.LoadFrame at =
-      let held : At E c m g.log h ls d seat v.page none_in_hand All Last Agree = at.1.0 in
-      let frame : (page_words_at m.page_words v.page).frame ≡ applied_all v.page g.log (c.opened v.page).bytes = held.page.frame in
-      subst (λ (z : List ℕ). slice_index z (length v.kept) < 256) (sym frame) (applied_bytes v.page g.log (c.opened v.page).bytes cell_small (bytes.opened v.page) (length v.kept))
+  cleaner_can v cleaner_step.LoadFlushed at = tt
   cleaner_can v _ at = tt
 
   checking_fits : (b : Bool) (o : Op) (P : ℕ → Type 0) → P (old_of (shared_answer ls broken code mark m o)) → cond b (Unit {0}) (P (old_of (shared_answer ls broken code mark m (cond b (op.Load word.Failed) o))))

@@ -9,7 +9,7 @@ use Rattle.model_core.specs.declared.words.Word.{Word}
 use Rattle.model_core.specs.declared.words.Word.TheVariants as word
 use Rattle.model_core.specs.declared.ops.Op.TheVariants as op
 use Rattle.model_core.specs.declared.ops.Answer.TheVariants as answer
-use Rattle.model_core.specs.declared.limits.TheConstants.{BUFFER_BLOCKS, CLOSED_LINKS, FRAME_CELLS, LOG_BUFFER, WRITTEN_LINKS}
+use Rattle.model_core.specs.declared.limits.TheConstants.{BUFFER_BLOCKS, CLOSED_LINKS, FRAME_WORDS, BUFFER_WORDS, WRITTEN_LINKS}
 
 set_front : (xs ys : List ℕ) (i v : ℕ) → i < length xs → set (xs ++ ys) i v ≡ set xs i v ++ ys
 set_front [] ys i v h = absurd (omega arith)
@@ -24,13 +24,13 @@ abbrev leaf_words : PageWords → List ℕ
 leaf_words w = w.latch ∷ w.newest ∷ w.oldest ∷ w.frame
 
 -- the words of a page among those of all
-leaf_read : (ls : List PageWords) (p k : ℕ) → ((q : ℕ) → q < length ls → length (page_words_at ls q).frame ≡ FRAME_CELLS) → p < length ls → k < page_stride → slice_index (flat_page_words ls) (p * page_stride + k) ≡ slice_index (leaf_words (page_words_at ls p)) k
+leaf_read : (ls : List PageWords) (p k : ℕ) → ((q : ℕ) → q < length ls → length (page_words_at ls q).frame ≡ FRAME_WORDS) → p < length ls → k < page_stride → slice_index (flat_page_words ls) (p * page_stride + k) ≡ slice_index (leaf_words (page_words_at ls p)) k
 leaf_read [] p k sizes l lt = absurd (omega arith)
 leaf_read (w ∷ ws) zero k sizes l lt = ap (slice_index (flat_page_words (w ∷ ws))) (let e : zero * page_stride + k ≡ k = omega arith in e) ∙ front (leaf_words w) (flat_page_words ws) k (let s = sizes zero (omega arith) in omega arith)
 leaf_read (w ∷ ws) (suc p) k sizes l lt = ap (slice_index (flat_page_words (w ∷ ws))) (let e : suc p * page_stride + k ≡ page_stride + (p * page_stride + k) = omega arith in e)
     ∙ back (leaf_words w) (flat_page_words ws) page_stride (p * page_stride + k) (let s = sizes zero (omega arith) in omega arith) ∙ leaf_read ws p k (λ q z. sizes (suc q) (omega arith)) (omega arith) lt
 
-leaf_wrote : (ls : List PageWords) (p k x : ℕ) (v : PageWords) → ((q : ℕ) → q < length ls → length (page_words_at ls q).frame ≡ FRAME_CELLS) → p < length ls → k < page_stride → slice_set (leaf_words (page_words_at ls p)) k x ≡ leaf_words v → slice_set (flat_page_words ls) (p * page_stride + k) x ≡ flat_page_words (slice_set ls p v)
+leaf_wrote : (ls : List PageWords) (p k x : ℕ) (v : PageWords) → ((q : ℕ) → q < length ls → length (page_words_at ls q).frame ≡ FRAME_WORDS) → p < length ls → k < page_stride → slice_set (leaf_words (page_words_at ls p)) k x ≡ leaf_words v → slice_set (flat_page_words ls) (p * page_stride + k) x ≡ flat_page_words (slice_set ls p v)
 leaf_wrote [] p k x v sizes l lt e = absurd (omega arith)
 leaf_wrote (w ∷ ws) zero k x v sizes l lt e = ap (λ (j : ℕ). slice_set (flat_page_words (w ∷ ws)) j x) (let e : zero * page_stride + k ≡ k = omega arith in e) ∙ set_front (leaf_words w) (flat_page_words ws) k x (let s = sizes zero (omega arith) in omega arith) ∙ ap (λ z. z ++ flat_page_words ws) e
 leaf_wrote (w ∷ ws) (suc p) k x v sizes l lt e = ap (λ (j : ℕ). slice_set (flat_page_words (w ∷ ws)) j x) (let e : suc p * page_stride + k ≡ page_stride + (p * page_stride + k) = omega arith in e)
@@ -64,16 +64,16 @@ module _ (pages : ℕ) (m : SharedWords) (s : IsSized pages m) where
   to3 : (i : ℕ) → slice_index (rows m) (4 + (WRITTEN_LINKS + (CLOSED_LINKS + i))) ≡ slice_index r3 i
   to3 i = to2 (CLOSED_LINKS + i) ∙ back m.clinks r3 CLOSED_LINKS i (sym s.clinks)
 
-  to4 : (i : ℕ) → slice_index (rows m) (4 + (WRITTEN_LINKS + (CLOSED_LINKS + (LOG_BUFFER + i)))) ≡ slice_index r4 i
-  to4 i = to3 (LOG_BUFFER + i) ∙ back m.cells r4 LOG_BUFFER i (sym s.cells)
+  to4 : (i : ℕ) → slice_index (rows m) (4 + (WRITTEN_LINKS + (CLOSED_LINKS + (BUFFER_WORDS + i)))) ≡ slice_index r4 i
+  to4 i = to3 (BUFFER_WORDS + i) ∙ back m.cells r4 BUFFER_WORDS i (sym s.cells)
 
-  to5 : (i : ℕ) → slice_index (rows m) (4 + (WRITTEN_LINKS + (CLOSED_LINKS + (LOG_BUFFER + (BUFFER_BLOCKS + i))))) ≡ slice_index (flat_page_words m.page_words) i
+  to5 : (i : ℕ) → slice_index (rows m) (4 + (WRITTEN_LINKS + (CLOSED_LINKS + (BUFFER_WORDS + (BUFFER_BLOCKS + i))))) ≡ slice_index (flat_page_words m.page_words) i
   to5 i = to4 (BUFFER_BLOCKS + i) ∙ back m.firsts (flat_page_words m.page_words) BUFFER_BLOCKS i (sym s.firsts)
 
   paged_read : (k i : ℕ) → k ≡ pages_at + i → slice_index (flat m) k ≡ slice_index (flat_page_words m.page_words) i
-  paged_read k i h = past k (4 + (WRITTEN_LINKS + (CLOSED_LINKS + (LOG_BUFFER + (BUFFER_BLOCKS + i))))) (omega arith) ∙ to5 i
+  paged_read k i h = past k (4 + (WRITTEN_LINKS + (CLOSED_LINKS + (BUFFER_WORDS + (BUFFER_BLOCKS + i))))) (omega arith) ∙ to5 i
 
-  sizes : (q : ℕ) → q < length m.page_words → length (page_words_at m.page_words q).frame ≡ FRAME_CELLS
+  sizes : (q : ℕ) → q < length m.page_words → length (page_words_at m.page_words q).frame ≡ FRAME_WORDS
   sizes q l = s.frames q (let k = s.page_words in omega arith)
 
   long : (p : ℕ) → p < pages → p < length m.page_words
@@ -92,7 +92,7 @@ module _ (pages : ℕ) (m : SharedWords) (s : IsSized pages m) where
   flat_read (word.Wlink i) h = past (12 + i) (4 + i) (omega arith) ∙ to1 i ∙ front m.wlinks r2 i (omega (arith, s.wlinks))
   flat_read (word.Clink i) h = past (closed_links_at + i) (4 + (WRITTEN_LINKS + i)) (omega arith) ∙ to2 i ∙ front m.clinks r3 i (omega (arith, s.clinks))
   flat_read (word.Cell i) h = past (cells_at + i) (4 + (WRITTEN_LINKS + (CLOSED_LINKS + i))) (omega arith) ∙ to3 i ∙ front m.cells r4 i (omega (arith, s.cells))
-  flat_read (word.First i) h = past (firsts_at + i) (4 + (WRITTEN_LINKS + (CLOSED_LINKS + (LOG_BUFFER + i)))) (omega arith) ∙ to4 i ∙ front m.firsts (flat_page_words m.page_words) i (omega (arith, s.firsts))
+  flat_read (word.First i) h = past (firsts_at + i) (4 + (WRITTEN_LINKS + (CLOSED_LINKS + (BUFFER_WORDS + i)))) (omega arith) ∙ to4 i ∙ front m.firsts (flat_page_words m.page_words) i (omega (arith, s.firsts))
   flat_read (word.Latch p) h = paged_read (pages_at + p * page_stride) (p * page_stride) refl ∙ ap (slice_index (flat_page_words m.page_words)) (let e : p * page_stride ≡ p * page_stride + 0 = omega arith in e) ∙ leaf_read m.page_words p 0 sizes (long p h) (omega arith)
   flat_read (word.Newest p) h = paged_read (pages_at + (p * page_stride + 1)) (p * page_stride + 1) refl ∙ leaf_read m.page_words p 1 sizes (long p h) (omega arith)
   flat_read (word.Oldest p) h = paged_read (pages_at + (p * page_stride + 2)) (p * page_stride + 2) refl ∙ leaf_read m.page_words p 2 sizes (long p h) (omega arith)
@@ -110,14 +110,14 @@ module _ (pages : ℕ) (m : SharedWords) (s : IsSized pages m) where
   set3 : (i x : ℕ) → slice_set (rows m) (4 + (WRITTEN_LINKS + (CLOSED_LINKS + i))) x ≡ m.lists ++ (m.wlinks ++ (m.clinks ++ slice_set r3 i x))
   set3 i x = set2 (CLOSED_LINKS + i) x ∙ ap (λ z. m.lists ++ (m.wlinks ++ z)) (set_back m.clinks r3 CLOSED_LINKS i x (sym s.clinks))
 
-  set4 : (i x : ℕ) → slice_set (rows m) (4 + (WRITTEN_LINKS + (CLOSED_LINKS + (LOG_BUFFER + i)))) x ≡ m.lists ++ (m.wlinks ++ (m.clinks ++ (m.cells ++ slice_set r4 i x)))
-  set4 i x = set3 (LOG_BUFFER + i) x ∙ ap (λ z. m.lists ++ (m.wlinks ++ (m.clinks ++ z))) (set_back m.cells r4 LOG_BUFFER i x (sym s.cells))
+  set4 : (i x : ℕ) → slice_set (rows m) (4 + (WRITTEN_LINKS + (CLOSED_LINKS + (BUFFER_WORDS + i)))) x ≡ m.lists ++ (m.wlinks ++ (m.clinks ++ (m.cells ++ slice_set r4 i x)))
+  set4 i x = set3 (BUFFER_WORDS + i) x ∙ ap (λ z. m.lists ++ (m.wlinks ++ (m.clinks ++ z))) (set_back m.cells r4 BUFFER_WORDS i x (sym s.cells))
 
-  set5 : (i x : ℕ) → slice_set (rows m) (4 + (WRITTEN_LINKS + (CLOSED_LINKS + (LOG_BUFFER + (BUFFER_BLOCKS + i))))) x ≡ m.lists ++ (m.wlinks ++ (m.clinks ++ (m.cells ++ (m.firsts ++ slice_set (flat_page_words m.page_words) i x))))
+  set5 : (i x : ℕ) → slice_set (rows m) (4 + (WRITTEN_LINKS + (CLOSED_LINKS + (BUFFER_WORDS + (BUFFER_BLOCKS + i))))) x ≡ m.lists ++ (m.wlinks ++ (m.clinks ++ (m.cells ++ (m.firsts ++ slice_set (flat_page_words m.page_words) i x))))
   set5 i x = set4 (BUFFER_BLOCKS + i) x ∙ ap (λ z. m.lists ++ (m.wlinks ++ (m.clinks ++ (m.cells ++ z)))) (set_back m.firsts (flat_page_words m.page_words) BUFFER_BLOCKS i x (sym s.firsts))
 
   paged_wrote : (k p j x : ℕ) (v : PageWords) → k ≡ pages_at + (p * page_stride + j) → p < pages → j < page_stride → slice_set (leaf_words (page_words_at m.page_words p)) j x ≡ leaf_words v → slice_set (flat m) k x ≡ flat (with_page_words m p v)
-  paged_wrote k p j x v h l lt e = past_set k (4 + (WRITTEN_LINKS + (CLOSED_LINKS + (LOG_BUFFER + (BUFFER_BLOCKS + (p * page_stride + j)))))) x (omega arith) ∙ ap first_offsets (set5 (p * page_stride + j) x ∙ ap (λ z. m.lists ++ (m.wlinks ++ (m.clinks ++ (m.cells ++ (m.firsts ++ z))))) (leaf_wrote m.page_words p j x v sizes (long p l) lt e))
+  paged_wrote k p j x v h l lt e = past_set k (4 + (WRITTEN_LINKS + (CLOSED_LINKS + (BUFFER_WORDS + (BUFFER_BLOCKS + (p * page_stride + j)))))) x (omega arith) ∙ ap first_offsets (set5 (p * page_stride + j) x ∙ ap (λ z. m.lists ++ (m.wlinks ++ (m.clinks ++ (m.cells ++ (m.firsts ++ z))))) (leaf_wrote m.page_words p j x v sizes (long p l) lt e))
 
   pub flat_wrote : (w : Word) → IsWord pages w → (x : ℕ) → slice_set (flat m) (index w) x ≡ flat (wrote m w x)
   flat_wrote word.Sn h x = refl
@@ -132,7 +132,7 @@ module _ (pages : ℕ) (m : SharedWords) (s : IsSized pages m) where
   flat_wrote (word.Wlink i) h x = past_set (12 + i) (4 + i) x (omega arith) ∙ ap first_offsets (set1 i x ∙ ap (λ z. m.lists ++ z) (set_front m.wlinks r2 i x (omega (arith, s.wlinks))))
   flat_wrote (word.Clink i) h x = past_set (closed_links_at + i) (4 + (WRITTEN_LINKS + i)) x (omega arith) ∙ ap first_offsets (set2 i x ∙ ap (λ z. m.lists ++ (m.wlinks ++ z)) (set_front m.clinks r3 i x (omega (arith, s.clinks))))
   flat_wrote (word.Cell i) h x = past_set (cells_at + i) (4 + (WRITTEN_LINKS + (CLOSED_LINKS + i))) x (omega arith) ∙ ap first_offsets (set3 i x ∙ ap (λ z. m.lists ++ (m.wlinks ++ (m.clinks ++ z))) (set_front m.cells r4 i x (omega (arith, s.cells))))
-  flat_wrote (word.First i) h x = past_set (firsts_at + i) (4 + (WRITTEN_LINKS + (CLOSED_LINKS + (LOG_BUFFER + i)))) x (omega arith) ∙ ap first_offsets (set4 i x ∙ ap (λ z. m.lists ++ (m.wlinks ++ (m.clinks ++ (m.cells ++ z)))) (set_front m.firsts (flat_page_words m.page_words) i x (omega (arith, s.firsts))))
+  flat_wrote (word.First i) h x = past_set (firsts_at + i) (4 + (WRITTEN_LINKS + (CLOSED_LINKS + (BUFFER_WORDS + i)))) x (omega arith) ∙ ap first_offsets (set4 i x ∙ ap (λ z. m.lists ++ (m.wlinks ++ (m.clinks ++ (m.cells ++ z)))) (set_front m.firsts (flat_page_words m.page_words) i x (omega (arith, s.firsts))))
   flat_wrote (word.Latch p) h x = paged_wrote (pages_at + p * page_stride) p 0 x (record (page_words_at m.page_words p) { latch = x }) (omega arith) h (omega arith) refl
   flat_wrote (word.Newest p) h x = paged_wrote (pages_at + (p * page_stride + 1)) p 1 x (record (page_words_at m.page_words p) { newest = x }) refl h (omega arith) refl
   flat_wrote (word.Oldest p) h x = paged_wrote (pages_at + (p * page_stride + 2)) p 2 x (record (page_words_at m.page_words p) { oldest = x }) refl h (omega arith) refl

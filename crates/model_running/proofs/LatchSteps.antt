@@ -4,7 +4,8 @@ use lib.ListN.{get_elem?}
 use mathlib.Core.Option.{some, some-injective, some-ne-none}
 use native.Mathlib.Decide.{ℕ_discrete}
 use Rattle.model_core.proofs.Lists.{at_last, at_longer}
-use Rattle.model_core.specs.{after_link, BatchPage, can_close, can_link, cells_of, change_at, changes, cleaner_checked, cleaner_took, CleanerState, end_round, first_of_batch, group_bytes, group_end, has_room, has_taken, next_in_round, old_of, page_loaded, page_of, to_next_page, user_checked, user_took, UserState}
+unfoldable use Rattle.model_core.specs.{lanes}
+use Rattle.model_core.specs.{after_link, BatchPage, can_close, can_link, cells_of, change_at, changes, cleaner_checked, cleaner_took, CleanerState, end_round, first_of_batch, frame_count, group_bytes, is_whole, word_step, group_end, has_room, has_taken, next_count, next_in_round, old_of, page_loaded, page_of, to_next_page, user_checked, user_took, UserState}
 use Rattle.model_core.specs.declared.limits.TheConstants.{BATCH_PAGES, FRAME_CELLS}
 use Rattle.model_core.specs.declared.ops.Answer.{Answer}
 use Rattle.model_core.specs.declared.steps.CleanerStep.{CleanerStep}
@@ -37,8 +38,8 @@ module _ (u : UserState) (p : ℕ) where
   IsOwn = IsAmong (changes u) 0 (length (changes u)) p
 
   turns : IsOwn → UserHas (to_next_page u)
-  turns own = pick (to_next_page u) (eqb (u.page + 1) (length (changes u))) user_step.StoreClosedLink (cond (eqb 0 (length (change_at (changes u) (u.page + 1)).cells)) user_step.StoreNewest user_step.StoreFrame) (inr own)
-      (pick (to_next_page u) (eqb 0 (length (change_at (changes u) (u.page + 1)).cells)) user_step.StoreNewest user_step.StoreFrame (inr own) (inr own))
+  turns own = pick (to_next_page u) (eqb (u.page + 1) (length (changes u))) user_step.StoreClosedLink (cond (eqb 0 (length (change_at (changes u) (u.page + 1)).cells)) user_step.StoreNewest (word_step (change_at (changes u) (u.page + 1)).cells 0)) (inr own)
+      (pick (to_next_page u) (eqb 0 (length (change_at (changes u) (u.page + 1)).cells)) user_step.StoreNewest (word_step (change_at (changes u) (u.page + 1)).cells 0) (inr own) (pick (to_next_page u) (is_whole (change_at (changes u) (u.page + 1)).cells 0) user_step.StoreFrame user_step.LoadFrame (inr own) (inr own)))
 
   -- it takes the latch of its page: it holds that one, and those that it held
   pub latch_taken : (b : Bool) → eqb (u.page + 1) (length (changes u)) ≡ b → IsAmong (changes u) 0 (u.page + 1) p → UserHas (record u { page = u.page + 1; step = cond b user_step.Reserve user_step.TakeLatch })
@@ -67,17 +68,18 @@ module _ (u : UserState) (p : ℕ) where
   user_goes n user_step.TakeLatch other held = user_either (eqb n 0) (record u { page = u.page + 1; step = cond (eqb (u.page + 1) (length (changes u))) user_step.Reserve user_step.TakeLatch }) (record u { checks = true; step = user_step.TakeLatch })
       (latch_taken (eqb (u.page + 1) (length (changes u))) refl (held.0, held.1, (let l = held.2 in omega arith), held.3)) (inr held)
   user_goes n user_step.Reserve other held = inr held
-  user_goes n user_step.LoadWrite other held = user_either (has_room u n) (record u { loaded = record u.loaded { write = n }; step = user_step.StoreCell }) (record u { loaded = record u.loaded { write = n }; checks = true; step = user_step.LoadWrite }) (inr held) (inr held)
-  user_goes n user_step.StoreCell other held =
-      let x : UserState = user_took u n user_step.StoreCell in
-      pick x (eqb (u.copied + 1) (length (group_bytes u))) (cond (ltb (u.start / BLOCK_DATA) (group_end u / BLOCK_DATA)) user_step.StoreFirst user_step.LoadWtail) user_step.StoreCell (pick x (ltb (u.start / BLOCK_DATA) (group_end u / BLOCK_DATA)) user_step.StoreFirst user_step.LoadWtail (inr held) (inr held)) (inr held)
+  user_goes n user_step.LoadWrite other held = user_either (has_room u n) (record u { loaded = record u.loaded { write = n }; step = user_step.AddCell }) (record u { loaded = record u.loaded { write = n }; checks = true; step = user_step.LoadWrite }) (inr held) (inr held)
+  user_goes n user_step.AddCell other held =
+      let x : UserState = user_took u n user_step.AddCell in
+      pick x (eqb (u.copied + next_count u) (length (group_bytes u))) (cond (ltb (u.start / BLOCK_DATA) (group_end u / BLOCK_DATA)) user_step.StoreFirst user_step.LoadWtail) user_step.AddCell (pick x (ltb (u.start / BLOCK_DATA) (group_end u / BLOCK_DATA)) user_step.StoreFirst user_step.LoadWtail (inr held) (inr held)) (inr held)
   user_goes n user_step.StoreFirst other held = inr held
   user_goes n user_step.LoadWtail other held = user_either (can_link u n) (record u { loaded = record u.loaded { wtail = n }; step = user_step.StoreLink }) (record u { loaded = record u.loaded { wtail = n }; checks = true; step = user_step.LoadWtail }) (inr held) (inr held)
   user_goes n user_step.StoreLink other held = linked (eqb (length (changes u)) 0) refl held
   user_goes n user_step.LoadCtail other held =
-      let x : UserState = record u { loaded = record u.loaded { ctail = n }; step = cond (eqb u.cell (length (cells_of u))) user_step.StoreNewest user_step.StoreFrame } in
-      user_either (can_close u n) x (record u { loaded = record u.loaded { ctail = n }; checks = true; step = user_step.LoadCtail }) (pick x (eqb u.cell (length (cells_of u))) user_step.StoreNewest user_step.StoreFrame (inr held) (inr held)) (inr held)
-  user_goes n user_step.StoreFrame other held = pick (user_took u n user_step.StoreFrame) (eqb (u.cell + 1) (length (cells_of u))) user_step.StoreNewest user_step.StoreFrame (inr held) (inr held)
+      let x : UserState = record u { loaded = record u.loaded { ctail = n }; step = cond (eqb u.cell (length (cells_of u))) user_step.StoreNewest (word_step (cells_of u) u.cell) } in
+      user_either (can_close u n) x (record u { loaded = record u.loaded { ctail = n }; checks = true; step = user_step.LoadCtail }) (pick x (eqb u.cell (length (cells_of u))) user_step.StoreNewest (word_step (cells_of u) u.cell) (inr held) (pick x (is_whole (cells_of u) u.cell) user_step.StoreFrame user_step.LoadFrame (inr held) (inr held))) (inr held)
+  user_goes n user_step.LoadFrame other held = inr held
+  user_goes n user_step.StoreFrame other held = pick (user_took u n user_step.StoreFrame) (eqb (u.cell + frame_count u) (length (cells_of u))) user_step.StoreNewest (word_step (cells_of u) (u.cell + frame_count u)) (inr held) (pick (user_took u n user_step.StoreFrame) (is_whole (cells_of u) (u.cell + frame_count u)) user_step.StoreFrame user_step.LoadFrame (inr held) (inr held))
   user_goes n user_step.StoreNewest other held = inr held
   user_goes n user_step.LoadOldest other held = user_either (eqb n 0) (record u { step = user_step.AddToList }) (to_next_page u) (inr held) (turns held)
   user_goes n user_step.AddToList other held = pick (user_took u n user_step.AddToList) (eqb n 0) user_step.StoreOldest user_step.AddToList (inr held) (inr held)
@@ -153,7 +155,7 @@ module _ (v : CleanerState) (p : ℕ) where
   cleaner_goes r cleaner_step.ReleaseSkipped skipped released held = ⊎_elim (λ here. absurd (skipped refl here)) (λ z. goes_on v z) held
   cleaner_goes r cleaner_step.LoadFrame skipped released held =
       let x : CleanerState = record v { batch = v.batch ++ page_loaded v (old_of r) ∷ [] } in
-      cleaner_either (eqb (length v.kept + 1) FRAME_CELLS) (next_in_round x) (record v { kept = v.kept ++ old_of r ∷ []; step = cleaner_step.LoadFrame }) (goes_on x (enters (page_loaded v (old_of r)) refl held)) (inr held)
+      cleaner_either (eqb (length v.kept + 8) FRAME_CELLS) (next_in_round x) (record v { kept = v.kept ++ lanes 0 8 (old_of r); step = cleaner_step.LoadFrame }) (goes_on x (enters (page_loaded v (old_of r)) refl held)) (inr held)
   cleaner_goes r cleaner_step.WriteBatch skipped released held = called r held
   cleaner_goes r cleaner_step.RemoveFromList skipped released held = cleaner_either (has_taken r) (record v { step = cleaner_step.ClearOldest }) (record v { checks = true; step = cleaner_step.RemoveFromList }) (inr held) (inr held)
   cleaner_goes r cleaner_step.ClearOldest skipped released held = inr held

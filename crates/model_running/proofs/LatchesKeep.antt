@@ -5,7 +5,7 @@ use lib.ListN.{get_elem?}
 use mathlib.Core.Option.{some, some-injective}
 use native.Mathlib.Decide.{ℕ_discrete}
 use Rattle.model_core.proofs.Lists.{set_else}
-use Rattle.model_core.specs.{Actor, blank_words, changes, checkpointer_op, CheckpointerState, cleaner_checked, cleaner_op, cleaner_took, CleanerState, closer_op, CloserState, Entry, first_of_batch, flusher_op, FlusherState, group_end, heard, Listed, lsn, next, next_in_round, old_of, page_of, page_words_at, PageWords, put_of, shared_answer, shared_left, SharedWords, took, user_checked, user_op, user_took, UserState, with_page_words, writer_op, WriterState}
+use Rattle.model_core.specs.{Actor, blank_words, changes, checkpointer_op, CheckpointerState, cleaner_checked, cleaner_op, cleaner_took, CleanerState, closer_op, CloserState, Entry, first_of_batch, frame_word, flusher_op, FlusherState, group_end, heard, Listed, lsn, next, next_in_round, old_of, page_of, page_words_at, PageWords, stored_word, shared_answer, shared_left, SharedWords, took, user_checked, user_op, user_took, UserState, with_page_words, writer_op, WriterState}
 use Rattle.model_core.specs.DataSide.{DataSide}
 use Rattle.model_core.specs.LogSide.{LogSide}
 use Rattle.model_core.specs.Setup.{Setup}
@@ -170,7 +170,7 @@ module _ (D : LogSide) (E : DataSide) (c : Setup) (spare : ℕ) (m : SharedWords
 
       user_keeps : (f : UserStep) → u.step ≡ f → UserPageFits E c (shared_left m (user_op u f)) l k ls' e seat (user_after f) → UserKept (shared_left m (user_op u f)) (user_after f)
       user_keeps user_step.TakeLatch is fits = take_by l ls' e is (eqb here.latch 0) fits
-      user_keeps user_step.StoreFrame is fits = user_stores (page_of u) (record here { frame = slice_set here.frame (put_of u).at (put_of u).value }) 0 user_step.StoreFrame is (λ z. absurd (cc)) refl
+      user_keeps user_step.StoreFrame is fits = user_stores (page_of u) (record here { frame = slice_set here.frame (frame_word u) (stored_word u) }) 0 user_step.StoreFrame is (λ z. absurd (cc)) refl
       user_keeps user_step.StoreNewest is fits = user_stores (page_of u) (record here { newest = lsn (group_end u) }) 0 user_step.StoreNewest is (λ z. absurd (cc)) refl
       user_keeps user_step.StoreOldest is fits = user_stores (page_of u) (record here { oldest = lsn u.start }) 0 user_step.StoreOldest is (λ z. absurd (cc)) refl
       user_keeps user_step.AddToList is fits = let i : ℕ = page_of u % 4 in

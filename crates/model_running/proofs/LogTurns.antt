@@ -42,6 +42,7 @@ module _ (D : LogSide) (L : LogLaws D) (E : DataSide) (c : Setup) (spare : ℕ) 
   writer_page s writer_step.LoadFirst x k after ge v = pass both seat _ (actor.Writer x) k after ge refl refl refl refl refl (omega arith) tt v
   writer_page s writer_step.ClearFirst x k after ge v = pass both seat _ (actor.Writer x) k after ge refl refl refl refl refl (omega arith) tt v
   writer_page s writer_step.LoadCell x k after ge v = pass both seat _ (actor.Writer x) k after ge refl refl refl refl refl (omega arith) tt v
+  writer_page s writer_step.ClearCell x k after ge v = pass both seat _ (actor.Writer x) k after ge refl refl refl refl refl (omega arith) tt v
   writer_page s writer_step.GiveBroken x k after ge v = pass both seat _ (actor.Writer x) k after ge refl refl refl refl refl (omega arith) tt v
   writer_page s writer_step.WriteTo x k after ge v = pass both seat _ (actor.Writer x) k after ge refl refl refl refl refl (omega arith) tt v
   writer_page s writer_step.StoreWrite x k after ge v = pass both seat _ (actor.Writer x) k after ge refl refl refl refl refl (omega arith) tt v

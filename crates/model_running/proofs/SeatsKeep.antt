@@ -1,7 +1,7 @@
 -- Each turn leaves each actor in its seat.
 use Rattle.std.proofs.Common.{Bool, List, [], ap, arith, cond, false, inl, inr, length, map, refl, set, subst, suc, sym, true, zero, ℕ, ⊎_elim, ◌++◌, ◌+◌, ◌<◌, ◌==◌, ◌∙◌, ◌∷◌, ◌≡◌, ◌⊎◌}
 use lib.ListN.{get_elem?}
-use Rattle.model_core.specs.{Actor, after_link, answered, can_close, can_link, cells_of, changes, checkpointer_checked, checkpointer_took, cleaner_checked, cleaner_took, closer_checked, closer_took, Core, flusher_checked, flusher_took, FlusherState, has_passed, has_room, has_space, heard, mode, old_of, to_next_page, took, user_checked, user_took, UserState, with_mark, writer_checked, writer_took, WriterState}
+use Rattle.model_core.specs.{Actor, after_link, answered, can_close, can_link, cells_of, changes, checkpointer_checked, checkpointer_took, cleaner_checked, cleaner_took, closer_checked, closer_took, Core, flusher_checked, flusher_took, FlusherState, has_passed, has_room, has_space, heard, mode, old_of, to_next_page, took, user_checked, user_took, UserState, with_mark, word_step, writer_checked, writer_took, WriterState}
 use Rattle.model_core.specs.DataSide.{DataSide}
 use Rattle.model_core.specs.LogSide.{LogSide}
 use Rattle.model_core.specs.Setup.{Setup}
@@ -36,10 +36,10 @@ link_same u = user_by (mode u == 0) (answered u) (record u { step = user_step.Aw
 took_same : (u : UserState) (n : ℕ) (f : UserStep) → (user_took u n f).user ≡ u.user
 took_same u n user_step.LoadSn = user_by (has_space u n) (record u { page = 0; cell = 0; step = cond (length (changes u) == 0) user_step.Reserve user_step.TakeLatch }) (record u { checks = true; step = user_step.LoadCheckpoint }) u.user refl refl
 took_same u n user_step.TakeLatch = user_by (n == 0) (record u { page = u.page + 1; step = cond (u.page + 1 == length (changes u)) user_step.Reserve user_step.TakeLatch }) (record u { checks = true; step = user_step.TakeLatch }) u.user refl refl
-took_same u n user_step.LoadWrite = user_by (has_room u n) (record u { loaded = record u.loaded { write = n }; step = user_step.StoreCell }) (record u { loaded = record u.loaded { write = n }; checks = true; step = user_step.LoadWrite }) u.user refl refl
+took_same u n user_step.LoadWrite = user_by (has_room u n) (record u { loaded = record u.loaded { write = n }; step = user_step.AddCell }) (record u { loaded = record u.loaded { write = n }; checks = true; step = user_step.LoadWrite }) u.user refl refl
 took_same u n user_step.LoadWtail = user_by (can_link u n) (record u { loaded = record u.loaded { wtail = n }; step = user_step.StoreLink }) (record u { loaded = record u.loaded { wtail = n }; checks = true; step = user_step.LoadWtail }) u.user refl refl
 took_same u n user_step.StoreLink = user_by (length (changes u) == 0) (after_link u) (record u { step = user_step.LoadCtail }) u.user (link_same u) refl
-took_same u n user_step.LoadCtail = user_by (can_close u n) (record u { loaded = record u.loaded { ctail = n }; step = cond (u.cell == length (cells_of u)) user_step.StoreNewest user_step.StoreFrame }) (record u { loaded = record u.loaded { ctail = n }; checks = true; step = user_step.LoadCtail }) u.user refl refl
+took_same u n user_step.LoadCtail = user_by (can_close u n) (record u { loaded = record u.loaded { ctail = n }; step = cond (u.cell == length (cells_of u)) user_step.StoreNewest (word_step (cells_of u) u.cell) }) (record u { loaded = record u.loaded { ctail = n }; checks = true; step = user_step.LoadCtail }) u.user refl refl
 took_same u n user_step.LoadOldest = user_by (n == 0) (record u { step = user_step.AddToList }) (to_next_page u) u.user refl refl
 took_same u n user_step.ReleaseLatch = user_by (u.page + 1 == length (changes u)) (after_link u) (record u { page = u.page + 1; step = user_step.ReleaseLatch }) u.user (link_same u) refl
 took_same u n user_step.AwaitMark = user_by (has_passed u n) (answered (record u { loaded = with_mark u n })) (record u { loaded = with_mark u n; checks = true; step = user_step.AwaitMark }) u.user refl refl

@@ -34,7 +34,7 @@ use Rattle.model_core.specs.declared.steps.FlusherStep.TheVariants as flusher_st
 
 module _ (D : LogSide) (E : DataSide) (c : Setup) (spare : ℕ) (m : SharedWords) (g : LogGhost) (h : PageGhost) (ls : ℕ → List Listed) (p : D.Part) (d : E.Part) (actors : List Actor) (seat : ℕ) (both : BothHalves D E c spare m g h ls p d actors) where
   user_words : (u : UserState) → UserPageFits E c m g.log h ls d seat u → (f : UserStep) → UserPagesAt E c m g.log h ls d seat u f → OpWords c.pages (user_op u f)
-  user_words u F user_step.StoreCell o = omega arith
+  user_words u F user_step.AddCell o = omega arith
   user_words u F user_step.StoreFirst o = omega arith
   user_words u F user_step.StoreLink o = omega arith
   user_words u F user_step.AwaitMark o = by (eqb (mode u) 1)
@@ -43,7 +43,8 @@ module _ (D : LogSide) (E : DataSide) (c : Setup) (spare : ℕ) (m : SharedWords
       by true = tt
       by false = tt
   user_words u F user_step.TakeLatch o = F.there u.k u.page o.1
-  user_words u F user_step.StoreFrame o = (F.there u.k u.page o.1.1, F.within u.k u.page u.cell o.1.1)
+  user_words u F user_step.LoadFrame o = (F.there u.k u.page o.1.1, (let w = F.within u.k u.page u.cell o.1.1 in omega arith))
+  user_words u F user_step.StoreFrame o = (F.there u.k u.page o.1.1, (let w = F.within u.k u.page u.cell o.1.1 in omega arith))
   user_words u F user_step.StoreNewest o = F.there u.k u.page o.1.1
   user_words u F user_step.LoadOldest o = F.there u.k u.page o.1.1
   user_words u F user_step.StoreOldest o = F.there u.k u.page o.1.1
@@ -66,6 +67,7 @@ module _ (D : LogSide) (E : DataSide) (c : Setup) (spare : ℕ) (m : SharedWords
   writer_words s writer_step.LoadFirst = omega arith
   writer_words s writer_step.ClearFirst = omega arith
   writer_words s writer_step.LoadCell = omega arith
+  writer_words s writer_step.ClearCell = omega arith
   writer_words s _ = tt
 
   flusher_words : (f : FlusherState) (w : FlusherStep) → OpWords c.pages (flusher_op f w)
@@ -90,7 +92,7 @@ module _ (D : LogSide) (E : DataSide) (c : Setup) (spare : ℕ) (m : SharedWords
   cleaner_words x l cleaner_step.TakeLatch o = l
   cleaner_words x l cleaner_step.LoadNewest o = l
   cleaner_words x l cleaner_step.ReleaseSkipped o = l
-  cleaner_words x l cleaner_step.LoadFrame o = (l, o.5)
+  cleaner_words x l cleaner_step.LoadFrame o = (l, (let k = o.5 in omega arith))
   cleaner_words x l cleaner_step.WriteBatch o = tt
   cleaner_words x l cleaner_step.RemoveFromList o = tt
   cleaner_words x l cleaner_step.ClearOldest o = fore x InWordOnly o.0

@@ -3,7 +3,7 @@ use Rattle.std.proofs.Common.{Bool, List, arith, cond, eqb, eqb-true, false, len
 use lib.ListN.{get_elem?}
 use mathlib.Core.Option.{some}
 use native.Mathlib.Decide.{ℕ_discrete}
-use Rattle.model_core.specs.{after_link, answered, can_close, can_link, cells_of, change_at, changes, Entry, entry, group_bytes, group_end, has_passed, has_room, has_space, line, LoadedMarks, mode, to_next_page, user_checked, user_took, UserState, with_mark}
+use Rattle.model_core.specs.{after_link, answered, can_close, can_link, cells_of, change_at, changes, Entry, entry, frame_count, group_bytes, is_whole, word_step, group_end, has_passed, has_room, has_space, line, LoadedMarks, mode, next_count, to_next_page, user_checked, user_took, UserState, with_mark}
 use Rattle.model_core.specs.Setup.{Setup}
 use Rattle.model_core.specs.declared.steps.UserStep.{UserStep}
 use Rattle.model_log.specs.declared.layout.TheConstants.{BLOCK_DATA}
@@ -51,8 +51,8 @@ module _ (c : Setup) (sn : ℕ) (log : List Entry) (place : ℕ → Place) (tile
 
   turns : UserClosed log later (to_next_page u)
   turns = keep (to_next_page u) refl refl
-      (pick (HandIsClosed later (to_next_page u)) (eqb (u.page + 1) (length (changes u))) user_step.StoreClosedLink (cond (eqb 0 (length (change_at (changes u) (u.page + 1)).cells)) user_step.StoreNewest user_step.StoreFrame) tt
-      (pick (HandIsClosed later (to_next_page u)) (eqb 0 (length (change_at (changes u) (u.page + 1)).cells)) user_step.StoreNewest user_step.StoreFrame tt tt))
+      (pick (HandIsClosed later (to_next_page u)) (eqb (u.page + 1) (length (changes u))) user_step.StoreClosedLink (cond (eqb 0 (length (change_at (changes u) (u.page + 1)).cells)) user_step.StoreNewest (word_step (change_at (changes u) (u.page + 1)).cells 0)) tt
+      (pick (HandIsClosed later (to_next_page u)) (eqb 0 (length (change_at (changes u) (u.page + 1)).cells)) user_step.StoreNewest (word_step (change_at (changes u) (u.page + 1)).cells 0) tt (pick (HandIsClosed later (to_next_page u)) (is_whole (change_at (changes u) (u.page + 1)).cells 0) user_step.StoreFrame user_step.LoadFrame tt tt)))
 
   -- of a step whose group is in the log, where it is; what is closed by the store of its link
   abbrev pub Needs : UserStep → Type 0
@@ -78,22 +78,23 @@ module _ (c : Setup) (sn : ℕ) (log : List Entry) (place : ℕ → Place) (tile
       either (eqb n 0) w (record u { checks = true; step = user_step.TakeLatch })
       (keep w refl refl (pick (HandIsClosed later w) (eqb (u.page + 1) (length (changes u))) user_step.Reserve user_step.TakeLatch tt tt)) (keep (record u { checks = true; step = user_step.TakeLatch }) refl refl tt)
   closes n user_step.Reserve is not hand needs = absurd (not refl)
-  closes n user_step.LoadWrite is not hand needs = either (has_room u n) (record u { loaded = record u.loaded { write = n }; step = user_step.StoreCell }) (record u { loaded = record u.loaded { write = n }; checks = true; step = user_step.LoadWrite })
-      (keep (record u { loaded = record u.loaded { write = n }; step = user_step.StoreCell }) refl refl tt) (keep (record u { loaded = record u.loaded { write = n }; checks = true; step = user_step.LoadWrite }) refl refl tt)
-  closes n user_step.StoreCell is not hand needs =
-      let w : UserState = user_took u n user_step.StoreCell in
-      keep w refl refl (pick (HandIsClosed later w) (eqb (u.copied + 1) (length (group_bytes u))) (cond (ltb (u.start / BLOCK_DATA) (group_end u / BLOCK_DATA)) user_step.StoreFirst user_step.LoadWtail) user_step.StoreCell (pick (HandIsClosed later w) (ltb (u.start / BLOCK_DATA) (group_end u / BLOCK_DATA)) user_step.StoreFirst user_step.LoadWtail tt tt) tt)
+  closes n user_step.LoadWrite is not hand needs = either (has_room u n) (record u { loaded = record u.loaded { write = n }; step = user_step.AddCell }) (record u { loaded = record u.loaded { write = n }; checks = true; step = user_step.LoadWrite })
+      (keep (record u { loaded = record u.loaded { write = n }; step = user_step.AddCell }) refl refl tt) (keep (record u { loaded = record u.loaded { write = n }; checks = true; step = user_step.LoadWrite }) refl refl tt)
+  closes n user_step.AddCell is not hand needs =
+      let w : UserState = user_took u n user_step.AddCell in
+      keep w refl refl (pick (HandIsClosed later w) (eqb (u.copied + next_count u) (length (group_bytes u))) (cond (ltb (u.start / BLOCK_DATA) (group_end u / BLOCK_DATA)) user_step.StoreFirst user_step.LoadWtail) user_step.AddCell (pick (HandIsClosed later w) (ltb (u.start / BLOCK_DATA) (group_end u / BLOCK_DATA)) user_step.StoreFirst user_step.LoadWtail tt tt) tt)
   closes n user_step.StoreFirst is not hand needs = keep (user_took u n user_step.StoreFirst) refl refl tt
   closes n user_step.LoadWtail is not hand needs = either (can_link u n) (record u { loaded = record u.loaded { wtail = n }; step = user_step.StoreLink }) (record u { loaded = record u.loaded { wtail = n }; checks = true; step = user_step.LoadWtail })
       (keep (record u { loaded = record u.loaded { wtail = n }; step = user_step.StoreLink }) refl refl tt) (keep (record u { loaded = record u.loaded { wtail = n }; checks = true; step = user_step.LoadWtail }) refl refl tt)
   closes n user_step.StoreLink is not hand needs = no_pages (eqb (length (changes u)) 0) refl needs
   closes n user_step.LoadCtail is not hand needs =
-      let w : UserState = record u { loaded = record u.loaded { ctail = n }; step = cond (eqb u.cell (length (cells_of u))) user_step.StoreNewest user_step.StoreFrame } in
+      let w : UserState = record u { loaded = record u.loaded { ctail = n }; step = cond (eqb u.cell (length (cells_of u))) user_step.StoreNewest (word_step (cells_of u) u.cell) } in
       either (can_close u n) w (record u { loaded = record u.loaded { ctail = n }; checks = true; step = user_step.LoadCtail })
-      (keep w refl refl (pick (HandIsClosed later w) (eqb u.cell (length (cells_of u))) user_step.StoreNewest user_step.StoreFrame tt tt)) (keep (record u { loaded = record u.loaded { ctail = n }; checks = true; step = user_step.LoadCtail }) refl refl tt)
+      (keep w refl refl (pick (HandIsClosed later w) (eqb u.cell (length (cells_of u))) user_step.StoreNewest (word_step (cells_of u) u.cell) tt (pick (HandIsClosed later w) (is_whole (cells_of u) u.cell) user_step.StoreFrame user_step.LoadFrame tt tt))) (keep (record u { loaded = record u.loaded { ctail = n }; checks = true; step = user_step.LoadCtail }) refl refl tt)
+  closes n user_step.LoadFrame is not hand needs = keep (user_took u n user_step.LoadFrame) refl refl tt
   closes n user_step.StoreFrame is not hand needs =
       let w : UserState = user_took u n user_step.StoreFrame in
-      keep w refl refl (pick (HandIsClosed later w) (eqb (u.cell + 1) (length (cells_of u))) user_step.StoreNewest user_step.StoreFrame tt tt)
+      keep w refl refl (pick (HandIsClosed later w) (eqb (u.cell + frame_count u) (length (cells_of u))) user_step.StoreNewest (word_step (cells_of u) (u.cell + frame_count u)) tt (pick (HandIsClosed later w) (is_whole (cells_of u) (u.cell + frame_count u)) user_step.StoreFrame user_step.LoadFrame tt tt))
   closes n user_step.StoreNewest is not hand needs = keep (user_took u n user_step.StoreNewest) refl refl tt
   closes n user_step.LoadOldest is not hand needs = either (eqb n 0) (record u { step = user_step.AddToList }) (to_next_page u) (keep (record u { step = user_step.AddToList }) refl refl tt) turns
   closes n user_step.AddToList is not hand needs =

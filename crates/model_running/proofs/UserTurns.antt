@@ -4,7 +4,8 @@ use Rattle.std.proofs.lemmas.Bool.{eqb-false}
 use Rattle.std.specs.Prelude.{None, nat_le, slice_index, slice_set}
 use lib.ListN.{get_elem?}
 use mathlib.Core.Option.{some}
-use Rattle.model_core.specs.{Actor, after_link, answered, changes, checked, DataServed, Entry, floor, found, group_bytes, group_end, heard, joined, Listed, lists_left, LogServed, lsn, mode, Nothing, old_of, own_took, page_of, page_words_at, phase_log, shared_answer, shared_left, SharedWords, user_op, user_took, UserState, with_mark, with_page_words}
+unfoldable use Rattle.model_core.specs.{packed}
+use Rattle.model_core.specs.{Actor, after_link, answered, cell_of, changes, copy_place, lane_of, next_bytes, next_count, checked, DataServed, Entry, floor, found, group_bytes, group_end, heard, joined, Listed, lists_left, LogServed, lsn, mode, Nothing, old_of, own_took, page_of, page_words_at, phase_log, shared_answer, shared_left, SharedWords, user_op, user_took, UserState, with_mark, with_page_words}
 use Rattle.model_core.specs.DataSide.{DataSide}
 use Rattle.model_core.specs.LogSide.{LogSide}
 use Rattle.model_core.specs.Setup.{Setup}
@@ -14,7 +15,7 @@ use Rattle.model_pagecore.proofs.ClosingSteps.{keeps_close}
 use Rattle.model_pagecore.proofs.ListSteps.{keeps_add}
 use Rattle.model_pagecore.proofs.Holders.{user_still_holds}
 use Rattle.model_pagecore.proofs.PageStep.{page_quiet}
-use Rattle.model_pagecore.proofs.UserPageSteps.{keeps_store_frame, keeps_release_latch, keeps_give_list, keeps_take_latch, keeps_store_newest, keeps_load_oldest, keeps_store_oldest, keeps_load_ctail, tied_fits}
+use Rattle.model_pagecore.proofs.UserPageSteps.{keeps_store_frame, keeps_release_latch, keeps_give_list, keeps_take_latch, keeps_store_newest, keeps_load_oldest, keeps_store_oldest, keeps_load_ctail, keeps_load_frame, tied_fits}
 use Rattle.model_pagecore.proofs.ReserveSteps.{keeps_page_reserve}
 use Rattle.model_pagecore.specs.{Grows, IsFresh, PageGhost, UserPageFits, UserPagesAt}
 use Rattle.model_pagecore.specs.PageHalf.{PageHalf}
@@ -48,28 +49,28 @@ module _ (D : LogSide) (E : DataSide) (c : Setup) (spare : ℕ) (m : SharedWords
     quiet_to w f = page_quiet E c g.seat_of m g.log (D.stable p) h ls d actors seat both.paged (mates both) (actor.User w) f
 
     total_by : (b d0 : Bool) → eqb (length (changes u)) 0 ≡ d0 → Kept m g.log ls (actor.User (cond b (record u { page = 0; cell = 0; step = cond d0 user_step.Reserve user_step.TakeLatch }) (record u { checks = true; step = user_step.LoadCheckpoint })))
-    total_by true true f = (h, quiet_to (record u { page = 0; cell = 0; step = user_step.Reserve }) (record { there = F.there; apart = F.apart; within = F.within; loaded = F.loaded; step = (λ k lo hi. let z = eqb-true (length (changes u)) 0 f in absurd (omega arith)) }), unmoved)
-    total_by true false f = (h, quiet_to (record u { page = 0; cell = 0; step = user_step.TakeLatch }) (record { there = F.there; apart = F.apart; within = F.within; loaded = F.loaded; step = ((λ k lo hi. absurd (omega arith)), (let z = eqb-false (length (changes u)) 0 f in omega arith)) }), unmoved)
-    total_by false d0 f = (h, quiet_to (record u { checks = true; step = user_step.LoadCheckpoint }) (record { there = F.there; apart = F.apart; within = F.within; loaded = F.loaded; step = tt }), unmoved)
+    total_by true true f = (h, quiet_to (record u { page = 0; cell = 0; step = user_step.Reserve }) (record { there = F.there; apart = F.apart; within = F.within; ascending = F.ascending; are_bytes = F.are_bytes; loaded = F.loaded; step = (λ k lo hi. let z = eqb-true (length (changes u)) 0 f in absurd (omega arith)) }), unmoved)
+    total_by true false f = (h, quiet_to (record u { page = 0; cell = 0; step = user_step.TakeLatch }) (record { there = F.there; apart = F.apart; within = F.within; ascending = F.ascending; are_bytes = F.are_bytes; loaded = F.loaded; step = ((λ k lo hi. absurd (omega arith)), (let z = eqb-false (length (changes u)) 0 f in omega arith)) }), unmoved)
+    total_by false d0 f = (h, quiet_to (record u { checks = true; step = user_step.LoadCheckpoint }) (record { there = F.there; apart = F.apart; within = F.within; ascending = F.ascending; are_bytes = F.are_bytes; loaded = F.loaded; step = tt }), unmoved)
 
     latch_by : (b : Bool) → eqb (page_words_at m.page_words (page_of u)).latch 0 ≡ b → u.step ≡ user_step.TakeLatch → UserPagesAt E c m g.log h ls d seat u user_step.TakeLatch
         → Kept (cond b (with_page_words m (page_of u) (record (page_words_at m.page_words (page_of u)) { latch = 1 })) m) g.log ls (actor.User (cond b (record u { page = u.page + 1; step = cond (eqb (u.page + 1) (length (changes u))) user_step.Reserve user_step.TakeLatch }) (record u { checks = true; step = user_step.TakeLatch })))
     latch_by true f is o = keeps_take_latch E c g.seat_of m g.log (D.stable p) h ls d actors seat both.paged (mates both) (laid_of both) u at both.logged.sized.page_words is (eqb-true (page_words_at m.page_words (page_of u)).latch 0 f)
-    latch_by false f is o = (h, quiet_to (record u { checks = true; step = user_step.TakeLatch }) (record { there = F.there; apart = F.apart; within = F.within; loaded = F.loaded; step = o }), unmoved)
+    latch_by false f is o = (h, quiet_to (record u { checks = true; step = user_step.TakeLatch }) (record { there = F.there; apart = F.apart; within = F.within; ascending = F.ascending; are_bytes = F.are_bytes; loaded = F.loaded; step = o }), unmoved)
 
-    room_by : (b : Bool) → IsFresh E c m g.log h ls d seat u → Kept m g.log ls (actor.User (cond b (record u { loaded = record u.loaded { write = m.write }; step = user_step.StoreCell }) (record u { loaded = record u.loaded { write = m.write }; checks = true; step = user_step.LoadWrite })))
-    room_by true o = (h, quiet_to (record u { loaded = record u.loaded { write = m.write }; step = user_step.StoreCell }) (record { there = F.there; apart = F.apart; within = F.within; loaded = F.loaded; step = o }), unmoved)
-    room_by false o = (h, quiet_to (record u { loaded = record u.loaded { write = m.write }; checks = true; step = user_step.LoadWrite }) (record { there = F.there; apart = F.apart; within = F.within; loaded = F.loaded; step = o }), unmoved)
+    room_by : (b : Bool) → IsFresh E c m g.log h ls d seat u → Kept m g.log ls (actor.User (cond b (record u { loaded = record u.loaded { write = m.write }; step = user_step.AddCell }) (record u { loaded = record u.loaded { write = m.write }; checks = true; step = user_step.LoadWrite })))
+    room_by true o = (h, quiet_to (record u { loaded = record u.loaded { write = m.write }; step = user_step.AddCell }) (record { there = F.there; apart = F.apart; within = F.within; ascending = F.ascending; are_bytes = F.are_bytes; loaded = F.loaded; step = o }), unmoved)
+    room_by false o = (h, quiet_to (record u { loaded = record u.loaded { write = m.write }; checks = true; step = user_step.LoadWrite }) (record { there = F.there; apart = F.apart; within = F.within; ascending = F.ascending; are_bytes = F.are_bytes; loaded = F.loaded; step = o }), unmoved)
 
     space_by : (b : Bool) → IsFresh E c m g.log h ls d seat u → Kept m g.log ls (actor.User (cond b (record u { loaded = record u.loaded { wtail = m.wtail }; step = user_step.StoreLink }) (record u { loaded = record u.loaded { wtail = m.wtail }; checks = true; step = user_step.LoadWtail })))
-    space_by true o = (h, quiet_to (record u { loaded = record u.loaded { wtail = m.wtail }; step = user_step.StoreLink }) (record { there = F.there; apart = F.apart; within = F.within; loaded = F.loaded; step = o }), unmoved)
-    space_by false o = (h, quiet_to (record u { loaded = record u.loaded { wtail = m.wtail }; checks = true; step = user_step.LoadWtail }) (record { there = F.there; apart = F.apart; within = F.within; loaded = F.loaded; step = o }), unmoved)
+    space_by true o = (h, quiet_to (record u { loaded = record u.loaded { wtail = m.wtail }; step = user_step.StoreLink }) (record { there = F.there; apart = F.apart; within = F.within; ascending = F.ascending; are_bytes = F.are_bytes; loaded = F.loaded; step = o }), unmoved)
+    space_by false o = (h, quiet_to (record u { loaded = record u.loaded { wtail = m.wtail }; checks = true; step = user_step.LoadWtail }) (record { there = F.there; apart = F.apart; within = F.within; ascending = F.ascending; are_bytes = F.are_bytes; loaded = F.loaded; step = o }), unmoved)
 
     copy_by : (b k : Bool) → IsFresh E c m g.log h ls d seat u
-        → Kept (record m { cells = slice_set m.cells (lsn (u.start + u.copied) % LOG_BUFFER) (slice_index (group_bytes u) u.copied) }) g.log ls (actor.User (record u { copied = u.copied + 1; step = cond b (cond k user_step.StoreFirst user_step.LoadWtail) user_step.StoreCell }))
-    copy_by b k o = (h, away_user both seat (record m { cells = slice_set m.cells (lsn (u.start + u.copied) % LOG_BUFFER) (slice_index (group_bytes u) u.copied) }) (record u { copied = u.copied + 1; step = cond b (cond k user_step.StoreFirst user_step.LoadWtail) user_step.StoreCell }) M1.own_seat (record { there = F.there; apart = F.apart; within = F.within; loaded = F.loaded; step = go b k }) refl refl refl refl refl refl, unmoved)
+        → Kept (record m { cells = slice_set m.cells (cell_of (copy_place u)) (slice_index m.cells (cell_of (copy_place u)) + packed (lane_of (copy_place u)) (next_bytes u)) }) g.log ls (actor.User (record u { copied = u.copied + next_count u; step = cond b (cond k user_step.StoreFirst user_step.LoadWtail) user_step.AddCell }))
+    copy_by b k o = (h, away_user both seat (record m { cells = slice_set m.cells (cell_of (copy_place u)) (slice_index m.cells (cell_of (copy_place u)) + packed (lane_of (copy_place u)) (next_bytes u)) }) (record u { copied = u.copied + next_count u; step = cond b (cond k user_step.StoreFirst user_step.LoadWtail) user_step.AddCell }) M1.own_seat (record { there = F.there; apart = F.apart; within = F.within; ascending = F.ascending; are_bytes = F.are_bytes; loaded = F.loaded; step = go b k }) refl refl refl refl refl refl, unmoved)
       where
-        go : (b k : Bool) → UserPagesAt E c m g.log h ls d seat (record u { copied = u.copied + 1; step = cond b (cond k user_step.StoreFirst user_step.LoadWtail) user_step.StoreCell }) (cond b (cond k user_step.StoreFirst user_step.LoadWtail) user_step.StoreCell)
+        go : (b k : Bool) → UserPagesAt E c m g.log h ls d seat (record u { copied = u.copied + next_count u; step = cond b (cond k user_step.StoreFirst user_step.LoadWtail) user_step.AddCell }) (cond b (cond k user_step.StoreFirst user_step.LoadWtail) user_step.AddCell)
         go true true = o
         go true false = o
         go false k = o
@@ -77,7 +78,7 @@ module _ (D : LogSide) (E : DataSide) (c : Setup) (spare : ℕ) (m : SharedWords
     tie_by : (b : Bool) → eqb (length (changes u)) 0 ≡ b → IsFresh E c m g.log h ls d seat u
         → Kept (record m { wlinks = slice_set m.wlinks (lsn u.start % WRITTEN_LINKS) (lsn (group_end u) - lsn u.start) }) g.log ls (actor.User (cond b (after_link u) (record u { step = user_step.LoadCtail })))
     tie_by true f o = (h, away both seat (record m { wlinks = slice_set m.wlinks (lsn u.start % WRITTEN_LINKS) (lsn (group_end u) - lsn u.start) }) (actor.User (after_link u)) (tied_fits E c g.seat_of m g.log (D.stable p) h ls d actors seat both.paged (mates both) (laid_of both) u at (record m { wlinks = slice_set m.wlinks (lsn u.start % WRITTEN_LINKS) (lsn (group_end u) - lsn u.start) }) h ls F.loaded (eqb (mode u) 0) refl) refl refl refl refl refl refl, unmoved)
-    tie_by false f o = (h, away_user both seat (record m { wlinks = slice_set m.wlinks (lsn u.start % WRITTEN_LINKS) (lsn (group_end u) - lsn u.start) }) (record u { step = user_step.LoadCtail }) M1.own_seat (record { there = F.there; apart = F.apart; within = F.within; loaded = F.loaded; step = (o, (let z = eqb-false (length (changes u)) 0 f in omega arith)) }) refl refl refl refl refl refl, unmoved)
+    tie_by false f o = (h, away_user both seat (record m { wlinks = slice_set m.wlinks (lsn u.start % WRITTEN_LINKS) (lsn (group_end u) - lsn u.start) }) (record u { step = user_step.LoadCtail }) M1.own_seat (record { there = F.there; apart = F.apart; within = F.within; ascending = F.ascending; are_bytes = F.are_bytes; loaded = F.loaded; step = (o, (let z = eqb-false (length (changes u)) 0 f in omega arith)) }) refl refl refl refl refl refl, unmoved)
 
     list_by : (b : Bool) → eqb (slice_index m.lists (page_of u % 4)) 0 ≡ b → u.step ≡ user_step.AddToList → u.checks ≡ false → UserPagesAt E c m g.log h ls d seat u user_step.AddToList
         → Kept (cond b (record m { lists = slice_set m.lists (page_of u % 4) 1 }) m) g.log (λ i. cond (eqb i (page_of u % 4)) (cond b (joined (ls i) (page_of u) (lsn u.start)) (ls i)) (ls i)) (actor.User (user_took u (heard (cond b (answer.Taken None) answer.Held)) user_step.AddToList))
@@ -85,15 +86,15 @@ module _ (D : LogSide) (E : DataSide) (c : Setup) (spare : ℕ) (m : SharedWords
         (ap (λ (z : Bool). cond z (joined (ls (page_of u % 4)) (page_of u) (lsn u.start)) (ls (page_of u % 4))) (eq-eqb (page_of u % 4) (page_of u % 4) refl))
         (λ i n. ap (λ (z : Bool). cond z (joined (ls i) (page_of u) (lsn u.start)) (ls i)) (ne_eqb i (page_of u % 4) n))
         both.logged.sized.lists (eqb-true (slice_index m.lists (page_of u % 4)) 0 f) checks is
-    list_by false f is checks o = subst (λ (z : ℕ → List Listed). (k : PageGhost) × PageHalf E c m g.log (D.stable p) k z d (set actors seat (actor.User (user_took u 1 user_step.AddToList))) × Grows m h k) (lists_kept ls (page_of u % 4)) (h, quiet_to (user_took u 1 user_step.AddToList) (record { there = F.there; apart = F.apart; within = F.within; loaded = F.loaded; step = o }), unmoved)
+    list_by false f is checks o = subst (λ (z : ℕ → List Listed). (k : PageGhost) × PageHalf E c m g.log (D.stable p) k z d (set actors seat (actor.User (user_took u 1 user_step.AddToList))) × Grows m h k) (lists_kept ls (page_of u % 4)) (h, quiet_to (user_took u 1 user_step.AddToList) (record { there = F.there; apart = F.apart; within = F.within; ascending = F.ascending; are_bytes = F.are_bytes; loaded = F.loaded; step = o }), unmoved)
 
     mark_ctail : (n : ℕ) (b : Bool) → (cond b (record u.loaded { flushed = n }) (record u.loaded { write = n })).ctail ≤ m.ctail
     mark_ctail n true = F.loaded
     mark_ctail n false = F.loaded
 
     await_by : (n : ℕ) (b : Bool) → Kept m g.log ls (actor.User (cond b (answered (record u { loaded = with_mark u n })) (record u { loaded = with_mark u n; checks = true; step = user_step.AwaitMark })))
-    await_by n false = (h, quiet_to (record u { loaded = with_mark u n; checks = true; step = user_step.AwaitMark }) (record { there = F.there; apart = F.apart; within = F.within; loaded = mark_ctail n (eqb (mode u) 1); step = tt }), unmoved)
-    await_by n true = (h, quiet_to (answered (record u { loaded = with_mark u n })) (record { there = F.there; apart = F.apart; within = F.within; loaded = mark_ctail n (eqb (mode u) 1); step = go (eqb (u.k + 1) (length u.lines)) }), unmoved)
+    await_by n false = (h, quiet_to (record u { loaded = with_mark u n; checks = true; step = user_step.AwaitMark }) (record { there = F.there; apart = F.apart; within = F.within; ascending = F.ascending; are_bytes = F.are_bytes; loaded = mark_ctail n (eqb (mode u) 1); step = tt }), unmoved)
+    await_by n true = (h, quiet_to (answered (record u { loaded = with_mark u n })) (record { there = F.there; apart = F.apart; within = F.within; ascending = F.ascending; are_bytes = F.are_bytes; loaded = mark_ctail n (eqb (mode u) 1); step = go (eqb (u.k + 1) (length u.lines)) }), unmoved)
       where
         go : (b : Bool) → UserPagesAt E c m g.log h ls d seat (record u { loaded = with_mark u n; k = u.k + 1; checks = cond b false true; step = cond b user_step.Done user_step.LoadCheckpoint }) (cond b user_step.Done user_step.LoadCheckpoint)
         go true = tt
@@ -102,17 +103,18 @@ module _ (D : LogSide) (E : DataSide) (c : Setup) (spare : ℕ) (m : SharedWords
     -- each step of a user that doesn't check
     user_page : (f : UserStep) → u.step ≡ f → UserPagesAt E c m g.log h ls d seat u f → UserAt D c m g p seat u f → u.checks ≡ false
         → Kept (shared_left m (user_op u f)) (phase_log g.log m.sn u f) (lists_left ls (λ i. slice_index m.lists i) (user_op u f)) (actor.User (user_took u (heard (shared_answer ls (D.failed p) code (D.stable q) m (user_op u f))) f))
-    user_page user_step.LoadCheckpoint is o a checks = (h, quiet_to (record u { loaded = record u.loaded { ckpt = m.ckpt }; step = user_step.LoadSn }) (record { there = F.there; apart = F.apart; within = F.within; loaded = F.loaded; step = tt }), unmoved)
+    user_page user_step.LoadCheckpoint is o a checks = (h, quiet_to (record u { loaded = record u.loaded { ckpt = m.ckpt }; step = user_step.LoadSn }) (record { there = F.there; apart = F.apart; within = F.within; ascending = F.ascending; are_bytes = F.are_bytes; loaded = F.loaded; step = tt }), unmoved)
     user_page user_step.LoadSn is o a checks = total_by (nat_le (lsn m.sn + FREE_MARGIN) (u.loaded.ckpt + BLOCK_SIZE * u.blocks)) (eqb (length (changes u)) 0) refl
     user_page user_step.TakeLatch is o a checks = latch_by (eqb (page_words_at m.page_words (page_of u)).latch 0) refl is o
     user_page user_step.Reserve is o a checks = (h, keeps_page_reserve E c g.seat_of m g.log (D.stable p) h ls d actors seat both.paged (mates both) (laid_of both) u at is (M1.sound u.k a.1).0, unmoved)
     user_page user_step.LoadWrite is o a checks = room_by (ltb (lsn (group_end u)) (floor m.write + LOG_BUFFER)) o
-    user_page user_step.StoreCell is o a checks = copy_by (eqb (u.copied + 1) (length (group_bytes u))) (ltb (u.start / BLOCK_DATA) (group_end u / BLOCK_DATA)) o
-    user_page user_step.StoreFirst is o a checks = (h, away_user both seat (record m { firsts = slice_set m.firsts (lsn (group_end u) / BLOCK_SIZE % BUFFER_BLOCKS) (lsn (group_end u) % BLOCK_SIZE) }) (record u { step = user_step.LoadWtail }) M1.own_seat (record { there = F.there; apart = F.apart; within = F.within; loaded = F.loaded; step = o }) refl refl refl refl refl refl, unmoved)
+    user_page user_step.AddCell is o a checks = copy_by (eqb (u.copied + next_count u) (length (group_bytes u))) (ltb (u.start / BLOCK_DATA) (group_end u / BLOCK_DATA)) o
+    user_page user_step.StoreFirst is o a checks = (h, away_user both seat (record m { firsts = slice_set m.firsts (lsn (group_end u) / BLOCK_SIZE % BUFFER_BLOCKS) (lsn (group_end u) % BLOCK_SIZE) }) (record u { step = user_step.LoadWtail }) M1.own_seat (record { there = F.there; apart = F.apart; within = F.within; ascending = F.ascending; are_bytes = F.are_bytes; loaded = F.loaded; step = o }) refl refl refl refl refl refl, unmoved)
     user_page user_step.LoadWtail is o a checks = space_by (ltb (lsn u.start) (m.wtail + WRITTEN_LINKS)) o
     user_page user_step.StoreLink is o a checks = tie_by (eqb (length (changes u)) 0) refl o
     user_page user_step.LoadCtail is o a checks = (h, keeps_load_ctail E c g.seat_of m g.log (D.stable p) h ls d actors seat both.paged (mates both) (laid_of both) u at is, unmoved)
-    user_page user_step.StoreFrame is o a checks = (h, keeps_store_frame E c g.seat_of m g.log (D.stable p) h ls d actors seat both.paged (mates both) (laid_of both) u at both.logged.sized.page_words is, unmoved)
+    user_page user_step.LoadFrame is o a checks = (h, keeps_load_frame E c g.seat_of m g.log (D.stable p) h ls d actors seat both.paged (mates both) (laid_of both) u at is, unmoved)
+    user_page user_step.StoreFrame is o a checks = (h, keeps_store_frame E c g.seat_of m g.log (D.stable p) h ls d actors seat both.paged (mates both) (laid_of both) u at both.logged.sized.page_words both.logged.sized.frames is, unmoved)
     user_page user_step.StoreNewest is o a checks = (h, keeps_store_newest E c g.seat_of m g.log (D.stable p) h ls d actors seat both.paged (mates both) (laid_of both) u at both.logged.sized.page_words is, unmoved)
     user_page user_step.StoreOldest is o a checks = (h, keeps_store_oldest E c g.seat_of m g.log (D.stable p) h ls d actors seat both.paged (mates both) (laid_of both) u at both.logged.sized.page_words is, unmoved)
     user_page user_step.ReleaseLatch is o a checks = (h, keeps_release_latch E c g.seat_of m g.log (D.stable p) h ls d actors seat both.paged (mates both) (laid_of both) u at both.logged.sized.page_words is, unmoved)
@@ -125,8 +127,8 @@ module _ (D : LogSide) (E : DataSide) (c : Setup) (spare : ℕ) (m : SharedWords
     user_page user_step.Failed is o a checks = rested both seat (actor.User u) at
 
     user_hears : (b : Bool) → Kept m g.log ls (actor.User (cond b (record u { checks = false }) (record u { checks = false; code = m.failed; step = user_step.Failed })))
-    user_hears true = (h, quiet_to (record u { checks = false }) (record { there = F.there; apart = F.apart; within = F.within; loaded = F.loaded; step = F.step }), unmoved)
-    user_hears false = (h, quiet_to (record u { checks = false; code = m.failed; step = user_step.Failed }) (record { there = F.there; apart = F.apart; within = F.within; loaded = F.loaded; step = user_still_holds E c m g.log h ls d seat u u.step (held_by D E c spare m g h ls p d actors seat both (actor.User u) at) F.step }), unmoved)
+    user_hears true = (h, quiet_to (record u { checks = false }) (record { there = F.there; apart = F.apart; within = F.within; ascending = F.ascending; are_bytes = F.are_bytes; loaded = F.loaded; step = F.step }), unmoved)
+    user_hears false = (h, quiet_to (record u { checks = false; code = m.failed; step = user_step.Failed }) (record { there = F.there; apart = F.apart; within = F.within; ascending = F.ascending; are_bytes = F.are_bytes; loaded = F.loaded; step = user_still_holds E c m g.log h ls d seat u u.step (held_by D E c spare m g h ls p d actors seat both (actor.User u) at) F.step }), unmoved)
 
   user_served : (u : UserState) (f : UserStep) → LogServed D p Nothing (user_op u f) code q → ◌≡◌ {A = D.Part} q p
   user_served u user_step.LoadCheckpoint s = s

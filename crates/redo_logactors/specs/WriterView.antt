@@ -1,6 +1,8 @@
 -- What the fields of the writer stand for.
-use Rattle.std.specs.Prelude.{length, vec_capacity, ◌+◌, ◌<◌, ◌^◌, ◌≤◌}
-use Rattle.model_core.specs.{WriterState}
+use Rattle.std.specs.Prelude.{cond, length, vec_capacity, ◌+◌, ◌<◌, ◌==◌, ◌^◌, ◌≤◌}
+use Rattle.model_core.specs.{lsn, read_place, stands_outside, WriterState}
+use Rattle.model_core.specs.declared.steps.WriterStep.{WriterStep}
+use Rattle.model_core.specs.declared.steps.WriterStep.TheVariants as writer_step
 use Rattle.redo_logactors.specs.declared.writer.TheConstants.{KEPT_BLOCKS, KEPT_BYTES}
 use Rattle.redo_logactors.specs.declared.writer.Writer.TheInside.{Inside}
 
@@ -14,11 +16,16 @@ writer_view s = record {
   firsts = s.firsts.items;
   link = s.link;
   first = s.first;
+  word = s.word;
   ckpt = s.ckpt;
   code = s.code;
   checks = s.checks;
   step = s.step;
 }
+
+-- where it goes on once it has read a whole word
+abbrev pub after_word : WriterState → WriterStep
+after_word s = cond (lsn (read_place s) == s.tail) writer_step.TakeDevice (cond (stands_outside s) writer_step.LoadFirst writer_step.LoadCell)
 
 pub record IsWriter (s : Inside) : Type 0 where
   pub few_blocks : s.blocks < 2 ^ 32

@@ -33,6 +33,7 @@ impl Writer {
             firsts,
             link: 0,
             first: 0,
+            word: 0,
             ckpt: 0,
             code: 0,
             checks: false,

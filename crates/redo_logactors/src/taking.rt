@@ -1,16 +1,16 @@
 // What the writer makes of the answers to its own Ops.
-ghost use Rattle.std.specs.Prelude.{◌≡◌, ◌<◌, ◌≤◌, ◌+◌, ◌==◌, if◌then◌else◌, false, length};
+ghost use Rattle.std.specs.Prelude.{◌≡◌, ◌<◌, ◌≤◌, ◌+◌, ◌-◌, ◌++◌, ◌==◌, if◌then◌else◌, false, length};
 ghost use Rattle.model_core.specs.Actors as actor;
 ghost use Rattle.model_core.specs.AnswerFits.{AnswerFits};
-ghost use Rattle.model_core.specs.{answer_limit, full_blocks, has_log_space, old_of, stands_outside, step_of, writer_after, writer_took, writer_waits};
+ghost use Rattle.redo_logactors.specs.WriterView.{after_word};
+ghost use Rattle.model_core.specs.{answer_limit, full_blocks, has_log_space, has_whole_word, lanes, left_in_word, lsn, old_of, read_place, stands_outside, step_of, writer_after, writer_took, writer_waits};
 
 use crate::writer::{KEPT_BLOCKS, KEPT_BYTES, Writer};
 use crate::writing::{drop_bytes, drop_firsts};
 use model_base::BLOCK_SIZE;
-use model_core::{WRITTEN_LINKS, WriterStep};
+use model_core::{WORD_LANES, WRITTEN_LINKS, WriterStep};
 use model_log::BLOCK_DATA;
-use redo_lsn::lsn_of;
-use redo_words::{Answer, Step, code_of, old_of};
+use redo_words::{Answer, Step, code_of, old_of, push_lanes};
 
 impl Writer {
     /// Whether the log has space up to its tail, where CKPT is this.
@@ -91,23 +91,55 @@ impl Writer {
         self.goes_on(WriterStep::LoadCell)
     }
 
-    /// The byte at its read place was loaded.
-    #[tactic(auto, unfolding(model_core::specs::Lsn::lsn))]
-    fn reads(&mut self, answer: Answer) -> Step
-        requires byte { old_of answer < 256 }
-        requires room { length self.old.kept < KEPT_BYTES }
-        ensures state { self.new ≡ writer_took self.old answer WriterStep.LoadCell }
+    /// It keeps what stands in so many lanes of a word.
+    fn keeps(&mut self, word: u64, lane: usize, count: usize)
+        requires lanes { lane + count ≤ WORD_LANES }
+        requires room { length self.old.kept + count ≤ KEPT_BYTES }
+        ensures { self.new ≡ record self.old { kept = self.old.kept ++ lanes lane count word } }
+    {
+        push_lanes(&mut self.kept, word, lane, count);
+    }
+
+    /// It has read a whole word: it goes on to the write, to another block, or to another word.
+    fn after_word(&mut self) -> Step
+        ensures state { self.new ≡ record self.old { step = after_word self.old } }
         ensures step { result ≡ Step.Moved }
     {
-        let after = lsn_of(self.from + (self.kept.len() as u64 + 1));
-        self.kept.push_reserved(old_of(answer) as u8);
-        if after == self.tail {
+        if self.read_place() == self.tail {
             self.goes_on(WriterStep::TakeDevice)
         } else if self.stands_outside() {
             self.goes_on(WriterStep::LoadFirst)
         } else {
             self.goes_on(WriterStep::LoadCell)
         }
+    }
+
+    /// The word of its read place was loaded: where its bytes go on beyond the tail, those below are kept, and it stays.
+    fn loads_word(&mut self, answer: Answer) -> Step
+        requires room { has_whole_word self.old ≡ false → length self.old.kept + (self.old.tail - lsn (read_place self.old)) ≤ KEPT_BYTES }
+        ensures state { self.new ≡ writer_took self.old answer WriterStep.LoadCell }
+        ensures step { result ≡ Step.Moved }
+    {
+        let spot = self.read_spot();
+        let below = self.tail.saturating_sub(self.read_place());
+        if spot.left as u64 <= below {
+            self.word = old_of(answer);
+            return self.goes_on(WriterStep::ClearCell);
+        }
+        self.keeps(old_of(answer), spot.lane, below as usize);
+        self.goes_on(WriterStep::TakeDevice)
+    }
+
+    /// That word was cleared: its bytes are kept.
+    fn clears_word(&mut self, answer: Answer) -> Step
+        requires room { length self.old.kept + left_in_word (read_place self.old) ≤ KEPT_BYTES }
+        ensures state { self.new ≡ writer_took self.old answer WriterStep.ClearCell }
+        ensures step { result ≡ Step.Moved }
+    {
+        let spot = self.read_spot();
+        self.keeps(self.word, spot.lane, spot.left);
+        self.word = 0;
+        self.after_word()
     }
 
     /// What it has read is written: the blocks that are full go.
@@ -144,7 +176,8 @@ impl Writer {
                 self.goes_on(WriterStep::ClearFirst)
             }
             WriterStep::ClearFirst => self.enters(answer),
-            WriterStep::LoadCell => self.reads(answer),
+            WriterStep::LoadCell => self.loads_word(answer),
+            WriterStep::ClearCell => self.clears_word(answer),
             WriterStep::TakeDevice => match answer {
                 Answer::Taken(_) => self.goes_on(WriterStep::WriteTo),
                 Answer::Broken => self.goes_on(WriterStep::GiveBroken),

@@ -19,6 +19,7 @@ pub struct Writer {
     pub(crate) firsts: Vec<u32>,
     pub(crate) link: u64,
     pub(crate) first: u32,
+    pub(crate) word: u64,
     pub(crate) ckpt: u64,
     pub(crate) code: u32,
     pub(crate) checks: bool,

@@ -1,14 +1,14 @@
 // What the writer asks for, and what it makes of the answer.
-ghost use Rattle.std.specs.Prelude.{◌≡◌, ◌<◌, ◌≤◌, ◌/◌, ◌%◌, ◌^◌, ◌==◌, if◌then◌else◌, true, length, drop, vec_capacity};
+ghost use Rattle.std.specs.Prelude.{◌≡◌, ◌<◌, ◌≤◌, ◌+◌, ◌/◌, ◌%◌, ◌^◌, ◌==◌, if◌then◌else◌, true, length, drop, vec_capacity};
 ghost use Rattle.model_core.specs.Actors as actor;
-ghost use Rattle.model_core.specs.{lent, lsn, read_place, writer_checked, writer_ending, writer_next};
+ghost use Rattle.model_core.specs.{cell_of, lane_of, left_in_word, lent, lsn, read_place, writer_checked, writer_ending, writer_next};
 ghost use Rattle.redo_words.specs.{Lends};
 
 use crate::writer::Writer;
 use model_base::BLOCK_SIZE;
-use model_core::{BUFFER_BLOCKS, LOG_BUFFER, WRITTEN_LINKS, WriterStep};
+use model_core::{BUFFER_BLOCKS, WORD_LANES, WRITTEN_LINKS, WriterStep};
 use redo_lsn::lsn_of;
-use redo_words::{Lent, Op, Step, Word};
+use redo_words::{Lent, Op, Spot, Step, Word, spot_of};
 
 /// The first so many bytes go.
 pub(crate) fn drop_bytes(bytes: &mut Vec<u8>, count: usize)
@@ -37,10 +37,20 @@ pub(crate) fn drop_firsts(firsts: &mut Vec<u32>, count: usize)
 impl Writer {
     /// The lsn of its read place.
     #[tactic(auto, unfolding(model_core::specs::Lsn::lsn))]
-    fn read_place(&self) -> u64
+    pub(crate) fn read_place(&self) -> u64
         ensures { result ≡ lsn (read_place self.now) }
     {
         lsn_of(self.from + self.kept.len() as u64)
+    }
+
+    /// Where the byte at its read place stands.
+    pub(crate) fn read_spot(&self) -> Spot
+        ensures cell { result.cell ≡ cell_of (read_place self.now) }
+        ensures lane { result.lane ≡ lane_of (read_place self.now) }
+        ensures left { result.left ≡ left_in_word (read_place self.now) }
+        ensures fits { result.lane + result.left ≤ WORD_LANES }
+    {
+        spot_of(self.from + self.kept.len() as u64)
     }
 
     /// The Op that it asks for.
@@ -57,7 +67,8 @@ impl Writer {
             WriterStep::LoadCheckpoint => Op::Load(Word::Ckpt),
             WriterStep::LoadFirst => Op::Load(self.first_word()),
             WriterStep::ClearFirst => Op::Store(self.first_word(), 0),
-            WriterStep::LoadCell => Op::Load(Word::Cell((self.read_place() % LOG_BUFFER) as u32)),
+            WriterStep::LoadCell => Op::Load(Word::Cell(self.read_spot().cell)),
+            WriterStep::ClearCell => Op::Store(Word::Cell(self.read_spot().cell), 0),
             WriterStep::TakeDevice => Op::TakeDevice,
             WriterStep::GiveBroken | WriterStep::GiveDevice | WriterStep::GiveFailed => {
                 Op::GiveDevice

@@ -5,7 +5,6 @@ pub mod Ended
 pub mod FailedTurns
 pub mod FailureCode
 pub mod InOrder
-pub mod LineBytes
 pub mod ListGrows
 pub mod Listings
 pub mod LogCount
@@ -20,6 +19,7 @@ pub mod Served
 pub mod StartActors
 pub mod StartWordsFrames
 pub mod StartWordsNames
+pub mod StartWordsPacked
 pub mod StartWordsPages
 pub mod StartWordsStore
 pub mod StartWordsZero

@@ -39,7 +39,7 @@ use Rattle.redo_disk.specs.Seen.{Seen}
 use Rattle.redo_logside.proofs.PartStarts as log_starting
 use Rattle.redo_logside.specs.LogPartSide as log_side
 use Rattle.redo_machine.proofs.Begun.{data_begun, log_begun}
-use Rattle.redo_machine.proofs.LineBytes.{GetsBytes, changes_get_bytes}
+use Rattle.model_finish.proofs.LineBytes.{GetsBytes, changes_get_bytes}
 use Rattle.redo_machine.proofs.ScriptRoom.{room_for_all}
 use Rattle.redo_machine.proofs.StartActors.{IsNew, are_new, are_seated, seat_of_user, writer_seat}
 use Rattle.redo_machine.proofs.StartWordsPages.{full_pages, has_opened_pages}

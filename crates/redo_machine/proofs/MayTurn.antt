@@ -65,10 +65,11 @@ use Rattle.model_core.specs.declared.steps.CloserStep.{CloserStep}
 use Rattle.model_core.specs.declared.steps.CleanerStep.{CleanerStep}
 use Rattle.model_core.specs.declared.steps.CheckpointerStep.{CheckpointerStep}
 
--- a word holds the sum: only a reservation adds, and SN stays below its limit
+-- a word holds the sum: a reservation adds to SN, which stays below its limit, and a user adds bytes onto lanes that are 0
 module _ (ls : ℕ → List Listed) (broken : Bool) (code mark : ℕ) (ws : List ℕ) where
   user_sum : (u : UserState) (f : UserStep) → user_fits u (old_of (answer_of ls broken code mark ws (user_op u f))) f → HoldsSum (user_op u f) ws
   user_sum u user_step.Reserve fit = omega arith
+  user_sum u user_step.AddCell fit = fit
   user_sum u _ fit = tt
 
   writer_sum : (s : states.WriterState) (f : WriterStep) → HoldsSum (writer_op s f) ws

@@ -2,11 +2,11 @@
 use Rattle.std.proofs.Common.{List, [], ap, arith, length, refl, set, subst, suc, sym, zero, ℕ, ◌+◌, ◌<◌, ◌∙◌, ◌∷◌, ◌≡◌}
 use Rattle.std.specs.Prelude.{slice_index, slice_set}
 use Rattle.std.proofs.lemmas.List.{ext_get_or, get_or-set_same, set-get_or, set-set}
-use Rattle.model_base.specs.declared.limits.TheConstants.{USER_BYTES, USER_START}
 use Rattle.model_core.specs.{blank_words, page_words_at, PageWords, SharedWords, with_page_words, wrote}
 use Rattle.model_core.specs.declared.words.Word.TheVariants as word
-use Rattle.redo_machine.proofs.StartWordsPages.{page_cells-length, page_cells-set, page_cells-zero}
-use Rattle.redo_machine.specs.StartWords.{AreNamed, IsBlankFrame, page_cells, with_frame}
+use Rattle.model_core.specs.declared.limits.TheConstants.{FRAME_WORDS}
+use Rattle.redo_machine.proofs.StartWordsPacked.{page_frame-length}
+use Rattle.redo_machine.specs.StartWords.{AreNamed, IsBlankFrame, page_frame, with_frame}
 use Rattle.redo_words.specs.Plain.{Plain}
 
 -- the first so many of the bytes, and 0 for each other
@@ -48,34 +48,33 @@ frame_wrote page i x cells m there =
     ap (λ (v : PageWords). with_page_words (with_page_words m page w) page (record v { frame = slice_set v.frame i x })) (get_or-set_same m.page_words page w blank_words there)
     ∙ ap (λ (ws : List PageWords). let named : SharedWords = record m { page_words = ws } in named) (set-set m.page_words page w (record w { frame = slice_set cells i x }))
 
--- the frame has so many of the page's bytes, and the other words are as they were
+-- the frame has so many of its words, and the other words are as they were
 pub record IsFramedUpTo (old new : Plain) (page : ℕ) (user : List ℕ) (i : ℕ) : Type 0 where
   pub pages : new.pages ≡ old.pages
-  pub named : (m : SharedWords) → AreNamed old m → IsBlankFrame page m → AreNamed new (with_frame page (page_cells (bytes_up_to user i)) m)
+  pub named : (m : SharedWords) → AreNamed old m → IsBlankFrame page m → AreNamed new (with_frame page (bytes_up_to (page_frame user) i) m)
 
-module _ (old : Plain) (page : ℕ) (user : List ℕ) (there : page < old.pages) (full : length user ≡ USER_BYTES) where
+module _ (old : Plain) (page : ℕ) (user : List ℕ) (there : page < old.pages) where
   pub framed_none : IsFramedUpTo old old page user 0
   framed_none = record {
     pages = refl;
     named = λ m named blank.
-        let cells : List ℕ = page_cells (bytes_up_to user 0) in let frame : List ℕ = (page_words_at m.page_words page).frame in
-        let long : length cells ≡ length frame = omega (arith, page_cells-length (bytes_up_to user 0), up_to-length user 0, named.sized.frames page there) in
-        let same : cells ≡ frame = ext_get_or 0 cells frame long (λ i _. page_cells-zero (bytes_up_to user 0) (up_to_none user) i ∙ sym (blank i)) in
-        subst (AreNamed old) (sym (frame_same page cells m same)) named;
+        let words : List ℕ = bytes_up_to (page_frame user) 0 in let frame : List ℕ = (page_words_at m.page_words page).frame in
+        let long : length words ≡ length frame = up_to-length (page_frame user) 0 ∙ page_frame-length user ∙ sym (named.sized.frames page there) in
+        let same : words ≡ frame = ext_get_or 0 words frame long (λ i _. up_to_none (page_frame user) i ∙ sym (blank i)) in
+        subst (AreNamed old) (sym (frame_same page words m same)) named;
   }
 
-  pub framed_more : (mid new : Plain) (i x : ℕ) → IsFramedUpTo old mid page user i → i < length user → x ≡ slice_index user i → new.pages ≡ mid.pages → ((m : SharedWords) → AreNamed mid m → AreNamed new (wrote m (word.Frame page (USER_START + i)) x)) → IsFramedUpTo old new page user (suc i)
-  framed_more mid new i x before below is pages step = record {
+  pub framed_more : (mid new : Plain) (i x : ℕ) → IsFramedUpTo old mid page user i → x ≡ slice_index (page_frame user) i → new.pages ≡ mid.pages → ((m : SharedWords) → AreNamed mid m → AreNamed new (wrote m (word.Frame page i) x)) → IsFramedUpTo old new page user (suc i)
+  framed_more mid new i x before is pages step = record {
     pages = pages ∙ before.pages;
     named = λ m named blank.
-        let bytes : List ℕ = bytes_up_to user i in
-        let more : slice_set (page_cells bytes) (USER_START + i) x ≡ page_cells (bytes_up_to user (suc i)) =
-        page_cells-set bytes i x (omega (arith, up_to-length user i)) ∙ ap page_cells (ap (set bytes i) is ∙ up_to_more user i) in
+        let words : List ℕ = bytes_up_to (page_frame user) i in
+        let more : slice_set words i x ≡ bytes_up_to (page_frame user) (suc i) = ap (set words i) is ∙ up_to_more (page_frame user) i in
         subst (AreNamed new)
-        (frame_wrote page (USER_START + i) x (page_cells bytes) m (omega (arith, named.sized.page_words)) ∙ ap (λ (cells : List ℕ). with_frame page cells m) more)
-        (step (with_frame page (page_cells bytes) m) (before.named m named blank));
+        (frame_wrote page i x words m (omega (arith, named.sized.page_words)) ∙ ap (λ (frame : List ℕ). with_frame page frame m) more)
+        (step (with_frame page words m) (before.named m named blank));
   }
 
   -- all of them are the page's
-  pub framed_all : (new : Plain) (i : ℕ) → IsFramedUpTo old new page user i → i ≡ length user → (m : SharedWords) → AreNamed old m → IsBlankFrame page m → AreNamed new (with_frame page (page_cells user) m)
-  framed_all new i framed all m named blank = subst (λ (bytes : List ℕ). AreNamed new (with_frame page (page_cells bytes) m)) (ap (bytes_up_to user) all ∙ up_to_all user) (framed.named m named blank)
+  pub framed_all : (new : Plain) (i : ℕ) → IsFramedUpTo old new page user i → i ≡ FRAME_WORDS → (m : SharedWords) → AreNamed old m → IsBlankFrame page m → AreNamed new (with_frame page (page_frame user) m)
+  framed_all new i framed all m named blank = subst (λ (frame : List ℕ). AreNamed new (with_frame page frame m)) (ap (bytes_up_to (page_frame user)) (all ∙ sym (page_frame-length user)) ∙ up_to_all (page_frame user)) (framed.named m named blank)

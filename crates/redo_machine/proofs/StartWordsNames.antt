@@ -4,7 +4,7 @@ use Rattle.std.specs.Prelude.{slice_set}
 use Rattle.std.proofs.lemmas.Bool.{cases_eq}
 use Rattle.std.proofs.lemmas.List.{get_or-set_other, get_or-set_same, length-set}
 use Rattle.model_core.specs.{blank_words, index, IsSized, IsWord, page_words_at, PageWords, SharedWords, with_page_words, wrote}
-use Rattle.model_core.specs.declared.limits.TheConstants.{FRAME_CELLS}
+use Rattle.model_core.specs.declared.limits.TheConstants.{FRAME_WORDS}
 use Rattle.model_core.specs.declared.words.Word.{Word}
 use Rattle.model_core.specs.declared.words.Word.TheVariants as word
 use Rattle.model_running.proofs.FlatWords.{flat_wrote}
@@ -13,7 +13,7 @@ use Rattle.redo_words.specs.Plain.{Plain}
 
 module _ (pages : ℕ) (m : SharedWords) (s : IsSized pages m) where
   -- other words of a page, whose frame is as long
-  pub page_sized : (p : ℕ) (w : PageWords) → p < pages → length w.frame ≡ FRAME_CELLS → IsSized pages (with_page_words m p w)
+  pub page_sized : (p : ℕ) (w : PageWords) → p < pages → length w.frame ≡ FRAME_WORDS → IsSized pages (with_page_words m p w)
   page_sized p w there long = record {
     lists = s.lists;
     wlinks = s.wlinks;

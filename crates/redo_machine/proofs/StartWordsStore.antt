@@ -7,14 +7,15 @@ use Rattle.std.proofs.lemmas.Option.{slice_get-get_or}
 use Rattle.model_base.specs.declared.limits.TheConstants.{BLOCK_SIZE}
 use Rattle.model_core.proofs.Lists.{one_turn}
 use Rattle.model_core.proofs.Lsns.{lsn_block, lsn_offset}
-use Rattle.model_core.specs.{blank_words, IsSized, KeptPage, lsn, page_words_at, PageWords, SharedWords}
+use Rattle.model_core.specs.{blank_words, frame_bytes, IsSized, KeptPage, lsn, page_words_at, PageWords, SharedWords}
 use Rattle.model_core.specs.Setup.{Setup}
 use Rattle.model_core.specs.declared.limits.TheConstants.{BUFFER_BLOCKS}
 use Rattle.model_log.specs.{data_before, IsAtDataStart, sn_of}
 use Rattle.model_log.specs.declared.layout.TheConstants.{BLOCK_DATA, BLOCK_HEADER}
 use Rattle.model_page.specs.declared.content.Content.{Content}
+use Rattle.redo_machine.proofs.StartWordsPacked.{page_frame-bytes}
 use Rattle.redo_machine.proofs.StartWordsZero.{zero_page, zero_page_at, zero_words, zeros, zeros-length, zeros-zero}
-use Rattle.redo_machine.specs.StartWords.{AreNamed, AreStartWords, IsBlankFrame, StartsOn, opened_page, page_cells, unwritten_page, with_frame, with_log}
+use Rattle.redo_machine.specs.StartWords.{AreFullPages, AreNamed, AreStartWords, IsBlankFrame, StartsOn, opened_page, page_frame, unwritten_page, with_frame, with_log}
 use Rattle.redo_words.specs.Plain.{Plain}
 
 -- a page that is free and in no list, with these cells
@@ -30,7 +31,7 @@ pub record AreSetUpTo (start : ℕ) (pages : List Content) (k : ℕ) (words : Pl
   pub count : words.pages ≡ length pages
   pub page_words : List PageWords
   pub named : AreNamed words (begun_words start (length pages) page_words)
-  pub done : (p : ℕ) → p < k → p < length pages → ◌≡◌ {A = PageWords} (page_words_at page_words p) (free_page (opened_page pages p).bytes)
+  pub done : (p : ℕ) → p < k → p < length pages → ◌≡◌ {A = PageWords} (page_words_at page_words p) (free_page (page_frame (get_or pages p unwritten_page).user))
   pub left : (p : ℕ) → k ≤ p → p < length pages → ◌≡◌ {A = PageWords} (page_words_at page_words p) zero_page
   pub bytes : (p : ℕ) → p < k → p < length pages → (i : ℕ) → slice_index (get_or pages p unwritten_page).user i < 256
 
@@ -48,15 +49,15 @@ module _ (start : ℕ) (pages : List Content) where
 
   -- one more page has its cells
   pub set_more : (mid new : Plain) (k : ℕ) (user : List ℕ) → AreSetUpTo start pages k mid → k < length pages → user ≡ (get_or pages k unwritten_page).user → ((i : ℕ) → slice_index user i < 256)
-      → new.pages ≡ mid.pages → ((m : SharedWords) → AreNamed mid m → IsBlankFrame k m → AreNamed new (with_frame k (page_cells user) m)) → AreSetUpTo start pages (suc k) new
+      → new.pages ≡ mid.pages → ((m : SharedWords) → AreNamed mid m → IsBlankFrame k m → AreNamed new (with_frame k (page_frame user) m)) → AreSetUpTo start pages (suc k) new
   set_more mid new k user before there is small same step = record {
     count = same ∙ before.count;
     page_words = slice_set before.page_words k framed;
     named = step (begun_words start (length pages) before.page_words) before.named (λ i. ap (λ (w : PageWords). slice_index w.frame i) blank ∙ zeros-zero _ i);
     done = λ p below there'. ⊎_elim
         (λ e. ap (page_words_at (slice_set before.page_words k framed)) e ∙ get_or-set_same before.page_words k framed blank_words long
-        ∙ ap (λ (w : PageWords). let v : PageWords = record w { frame = page_cells user } in v) blank
-        ∙ ap (λ (us : List ℕ). free_page (page_cells us)) is ∙ ap (λ (q : ℕ). free_page (opened_page pages q).bytes) (sym e))
+        ∙ ap (λ (w : PageWords). let v : PageWords = record w { frame = page_frame user } in v) blank
+        ∙ ap (λ (us : List ℕ). free_page (page_frame us)) is ∙ ap (λ (q : ℕ). free_page (page_frame (get_or pages q unwritten_page).user)) (sym e))
         (λ other. get_or-set_other before.page_words k p framed blank_words other ∙ before.done p (omega arith) there')
         (cases_eq p k);
     left = λ p from there'. get_or-set_other before.page_words k p framed blank_words (λ e. omega arith) ∙ before.left p (omega arith) there';
@@ -67,7 +68,7 @@ module _ (start : ℕ) (pages : List Content) where
   }
     where
       framed : PageWords
-      framed = record (page_words_at before.page_words k) { frame = page_cells user }
+      framed = record (page_words_at before.page_words k) { frame = page_frame user }
 
       blank : ◌≡◌ {A = PageWords} (page_words_at before.page_words k) zero_page
       blank = before.left k (omega arith) there
@@ -76,7 +77,7 @@ module _ (start : ℕ) (pages : List Content) where
       long = omega (arith, before.named.sized.page_words, before.count)
 
   -- a run that starts there, at the first data byte of a block, has these words
-  module _ (c : Setup) (place : IsAtDataStart start) (on : StartsOn start pages c) where
+  module _ (c : Setup) (full : AreFullPages pages) (place : IsAtDataStart start) (on : StartsOn start pages c) where
     -- its first block, its first sn, and the first offsets of the blocks that the log buffer spans
     block : start / BLOCK_SIZE ≡ c.base / BLOCK_DATA
     block = ap (λ (n : ℕ). n / BLOCK_SIZE) (sym on.begins) ∙ lsn_block c.base
@@ -119,7 +120,11 @@ module _ (start : ℕ) (pages : List Content) where
       };
       of_pages = record {
         page_words = λ p below. let there : p < length pages = omega (arith, on.count) in
-            up_to.done p (omega arith) there ∙ ap (λ (kept : KeptPage). free_page kept.bytes) (sym (on.opened p there));
+            up_to.done p (omega arith) there ∙ ap (λ (w : PageWords). free_page w.frame) (sym (up_to.done p (omega arith) there));
+        frames = λ p below. let there : p < length pages = omega (arith, on.count) in
+            ap (λ (w : PageWords). frame_bytes w.frame) (up_to.done p (omega arith) there)
+            ∙ page_frame-bytes (get_or pages p unwritten_page).user (full.sizes p (get_or pages p unwritten_page) (slice_get-get_or pages p unwritten_page there)) (up_to.bytes p (omega arith) there)
+            ∙ ap (λ (kept : KeptPage). kept.bytes) (sym (on.opened p there));
         early = λ p below. let there : p < length pages = omega (arith, on.count) in
             let e : (c.opened p).lsn ≡ (get_or pages p unwritten_page).lsn = ap (λ (kept : KeptPage). kept.lsn) (on.opened p there) in
             let old = on.early p (get_or pages p unwritten_page) (slice_get-get_or pages p unwritten_page there) in omega (arith, on.begins);

@@ -3,7 +3,7 @@ use Rattle.std.proofs.Common.{List, [], ap, arith, length, refl, replicate, suc,
 use Rattle.std.specs.Prelude.{slice_index}
 use Rattle.std.proofs.lemmas.List.{get_or-replicate, length-replicate}
 use Rattle.model_core.specs.{blank_words, flat, flat_page_words, page_stride, page_words_at, PageWords, SharedWords, word_count}
-use Rattle.model_core.specs.declared.limits.TheConstants.{BUFFER_BLOCKS, CLOSED_LINKS, FLUSH_LISTS, FRAME_CELLS, LOG_BUFFER, WRITTEN_LINKS}
+use Rattle.model_core.specs.declared.limits.TheConstants.{BUFFER_BLOCKS, CLOSED_LINKS, FLUSH_LISTS, FRAME_WORDS, BUFFER_WORDS, WRITTEN_LINKS}
 use Rattle.redo_machine.specs.StartWords.{AreNamed}
 use Rattle.redo_words.specs.Plain.{Plain}
 
@@ -52,7 +52,7 @@ are_zeros (x ∷ xs) each = ap (λ (y : ℕ). y ∷ xs) (each zero) ∙ ap (λ (
 
 -- a page that is free and in no list, and whose frame is empty
 abbrev pub zero_page : PageWords
-zero_page = record { latch = 0; newest = 0; oldest = 0; frame = zeros FRAME_CELLS }
+zero_page = record { latch = 0; newest = 0; oldest = 0; frame = zeros FRAME_WORDS }
 
 -- the words of so many pages, each 0
 abbrev pub zero_words : ℕ → SharedWords
@@ -68,7 +68,7 @@ zero_words pages = record {
   lists = zeros FLUSH_LISTS;
   wlinks = zeros WRITTEN_LINKS;
   clinks = zeros CLOSED_LINKS;
-  cells = zeros LOG_BUFFER;
+  cells = zeros BUFFER_WORDS;
   firsts = zeros BUFFER_BLOCKS;
   page_words = replicate pages zero_page;
 }
@@ -76,17 +76,17 @@ zero_words pages = record {
 -- the words of so many such pages, and of their store, in order
 zero_pages : (pages : ℕ) → flat_page_words (replicate pages zero_page) ≡ zeros (pages * page_stride)
 zero_pages zero = zeros-none
-zero_pages (suc pages) = ap (λ (xs : List ℕ). 0 ∷ 0 ∷ 0 ∷ xs) (ap (λ (xs : List ℕ). zeros FRAME_CELLS ++ xs) (zero_pages pages) ∙ zeros-append FRAME_CELLS (pages * page_stride))
-    ∙ zeros-three (FRAME_CELLS + pages * page_stride)
-    ∙ ap zeros (let e : suc (suc (suc (FRAME_CELLS + pages * page_stride))) ≡ suc pages * page_stride = omega arith in e)
+zero_pages (suc pages) = ap (λ (xs : List ℕ). 0 ∷ 0 ∷ 0 ∷ xs) (ap (λ (xs : List ℕ). zeros FRAME_WORDS ++ xs) (zero_pages pages) ∙ zeros-append FRAME_WORDS (pages * page_stride))
+    ∙ zeros-three (FRAME_WORDS + pages * page_stride)
+    ∙ ap zeros (let e : suc (suc (suc (FRAME_WORDS + pages * page_stride))) ≡ suc pages * page_stride = omega arith in e)
 
 zero_flat : (pages : ℕ) → flat (zero_words pages) ≡ zeros (word_count pages)
 zero_flat pages =
     let paged : ℕ = pages * page_stride in
-    ap (λ (xs : List ℕ). 0 ∷ 0 ∷ 0 ∷ 0 ∷ 0 ∷ 0 ∷ 0 ∷ 0 ∷ (zeros FLUSH_LISTS ++ (zeros WRITTEN_LINKS ++ (zeros CLOSED_LINKS ++ (zeros LOG_BUFFER ++ (zeros BUFFER_BLOCKS ++ xs)))))) (zero_pages pages)
-    ∙ ap (λ (xs : List ℕ). 0 ∷ 0 ∷ 0 ∷ 0 ∷ 0 ∷ 0 ∷ 0 ∷ 0 ∷ xs) (longer FLUSH_LISTS _ _ (longer WRITTEN_LINKS _ _ (longer CLOSED_LINKS _ _ (longer LOG_BUFFER _ _ (zeros-append BUFFER_BLOCKS paged)))))
-    ∙ zeros-eight (FLUSH_LISTS + (WRITTEN_LINKS + (CLOSED_LINKS + (LOG_BUFFER + (BUFFER_BLOCKS + paged)))))
-    ∙ ap zeros (let e : suc (suc (suc (suc (suc (suc (suc (suc (FLUSH_LISTS + (WRITTEN_LINKS + (CLOSED_LINKS + (LOG_BUFFER + (BUFFER_BLOCKS + paged)))))))))))) ≡ word_count pages = omega arith in e)
+    ap (λ (xs : List ℕ). 0 ∷ 0 ∷ 0 ∷ 0 ∷ 0 ∷ 0 ∷ 0 ∷ 0 ∷ (zeros FLUSH_LISTS ++ (zeros WRITTEN_LINKS ++ (zeros CLOSED_LINKS ++ (zeros BUFFER_WORDS ++ (zeros BUFFER_BLOCKS ++ xs)))))) (zero_pages pages)
+    ∙ ap (λ (xs : List ℕ). 0 ∷ 0 ∷ 0 ∷ 0 ∷ 0 ∷ 0 ∷ 0 ∷ 0 ∷ xs) (longer FLUSH_LISTS _ _ (longer WRITTEN_LINKS _ _ (longer CLOSED_LINKS _ _ (longer BUFFER_WORDS _ _ (zeros-append BUFFER_BLOCKS paged)))))
+    ∙ zeros-eight (FLUSH_LISTS + (WRITTEN_LINKS + (CLOSED_LINKS + (BUFFER_WORDS + (BUFFER_BLOCKS + paged)))))
+    ∙ ap zeros (let e : suc (suc (suc (suc (suc (suc (suc (suc (FLUSH_LISTS + (WRITTEN_LINKS + (CLOSED_LINKS + (BUFFER_WORDS + (BUFFER_BLOCKS + paged)))))))))))) ≡ word_count pages = omega arith in e)
 
 -- each of its pages
 pub zero_page_at : (pages p : ℕ) → p < pages → page_words_at (zero_words pages).page_words p ≡ zero_page
@@ -99,10 +99,10 @@ zero_named words count each = record {
     lists = zeros-length FLUSH_LISTS;
     wlinks = zeros-length WRITTEN_LINKS;
     clinks = zeros-length CLOSED_LINKS;
-    cells = zeros-length LOG_BUFFER;
+    cells = zeros-length BUFFER_WORDS;
     firsts = zeros-length BUFFER_BLOCKS;
     page_words = length-replicate {A = PageWords} words.pages zero_page;
-    frames = λ p there. ap (λ (w : PageWords). length w.frame) (zero_page_at words.pages p there) ∙ zeros-length FRAME_CELLS;
+    frames = λ p there. ap (λ (w : PageWords). length w.frame) (zero_page_at words.pages p there) ∙ zeros-length FRAME_WORDS;
   };
   in_order = are_zeros words.words each ∙ ap zeros count ∙ sym (zero_flat words.pages);
 }

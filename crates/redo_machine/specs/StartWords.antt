@@ -1,9 +1,9 @@
 -- The words of a store as a run begins on its pages.
-use Rattle.std.specs.Prelude.{List, Some, get_or, length, replicate, slice_get, slice_index, slice_set, ℕ, ◌%◌, ◌++◌, ◌-◌, ◌/◌, ◌<◌, ◌≡◌, ◌≤◌}
+use Rattle.std.specs.Prelude.{List, Some, [], drop, get_or, length, replicate, slice_get, slice_index, slice_set, suc, take, zero, ℕ, ◌%◌, ◌++◌, ◌-◌, ◌/◌, ◌<◌, ◌∷◌, ◌≡◌, ◌≤◌}
 use Rattle.model_base.specs.declared.limits.TheConstants.{BLOCK_SIZE, MAX_PAGES, USER_BYTES, USER_START}
-use Rattle.model_core.specs.{flat, IsSized, KeptPage, lsn, page_words_at, SharedWords, with_page_words}
+use Rattle.model_core.specs.{flat, IsSized, KeptPage, lsn, packed, page_words_at, SharedWords, with_page_words}
 use Rattle.model_core.specs.Setup.{Setup}
-use Rattle.model_core.specs.declared.limits.TheConstants.{BUFFER_BLOCKS}
+use Rattle.model_core.specs.declared.limits.TheConstants.{BUFFER_BLOCKS, FRAME_WORDS, WORD_LANES}
 use Rattle.model_log.specs.{sn_of}
 use Rattle.model_log.specs.declared.layout.TheConstants.{BLOCK_HEADER}
 use Rattle.model_logcore.specs.{StartWords}
@@ -15,6 +15,15 @@ use Rattle.redo_words.specs.Plain.{Plain}
 -- the cells of a page's frame: its user bytes, and 0 before and behind them, where the running store keeps nothing
 unfoldable pub page_cells : List ℕ → List ℕ
 page_cells user = replicate USER_START 0 ++ user ++ replicate TRAILER_LENGTH 0
+
+-- these bytes as so many words, eight in each
+abbrev pub words_of : ℕ → List ℕ → List ℕ
+words_of zero bytes = []
+words_of (suc n) bytes = packed 0 (take WORD_LANES bytes) ∷ words_of n (drop WORD_LANES bytes)
+
+-- the words of a page's frame
+unfoldable pub page_frame : List ℕ → List ℕ
+page_frame user = words_of FRAME_WORDS (page_cells user)
 
 -- a page as the running store keeps it
 abbrev pub kept_page_of : Content → KeptPage
@@ -68,10 +77,10 @@ with_log start m = record m {
   firsts = slice_set m.firsts (start / BLOCK_SIZE % BUFFER_BLOCKS) BLOCK_HEADER;
 }
 
--- the words once a page's frame has these cells
+-- the words once a page's frame has these
 abbrev pub with_frame : ℕ → List ℕ → SharedWords → SharedWords
-with_frame page cells m = with_page_words m page (record (page_words_at m.page_words page) { frame = cells })
+with_frame page frame m = with_page_words m page (record (page_words_at m.page_words page) { frame = frame })
 
--- each cell of a page's frame is 0
+-- each word of a page's frame is 0
 abbrev pub IsBlankFrame : ℕ → SharedWords → Type 0
 IsBlankFrame page m = (i : ℕ) → slice_index (page_words_at m.page_words page).frame i ≡ 0

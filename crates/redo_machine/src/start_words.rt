@@ -3,14 +3,14 @@ ghost use Rattle.std.specs.Prelude.{◌<◌, ◌≡◌, ◌≤◌, ℕ, IfOk, le
 ghost use Rattle.model_core.specs.{IsWord, SharedWords, wrote};
 ghost use Rattle.model_core.specs.Setup.{Setup};
 ghost use Rattle.model_log.specs.{IsAtDataStart};
-ghost use Rattle.redo_machine.specs.StartWords.{AreFullPages, AreNamed, AreStartWords, HoldBytes, IsBlankFrame, StartsOn, page_cells, with_frame, with_log};
+ghost use Rattle.redo_machine.specs.StartWords.{AreFullPages, AreNamed, AreStartWords, HoldBytes, IsBlankFrame, StartsOn, page_frame, with_frame, with_log};
 
 use model_base::{BLOCK_SIZE, USER_BYTES, USER_START};
-use model_core::BUFFER_BLOCKS;
+use model_core::{BUFFER_BLOCKS, FRAME_WORDS};
 use model_log::BLOCK_HEADER;
 use redo_apply::Pages;
 use redo_lsn::{NoMemory, sn_of};
-use redo_words::{Op, PlainWords, Word};
+use redo_words::{Op, PlainWords, Word, packed};
 use std::alloc::Global;
 
 /// Gives a word its first number.
@@ -38,20 +38,33 @@ fn set_log(words: &mut PlainWords, start: u64)
     set(words, Word::First(block), BLOCK_HEADER);
 }
 
-/// Writes a page's user bytes into its frame, whose cells are all 0.
+/// A word of a page's frame, by the page's user bytes.
+fn frame_word(user: &[u8], number: u32) -> u64
+    requires full { length user.now ≡ USER_BYTES }
+    requires there { number < FRAME_WORDS }
+    ensures { result ≡ slice_index (page_frame user.now) number }
+{
+    let first = (number * 8) as usize;
+    let start = USER_START as usize;
+    let from = first.max(start);
+    let to = (first + 8).min(start + USER_BYTES as usize);
+    if from < to {
+        packed(from - first, &user[from - start..to - start])
+    } else {
+        0
+    }
+}
+
+/// Writes a page's user bytes into its frame, whose words are all 0.
 fn set_frame(words: &mut PlainWords, page: u32, user: &[u8])
     requires there { page < words.old.pages }
     requires full { length user.now ≡ USER_BYTES }
     ensures pages { words.new.pages ≡ words.old.pages }
     ensures bytes { (i : ℕ) → slice_index user.now i < 256 }
-    ensures named { (m : SharedWords) → AreNamed words.old m → IsBlankFrame page m → AreNamed words.new (with_frame page (page_cells user.now) m) }
+    ensures named { (m : SharedWords) → AreNamed words.old m → IsBlankFrame page m → AreNamed words.new (with_frame page (page_frame user.now) m) }
 {
-    for (i, byte) in user.iter().enumerate() {
-        set(
-            words,
-            Word::Frame(page, USER_START + i as u32),
-            u64::from(*byte),
-        );
+    for number in 0..FRAME_WORDS as u32 {
+        set(words, Word::Frame(page, number), frame_word(user, number));
     }
 }
 

@@ -1,8 +1,8 @@
 -- What the fields of the cleaner stand for.
-use Rattle.std.specs.Prelude.{List, [], drop, length, take, vec_capacity, ℕ, ◌*◌, ◌++◌, ◌<◌, ◌∷◌, ◌≡◌, ◌≤◌}
+use Rattle.std.specs.Prelude.{List, [], drop, length, take, vec_capacity, ℕ, ◌%◌, ◌*◌, ◌++◌, ◌<◌, ◌∷◌, ◌≡◌, ◌≤◌}
 use Rattle.model_base.specs.declared.limits.TheConstants.{USER_BYTES, USER_START}
 use Rattle.model_core.specs.{BatchPage, CleanerState}
-use Rattle.model_core.specs.declared.limits.TheConstants.{BATCH_PAGES, FRAME_CELLS}
+use Rattle.model_core.specs.declared.limits.TheConstants.{BATCH_PAGES, FRAME_CELLS, WORD_LANES}
 use Rattle.model_core.specs.declared.steps.CleanerStep.{CleanerStep}
 use Rattle.model_core.specs.declared.steps.CleanerStep.TheVariants as cleaner_step
 use Rattle.model_page.specs.{frame_length}
@@ -40,7 +40,7 @@ IsAt kept batch cleaner_step.LoadOldest = batch < BATCH_PAGES
 IsAt kept batch cleaner_step.TakeLatch = batch < BATCH_PAGES
 IsAt kept batch cleaner_step.LoadNewest = batch < BATCH_PAGES
 IsAt kept batch cleaner_step.ReleaseSkipped = batch < BATCH_PAGES
-IsAt kept batch cleaner_step.LoadFrame = (batch < BATCH_PAGES) × (kept < FRAME_CELLS)
+IsAt kept batch cleaner_step.LoadFrame = (batch < BATCH_PAGES) × (kept < FRAME_CELLS) × (kept % WORD_LANES ≡ 0)
 IsAt kept batch cleaner_step.StoreFailed = Unit {0}
 IsAt kept batch cleaner_step.Failed = Unit {0}
 IsAt kept batch _ = 0 < batch

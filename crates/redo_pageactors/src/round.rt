@@ -6,8 +6,8 @@ ghost use Rattle.model_core.specs.{cleaner_after, cleaner_checked, cleaner_took,
 
 use crate::batch::{RIM, USERS, drop_bytes, drop_page, split_page};
 use crate::cleaner::Cleaner;
-use model_core::{BATCH_PAGES, CleanerStep, FRAME_CELLS};
-use redo_words::{Answer, Step, code_of, old_of};
+use model_core::{BATCH_PAGES, CleanerStep, FRAME_CELLS, WORD_LANES};
+use redo_words::{Answer, Step, code_of, old_of, push_lanes};
 
 impl Cleaner {
     /// What it makes of FAILED.
@@ -83,19 +83,18 @@ impl Cleaner {
 
     /// Its next byte was loaded. Once all are, the page enters the batch.
     #[tactic(auto, using(crate::proofs::BatchPages::length_batch_pages))]
-    fn loaded_byte(&mut self, answer: Answer) -> Step
+    fn loaded_word(&mut self, answer: Answer) -> Step
         requires step { self.old.step ≡ CleanerStep.LoadFrame }
-        requires byte { old_of answer < 256 }
         ensures state { self.new ≡ cleaner_took self.old answer CleanerStep.LoadFrame }
         ensures step { result ≡ Step.Moved }
     {
-        let byte = old_of(answer) as u8;
-        if self.kept.len() as u64 + 1 < FRAME_CELLS {
-            self.kept.push_reserved(byte);
+        let loaded = self.kept.len() as u64 + WORD_LANES;
+        if loaded < FRAME_CELLS {
+            push_lanes(&mut self.kept, old_of(answer), 0, WORD_LANES as usize);
             return Step::Moved;
         }
         self.step = CleanerStep::LoadFlushed;
-        self.kept.push_reserved(byte);
+        push_lanes(&mut self.kept, old_of(answer), 0, WORD_LANES as usize);
         self.enters_batch();
         let _ = self.next_in_round();
         Step::Moved
@@ -201,7 +200,7 @@ impl Cleaner {
             CleanerStep::TakeLatch if n == 0 => self.step = CleanerStep::LoadNewest,
             CleanerStep::TakeLatch | CleanerStep::ReleaseSkipped => return self.next_in_round(),
             CleanerStep::LoadNewest => return self.loaded_newest(answer),
-            CleanerStep::LoadFrame => return self.loaded_byte(answer),
+            CleanerStep::LoadFrame => return self.loaded_word(answer),
             CleanerStep::WriteBatch => return self.called(answer),
             CleanerStep::RemoveFromList => return self.removed(answer),
             CleanerStep::ClearOldest => self.step = CleanerStep::GiveList,

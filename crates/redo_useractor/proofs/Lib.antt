@@ -1,2 +1,4 @@
 pub mod Heard
 pub mod Texts
+pub mod WayToLink
+pub mod WordsSpanned

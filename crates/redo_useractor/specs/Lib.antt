@@ -1,3 +1,4 @@
+pub mod CellsStep
 pub mod Ending
 pub mod Lines
 pub mod ToLink

@@ -34,6 +34,7 @@ pub struct UserActor {
     pub(crate) copied: usize,
     pub(crate) page: usize,
     pub(crate) cell: usize,
+    pub(crate) word: u64,
     pub(crate) loaded: Marks,
     pub(crate) code: u32,
     pub(crate) checks: bool,

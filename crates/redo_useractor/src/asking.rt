@@ -1,18 +1,30 @@
 // What a user asks for.
-ghost use Rattle.std.specs.Prelude.{◌≡◌, ◌<◌, ◌≤◌, ◌-◌, ◌%◌, ◌/◌, ◌^◌, length, nat_lt};
+ghost use Rattle.std.specs.Prelude.{◌≡◌, ◌<◌, ◌≤◌, ◌+◌, ◌-◌, ◌%◌, ◌/◌, ◌^◌, length, nat_lt};
 ghost use Rattle.model_core.specs.Actors as actor;
-ghost use Rattle.model_core.specs.{cells_of, change_at, changes, group_bytes, group_end, lent, line, lsn, page_of, put_of, user_next, user_op};
-ghost use Rattle.redo_useractor.specs.ToLink.{first_stores, to_link};
+ghost use Rattle.model_core.specs.{cell_of, cells_of, change_at, changes, copy_place, group_bytes, frame_count, frame_word, group_end, lane_of, left_in_word, lent, line, lsn, next_count, page_of, put_of, stored_word, user_next, user_op};
+ghost use Rattle.redo_useractor.specs.ToLink.{data_word, first_stores, to_link, words_left};
 ghost use Rattle.redo_words.specs.{Lends};
 ghost use Rattle.redo_useractor.specs.UserView.{end_limit};
 
 use crate::actor::UserActor;
 use crate::line::{Cell, ChangedPage, UserLine};
+use crate::words::{same_word, with_cells};
 use model_base::BLOCK_SIZE;
-use model_core::{BUFFER_BLOCKS, CLOSED_LINKS, FLUSH_LISTS, LOG_BUFFER, UserStep, WRITTEN_LINKS};
-use model_log::BLOCK_DATA;
+use model_core::{BUFFER_BLOCKS, CLOSED_LINKS, FLUSH_LISTS, UserStep, WORD_LANES, WRITTEN_LINKS};
+use model_log::{BLOCK_DATA, BLOCK_HEADER};
 use redo_lsn::lsn_of;
-use redo_words::{Lent, Op, Word};
+use redo_words::{Lent, Op, Spot, Word, packed, spot_of};
+
+/// The number of a place's word among the words that have bytes of the stream.
+fn data_word(sn: u64) -> u64
+    requires { sn < 2 ^ 61 }
+    ensures value { result ≡ data_word sn }
+{
+    sn / BLOCK_DATA * DATA_WORDS + (sn % BLOCK_DATA + BLOCK_HEADER % WORD_LANES) / WORD_LANES
+}
+
+/// Words of a block that have bytes of the stream.
+const DATA_WORDS: u64 = (BLOCK_SIZE - BLOCK_HEADER) / WORD_LANES + 1;
 
 impl UserActor {
     /// The line of the group in hand.
@@ -91,17 +103,43 @@ impl UserActor {
         self.start / BLOCK_DATA < end / BLOCK_DATA
     }
 
-    /// The store of the next byte of its group.
-    #[tactic(auto, unfolding(model_core::specs::Lsn::lsn))]
-    fn store_cell(&self) -> Op
+    /// Where the next byte of its group goes.
+    fn copy_spot(&self) -> Spot
         requires line { self.now.k < length self.now.lines }
         requires small { group_end self.now < end_limit }
         requires byte { self.now.copied < length (group_bytes self.now) }
-        ensures { result ≡ user_op self.now UserStep.StoreCell }
+        ensures cell { result.cell ≡ cell_of (copy_place self.now) }
+        ensures lane { result.lane ≡ lane_of (copy_place self.now) }
+        ensures left { result.left ≡ left_in_word (copy_place self.now) }
+        ensures fits { result.lane + result.left ≤ WORD_LANES }
     {
-        let at = lsn_of(self.start + self.copied as u64) % LOG_BUFFER;
-        let byte = self.line().text.as_slice()[self.copied];
-        Op::Store(Word::Cell(at as u32), u64::from(byte))
+        spot_of(self.start + self.copied as u64)
+    }
+
+    /// How many bytes of its group go into one word next.
+    pub(crate) fn next_count(&self) -> usize
+        requires line { self.now.k < length self.now.lines }
+        requires small { group_end self.now < end_limit }
+        requires byte { self.now.copied < length (group_bytes self.now) }
+        ensures count { result ≡ next_count self.now }
+        ensures within { self.now.copied + result ≤ length (group_bytes self.now) }
+        ensures fits { lane_of (copy_place self.now) + result ≤ WORD_LANES }
+    {
+        let left = self.line().text.as_slice().len() - self.copied;
+        self.copy_spot().left.min(left)
+    }
+
+    /// The addition of the next bytes of its group onto their lanes.
+    fn add_cell(&self) -> Op
+        requires line { self.now.k < length self.now.lines }
+        requires small { group_end self.now < end_limit }
+        requires byte { self.now.copied < length (group_bytes self.now) }
+        ensures { result ≡ user_op self.now UserStep.AddCell }
+    {
+        let spot = self.copy_spot();
+        let end = self.copied + self.next_count();
+        let bytes = &self.line().text.as_slice()[self.copied..end];
+        Op::Add(Word::Cell(spot.cell), packed(spot.lane, bytes))
     }
 
     /// The store of the first offset of the block in which it ends.
@@ -115,16 +153,50 @@ impl UserActor {
         Op::Store(Word::First(slot as u32), end % BLOCK_SIZE)
     }
 
-    /// The store of the changed cell that it is at.
-    fn store_frame(&self) -> Op
+    /// The word of the frame in which the changed cell lies that it is at.
+    fn frame_word(&self) -> u16
         requires line { self.now.k < length self.now.lines }
         requires page { self.now.page < length (changes self.now) }
         requires cell { self.now.cell < length (cells_of self.now) }
-        ensures { result ≡ user_op self.now UserStep.StoreFrame }
+        ensures { result ≡ frame_word self.now }
     {
-        let cell = self.changed_cell();
-        let word = Word::Frame(self.page_number(), u32::from(cell.at));
-        Op::Store(word, u64::from(cell.value))
+        self.changed_cell().at / WORD_LANES as u16
+    }
+
+    /// How many of the next changed cells lie there.
+    pub(crate) fn frame_count(&self) -> usize
+        requires line { self.now.k < length self.now.lines }
+        requires page { self.now.page < length (changes self.now) }
+        requires cell { self.now.cell < length (cells_of self.now) }
+        ensures count { result ≡ frame_count self.now }
+        ensures within { self.now.cell + result ≤ length (cells_of self.now) }
+        ensures small { self.now.cell + result < 2 ^ 63 }
+    {
+        let cells = self.changed_page().cells.as_slice();
+        same_word(self.frame_word(), &cells[self.cell..])
+    }
+
+    /// That word with these cells in their lanes.
+    fn stored_word(&self) -> u64
+        requires line { self.now.k < length self.now.lines }
+        requires page { self.now.page < length (changes self.now) }
+        requires cell { self.now.cell < length (cells_of self.now) }
+        ensures { result ≡ stored_word self.now }
+    {
+        let count = self.frame_count();
+        let cells = self.changed_page().cells.as_slice();
+        let rest = &cells[self.cell..];
+        with_cells(self.word, &rest[..count])
+    }
+
+    /// That word's name.
+    fn frame(&self) -> Word
+        requires line { self.now.k < length self.now.lines }
+        requires page { self.now.page < length (changes self.now) }
+        requires cell { self.now.cell < length (cells_of self.now) }
+        ensures { result ≡ Word.Frame (page_of self.now) (frame_word self.now) }
+    {
+        Word::Frame(self.page_number(), u32::from(self.frame_word()))
     }
 
     /// The place of its link in the recent-written buffer.
@@ -156,12 +228,13 @@ impl UserActor {
             UserStep::TakeLatch => Op::Swap(Word::Latch(self.page_number()), 0, 1),
             UserStep::Reserve => Op::Add(Word::Sn, self.line().text.len() as u64),
             UserStep::LoadWrite => Op::Load(Word::Write),
-            UserStep::StoreCell => self.store_cell(),
+            UserStep::AddCell => self.add_cell(),
             UserStep::StoreFirst => self.store_first(),
             UserStep::LoadWtail => Op::Load(Word::Wtail),
             UserStep::StoreLink => Op::Store(self.written_link(), self.link()),
             UserStep::LoadCtail => Op::Load(Word::Ctail),
-            UserStep::StoreFrame => self.store_frame(),
+            UserStep::LoadFrame => Op::Load(self.frame()),
+            UserStep::StoreFrame => Op::Store(self.frame(), self.stored_word()),
             UserStep::StoreNewest => Op::Store(Word::Newest(self.page_number()), self.end_lsn()),
             UserStep::LoadOldest => Op::Load(Word::Oldest(self.page_number())),
             UserStep::AddToList => Op::TakeAdd(self.page_number(), self.start_lsn()),
@@ -185,17 +258,26 @@ impl UserActor {
         if self.crosses() { 1 } else { 0 }
     }
 
+    /// How many words of the log buffer those bytes of its group fill that aren't copied.
+    fn words_left(&self) -> u64
+        requires line { self.now.k < length self.now.lines }
+        requires small { group_end self.now < end_limit }
+        requires byte { self.now.copied < length (group_bytes self.now) }
+        ensures value { result ≡ words_left self.now }
+        ensures few { result < 2 ^ 61 }
+    {
+        let end = self.start + self.line().text.len() as u64;
+        data_word(end - 1) + 1 - data_word(self.start + self.copied as u64)
+    }
+
     /// How many Ops it has to go from its reservation up to the store of its link, where none of them waits; 0 before the
     /// reservation and behind the link.
     pub fn to_link(&self) -> u64
         ensures { result ≡ to_link self.now }
     {
         match self.step {
-            UserStep::LoadWrite => self.line().text.len() as u64 + self.first_stores() + 3,
-            UserStep::StoreCell => {
-                let left = self.line().text.len() - self.copied;
-                left as u64 + self.first_stores() + 2
-            }
+            UserStep::LoadWrite => self.words_left() + self.first_stores() + 3,
+            UserStep::AddCell => self.words_left() + self.first_stores() + 2,
             UserStep::StoreFirst => 3,
             UserStep::LoadWtail => 2,
             UserStep::StoreLink => 1,

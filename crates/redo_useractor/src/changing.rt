@@ -1,10 +1,12 @@
 // What a user makes of the answers while it changes the pages of its group.
-ghost use Rattle.std.specs.Prelude.{◌≡◌, ◌<◌, ◌+◌, ◌==◌, false, length};
+ghost use Rattle.std.specs.Prelude.{◌≡◌, ◌<◌, ◌≤◌, ◌+◌, ◌==◌, false, length};
 ghost use Rattle.model_core.specs.{change_at, changes, group_end, to_next_page, user_took};
+ghost use Rattle.redo_useractor.specs.CellsStep.{cells_step};
 ghost use Rattle.redo_useractor.specs.Ending.{step_end};
 ghost use Rattle.redo_useractor.specs.UserView.{end_limit};
 
 use crate::actor::UserActor;
+use crate::words::word_step;
 use model_core::{CLOSED_LINKS, UserStep};
 use redo_words::Step;
 
@@ -16,32 +18,52 @@ impl UserActor {
         ensures step { result ≡ step_end self.old n UserStep.LoadCtail self.new }
     {
         let start = self.start_lsn();
-        let cells = self.changed_page().cells.len();
+        let step = self.cells_step(self.page, self.cell);
         self.loaded.ctail = n;
         if n.saturating_add(CLOSED_LINKS) <= start {
             return self.waits();
         }
-        self.step = if self.cell == cells {
-            UserStep::StoreNewest
-        } else {
-            UserStep::StoreFrame
-        };
+        self.step = step;
         Step::Moved
     }
 
-    /// A changed cell is stored.
+    /// At this place among the changed cells of a page it goes on with their word, or behind the last with NEWEST.
+    fn cells_step(&self, page: usize, place: usize) -> UserStep
+        requires line { self.now.k < length self.now.lines }
+        requires page { page < length (changes self.now) }
+        requires place { place ≤ length (change_at (changes self.now) page).cells }
+        ensures { result ≡ cells_step (change_at (changes self.now) page).cells place }
+    {
+        let cells = self.line().pages[page].cells.as_slice();
+        if place == cells.len() {
+            UserStep::StoreNewest
+        } else {
+            word_step(cells, place)
+        }
+    }
+
+    /// The word of the changed cells that it is at is loaded.
+    pub(crate) fn loaded_frame(&mut self, n: u64) -> Step
+        requires step { self.old.step ≡ UserStep.LoadFrame }
+        ensures state { self.new ≡ user_took self.old n UserStep.LoadFrame }
+        ensures step { result ≡ step_end self.old n UserStep.LoadFrame self.new }
+    {
+        self.word = n;
+        self.step = UserStep::StoreFrame;
+        Step::Moved
+    }
+
+    /// That word is stored.
     pub(crate) fn stored_frame(&mut self, n: u64) -> Step
         requires step { self.old.step ≡ UserStep.StoreFrame }
         ensures state { self.new ≡ user_took self.old n UserStep.StoreFrame }
         ensures step { result ≡ step_end self.old n UserStep.StoreFrame self.new }
     {
-        let cells = self.changed_page().cells.len();
-        self.cell += 1;
-        self.step = if self.cell == cells {
-            UserStep::StoreNewest
-        } else {
-            UserStep::StoreFrame
-        };
+        let next = self.cell + self.frame_count();
+        let step = self.cells_step(self.page, next);
+        self.cell = next;
+        self.word = 0;
+        self.step = step;
         Step::Moved
     }
 
@@ -59,16 +81,6 @@ impl UserActor {
         Step::Moved
     }
 
-    /// Whether its group changes no cell of the page with this place.
-    fn changes_none(&self, place: usize) -> bool
-        requires line { self.now.k < length self.now.lines }
-        requires place { place < length (changes self.now) }
-        ensures { result ≡ (0 == length (change_at (changes self.now) place).cells) }
-    {
-        let page = &self.line().pages[place];
-        0 == page.cells.len()
-    }
-
     /// It is done with the page that it is at.
     pub(crate) fn to_next_page(&mut self) -> Step
         requires line { self.old.k < length self.old.lines }
@@ -82,10 +94,8 @@ impl UserActor {
         let next = self.page + 1;
         let step = if next == pages {
             UserStep::StoreClosedLink
-        } else if self.changes_none(next) {
-            UserStep::StoreNewest
         } else {
-            UserStep::StoreFrame
+            self.cells_step(next, 0)
         };
         self.page = next;
         self.cell = 0;

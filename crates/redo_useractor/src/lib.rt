@@ -10,5 +10,6 @@ mod line;
 mod making;
 mod taking;
 mod telling;
+mod words;
 
 pub use actor::UserActor;

@@ -103,6 +103,7 @@ impl UserActor {
             copied: 0,
             page: 0,
             cell: 0,
+            word: 0,
             loaded,
             code: 0,
             checks: has_lines,

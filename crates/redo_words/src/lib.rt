@@ -5,11 +5,13 @@
 #![tactic(auto)]
 
 mod answers;
+mod lanes;
 mod lent;
 mod number;
 mod plain;
 
 pub use answers::{code_of, heard, old_of};
+pub use lanes::{Spot, packed, push_lanes, spot_of};
 pub use lent::Lent;
 pub use model_core::{Answer, Layout, Op, Step, Word};
 pub use number::{count_of, number_of};

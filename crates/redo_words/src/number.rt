@@ -5,7 +5,7 @@ ghost use Rattle.model_core.specs.declared.words.Word.TheVariants as word;
 
 use crate::{Layout, Word};
 use model_core::{
-    BUFFER_BLOCKS, CLOSED_LINKS, FLUSH_LISTS, FRAME_CELLS, LOG_BUFFER, WRITTEN_LINKS,
+    BUFFER_BLOCKS, BUFFER_WORDS, CLOSED_LINKS, FLUSH_LISTS, FRAME_WORDS, WRITTEN_LINKS,
 };
 
 #[cfg(test)]
@@ -20,7 +20,7 @@ const CLOSED_LINKS_AT: u64 = WRITTEN_LINKS_AT + WRITTEN_LINKS;
 
 const CELLS_AT: u64 = CLOSED_LINKS_AT + CLOSED_LINKS;
 
-const FIRSTS_AT: u64 = CELLS_AT + LOG_BUFFER;
+const FIRSTS_AT: u64 = CELLS_AT + BUFFER_WORDS;
 
 const PAGES_AT: u64 = FIRSTS_AT + BUFFER_BLOCKS;
 
@@ -31,7 +31,7 @@ const OLDEST_AT: u64 = 2;
 
 const FRAME_AT: u64 = 3;
 
-const PAGE_WORDS: u64 = FRAME_AT + FRAME_CELLS;
+const PAGE_WORDS: u64 = FRAME_AT + FRAME_WORDS;
 
 /// How many words a layout has.
 pub fn count_of(layout: Layout) -> u64

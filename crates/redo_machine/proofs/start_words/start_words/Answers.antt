@@ -22,4 +22,4 @@ pub returns-clause-bytes : goal.returns-clause-bytes
 returns-clause-bytes c = opened_pages-bytes c.args.pages.now (λ p there. c.loop-page.invariant.bytes p (omega arith) there)
 
 pub returns-clause-starts : goal.returns-clause-starts
-returns-clause-starts c = λ run on. set_all c.args.start c.args.pages.now run c.requires.place on c.loop-page.words c.loop-page.page c.loop-page.invariant (omega arith)
+returns-clause-starts c = λ run on. set_all c.args.start c.args.pages.now run c.requires.full c.requires.place on c.loop-page.words c.loop-page.page c.loop-page.invariant (omega arith)

@@ -27,7 +27,7 @@ collected_each P f d none each (suc n) i = elim (dec_le (length (collected f n))
 ]
 
 -- one that is collected under a condition
-if_one : {A : Type 0} (P : A → Type 0) (x d : A) → P x → P d → (b : Bool) (i : ℕ) → P (get_or (cond b (x ∷ []) []) i d)
+pub if_one : {A : Type 0} (P : A → Type 0) (x d : A) → P x → P d → (b : Bool) (i : ℕ) → P (get_or (cond b (x ∷ []) []) i d)
 if_one P x d one none true zero = one
 if_one P x d one none true (suc i) = none
 if_one P x d one none false i = none
