@@ -29,10 +29,10 @@ module _ (D : LogSide) (L : LogLaws D) (c : Setup) (spare : ℕ) (m : SharedWord
       by false free = same free
 
   -- the flusher moves, and holds what it held
-  fsteps : (m' : SharedWords) (g' : LogGhost) (q : D.Part) (point : D.ckpt q ≡ D.ckpt p) (w : FlusherState) → IsSized c.pages m' → LogFacts D c m' g' q → FlusherFits D c m' g' q w → Later D c m g m' g' seat → Still D c m m' g g' p q → m.flushed ≤ m'.flushed → m'.device ≡ m.device → g'.holder ≡ g.holder → g'.log ≡ g.log → m'.sn ≡ m.sn
+  fsteps : (m' : SharedWords) (g' : LogGhost) (q : D.Part) (point : D.ckpt q ≡ D.ckpt p) (w : FlusherState) → IsSized c.pages m' → LogFacts D c m' g' q → FlusherFits D c m' g' q w → Later D c m g m' g' seat → Still D c m m' g g' p q → m.flushed ≤ m'.flushed → m'.ckpt ≡ m.ckpt → m'.device ≡ m.device → g'.holder ≡ g.holder → g'.log ≡ g.log → m'.sn ≡ m.sn
       → flusher_holds w.step ≡ flusher_holds f.step → (flusher_holds f.step ≡ false → ◌≡◌ {A = D.Part} q p) → LogHalf D c spare m' g' q (set actors seat (actor.Flusher w))
-  fsteps m' g' q point w sized global fit later still flushed device holder log sn keep same = moved_on D c spare m m' g g' p q actors seat (actor.Flusher f) (actor.Flusher w) before at sized global fit
-      (λ j a n e. others_later D c m m' g g' p q seat before.global later still (record { flushed = flushed; failed = later.failed; point = point }) j a n (others_by q same j a n e) (before.each j a e))
+  fsteps m' g' q point w sized global fit later still flushed ckpt device holder log sn keep same = moved_on D c spare m m' g g' p q actors seat (actor.Flusher f) (actor.Flusher w) before at sized global fit
+      (λ j a n e. others_later D c m m' g g' p q seat before.global later still (record { flushed = flushed; ckpt_word = ckpt; failed = later.failed; point = point }) j a n (others_by q same j a n e) (before.each j a e))
       device holder log sn keep refl (omega arith)
 
   never_asks : flusher_holds f.step ≡ true → f.checks ≡ true → ⊥
@@ -85,7 +85,7 @@ module _ (D : LogSide) (L : LogLaws D) (c : Setup) (spare : ℕ) (m : SharedWord
             (record { last = omega arith; write = hers.write; no_device_while_checking = λ z. absurd (never_asks held z); step = tt })
             (later_marks D c m g p (omega arith) (omega arith) (omega arith) up (λ z. z))
             (still_same D c m g p (omega arith) (λ z. z) refl)
-            up refl refl refl refl (sym held) (λ z. refl),
+            up refl refl refl refl refl (sym held) (λ z. refl),
         refl,
       )
 
@@ -101,7 +101,7 @@ module _ (D : LogSide) (L : LogLaws D) (c : Setup) (spare : ℕ) (m : SharedWord
       (record { last = hers.last; write = hers.write; no_device_while_checking = λ z. absurd (never_asks held z); step = h0 })
       (later_marks D c m g p (omega arith) (omega arith) (omega arith) (omega arith) (λ z. h0))
       (still_same D c m g p (omega arith) (λ z. h0) refl)
-      (omega arith) refl refl refl refl (sym held) (λ z. refl)
+      (omega arith) refl refl refl refl refl (sym held) (λ z. refl)
 
   pub syncs_by : (q : D.Part) (code : ℕ) (b : Bool) → eqb code 0 ≡ b → f.step ≡ flusher_step.Sync → AfterSync D c.blocks c.base g.log code p q
       → LogHalf D c spare m g q (set actors seat (actor.Flusher (flusher_took f (cond b (answer.Called (D.stable q)) (answer.Failed code)) flusher_step.Sync)))
@@ -110,7 +110,7 @@ module _ (D : LogSide) (L : LogLaws D) (c : Setup) (spare : ℕ) (m : SharedWord
       fsteps m g q A.ckpt (flusher_took f (cond b (answer.Called (D.stable q)) (answer.Failed code)) flusher_step.Sync) before.sized (facts_same D c m g p (parted b b_is) before.global) (fit b b_is)
       (later_marks D c m g p (omega arith) (omega arith) (omega arith) (omega arith) (λ z. z))
       (still_same D c m g p (omega arith) (λ z. z) A.written)
-      (omega arith) refl refl refl refl (keep b) (λ e. let z : true ≡ false = sym (ap flusher_holds is) ∙ e in absurd (cc))
+      (omega arith) refl refl refl refl refl (keep b) (λ e. let z : true ≡ false = sym (ap flusher_holds is) ∙ e in absurd (cc))
     where
       stable_by : (b : Bool) → eqb code 0 ≡ b → D.stable q ≡ cond b (D.written p) (D.stable p)
       stable_by b e = A.stable ∙ ap (λ (z : Bool). cond z (D.written p) (D.stable p)) e

@@ -139,7 +139,7 @@ module _ (D : LogSide) (c : Setup) (m : SharedWords) (p : D.Part) (seat_of : ℕ
   start_fits seat (actor.Closer t) h = λ e. let z : closer_step.LoadClosedLink ≡ closer_step.Failed = sym (ap (λ (y : CloserState). y.step) h.1) ∙ e in absurd (cc)
   start_fits seat (actor.Cleaner v) h = let s : v.step ≡ cleaner_step.LoadFlushed = ap (λ (y : CleanerState). y.step) h.1 in
       ((λ e. let z : cleaner_step.LoadFlushed ≡ cleaner_step.Failed = sym s ∙ e in absurd (cc)), (λ e. let z : cleaner_step.LoadFlushed ≡ cleaner_step.StoreFailed = sym s ∙ e in absurd (cc)))
-  start_fits seat (actor.Checkpointer t) h = subst (λ (z : CheckpointerState). CheckpointerFits D c m start p seat z) (sym h.1) (record { alone = h.0; no_device_while_checking = λ z. refl; step = P.ckpt })
+  start_fits seat (actor.Checkpointer t) h = subst (λ (z : CheckpointerState). CheckpointerFits D c m start p seat z) (sym h.1) (record { alone = h.0; own = sym W.ckpt; no_device_while_checking = λ z. refl; step = P.ckpt })
   start_fits seat (actor.Joined es) h = tt
 
   start_holds : (seat : ℕ) (a : Actor) → StartActor c seat_of writer seat a → holds a ≡ false

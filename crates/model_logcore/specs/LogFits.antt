@@ -48,22 +48,25 @@ module _ (D : LogSide) (c : Setup) (m : SharedWords) (g : LogGhost) (p : D.Part)
   abbrev pub EndIsNear : UserState → Type 0
   EndIsNear u = lsn (group_end u) < floor m.write + LOG_BUFFER
 
-  -- How far the group in hand came of a user that has ended by a failure: so many of its bytes are copied, none but where its
-  -- end is near; or it is linked.
-  abbrev pub HasStoppedAt : ℕ → UserState → Type 0
-  HasStoppedAt seat u = (Hand seat u × (u.copied ≤ length (group_bytes u)) × (0 < u.copied → EndIsNear u)) ⊎ HasLinked u
-
-  -- FIRST of the block in which it ends is stored, if it starts in another
+  -- FIRST of the block in which it ends is stored, if it starts in another; or is 0
   abbrev pub HasFirst : UserState → Type 0
   HasFirst u = u.start / BLOCK_DATA < group_end u / BLOCK_DATA → 0 < g.first (group_end u / BLOCK_DATA)
+
+  abbrev pub LacksFirst : UserState → Type 0
+  LacksFirst u = u.start / BLOCK_DATA < group_end u / BLOCK_DATA → g.first (group_end u / BLOCK_DATA) ≡ 0
+
+  -- How far the group in hand came of a user that has ended by a failure: so many of its bytes are copied, none but where its
+  -- end is near, and with all of them FIRST is stored; or it is linked.
+  abbrev pub HasStoppedAt : ℕ → UserState → Type 0
+  HasStoppedAt seat u = (Hand seat u × (u.copied ≤ length (group_bytes u)) × (0 < u.copied → EndIsNear u) × (u.copied < length (group_bytes u) → LacksFirst u) × (u.copied ≡ length (group_bytes u) → HasFirst u)) ⊎ HasLinked u
 
   abbrev pub UserAt : ℕ → UserState → UserStep → Type 0
   UserAt seat u user_step.LoadCheckpoint = IsBefore u
   UserAt seat u user_step.LoadSn = IsBefore u
   UserAt seat u user_step.Reserve = IsBefore u
-  UserAt seat u user_step.LoadWrite = (length u.starts ≡ u.k + 1) × (u.k < length u.lines) × Hand seat u × (u.copied ≡ 0)
-  UserAt seat u user_step.AddCell = (length u.starts ≡ u.k + 1) × (u.k < length u.lines) × Hand seat u × (u.copied < length (group_bytes u)) × EndIsNear u
-  UserAt seat u user_step.StoreFirst = (length u.starts ≡ u.k + 1) × (u.k < length u.lines) × Hand seat u × (u.copied ≡ length (group_bytes u)) × EndIsNear u × (u.start / BLOCK_DATA < group_end u / BLOCK_DATA)
+  UserAt seat u user_step.LoadWrite = (length u.starts ≡ u.k + 1) × (u.k < length u.lines) × Hand seat u × (u.copied ≡ 0) × LacksFirst u
+  UserAt seat u user_step.AddCell = (length u.starts ≡ u.k + 1) × (u.k < length u.lines) × Hand seat u × (u.copied < length (group_bytes u)) × EndIsNear u × LacksFirst u × (u.checks ≡ false)
+  UserAt seat u user_step.StoreFirst = (length u.starts ≡ u.k + 1) × (u.k < length u.lines) × Hand seat u × (u.copied ≡ length (group_bytes u)) × EndIsNear u × (u.start / BLOCK_DATA < group_end u / BLOCK_DATA) × LacksFirst u × (u.checks ≡ false)
   UserAt seat u user_step.LoadWtail = (length u.starts ≡ u.k + 1) × (u.k < length u.lines) × Hand seat u × (u.copied ≡ length (group_bytes u)) × HasFirst u
   UserAt seat u user_step.StoreLink = (length u.starts ≡ u.k + 1) × (u.k < length u.lines) × Hand seat u × (u.copied ≡ length (group_bytes u)) × HasFirst u × (lsn u.start < m.wtail + WRITTEN_LINKS)
   UserAt seat u user_step.TakeLatch = IsBefore u
@@ -168,6 +171,7 @@ module _ (D : LogSide) (c : Setup) (m : SharedWords) (g : LogGhost) (p : D.Part)
 
   pub record CheckpointerFits (seat : ℕ) (t : CheckpointerState) : Type 0 where
     pub alone : seat ≡ c.checkpointer
+    pub own : t.own ≡ m.ckpt
     pub no_device_while_checking : t.checks ≡ true → checkpointer_holds t.step ≡ false
     pub step : CheckpointerAt t t.step
 
