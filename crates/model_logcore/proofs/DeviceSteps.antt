@@ -26,7 +26,7 @@ module _ (D : LogSide) (c : Setup) (m : SharedWords) (g : LogGhost) (p : D.Part)
   fits_moot d q j a G h = others_later D c m (record m { device = d }) g (record g { holder = q }) p p (suc j) G
       (later_marks D c m g p (omega arith) (omega arith) (omega arith) (omega arith) (λ z. z))
       (still_same D c m g p (omega arith) (λ z. z) refl)
-      (record { flushed = omega arith; ckpt_word = refl; failed = λ z. z; point = refl })
+      (record { writer = refl; flushed = refl; ckpt_word = refl; failed = λ z. z; point = refl })
       j a (λ e. omega arith) (λ _. refl) h
 
   global_moot : (d q : ℕ) → d ≤ 1 → LogFacts D c m g p → LogFacts D c (record m { device = d }) (record g { holder = q }) p

@@ -263,9 +263,10 @@ module _ (D : LogSide) (c : Setup) where
             step = writer_at_later h.tail h.from h.long h.wide s.step part h.step;
           }
 
-    -- what a step leaves to the flusher
+    -- what a step of another actor leaves to the flusher and to the checkpointer
     pub record Same : Type 0 where
-      pub flushed : m.flushed ≤ m'.flushed
+      pub writer : g'.writer ≡ g.writer
+      pub flushed : m'.flushed ≡ m.flushed
       pub ckpt_word : m'.ckpt ≡ m.ckpt
       pub failed : 0 < m.failed → 0 < m'.failed
       pub point : D.ckpt p' ≡ D.ckpt p
@@ -281,11 +282,11 @@ module _ (D : LogSide) (c : Setup) where
     flusher_at_later f same flusher_step.GiveFailed part h = same h
     flusher_at_later f same flusher_step.Failed part h = same h
 
-    pub flusher_later_by : (f : FlusherState) → m.write ≤ m'.write → m.flushed ≤ m'.flushed → (0 < m.failed → 0 < m'.failed) → (flusher_holds f.step ≡ true → ◌≡◌ {A = D.Part} p' p) → FlusherFits D c m g p f → FlusherFits D c m' g' p' f
-    flusher_later_by f wr fl fa part h = record { last = (let a = h.last in omega arith); write = (let a = h.write in omega arith); no_device_while_checking = h.no_device_while_checking; step = flusher_at_later f fa f.step part h.step }
+    pub flusher_later_by : (j : ℕ) (f : FlusherState) → m.write ≤ m'.write → g'.writer ≡ g.writer → m'.flushed ≡ m.flushed → (0 < m.failed → 0 < m'.failed) → (flusher_holds f.step ≡ true → ◌≡◌ {A = D.Part} p' p) → FlusherFits D c m g p j f → FlusherFits D c m' g' p' j f
+    flusher_later_by j f wr writer fl fa part h = record { alone = h.alone ∙ ap (λ (n : ℕ). n + 1) (sym writer); last = h.last ∙ sym fl; write = (let a = h.write in omega arith); no_device_while_checking = h.no_device_while_checking; step = flusher_at_later f fa f.step part h.step }
 
-    pub flusher_later : (f : FlusherState) → m.write ≤ m'.write → Same → (flusher_holds f.step ≡ true → ◌≡◌ {A = D.Part} p' p) → FlusherFits D c m g p f → FlusherFits D c m' g' p' f
-    flusher_later f wr same part h = flusher_later_by f wr same.flushed same.failed part h
+    pub flusher_later : (j : ℕ) (f : FlusherState) → m.write ≤ m'.write → Same → (flusher_holds f.step ≡ true → ◌≡◌ {A = D.Part} p' p) → FlusherFits D c m g p j f → FlusherFits D c m' g' p' j f
+    flusher_later j f wr same part h = flusher_later_by j f wr same.writer same.flushed same.failed part h
 
     -- what a step leaves to the cleaner and to the checkpointer
     pub record Rest : Type 0 where
@@ -317,7 +318,7 @@ module _ (D : LogSide) (c : Setup) where
     pub others_later : (seat : ℕ) → LogFacts D c m g p → Later m g m' g' seat → Still → Same → (j : ℕ) (a : Actor) → j ≢ seat → (holds a ≡ true → ◌≡◌ {A = D.Part} p' p) → Fits D c m g p j a → Fits D c m' g' p' j a
     others_later seat G later still same j (actor.User u) ne part h = user_later seat j u G.tiled.tiles later ne h
     others_later seat G later still same j (actor.Writer s) ne part h = let O = G.order in writer_later s j still O.base_even O.base_write O.read_wtail O.wtail_tail (let e = O.entered_tail in omega arith) part h
-    others_later seat G later still same j (actor.Flusher f) ne part h = flusher_later f later.write same part h
+    others_later seat G later still same j (actor.Flusher f) ne part h = flusher_later j f later.write same part h
     others_later seat G later still same j (actor.Closer t) ne part h = λ z. same.failed (h z)
     others_later seat G later still same j (actor.Cleaner v) ne part h = cleaner_told_later v (record { ckpt_word = same.ckpt_word; failed = same.failed; ckpt = same.point }) h
     others_later seat G later still same j (actor.Checkpointer t) ne part h = checkpointer_fits_later j t (record { ckpt_word = same.ckpt_word; failed = same.failed; ckpt = same.point }) part h
@@ -327,17 +328,27 @@ module _ (D : LogSide) (c : Setup) where
     pub others_writer : (seat : ℕ) → seat ≡ g.writer → LogFacts D c m g p → Later m g m' g' seat → Same → (j : ℕ) (a : Actor) → j ≢ seat → (holds a ≡ true → ◌≡◌ {A = D.Part} p' p) → Fits D c m g p j a → Fits D c m' g' p' j a
     others_writer seat is G later same j (actor.User u) ne part h = user_later seat j u G.tiled.tiles later ne h
     others_writer seat is G later same j (actor.Writer s) ne part h = absurd (ne (h.alone ∙ sym is))
-    others_writer seat is G later same j (actor.Flusher f) ne part h = flusher_later f later.write same part h
+    others_writer seat is G later same j (actor.Flusher f) ne part h = flusher_later j f later.write same part h
     others_writer seat is G later same j (actor.Closer t) ne part h = λ z. same.failed (h z)
     others_writer seat is G later same j (actor.Cleaner v) ne part h = cleaner_told_later v (record { ckpt_word = same.ckpt_word; failed = same.failed; ckpt = same.point }) h
     others_writer seat is G later same j (actor.Checkpointer t) ne part h = checkpointer_fits_later j t (record { ckpt_word = same.ckpt_word; failed = same.failed; ckpt = same.point }) part h
     others_writer seat is G later same j (actor.Joined es) ne part h = tt
 
+    -- the same where the flusher moves, which is alone
+    pub others_flusher : (seat : ℕ) → seat ≡ g.writer + 1 → LogFacts D c m g p → Later m g m' g' seat → Still → Rest → (j : ℕ) (a : Actor) → j ≢ seat → (holds a ≡ true → ◌≡◌ {A = D.Part} p' p) → Fits D c m g p j a → Fits D c m' g' p' j a
+    others_flusher seat is G later still rest j (actor.User u) ne part h = user_later seat j u G.tiled.tiles later ne h
+    others_flusher seat is G later still rest j (actor.Writer s) ne part h = let O = G.order in writer_later s j still O.base_even O.base_write O.read_wtail O.wtail_tail (let e = O.entered_tail in omega arith) part h
+    others_flusher seat is G later still rest j (actor.Flusher f) ne part h = absurd (ne (h.alone ∙ sym is))
+    others_flusher seat is G later still rest j (actor.Closer t) ne part h = λ z. rest.failed (h z)
+    others_flusher seat is G later still rest j (actor.Cleaner v) ne part h = cleaner_told_later v rest h
+    others_flusher seat is G later still rest j (actor.Checkpointer t) ne part h = checkpointer_fits_later j t rest part h
+    others_flusher seat is G later still rest j (actor.Joined es) ne part h = tt
+
     -- the same where the checkpointer moves, which is alone, and the newest checkpoint may change
-    pub others_pointer : (seat : ℕ) → seat ≡ c.checkpointer → LogFacts D c m g p → Later m g m' g' seat → Still → m.flushed ≤ m'.flushed → (j : ℕ) (a : Actor) → j ≢ seat → (holds a ≡ true → ◌≡◌ {A = D.Part} p' p) → Fits D c m g p j a → Fits D c m' g' p' j a
+    pub others_pointer : (seat : ℕ) → seat ≡ c.checkpointer → LogFacts D c m g p → Later m g m' g' seat → Still → m'.flushed ≡ m.flushed → (j : ℕ) (a : Actor) → j ≢ seat → (holds a ≡ true → ◌≡◌ {A = D.Part} p' p) → Fits D c m g p j a → Fits D c m' g' p' j a
     others_pointer seat is G later still fl j (actor.User u) ne part h = user_later seat j u G.tiled.tiles later ne h
     others_pointer seat is G later still fl j (actor.Writer s) ne part h = let O = G.order in writer_later s j still O.base_even O.base_write O.read_wtail O.wtail_tail (let e = O.entered_tail in omega arith) part h
-    others_pointer seat is G later still fl j (actor.Flusher f) ne part h = flusher_later_by f later.write fl later.failed part h
+    others_pointer seat is G later still fl j (actor.Flusher f) ne part h = flusher_later_by j f later.write still.writer fl later.failed part h
     others_pointer seat is G later still fl j (actor.Closer t) ne part h = λ z. later.failed (h z)
     others_pointer seat is G later still fl j (actor.Cleaner v) ne part h = ((λ z. later.failed (h.0 z)), h.1)
     others_pointer seat is G later still fl j (actor.Checkpointer t) ne part h = absurd (ne (h.alone ∙ sym is))

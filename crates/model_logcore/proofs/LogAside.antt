@@ -32,12 +32,12 @@ module _ (D : LogSide) (c : Setup) (spare : ℕ) (m : SharedWords) (g : LogGhost
       (λ z. others_later D c m m' g g p p seat G
       (later_marks D c m g p (omega arith) (omega arith) up (omega arith) fails)
       (still_same D c m g p up fails refl)
-      (record { flushed = omega arith; ckpt_word = z; failed = fails; point = refl })
+      (record { writer = refl; flushed = refl; ckpt_word = z; failed = fails; point = refl })
       j x n (λ _. refl) (before.each j x e))
       (λ z. others_pointer D c m m' g g p p seat z G
       (later_marks D c m g p (omega arith) (omega arith) up (omega arith) fails)
       (still_same D c m g p up fails refl)
-      (omega arith) j x n (λ _. refl) (before.each j x e))
+      refl j x n (λ _. refl) (before.each j x e))
       who)
       refl refl refl refl keep same le
 
@@ -70,5 +70,5 @@ module _ (D : LogSide) (c : Setup) (spare : ℕ) (m : SharedWords) (g : LogGhost
       (λ j x n e. others_pointer D c m m g g p q seat his.alone G
       (later_marks D c m g p (omega arith) (omega arith) (omega arith) (omega arith) (λ z. z))
       (still_same D c m g p (omega arith) (λ z. z) A.written)
-      (omega arith) j x n (λ h. absurd (n ((before.turns j x e h).1 ∙ sym (before.turns seat (actor.Checkpointer t) at held).1))) (before.each j x e))
+      refl j x n (λ h. absurd (n ((before.turns j x e h).1 ∙ sym (before.turns seat (actor.Checkpointer t) at held).1))) (before.each j x e))
       refl refl refl refl (keep b ∙ sym held) refl (omega arith)

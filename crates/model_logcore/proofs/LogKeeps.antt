@@ -140,26 +140,26 @@ module _ (D : LogSide) (L : LogLaws D) (c : Setup) (spare : ℕ) (m : SharedWord
     writer_any false checks v = writer_own s.step refl mine.step v
 
   module _ (f : FlusherState) (at : get_elem? actors seat ≡ maybe.some (actor.Flusher f)) where
-    hers : FlusherFits D c m g p f
+    hers : FlusherFits D c m g p seat f
     hers = before.each seat (actor.Flusher f) at
 
     seizes : (b d : Bool) → eqb m.device 0 ≡ b → D.failed p ≡ d → ◌≡◌ {A = D.Part} q p → f.step ≡ flusher_step.TakeDevice
         → (h : LogGhost) × LogHalf D c spare (cond b (record m { device = 1 }) m) h q (set actors seat (actor.Flusher (flusher_took f (cond b (cond d answer.Broken (answer.Taken None)) answer.Held) flusher_step.TakeDevice))) × (◌≡◌ {A = List Entry} (h.log) g.log)
     seizes true true e k same_part is = same _ _ same_part (takes D c spare m g p actors seat (actor.Flusher f) before at (actor.Flusher (record f { checks = false; step = flusher_step.GiveBroken })) (eqb-true m.device 0 e) refl
-        (record { last = hers.last; write = hers.write; no_device_while_checking = λ z. absurd (cc); step = tt }) refl (omega arith))
+        (record { alone = hers.alone; last = hers.last; write = hers.write; no_device_while_checking = λ z. absurd (cc); step = tt }) refl (omega arith))
     seizes true false e k same_part is = same _ _ same_part (takes D c spare m g p actors seat (actor.Flusher f) before at (actor.Flusher (record f { checks = false; step = flusher_step.Sync })) (eqb-true m.device 0 e) refl
-        (record { last = hers.last; write = hers.write; no_device_while_checking = λ z. absurd (cc); step = k }) refl (omega arith))
+        (record { alone = hers.alone; last = hers.last; write = hers.write; no_device_while_checking = λ z. absurd (cc); step = k }) refl (omega arith))
     seizes false d e k same_part is = same _ _ same_part (
       g,
       stays D c spare m g p actors seat (actor.Flusher f) before at (actor.Flusher (record f { checks = true; step = flusher_step.TakeDevice })) (sym (ap flusher_holds is))
-          (record { last = hers.last; write = hers.write; no_device_while_checking = λ z. refl; step = tt }) refl (omega arith),
+          (record { alone = hers.alone; last = hers.last; write = hers.write; no_device_while_checking = λ z. refl; step = tt }) refl (omega arith),
       refl,
     )
 
     yields : (checks : Bool) (st : FlusherStep) → ◌≡◌ {A = D.Part} q p → flusher_holds f.step ≡ true → flusher_holds st ≡ false → FlusherAt D c m g p (record f { checks = checks; step = st }) st
         → (h : LogGhost) × LogHalf D c spare (record m { device = 0 }) h q (set actors seat (actor.Flusher (record f { checks = checks; step = st }))) × (◌≡◌ {A = List Entry} (h.log) g.log)
     yields checks st same_part had free h = same _ _ same_part (gives D c spare m g p actors seat (actor.Flusher f) before at (actor.Flusher (record f { checks = checks; step = st })) had free
-        (record { last = hers.last; write = hers.write; no_device_while_checking = λ z. free; step = h }) refl (omega arith))
+        (record { alone = hers.alone; last = hers.last; write = hers.write; no_device_while_checking = λ z. free; step = h }) refl (omega arith))
 
     flusher_own : (w : FlusherStep) → f.step ≡ w → FlusherAt D c m g p f w → LogServed D p Nothing (flusher_op f w) code q → KeptSo (flusher_op f w) (λ r. actor.Flusher (flusher_took f r w))
     flusher_own flusher_step.LoadWrite is h v = same _ _ v (g, keeps_watch D L c spare m g p actors seat f before at is, refl)

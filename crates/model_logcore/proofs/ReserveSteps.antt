@@ -225,7 +225,7 @@ module _ (D : LogSide) (L : LogLaws D) (c : Setup) (spare : ℕ) (m : SharedWord
               answers = λ v other. refl;
             })
             (record { writer = refl; gwrite = refl; gwtail = refl; tail = refl; read = refl; entered = refl; write = refl; ckpt = omega arith; failed = λ z. z; link = λ z. refl; bytes = λ x lo hi. old x lo (omega arith); firsts = first_old; written = refl })
-            (record { flushed = omega arith; ckpt_word = refl; failed = λ z. z; point = refl })
+            (record { writer = refl; flushed = refl; ckpt_word = refl; failed = λ z. z; point = refl })
             j a ne (λ h. refl) (before.each j a a_is))
             (λ h. absurd (cc)) (λ j a ne a_is h. before.turns j a a_is h)
             (λ h.

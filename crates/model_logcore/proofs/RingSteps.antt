@@ -64,7 +64,7 @@ module _ (D : LogSide) (c : Setup) (spare : ℕ) (m : SharedWords) (g : LogGhost
       → ◌≡◌ {A = List Entry} (entries (actor.User w)) (entries (actor.User u)) → left_to_reserve (actor.User w) ≤ left_to_reserve (actor.User u)
       → LogHalf D c spare m' g' p (set actors seat (actor.User w))
   steps m' g' w sized global f later still flushed ckpt device holder log sn same le = moved_on D c spare m m' g g' p p actors seat (actor.User u) (actor.User w) before at sized global f
-      (λ j a n e. others_later D c m m' g g' p p seat before.global later still (record { flushed = omega arith; ckpt_word = ckpt; failed = later.failed; point = refl }) j a n (λ h. refl) (before.each j a e))
+      (λ j a n e. others_later D c m m' g g' p p seat before.global later still (record { writer = still.writer; flushed = flushed; ckpt_word = ckpt; failed = later.failed; point = refl }) j a n (λ h. refl) (before.each j a e))
       device holder log sn refl same le
 
   -- where the group in hand lies

@@ -28,7 +28,7 @@ module _ (D : LogSide) (c : Setup) (spare : ℕ) (m : SharedWords) (g : LogGhost
   pub loaded_below : (seat : ℕ) (a : Actor) → get_elem? actors seat ≡ maybe.some a → HasLoadedBelow m a
   loaded_below seat (actor.User u) at = let f : UserFits D c m g p seat u = half.each seat (actor.User u) at in f.loaded
   loaded_below seat (actor.Writer s) at = let f : WriterFits D c m g p seat s = half.each seat (actor.Writer s) at in ((let z = f.write in omega arith), f.ckpt)
-  loaded_below seat (actor.Flusher t) at = let f : FlusherFits D c m g p t = half.each seat (actor.Flusher t) at in (f.write, f.last)
+  loaded_below seat (actor.Flusher t) at = let f : FlusherFits D c m g p seat t = half.each seat (actor.Flusher t) at in (f.write, (let z = f.last in omega arith))
   loaded_below seat (actor.Closer t) at = tt
   loaded_below seat (actor.Cleaner v) at = tt
   loaded_below seat (actor.Checkpointer t) at = tt
@@ -37,7 +37,7 @@ module _ (D : LogSide) (c : Setup) (spare : ℕ) (m : SharedWords) (g : LogGhost
   own_mark : (seat : ℕ) (a : Actor) → get_elem? actors seat ≡ maybe.some a → OwnMarkIs m a
   own_mark seat (actor.User u) at = tt
   own_mark seat (actor.Writer s) at = let f : WriterFits D c m g p seat s = half.each seat (actor.Writer s) at in f.write
-  own_mark seat (actor.Flusher t) at = tt
+  own_mark seat (actor.Flusher t) at = let f : FlusherFits D c m g p seat t = half.each seat (actor.Flusher t) at in f.last
   own_mark seat (actor.Closer t) at = tt
   own_mark seat (actor.Cleaner v) at = tt
   own_mark seat (actor.Checkpointer t) at = let f : CheckpointerFits D c m g p seat t = half.each seat (actor.Checkpointer t) at in f.own
@@ -49,7 +49,7 @@ module _ (D : LogSide) (c : Setup) (spare : ℕ) (m : SharedWords) (g : LogGhost
   failures_show seat (actor.Writer s) at met = let f : WriterFits D c m g p seat s = half.each seat (actor.Writer s) at in
       ⊎_elim (λ e. let z : WriterAt D c m g p seat s writer_step.GiveFailed = subst (WriterAt D c m g p seat s) e f.step in z)
       (λ e. let z : WriterAt D c m g p seat s writer_step.Failed = subst (WriterAt D c m g p seat s) e f.step in z) met
-  failures_show seat (actor.Flusher t) at met = let f : FlusherFits D c m g p t = half.each seat (actor.Flusher t) at in
+  failures_show seat (actor.Flusher t) at met = let f : FlusherFits D c m g p seat t = half.each seat (actor.Flusher t) at in
       ⊎_elim (λ e. let z : FlusherAt D c m g p t flusher_step.GiveFailed = subst (FlusherAt D c m g p t) e f.step in z)
       (λ e. let z : FlusherAt D c m g p t flusher_step.Failed = subst (FlusherAt D c m g p t) e f.step in z) met
   failures_show seat (actor.Closer t) at met = half.each seat (actor.Closer t) at met

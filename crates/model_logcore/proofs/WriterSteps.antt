@@ -36,7 +36,7 @@ module _ (D : LogSide) (c : Setup) (spare : ℕ) (m : SharedWords) (g : LogGhost
   pub wsteps : (m' : SharedWords) (g' : LogGhost) (q : D.Part) (point : D.ckpt q ≡ D.ckpt p) (w : WriterState) → IsSized c.pages m' → LogFacts D c m' g' q → WriterFits D c m' g' q seat w → Later D c m g m' g' seat → m'.flushed ≡ m.flushed → m'.ckpt ≡ m.ckpt → m'.device ≡ m.device → g'.holder ≡ g.holder → g'.log ≡ g.log → m'.sn ≡ m.sn
       → writer_holds w.step ≡ writer_holds s.step → (writer_holds s.step ≡ false → ◌≡◌ {A = D.Part} q p) → LogHalf D c spare m' g' q (set actors seat (actor.Writer w))
   wsteps m' g' q point w sized global f later flushed ckpt device holder log sn keep same = moved_on D c spare m m' g g' p q actors seat (actor.Writer s) (actor.Writer w) before at sized global f
-      (λ j a n e. others_writer D c m m' g g' p q seat own.alone before.global later (record { flushed = omega arith; ckpt_word = ckpt; failed = later.failed; point = point }) j a n (part_by q same j a n e) (before.each j a e))
+      (λ j a n e. others_writer D c m m' g g' p q seat own.alone before.global later (record { writer = sym f.alone ∙ own.alone; flushed = flushed; ckpt_word = ckpt; failed = later.failed; point = point }) j a n (part_by q same j a n e) (before.each j a e))
       device holder log sn keep refl (omega arith)
 
   -- nothing but these of the writer's own state changes

@@ -151,8 +151,10 @@ module _ (D : LogSide) (c : Setup) (m : SharedWords) (g : LogGhost) (p : D.Part)
   FlusherAt f flusher_step.Failed = 0 < m.failed
   FlusherAt f _ = Unit {0}
 
-  pub record FlusherFits (f : FlusherState) : Type 0 where
-    pub last : f.last ≤ m.flushed
+  -- it sits behind the writer
+  pub record FlusherFits (seat : ℕ) (f : FlusherState) : Type 0 where
+    pub alone : seat ≡ g.writer + 1
+    pub last : f.last ≡ m.flushed
     pub write : f.write ≤ m.write
     pub no_device_while_checking : f.checks ≡ true → flusher_holds f.step ≡ false
     pub step : FlusherAt f f.step
@@ -178,7 +180,7 @@ module _ (D : LogSide) (c : Setup) (m : SharedWords) (g : LogGhost) (p : D.Part)
   abbrev pub Fits : ℕ → Actor → Type 0
   Fits seat (actor.User u) = UserFits seat u
   Fits seat (actor.Writer s) = WriterFits seat s
-  Fits seat (actor.Flusher f) = FlusherFits f
+  Fits seat (actor.Flusher f) = FlusherFits seat f
   Fits seat (actor.Closer t) = t.step ≡ closer_step.Failed → 0 < m.failed
   Fits seat (actor.Cleaner v) = CleanerTold v
   Fits seat (actor.Checkpointer t) = CheckpointerFits seat t

@@ -120,6 +120,7 @@ HasLoadedBelow m _ = Unit {0}
 -- a mark that an actor alone stores, as it keeps it for itself, is the word
 abbrev pub OwnMarkIs : SharedWords → Actor → Type 0
 OwnMarkIs m (actor.Writer s) = s.write ≡ m.write
+OwnMarkIs m (actor.Flusher f) = f.last ≡ m.flushed
 OwnMarkIs m (actor.Checkpointer t) = t.own ≡ m.ckpt
 OwnMarkIs m _ = Unit {0}
 
