@@ -48,10 +48,11 @@ module _ (D : LogSide) (c : Setup) (m : SharedWords) (g : LogGhost) (p : D.Part)
   abbrev pub EndIsNear : UserState → Type 0
   EndIsNear u = lsn (group_end u) < floor m.write + LOG_BUFFER
 
-  -- FIRST of the block in which it ends is stored, if it starts in another; or is 0
+  -- FIRST of the block in which it ends is stored, if it starts in another
   abbrev pub HasFirst : UserState → Type 0
   HasFirst u = u.start / BLOCK_DATA < group_end u / BLOCK_DATA → 0 < g.first (group_end u / BLOCK_DATA)
 
+  -- that FIRST isn't stored yet
   abbrev pub LacksFirst : UserState → Type 0
   LacksFirst u = u.start / BLOCK_DATA < group_end u / BLOCK_DATA → g.first (group_end u / BLOCK_DATA) ≡ 0
 

@@ -117,7 +117,7 @@ HasLoadedBelow m (actor.Writer s) = (s.write ≤ m.write) × (s.ckpt ≤ m.ckpt)
 HasLoadedBelow m (actor.Flusher f) = (f.write ≤ m.write) × (f.last ≤ m.flushed)
 HasLoadedBelow m _ = Unit {0}
 
--- a mark that an actor alone stores, as it keeps it for itself, is the word
+-- what an actor keeps as the last mark that it has stored is the word: it compares with it and loads nothing
 abbrev pub OwnMarkIs : SharedWords → Actor → Type 0
 OwnMarkIs m (actor.Writer s) = s.write ≡ m.write
 OwnMarkIs m (actor.Flusher f) = f.last ≡ m.flushed
