@@ -26,7 +26,7 @@ module _ (D : LogSide) (c : Setup) (m : SharedWords) (g : LogGhost) (p : D.Part)
   fits_moot d q j a G h = others_later D c m (record m { device = d }) g (record g { holder = q }) p p (suc j) G
       (later_marks D c m g p (omega arith) (omega arith) (omega arith) (omega arith) (λ z. z))
       (still_same D c m g p (omega arith) (λ z. z) refl)
-      (record { flushed = omega arith; failed = λ z. z; point = refl })
+      (record { writer = refl; flushed = refl; ckpt_word = refl; failed = λ z. z; point = refl })
       j a (λ e. omega arith) (λ _. refl) h
 
   global_moot : (d q : ℕ) → d ≤ 1 → LogFacts D c m g p → LogFacts D c (record m { device = d }) (record g { holder = q }) p
@@ -100,7 +100,7 @@ module _ (D : LogSide) (L : LogLaws D) (c : Setup) (spare : ℕ) (m : SharedWord
       → LogHalf D c spare m g q (set actors seat (actor.Writer (writer_took s (cond b (answer.Called 0) (answer.Failed code)) writer_step.WriteTo)))
   writes_by q code b b_is is h A = wsteps D c spare m g p actors seat s before at m g q A.ckpt (writer_took s (cond b (answer.Called 0) (answer.Failed code)) writer_step.WriteTo) before.sized (facts_same D c m g p (parted b b_is) G) (fit b b_is)
       (later_marks D c m g p (omega arith) (omega arith) (omega arith) (omega arith) (λ z. z))
-      refl refl refl refl refl (keep b) (λ e. let z : true ≡ false = sym (ap writer_holds is) ∙ e in absurd (cc))
+      refl refl refl refl refl refl (keep b) (λ e. let z : true ≡ false = sym (ap writer_holds is) ∙ e in absurd (cc))
     where
       G : LogFacts D c m g p
       G = before.global

@@ -6,7 +6,7 @@ use Rattle.model_core.specs.{Actor, Entry, flusher_holds, flusher_took, FlusherS
 use Rattle.model_core.specs.LogSide.{LogSide}
 use Rattle.model_core.specs.Setup.{Setup}
 use Rattle.model_logcore.proofs.DeviceSteps.{stays}
-use Rattle.model_logcore.proofs.Frame.{Later, Still, others_later, moved_on}
+use Rattle.model_logcore.proofs.Frame.{Later, Still, others_flusher, moved_on}
 use Rattle.model_logcore.proofs.Same.{facts_same, later_marks, numbers_sized, part_kept, part_same, still_same}
 use Rattle.model_logcore.specs.LogFacts.{LogGhost, LogFacts, LogPartFacts}
 use Rattle.model_logcore.specs.LogFits.{FlusherAt, FlusherFits}
@@ -18,7 +18,7 @@ use Rattle.model_core.specs.declared.steps.FlusherStep.TheVariants as flusher_st
 use Rattle.model_core.specs.Actors as actor
 
 module _ (D : LogSide) (L : LogLaws D) (c : Setup) (spare : ℕ) (m : SharedWords) (g : LogGhost) (p : D.Part) (actors : List Actor) (seat : ℕ) (f : FlusherState) (before : LogHalf D c spare m g p actors) (at : get_elem? actors seat ≡ maybe.some (actor.Flusher f)) where
-  hers : FlusherFits D c m g p f
+  hers : FlusherFits D c m g p seat f
   hers = before.each seat (actor.Flusher f) at
 
   others_by : (q : D.Part) → (flusher_holds f.step ≡ false → ◌≡◌ {A = D.Part} q p) → (j : ℕ) (a : Actor) → j ≢ seat → get_elem? actors j ≡ maybe.some a → holds a ≡ true → ◌≡◌ {A = D.Part} q p
@@ -29,18 +29,18 @@ module _ (D : LogSide) (L : LogLaws D) (c : Setup) (spare : ℕ) (m : SharedWord
       by false free = same free
 
   -- the flusher moves, and holds what it held
-  fsteps : (m' : SharedWords) (g' : LogGhost) (q : D.Part) (point : D.ckpt q ≡ D.ckpt p) (w : FlusherState) → IsSized c.pages m' → LogFacts D c m' g' q → FlusherFits D c m' g' q w → Later D c m g m' g' seat → Still D c m m' g g' p q → m.flushed ≤ m'.flushed → m'.device ≡ m.device → g'.holder ≡ g.holder → g'.log ≡ g.log → m'.sn ≡ m.sn
+  fsteps : (m' : SharedWords) (g' : LogGhost) (q : D.Part) (point : D.ckpt q ≡ D.ckpt p) (w : FlusherState) → IsSized c.pages m' → LogFacts D c m' g' q → FlusherFits D c m' g' q seat w → Later D c m g m' g' seat → Still D c m m' g g' p q → m'.ckpt ≡ m.ckpt → m'.device ≡ m.device → g'.holder ≡ g.holder → g'.log ≡ g.log → m'.sn ≡ m.sn
       → flusher_holds w.step ≡ flusher_holds f.step → (flusher_holds f.step ≡ false → ◌≡◌ {A = D.Part} q p) → LogHalf D c spare m' g' q (set actors seat (actor.Flusher w))
-  fsteps m' g' q point w sized global fit later still flushed device holder log sn keep same = moved_on D c spare m m' g g' p q actors seat (actor.Flusher f) (actor.Flusher w) before at sized global fit
-      (λ j a n e. others_later D c m m' g g' p q seat before.global later still (record { flushed = flushed; failed = later.failed; point = point }) j a n (others_by q same j a n e) (before.each j a e))
+  fsteps m' g' q point w sized global fit later still ckpt device holder log sn keep same = moved_on D c spare m m' g g' p q actors seat (actor.Flusher f) (actor.Flusher w) before at sized global fit
+      (λ j a n e. others_flusher D c m m' g g' p q seat hers.alone before.global later still (record { ckpt_word = ckpt; failed = later.failed; ckpt = point }) j a n (others_by q same j a n e) (before.each j a e))
       device holder log sn keep refl (omega arith)
 
   never_asks : flusher_holds f.step ≡ true → f.checks ≡ true → ⊥
   never_asks held z = let y = hers.no_device_while_checking z in let x : true ≡ false = sym held ∙ y in cc
 
   look_by : (b : Bool) → flusher_holds f.step ≡ false → LogHalf D c spare m g p (set actors seat (actor.Flusher (cond b (record f { write = m.write; checks = true; step = flusher_step.LoadWrite }) (record f { write = m.write; step = flusher_step.TakeDevice }))))
-  look_by true free = stays D c spare m g p actors seat (actor.Flusher f) before at (actor.Flusher (record f { write = m.write; checks = true; step = flusher_step.LoadWrite })) (sym free) (record { last = hers.last; write = omega arith; no_device_while_checking = λ z. refl; step = tt }) refl (omega arith)
-  look_by false free = stays D c spare m g p actors seat (actor.Flusher f) before at (actor.Flusher (record f { write = m.write; step = flusher_step.TakeDevice })) (sym free) (record { last = hers.last; write = omega arith; no_device_while_checking = λ z. refl; step = tt }) refl (omega arith)
+  look_by true free = stays D c spare m g p actors seat (actor.Flusher f) before at (actor.Flusher (record f { write = m.write; checks = true; step = flusher_step.LoadWrite })) (sym free) (record { alone = hers.alone; last = hers.last; write = omega arith; no_device_while_checking = λ z. refl; step = tt }) refl (omega arith)
+  look_by false free = stays D c spare m g p actors seat (actor.Flusher f) before at (actor.Flusher (record f { write = m.write; step = flusher_step.TakeDevice })) (sym free) (record { alone = hers.alone; last = hers.last; write = omega arith; no_device_while_checking = λ z. refl; step = tt }) refl (omega arith)
 
   -- it loads WRITE
   pub keeps_watch : f.step ≡ flusher_step.LoadWrite → LogHalf D c spare m g p (set actors seat (actor.Flusher (flusher_took f (answer.Old m.write) flusher_step.LoadWrite)))
@@ -82,10 +82,10 @@ module _ (D : LogSide) (L : LogLaws D) (c : Setup) (spare : ℕ) (m : SharedWord
               commits = record { flush = λ i e a b d. let o = G.commits.flush i e a b d in omega arith; wrote = G.commits.wrote; linked = G.commits.linked; last = G.commits.last };
               part = part_same D c m g p P P.write_written P.given_wtail (omega arith) P.ckpt_part P.turn_word;
             })
-            (record { last = omega arith; write = hers.write; no_device_while_checking = λ z. absurd (never_asks held z); step = tt })
+            (record { alone = hers.alone; last = refl; write = hers.write; no_device_while_checking = λ z. absurd (never_asks held z); step = tt })
             (later_marks D c m g p (omega arith) (omega arith) (omega arith) up (λ z. z))
             (still_same D c m g p (omega arith) (λ z. z) refl)
-            up refl refl refl refl (sym held) (λ z. refl),
+            refl refl refl refl refl (sym held) (λ z. refl),
         refl,
       )
 
@@ -98,10 +98,10 @@ module _ (D : LogSide) (L : LogLaws D) (c : Setup) (spare : ℕ) (m : SharedWord
       fsteps m' g p refl (record f { step = flusher_step.GiveFailed })
       (numbers_sized before.sized)
       (facts_same D c m g p G.part G)
-      (record { last = hers.last; write = hers.write; no_device_while_checking = λ z. absurd (never_asks held z); step = h0 })
+      (record { alone = hers.alone; last = hers.last; write = hers.write; no_device_while_checking = λ z. absurd (never_asks held z); step = h0 })
       (later_marks D c m g p (omega arith) (omega arith) (omega arith) (omega arith) (λ z. h0))
       (still_same D c m g p (omega arith) (λ z. h0) refl)
-      (omega arith) refl refl refl refl (sym held) (λ z. refl)
+      refl refl refl refl refl (sym held) (λ z. refl)
 
   pub syncs_by : (q : D.Part) (code : ℕ) (b : Bool) → eqb code 0 ≡ b → f.step ≡ flusher_step.Sync → AfterSync D c.blocks c.base g.log code p q
       → LogHalf D c spare m g q (set actors seat (actor.Flusher (flusher_took f (cond b (answer.Called (D.stable q)) (answer.Failed code)) flusher_step.Sync)))
@@ -110,7 +110,7 @@ module _ (D : LogSide) (L : LogLaws D) (c : Setup) (spare : ℕ) (m : SharedWord
       fsteps m g q A.ckpt (flusher_took f (cond b (answer.Called (D.stable q)) (answer.Failed code)) flusher_step.Sync) before.sized (facts_same D c m g p (parted b b_is) before.global) (fit b b_is)
       (later_marks D c m g p (omega arith) (omega arith) (omega arith) (omega arith) (λ z. z))
       (still_same D c m g p (omega arith) (λ z. z) A.written)
-      (omega arith) refl refl refl refl (keep b) (λ e. let z : true ≡ false = sym (ap flusher_holds is) ∙ e in absurd (cc))
+      refl refl refl refl refl (keep b) (λ e. let z : true ≡ false = sym (ap flusher_holds is) ∙ e in absurd (cc))
     where
       stable_by : (b : Bool) → eqb code 0 ≡ b → D.stable q ≡ cond b (D.written p) (D.stable p)
       stable_by b e = A.stable ∙ ap (λ (z : Bool). cond z (D.written p) (D.stable p)) e
@@ -142,14 +142,14 @@ module _ (D : LogSide) (L : LogLaws D) (c : Setup) (spare : ℕ) (m : SharedWord
       parted false e = let P = before.global.part in let gi = A.given in let ck = A.ckpt in let y = A.asked in
           part_kept D c m g p P A.holds A.written (stable_by false e) (let z = P.written_given in omega arith) (let z = P.given_wtail in omega arith) (let z = P.ckpt_part in omega arith) (let z = P.ckpt_asked in omega arith) (let z = P.asked_stable in omega arith)
 
-      fit : (b : Bool) → eqb code 0 ≡ b → FlusherFits D c m g q (flusher_took f (cond b (answer.Called (D.stable q)) (answer.Failed code)) flusher_step.Sync)
-      fit true e = record { last = hers.last; write = hers.write; no_device_while_checking = λ z. absurd (never_asks (ap flusher_holds is) z); step = refl }
-      fit false e = let n = eqb-false code 0 e in let pos : 0 < code = omega arith in record { last = hers.last; write = hers.write; no_device_while_checking = λ z. absurd (never_asks (ap flusher_holds is) z); step = (pos, A.cause pos) }
+      fit : (b : Bool) → eqb code 0 ≡ b → FlusherFits D c m g q seat (flusher_took f (cond b (answer.Called (D.stable q)) (answer.Failed code)) flusher_step.Sync)
+      fit true e = record { alone = hers.alone; last = hers.last; write = hers.write; no_device_while_checking = λ z. absurd (never_asks (ap flusher_holds is) z); step = refl }
+      fit false e = let n = eqb-false code 0 e in let pos : 0 < code = omega arith in record { alone = hers.alone; last = hers.last; write = hers.write; no_device_while_checking = λ z. absurd (never_asks (ap flusher_holds is) z); step = (pos, A.cause pos) }
 
   -- it loads FAILED
   pub flusher_checked : f.checks ≡ true → LogHalf D c spare m g p (set actors seat (actor.Flusher (cond (eqb m.failed 0) (record f { checks = false }) (record f { checks = false; code = m.failed; step = flusher_step.Failed }))))
   flusher_checked checks = by (eqb m.failed 0) refl
     where
       by : (b : Bool) → eqb m.failed 0 ≡ b → LogHalf D c spare m g p (set actors seat (actor.Flusher (cond b (record f { checks = false }) (record f { checks = false; code = m.failed; step = flusher_step.Failed }))))
-      by true e = stays D c spare m g p actors seat (actor.Flusher f) before at (actor.Flusher (record f { checks = false })) refl (record { last = hers.last; write = hers.write; no_device_while_checking = λ z. absurd (cc); step = hers.step }) refl (omega arith)
-      by false e = stays D c spare m g p actors seat (actor.Flusher f) before at (actor.Flusher (record f { checks = false; code = m.failed; step = flusher_step.Failed })) (sym (hers.no_device_while_checking checks)) (record { last = hers.last; write = hers.write; no_device_while_checking = λ z. refl; step = (let n = eqb-false m.failed 0 e in omega arith) }) refl (omega arith)
+      by true e = stays D c spare m g p actors seat (actor.Flusher f) before at (actor.Flusher (record f { checks = false })) refl (record { alone = hers.alone; last = hers.last; write = hers.write; no_device_while_checking = λ z. absurd (cc); step = hers.step }) refl (omega arith)
+      by false e = stays D c spare m g p actors seat (actor.Flusher f) before at (actor.Flusher (record f { checks = false; code = m.failed; step = flusher_step.Failed })) (sym (hers.no_device_while_checking checks)) (record { alone = hers.alone; last = hers.last; write = hers.write; no_device_while_checking = λ z. refl; step = (let n = eqb-false m.failed 0 e in omega arith) }) refl (omega arith)

@@ -8,7 +8,7 @@ use Rattle.model_base.specs.declared.limits.TheConstants.{LSN_LIMIT}
 use Rattle.model_core.proofs.Lists.{at_set, set_else}
 use Rattle.model_core.proofs.Groups.{tiles_at}
 use Rattle.model_core.proofs.Lsns.{floor_grows, lsn_below}
-use Rattle.model_core.specs.{Actor, byte_at, checkpointer_holds, CheckpointerState, CleanerState, entries, Entry, first_of, flusher_holds, FlusherState, group_bytes, holds, IsSized, left_in_word, LoadedMarks, lsn, read_place, SharedWords, sum_of, Tiles, UserState, word_end, writer_holds, WriterState}
+use Rattle.model_core.specs.{Actor, byte_at, checkpointer_holds, CheckpointerState, CleanerState, end_of, entries, Entry, first_of, flusher_holds, FlusherState, group_bytes, holds, IsSized, left_in_word, LoadedMarks, lsn, read_place, SharedWords, sum_of, Tiles, UserState, word_end, writer_holds, WriterState}
 use Rattle.model_core.specs.LogSide.{LogSide}
 use Rattle.model_core.specs.Setup.{Setup}
 use Rattle.model_core.specs.declared.steps.UserStep.{UserStep}
@@ -16,7 +16,7 @@ use Rattle.model_core.specs.declared.steps.CheckpointerStep.{CheckpointerStep}
 use Rattle.model_core.specs.declared.steps.WriterStep.{WriterStep}
 use Rattle.model_core.specs.declared.steps.FlusherStep.{FlusherStep}
 use Rattle.model_logcore.specs.LogFacts.{LogGhost, LogFacts, Place, count_of, sum_over_actors}
-use Rattle.model_logcore.specs.LogFits.{AreBelow, CheckpointerAt, CheckpointerFits, CleanerTold, Fits, FlusherAt, FlusherFits, Hand, UserAt, UserFits, WriterAt, WriterFits, HasLinked, HasStoppedAt}
+use Rattle.model_logcore.specs.LogFits.{AreBelow, CheckpointerAt, CheckpointerFits, CleanerTold, Fits, FlusherAt, FlusherFits, Hand, LacksFirst, UserAt, UserFits, WriterAt, WriterFits, HasLinked, HasStoppedAt}
 use Rattle.model_logcore.specs.LogHalf.{Counted, LogHalf, HasTaker, left_to_reserve}
 use Rattle.model_core.specs.declared.steps.UserStep.TheVariants as user_step
 use Rattle.model_core.specs.declared.steps.WriterStep.TheVariants as writer_step
@@ -102,6 +102,7 @@ module _ (D : LogSide) (c : Setup) where
     pub states : (x : ℕ) → x < m.sn → (g.place x).owner ≢ seat → g'.state x ≡ g.state x
     pub linked : (x : ℕ) → x < m.sn → g.state x ≡ 2 → g'.state x ≡ 2
     pub firsts : (q : ℕ) → 0 < g.first q → 0 < g'.first q
+    pub bare : (i : ℕ) (e : Entry) → get_elem? g.log i ≡ some e → (g.place e.start).owner ≢ seat → e.start / 496 < end_of e / 496 → g.first (end_of e / 496) ≡ 0 → g'.first (end_of e / 496) ≡ 0
     pub seats : (v : ℕ) → g'.seat_of v ≡ g.seat_of v
     pub counts : (v : ℕ) → g.seat_of v ≢ seat → count_of v g'.log ≡ count_of v g.log
     pub answers : (v : ℕ) → g.seat_of v ≢ seat → g'.answered v ≡ g.answered v
@@ -119,21 +120,24 @@ module _ (D : LogSide) (c : Setup) where
           bare = λ x lo hi. let o = other x (omega arith) hi in later.states x o.0 o.1 ∙ h.bare x lo hi;
         }
 
+    lacks_later : (seat j : ℕ) (u : UserState) → Later m g m' g' seat → j ≢ seat → Hand D c m g p j u → LacksFirst D c m g p u → LacksFirst D c m' g' p' u
+    lacks_later seat j u later ne h lacks cross = later.bare h.at _ h.is (λ e. ne (sym (h.own u.start (omega arith) (omega arith)) ∙ e)) cross (lacks cross)
+
     linked_later : {seat : ℕ} (j : ℕ) (u : UserState) → Tiles c.base g.log m.sn → Later m g m' g' seat → HasLinked D c m g p u → HasLinked D c m' g' p' u
     linked_later j u T later h = let w = (tiles_at g.log c.base m.sn h.0 _ T h.1).1 in (h.0, later.logs _ _ h.1, λ x lo hi. later.linked x (omega arith) (h.2 x lo hi))
 
     stopped_later : (seat j : ℕ) (u : UserState) → Tiles c.base g.log m.sn → Later m g m' g' seat → j ≢ seat → HasStoppedAt D c m g p j u → HasStoppedAt D c m' g' p' j u
     stopped_later seat j u T later ne h = ⊎_elim
-        (λ z. inl (in_hand_later seat j u T later ne z.1 z.0, z.1, λ some. let e = z.2 some in let f = floor_grows m.write m'.write later.write in omega arith))
+        (λ z. inl (in_hand_later seat j u T later ne z.1 z.0, z.1, (λ some. let e = z.2 some in let f = floor_grows m.write m'.write later.write in omega arith), (λ part. lacks_later seat j u later ne z.0 (z.3 part)), (λ all cross. later.firsts _ (z.4 all cross))))
         (λ z. inr (linked_later j u T later z)) h
 
     user_at_later : (seat j : ℕ) (u : UserState) → Tiles c.base g.log m.sn → Later m g m' g' seat → j ≢ seat → (f : UserStep) → UserAt D c m g p j u f → UserAt D c m' g' p' j u f
     user_at_later seat j u T later ne user_step.LoadCheckpoint h = h
     user_at_later seat j u T later ne user_step.LoadSn h = h
     user_at_later seat j u T later ne user_step.Reserve h = h
-    user_at_later seat j u T later ne user_step.LoadWrite h = (h.0, h.1, in_hand_later seat j u T later ne (let e = h.3 in omega arith) h.2, h.3)
-    user_at_later seat j u T later ne user_step.AddCell h = (h.0, h.1, in_hand_later seat j u T later ne (let e = h.3 in omega arith) h.2, h.3, (let e = h.4 in let f = floor_grows m.write m'.write later.write in omega arith))
-    user_at_later seat j u T later ne user_step.StoreFirst h = (h.0, h.1, in_hand_later seat j u T later ne (let e = h.3 in omega arith) h.2, h.3, (let e = h.4 in let f = floor_grows m.write m'.write later.write in omega arith), h.5)
+    user_at_later seat j u T later ne user_step.LoadWrite h = (h.0, h.1, in_hand_later seat j u T later ne (let e = h.3 in omega arith) h.2, h.3, lacks_later seat j u later ne h.2 h.4)
+    user_at_later seat j u T later ne user_step.AddCell h = (h.0, h.1, in_hand_later seat j u T later ne (let e = h.3 in omega arith) h.2, h.3, (let e = h.4 in let f = floor_grows m.write m'.write later.write in omega arith), lacks_later seat j u later ne h.2 h.5, h.6)
+    user_at_later seat j u T later ne user_step.StoreFirst h = (h.0, h.1, in_hand_later seat j u T later ne (let e = h.3 in omega arith) h.2, h.3, (let e = h.4 in let f = floor_grows m.write m'.write later.write in omega arith), h.5, lacks_later seat j u later ne h.2 h.6, h.7)
     user_at_later seat j u T later ne user_step.LoadWtail h = (h.0, h.1, in_hand_later seat j u T later ne (let e = h.3 in omega arith) h.2, h.3, (λ l. later.firsts _ (h.4 l)))
     user_at_later seat j u T later ne user_step.StoreLink h = (h.0, h.1, in_hand_later seat j u T later ne (let e = h.3 in omega arith) h.2, h.3, (λ l. later.firsts _ (h.4 l)), (let e = h.5 in let w = later.wtail in omega arith))
     user_at_later seat j u T later ne user_step.AwaitMark h = (h.0, h.1, linked_later j u T later h.2, h.3)
@@ -259,9 +263,11 @@ module _ (D : LogSide) (c : Setup) where
             step = writer_at_later h.tail h.from h.long h.wide s.step part h.step;
           }
 
-    -- what a step leaves to the flusher
+    -- what a step of another actor leaves to the flusher and to the checkpointer
     pub record Same : Type 0 where
-      pub flushed : m.flushed ≤ m'.flushed
+      pub writer : g'.writer ≡ g.writer
+      pub flushed : m'.flushed ≡ m.flushed
+      pub ckpt_word : m'.ckpt ≡ m.ckpt
       pub failed : 0 < m.failed → 0 < m'.failed
       pub point : D.ckpt p' ≡ D.ckpt p
 
@@ -276,14 +282,15 @@ module _ (D : LogSide) (c : Setup) where
     flusher_at_later f same flusher_step.GiveFailed part h = same h
     flusher_at_later f same flusher_step.Failed part h = same h
 
-    pub flusher_later_by : (f : FlusherState) → m.write ≤ m'.write → m.flushed ≤ m'.flushed → (0 < m.failed → 0 < m'.failed) → (flusher_holds f.step ≡ true → ◌≡◌ {A = D.Part} p' p) → FlusherFits D c m g p f → FlusherFits D c m' g' p' f
-    flusher_later_by f wr fl fa part h = record { last = (let a = h.last in omega arith); write = (let a = h.write in omega arith); no_device_while_checking = h.no_device_while_checking; step = flusher_at_later f fa f.step part h.step }
+    pub flusher_later_by : (j : ℕ) (f : FlusherState) → m.write ≤ m'.write → g'.writer ≡ g.writer → m'.flushed ≡ m.flushed → (0 < m.failed → 0 < m'.failed) → (flusher_holds f.step ≡ true → ◌≡◌ {A = D.Part} p' p) → FlusherFits D c m g p j f → FlusherFits D c m' g' p' j f
+    flusher_later_by j f wr writer fl fa part h = record { alone = h.alone ∙ ap (λ (n : ℕ). n + 1) (sym writer); last = h.last ∙ sym fl; write = (let a = h.write in omega arith); no_device_while_checking = h.no_device_while_checking; step = flusher_at_later f fa f.step part h.step }
 
-    pub flusher_later : (f : FlusherState) → m.write ≤ m'.write → Same → (flusher_holds f.step ≡ true → ◌≡◌ {A = D.Part} p' p) → FlusherFits D c m g p f → FlusherFits D c m' g' p' f
-    flusher_later f wr same part h = flusher_later_by f wr same.flushed same.failed part h
+    pub flusher_later : (j : ℕ) (f : FlusherState) → m.write ≤ m'.write → Same → (flusher_holds f.step ≡ true → ◌≡◌ {A = D.Part} p' p) → FlusherFits D c m g p j f → FlusherFits D c m' g' p' j f
+    flusher_later j f wr same part h = flusher_later_by j f wr same.writer same.flushed same.failed part h
 
     -- what a step leaves to the cleaner and to the checkpointer
     pub record Rest : Type 0 where
+      pub ckpt_word : m'.ckpt ≡ m.ckpt
       pub failed : 0 < m.failed → 0 < m'.failed
       pub ckpt : D.ckpt p' ≡ D.ckpt p
 
@@ -305,33 +312,43 @@ module _ (D : LogSide) (c : Setup) where
     checkpointer_at_later t rest checkpointer_step.Failed part h = rest.failed h
 
     pub checkpointer_fits_later : (j : ℕ) (t : CheckpointerState) → Rest → (checkpointer_holds t.step ≡ true → ◌≡◌ {A = D.Part} p' p) → CheckpointerFits D c m g p j t → CheckpointerFits D c m' g' p' j t
-    checkpointer_fits_later j t rest part h = record { alone = h.alone; no_device_while_checking = h.no_device_while_checking; step = checkpointer_at_later t rest t.step part h.step }
+    checkpointer_fits_later j t rest part h = record { alone = h.alone; own = h.own ∙ sym rest.ckpt_word; no_device_while_checking = h.no_device_while_checking; step = checkpointer_at_later t rest t.step part h.step }
 
     -- every other actor is as before
     pub others_later : (seat : ℕ) → LogFacts D c m g p → Later m g m' g' seat → Still → Same → (j : ℕ) (a : Actor) → j ≢ seat → (holds a ≡ true → ◌≡◌ {A = D.Part} p' p) → Fits D c m g p j a → Fits D c m' g' p' j a
     others_later seat G later still same j (actor.User u) ne part h = user_later seat j u G.tiled.tiles later ne h
     others_later seat G later still same j (actor.Writer s) ne part h = let O = G.order in writer_later s j still O.base_even O.base_write O.read_wtail O.wtail_tail (let e = O.entered_tail in omega arith) part h
-    others_later seat G later still same j (actor.Flusher f) ne part h = flusher_later f later.write same part h
+    others_later seat G later still same j (actor.Flusher f) ne part h = flusher_later j f later.write same part h
     others_later seat G later still same j (actor.Closer t) ne part h = λ z. same.failed (h z)
-    others_later seat G later still same j (actor.Cleaner v) ne part h = cleaner_told_later v (record { failed = same.failed; ckpt = same.point }) h
-    others_later seat G later still same j (actor.Checkpointer t) ne part h = checkpointer_fits_later j t (record { failed = same.failed; ckpt = same.point }) part h
+    others_later seat G later still same j (actor.Cleaner v) ne part h = cleaner_told_later v (record { ckpt_word = same.ckpt_word; failed = same.failed; ckpt = same.point }) h
+    others_later seat G later still same j (actor.Checkpointer t) ne part h = checkpointer_fits_later j t (record { ckpt_word = same.ckpt_word; failed = same.failed; ckpt = same.point }) part h
     others_later seat G later still same j (actor.Joined es) ne part h = tt
 
     -- the same where the writer moves, which is alone
     pub others_writer : (seat : ℕ) → seat ≡ g.writer → LogFacts D c m g p → Later m g m' g' seat → Same → (j : ℕ) (a : Actor) → j ≢ seat → (holds a ≡ true → ◌≡◌ {A = D.Part} p' p) → Fits D c m g p j a → Fits D c m' g' p' j a
     others_writer seat is G later same j (actor.User u) ne part h = user_later seat j u G.tiled.tiles later ne h
     others_writer seat is G later same j (actor.Writer s) ne part h = absurd (ne (h.alone ∙ sym is))
-    others_writer seat is G later same j (actor.Flusher f) ne part h = flusher_later f later.write same part h
+    others_writer seat is G later same j (actor.Flusher f) ne part h = flusher_later j f later.write same part h
     others_writer seat is G later same j (actor.Closer t) ne part h = λ z. same.failed (h z)
-    others_writer seat is G later same j (actor.Cleaner v) ne part h = cleaner_told_later v (record { failed = same.failed; ckpt = same.point }) h
-    others_writer seat is G later same j (actor.Checkpointer t) ne part h = checkpointer_fits_later j t (record { failed = same.failed; ckpt = same.point }) part h
+    others_writer seat is G later same j (actor.Cleaner v) ne part h = cleaner_told_later v (record { ckpt_word = same.ckpt_word; failed = same.failed; ckpt = same.point }) h
+    others_writer seat is G later same j (actor.Checkpointer t) ne part h = checkpointer_fits_later j t (record { ckpt_word = same.ckpt_word; failed = same.failed; ckpt = same.point }) part h
     others_writer seat is G later same j (actor.Joined es) ne part h = tt
 
+    -- the same where the flusher moves, which is alone
+    pub others_flusher : (seat : ℕ) → seat ≡ g.writer + 1 → LogFacts D c m g p → Later m g m' g' seat → Still → Rest → (j : ℕ) (a : Actor) → j ≢ seat → (holds a ≡ true → ◌≡◌ {A = D.Part} p' p) → Fits D c m g p j a → Fits D c m' g' p' j a
+    others_flusher seat is G later still rest j (actor.User u) ne part h = user_later seat j u G.tiled.tiles later ne h
+    others_flusher seat is G later still rest j (actor.Writer s) ne part h = let O = G.order in writer_later s j still O.base_even O.base_write O.read_wtail O.wtail_tail (let e = O.entered_tail in omega arith) part h
+    others_flusher seat is G later still rest j (actor.Flusher f) ne part h = absurd (ne (h.alone ∙ sym is))
+    others_flusher seat is G later still rest j (actor.Closer t) ne part h = λ z. rest.failed (h z)
+    others_flusher seat is G later still rest j (actor.Cleaner v) ne part h = cleaner_told_later v rest h
+    others_flusher seat is G later still rest j (actor.Checkpointer t) ne part h = checkpointer_fits_later j t rest part h
+    others_flusher seat is G later still rest j (actor.Joined es) ne part h = tt
+
     -- the same where the checkpointer moves, which is alone, and the newest checkpoint may change
-    pub others_pointer : (seat : ℕ) → seat ≡ c.checkpointer → LogFacts D c m g p → Later m g m' g' seat → Still → m.flushed ≤ m'.flushed → (j : ℕ) (a : Actor) → j ≢ seat → (holds a ≡ true → ◌≡◌ {A = D.Part} p' p) → Fits D c m g p j a → Fits D c m' g' p' j a
+    pub others_pointer : (seat : ℕ) → seat ≡ c.checkpointer → LogFacts D c m g p → Later m g m' g' seat → Still → m'.flushed ≡ m.flushed → (j : ℕ) (a : Actor) → j ≢ seat → (holds a ≡ true → ◌≡◌ {A = D.Part} p' p) → Fits D c m g p j a → Fits D c m' g' p' j a
     others_pointer seat is G later still fl j (actor.User u) ne part h = user_later seat j u G.tiled.tiles later ne h
     others_pointer seat is G later still fl j (actor.Writer s) ne part h = let O = G.order in writer_later s j still O.base_even O.base_write O.read_wtail O.wtail_tail (let e = O.entered_tail in omega arith) part h
-    others_pointer seat is G later still fl j (actor.Flusher f) ne part h = flusher_later_by f later.write fl later.failed part h
+    others_pointer seat is G later still fl j (actor.Flusher f) ne part h = flusher_later_by j f later.write still.writer fl later.failed part h
     others_pointer seat is G later still fl j (actor.Closer t) ne part h = λ z. later.failed (h z)
     others_pointer seat is G later still fl j (actor.Cleaner v) ne part h = ((λ z. later.failed (h.0 z)), h.1)
     others_pointer seat is G later still fl j (actor.Checkpointer t) ne part h = absurd (ne (h.alone ∙ sym is))

@@ -175,6 +175,7 @@ module _ (D : LogSide) (L : LogLaws D) (c : Setup) (spare : ℕ) (m : SharedWord
       states = λ x l o. st x ∙ outside x (λ a b. o (h.2.own x a b));
       linked = λ x l two. st x ∙ new_two x two;
       firsts = λ q z. let y = fi q in omega arith;
+      bare = λ _ e _ _ _ none. fi (end_of e / 496) ∙ none;
       seats = se;
       counts = λ x n. ap (count_of x) lo;
       answers = an;
@@ -192,7 +193,7 @@ module _ (D : LogSide) (L : LogLaws D) (c : Setup) (spare : ℕ) (m : SharedWord
         (refit D c spare m g p actors seat u before at (chained i v) tied u.page u.cell u.copied u.loaded u.code u.checks st refl refl refl mine.loaded z)
         (tie_later tied refl (λ x. refl) (λ x. refl) (λ x. refl) (λ x. refl) (λ x n. refl))
         (still_words D c spare m g p actors seat u before at (chained i v) tied refl refl refl refl refl refl refl refl refl refl link_still)
-        refl refl refl refl refl refl le
+        refl refl refl refl refl refl refl le
 
     tie_by : (b : Bool) → eqb (mode u) 0 ≡ b → (g' : LogGhost) × LogHalf D c spare (chained i v) g' p (set actors seat (actor.User (cond b (answered u) (record u { step = user_step.AwaitMark })))) × (◌≡◌ {A = List Entry} (g'.log) (g.log))
     tie_by true e = let g' : LogGhost = record tied { answered = changed g.answered u.user (u.k + 1) } in
@@ -202,7 +203,7 @@ module _ (D : LogSide) (L : LogLaws D) (c : Setup) (spare : ℕ) (m : SharedWord
               (answered_fits D L c spare m g p actors seat u before at u.loaded (chained i v) g' refl refl (changed_here g.answered u.user (u.k + 1) u.user refl) mine.loaded h.0 h.1)
               (tie_later g' refl (λ x. refl) (λ x. refl) (λ x. refl) (λ x. refl) (λ x n. changed_else g.answered u.user (u.k + 1) x (other_user x n)))
               (still_words D c spare m g p actors seat u before at (chained i v) g' refl refl refl refl refl refl refl refl refl refl link_still)
-              refl refl refl refl refl refl (omega arith),
+              refl refl refl refl refl refl refl (omega arith),
           refl,
         )
     tie_by false e = (tied, tie_to user_step.AwaitMark (h.0, h.1, (h.2.at, h.2.is, inside), eqb-false (mode u) 0 e) (omega arith), refl)

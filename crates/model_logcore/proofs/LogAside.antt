@@ -1,5 +1,5 @@
 -- Steps of the page actors, as the log half sees them.
-use Rattle.std.proofs.Common.{Bool, List, ap, arith, cond, eqb, false, refl, set, sym, true, ℕ, ◌<◌, ◌∙◌, ◌≡◌, ◌≤◌}
+use Rattle.std.proofs.Common.{Bool, List, ap, arith, cond, eqb, false, refl, set, sym, true, ℕ, ⊎_elim, ◌<◌, ◌∙◌, ◌≡◌, ◌≤◌, ◌⊎◌}
 use Rattle.std.proofs.lemmas.Bool.{eqb-false}
 use lib.ListN.{get_elem?}
 use Rattle.model_core.specs.{Actor, checkpointer_holds, checkpointer_took, CheckpointerState, entries, Entry, holds, IsSized, PageWords, SharedWords}
@@ -19,20 +19,26 @@ use Rattle.model_core.specs.Actors as actor
 module _ (D : LogSide) (c : Setup) (spare : ℕ) (m : SharedWords) (g : LogGhost) (p : D.Part) (actors : List Actor) (seat : ℕ) (a : Actor) (before : LogHalf D c spare m g p actors) (at : get_elem? actors seat ≡ maybe.some a) where
   -- words that the log half doesn't read change, FAILED to a code, or CKPT up to the newest checkpoint
   pub page_aside : (lists clinks : List ℕ) (page_words : List PageWords) (ctail ckpt failed : ℕ) (b : Actor) → IsSized c.pages (record m { lists = lists; clinks = clinks; page_words = page_words; ctail = ctail; ckpt = ckpt; failed = failed })
-      → m.ckpt ≤ ckpt → ckpt ≤ D.ckpt p → (0 < m.failed → 0 < failed)
+      → m.ckpt ≤ ckpt → ckpt ≤ D.ckpt p → (0 < m.failed → 0 < failed) → (ckpt ≡ m.ckpt) ⊎ (seat ≡ c.checkpointer)
       → Fits D c (record m { lists = lists; clinks = clinks; page_words = page_words; ctail = ctail; ckpt = ckpt; failed = failed }) g p seat b → holds b ≡ holds a → ◌≡◌ {A = List Entry} (entries b) (entries a) → left_to_reserve b ≤ left_to_reserve a
       → LogHalf D c spare (record m { lists = lists; clinks = clinks; page_words = page_words; ctail = ctail; ckpt = ckpt; failed = failed }) g p (set actors seat b)
-  page_aside lists clinks page_words ctail ckpt failed b sized up low fails f keep same le =
+  page_aside lists clinks page_words ctail ckpt failed b sized up low fails who f keep same le =
       let m' : SharedWords = record m { lists = lists; clinks = clinks; page_words = page_words; ctail = ctail; ckpt = ckpt; failed = failed } in
       let G = before.global in let P = G.part in
       moved_on D c spare m m' g g p p actors seat a b before at sized
       (facts_same D c m g p (part_same D c m g p P P.write_written P.given_wtail P.flushed_stable low P.turn_word) G)
       f
-      (λ j x n e. others_later D c m m' g g p p seat G
+      (λ j x n e. ⊎_elim
+      (λ z. others_later D c m m' g g p p seat G
       (later_marks D c m g p (omega arith) (omega arith) up (omega arith) fails)
       (still_same D c m g p up fails refl)
-      (record { flushed = omega arith; failed = fails; point = refl })
+      (record { writer = refl; flushed = refl; ckpt_word = z; failed = fails; point = refl })
       j x n (λ _. refl) (before.each j x e))
+      (λ z. others_pointer D c m m' g g p p seat z G
+      (later_marks D c m g p (omega arith) (omega arith) up (omega arith) fails)
+      (still_same D c m g p up fails refl)
+      refl j x n (λ _. refl) (before.each j x e))
+      who)
       refl refl refl refl keep same le
 
 -- a checkpoint is written, or fails
@@ -55,8 +61,8 @@ module _ (D : LogSide) (c : Setup) (spare : ℕ) (m : SharedWords) (g : LogGhost
       ] in
       let sp = span b b_is in let s0 = sp.0 in let s1 = sp.1 in
       let fit : (b : Bool) → eqb code 0 ≡ b → CheckpointerFits D c m g q seat (checkpointer_took t (cond b (answer.Called 0) (answer.Failed code)) checkpointer_step.Checkpoint) = λ b. elim b as (λ (x : Bool). eqb code 0 ≡ x → CheckpointerFits D c m g q seat (checkpointer_took t (cond x (answer.Called 0) (answer.Failed code)) checkpointer_step.Checkpoint)) [
-        | true ↦ (λ e. record { alone = his.alone; no_device_while_checking = λ z. absurd (never z); step = ckpt_by true e })
-        | false ↦ (λ e. let n = eqb-false code 0 e in let pos : 0 < code = omega arith in record { alone = his.alone; no_device_while_checking = λ z. absurd (never z); step = (pos, A.cause pos) })
+        | true ↦ (λ e. record { alone = his.alone; own = his.own; no_device_while_checking = λ z. absurd (never z); step = ckpt_by true e })
+        | false ↦ (λ e. let n = eqb-false code 0 e in let pos : 0 < code = omega arith in record { alone = his.alone; own = his.own; no_device_while_checking = λ z. absurd (never z); step = (pos, A.cause pos) })
       ] in
       moved_on D c spare m m g g p q actors seat (actor.Checkpointer t) (actor.Checkpointer (checkpointer_took t (cond b (answer.Called 0) (answer.Failed code)) checkpointer_step.Checkpoint)) before at before.sized
       (facts_same D c m g p (part_kept D c m g p P A.holds A.written A.stable (let z = P.written_given in omega arith) (let z = P.given_wtail in omega arith) (let z = P.ckpt_part in omega arith) (let z = A.asked in omega arith) (let z = A.asked in omega arith)) G)
@@ -64,5 +70,5 @@ module _ (D : LogSide) (c : Setup) (spare : ℕ) (m : SharedWords) (g : LogGhost
       (λ j x n e. others_pointer D c m m g g p q seat his.alone G
       (later_marks D c m g p (omega arith) (omega arith) (omega arith) (omega arith) (λ z. z))
       (still_same D c m g p (omega arith) (λ z. z) A.written)
-      (omega arith) j x n (λ h. absurd (n ((before.turns j x e h).1 ∙ sym (before.turns seat (actor.Checkpointer t) at held).1))) (before.each j x e))
+      refl j x n (λ h. absurd (n ((before.turns j x e h).1 ∙ sym (before.turns seat (actor.Checkpointer t) at held).1))) (before.each j x e))
       refl refl refl refl (keep b ∙ sym held) refl (omega arith)

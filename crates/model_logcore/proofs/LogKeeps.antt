@@ -1,5 +1,5 @@
 -- Whatever an actor's next Op is, its turn over the words by name keeps the invariant.
-use Rattle.std.proofs.Common.{Bool, List, [], ap, arith, cond, drop, eqb, eqb-true, false, leb, length, ltb, refl, set, subst, sym, true, ℕ, ◌%◌, ◌++◌, ◌+◌, ◌-◌, ◌/◌, ◌<◌, ◌∙◌, ◌∷◌, ◌≡◌, ◌≤◌}
+use Rattle.std.proofs.Common.{Bool, List, [], ap, arith, cond, drop, eqb, eqb-true, false, inl, inr, leb, length, ltb, refl, set, subst, sym, true, ℕ, ◌%◌, ◌++◌, ◌+◌, ◌-◌, ◌/◌, ◌<◌, ◌∙◌, ◌∷◌, ◌≡◌, ◌≤◌}
 use Rattle.std.proofs.lemmas.Bool.{eqb-false}
 use Rattle.std.specs.Prelude.{None, min, slice_index, slice_set}
 use lib.ListN.{get_elem?}
@@ -55,39 +55,39 @@ module _ (D : LogSide) (L : LogLaws D) (c : Setup) (spare : ℕ) (m : SharedWord
   rested a at e = same m a e (g, subst (λ (z : List Actor). LogHalf D c spare m g p z) (sym (set_again actors seat a at)) before, refl)
 
   module _ (u : UserState) (at : get_elem? actors seat ≡ maybe.some (actor.User u)) where
-    user_own : (f : UserStep) → u.step ≡ f → UserAt D c m g p seat u f → LogServed D p Nothing (user_op u f) code q → KeptTo (phase_log g.log m.sn u f) (user_op u f) (λ r. actor.User (user_took u (heard r) f))
-    user_own user_step.LoadCheckpoint is h s = same _ _ s (user_keeps D L c spare m g p actors seat u before at user_step.LoadCheckpoint is h tt)
-    user_own user_step.LoadSn is h s = same _ _ s (user_keeps D L c spare m g p actors seat u before at user_step.LoadSn is h tt)
-    user_own user_step.TakeLatch is h s = same _ _ s (user_keeps D L c spare m g p actors seat u before at user_step.TakeLatch is h tt)
-    user_own user_step.Reserve is h s = same _ _ s (user_keeps D L c spare m g p actors seat u before at user_step.Reserve is h tt)
-    user_own user_step.LoadWrite is h s = same _ _ s (user_keeps D L c spare m g p actors seat u before at user_step.LoadWrite is h tt)
-    user_own user_step.AddCell is h s = same _ _ s (user_keeps D L c spare m g p actors seat u before at user_step.AddCell is h tt)
-    user_own user_step.StoreFirst is h s = same _ _ s (user_keeps D L c spare m g p actors seat u before at user_step.StoreFirst is h tt)
-    user_own user_step.LoadWtail is h s = same _ _ s (user_keeps D L c spare m g p actors seat u before at user_step.LoadWtail is h tt)
-    user_own user_step.StoreLink is h s = same _ _ s (user_keeps D L c spare m g p actors seat u before at user_step.StoreLink is h tt)
-    user_own user_step.LoadCtail is h s = same _ _ s (user_keeps D L c spare m g p actors seat u before at user_step.LoadCtail is h tt)
-    user_own user_step.LoadFrame is h s = same _ _ s (user_keeps D L c spare m g p actors seat u before at user_step.LoadFrame is h tt)
-    user_own user_step.StoreFrame is h s = same _ _ s (user_keeps D L c spare m g p actors seat u before at user_step.StoreFrame is h tt)
-    user_own user_step.StoreNewest is h s = same _ _ s (user_keeps D L c spare m g p actors seat u before at user_step.StoreNewest is h tt)
-    user_own user_step.LoadOldest is h s = same _ _ s (user_keeps D L c spare m g p actors seat u before at user_step.LoadOldest is h tt)
-    user_own user_step.StoreOldest is h s = same _ _ s (user_keeps D L c spare m g p actors seat u before at user_step.StoreOldest is h tt)
-    user_own user_step.StoreClosedLink is h s = same _ _ s (user_keeps D L c spare m g p actors seat u before at user_step.StoreClosedLink is h tt)
-    user_own user_step.ReleaseLatch is h s = same _ _ s (user_keeps D L c spare m g p actors seat u before at user_step.ReleaseLatch is h tt)
-    user_own user_step.AwaitMark is h s = same _ _ s (user_keeps D L c spare m g p actors seat u before at user_step.AwaitMark is h tt)
-    user_own user_step.AddToList is h s = list_by (eqb (slice_index m.lists (page_of u % 4)) 0) h s
+    user_own : (f : UserStep) → u.step ≡ f → UserAt D c m g p seat u f → u.checks ≡ false → LogServed D p Nothing (user_op u f) code q → KeptTo (phase_log g.log m.sn u f) (user_op u f) (λ r. actor.User (user_took u (heard r) f))
+    user_own user_step.LoadCheckpoint is h unasked s = same _ _ s (user_keeps D L c spare m g p actors seat u before at user_step.LoadCheckpoint is h unasked tt)
+    user_own user_step.LoadSn is h unasked s = same _ _ s (user_keeps D L c spare m g p actors seat u before at user_step.LoadSn is h unasked tt)
+    user_own user_step.TakeLatch is h unasked s = same _ _ s (user_keeps D L c spare m g p actors seat u before at user_step.TakeLatch is h unasked tt)
+    user_own user_step.Reserve is h unasked s = same _ _ s (user_keeps D L c spare m g p actors seat u before at user_step.Reserve is h unasked tt)
+    user_own user_step.LoadWrite is h unasked s = same _ _ s (user_keeps D L c spare m g p actors seat u before at user_step.LoadWrite is h unasked tt)
+    user_own user_step.AddCell is h unasked s = same _ _ s (user_keeps D L c spare m g p actors seat u before at user_step.AddCell is h unasked tt)
+    user_own user_step.StoreFirst is h unasked s = same _ _ s (user_keeps D L c spare m g p actors seat u before at user_step.StoreFirst is h unasked tt)
+    user_own user_step.LoadWtail is h unasked s = same _ _ s (user_keeps D L c spare m g p actors seat u before at user_step.LoadWtail is h unasked tt)
+    user_own user_step.StoreLink is h unasked s = same _ _ s (user_keeps D L c spare m g p actors seat u before at user_step.StoreLink is h unasked tt)
+    user_own user_step.LoadCtail is h unasked s = same _ _ s (user_keeps D L c spare m g p actors seat u before at user_step.LoadCtail is h unasked tt)
+    user_own user_step.LoadFrame is h unasked s = same _ _ s (user_keeps D L c spare m g p actors seat u before at user_step.LoadFrame is h unasked tt)
+    user_own user_step.StoreFrame is h unasked s = same _ _ s (user_keeps D L c spare m g p actors seat u before at user_step.StoreFrame is h unasked tt)
+    user_own user_step.StoreNewest is h unasked s = same _ _ s (user_keeps D L c spare m g p actors seat u before at user_step.StoreNewest is h unasked tt)
+    user_own user_step.LoadOldest is h unasked s = same _ _ s (user_keeps D L c spare m g p actors seat u before at user_step.LoadOldest is h unasked tt)
+    user_own user_step.StoreOldest is h unasked s = same _ _ s (user_keeps D L c spare m g p actors seat u before at user_step.StoreOldest is h unasked tt)
+    user_own user_step.StoreClosedLink is h unasked s = same _ _ s (user_keeps D L c spare m g p actors seat u before at user_step.StoreClosedLink is h unasked tt)
+    user_own user_step.ReleaseLatch is h unasked s = same _ _ s (user_keeps D L c spare m g p actors seat u before at user_step.ReleaseLatch is h unasked tt)
+    user_own user_step.AwaitMark is h unasked s = same _ _ s (user_keeps D L c spare m g p actors seat u before at user_step.AwaitMark is h unasked tt)
+    user_own user_step.AddToList is h unasked s = list_by (eqb (slice_index m.lists (page_of u % 4)) 0) h s
       where
         list_by : (b : Bool) → UserAt D c m g p seat u user_step.AddToList → ◌≡◌ {A = D.Part} q p
             → (k : LogGhost) × LogHalf D c spare (cond b (record m { lists = slice_set m.lists (page_of u % 4) 1 }) m) k q (set actors seat (actor.User (user_took u (heard (cond b (answer.Taken None) answer.Held)) user_step.AddToList))) × (◌≡◌ {A = List Entry} (k.log) g.log)
         list_by true h s = same _ _ s (g, user_list D L c spare m g p actors seat u before at true h, refl)
         list_by false h s = same _ _ s (g, user_list D L c spare m g p actors seat u before at false h, refl)
-    user_own user_step.GiveList is h s = same _ _ s (g, user_give D L c spare m g p actors seat u before at h, refl)
-    user_own user_step.Done is h s = rested (actor.User u) at s
-    user_own user_step.Failed is h s = rested (actor.User u) at s
+    user_own user_step.GiveList is h unasked s = same _ _ s (g, user_give D L c spare m g p actors seat u before at h, refl)
+    user_own user_step.Done is h unasked s = rested (actor.User u) at s
+    user_own user_step.Failed is h unasked s = rested (actor.User u) at s
 
     user_any : (b : Bool) → u.checks ≡ b → LogServed D p Nothing (cond b (op.Load word.Failed) (user_op u u.step)) code q
         → KeptTo (cond b g.log (phase_log g.log m.sn u u.step)) (cond b (op.Load word.Failed) (user_op u u.step)) (λ r. cond b (checked (actor.User u) (old_of r)) (own_took (actor.User u) r))
-    user_any true checks s = same _ _ s (g, user_checked D L c spare m g p actors seat u before at, refl)
-    user_any false checks s = user_own u.step refl (before.each seat (actor.User u) at).step s
+    user_any true checks s = same _ _ s (g, user_checked D L c spare m g p actors seat u before at checks, refl)
+    user_any false checks s = user_own u.step refl (before.each seat (actor.User u) at).step checks s
 
   module _ (s : WriterState) (at : get_elem? actors seat ≡ maybe.some (actor.Writer s)) where
     mine : WriterFits D c m g p seat s
@@ -140,26 +140,26 @@ module _ (D : LogSide) (L : LogLaws D) (c : Setup) (spare : ℕ) (m : SharedWord
     writer_any false checks v = writer_own s.step refl mine.step v
 
   module _ (f : FlusherState) (at : get_elem? actors seat ≡ maybe.some (actor.Flusher f)) where
-    hers : FlusherFits D c m g p f
+    hers : FlusherFits D c m g p seat f
     hers = before.each seat (actor.Flusher f) at
 
     seizes : (b d : Bool) → eqb m.device 0 ≡ b → D.failed p ≡ d → ◌≡◌ {A = D.Part} q p → f.step ≡ flusher_step.TakeDevice
         → (h : LogGhost) × LogHalf D c spare (cond b (record m { device = 1 }) m) h q (set actors seat (actor.Flusher (flusher_took f (cond b (cond d answer.Broken (answer.Taken None)) answer.Held) flusher_step.TakeDevice))) × (◌≡◌ {A = List Entry} (h.log) g.log)
     seizes true true e k same_part is = same _ _ same_part (takes D c spare m g p actors seat (actor.Flusher f) before at (actor.Flusher (record f { checks = false; step = flusher_step.GiveBroken })) (eqb-true m.device 0 e) refl
-        (record { last = hers.last; write = hers.write; no_device_while_checking = λ z. absurd (cc); step = tt }) refl (omega arith))
+        (record { alone = hers.alone; last = hers.last; write = hers.write; no_device_while_checking = λ z. absurd (cc); step = tt }) refl (omega arith))
     seizes true false e k same_part is = same _ _ same_part (takes D c spare m g p actors seat (actor.Flusher f) before at (actor.Flusher (record f { checks = false; step = flusher_step.Sync })) (eqb-true m.device 0 e) refl
-        (record { last = hers.last; write = hers.write; no_device_while_checking = λ z. absurd (cc); step = k }) refl (omega arith))
+        (record { alone = hers.alone; last = hers.last; write = hers.write; no_device_while_checking = λ z. absurd (cc); step = k }) refl (omega arith))
     seizes false d e k same_part is = same _ _ same_part (
       g,
       stays D c spare m g p actors seat (actor.Flusher f) before at (actor.Flusher (record f { checks = true; step = flusher_step.TakeDevice })) (sym (ap flusher_holds is))
-          (record { last = hers.last; write = hers.write; no_device_while_checking = λ z. refl; step = tt }) refl (omega arith),
+          (record { alone = hers.alone; last = hers.last; write = hers.write; no_device_while_checking = λ z. refl; step = tt }) refl (omega arith),
       refl,
     )
 
     yields : (checks : Bool) (st : FlusherStep) → ◌≡◌ {A = D.Part} q p → flusher_holds f.step ≡ true → flusher_holds st ≡ false → FlusherAt D c m g p (record f { checks = checks; step = st }) st
         → (h : LogGhost) × LogHalf D c spare (record m { device = 0 }) h q (set actors seat (actor.Flusher (record f { checks = checks; step = st }))) × (◌≡◌ {A = List Entry} (h.log) g.log)
     yields checks st same_part had free h = same _ _ same_part (gives D c spare m g p actors seat (actor.Flusher f) before at (actor.Flusher (record f { checks = checks; step = st })) had free
-        (record { last = hers.last; write = hers.write; no_device_while_checking = λ z. free; step = h }) refl (omega arith))
+        (record { alone = hers.alone; last = hers.last; write = hers.write; no_device_while_checking = λ z. free; step = h }) refl (omega arith))
 
     flusher_own : (w : FlusherStep) → f.step ≡ w → FlusherAt D c m g p f w → LogServed D p Nothing (flusher_op f w) code q → KeptSo (flusher_op f w) (λ r. actor.Flusher (flusher_took f r w))
     flusher_own flusher_step.LoadWrite is h v = same _ _ v (g, keeps_watch D L c spare m g p actors seat f before at is, refl)
@@ -183,7 +183,7 @@ module _ (D : LogSide) (L : LogLaws D) (c : Setup) (spare : ℕ) (m : SharedWord
 
     closer_keeps : (clinks : List ℕ) (ctail : ℕ) (x : CloserState) → IsSized c.pages (record m { clinks = clinks; ctail = ctail }) → (x.step ≡ closer_step.Failed → 0 < m.failed) → ◌≡◌ {A = D.Part} q p
         → (h : LogGhost) × LogHalf D c spare (record m { clinks = clinks; ctail = ctail }) h q (set actors seat (actor.Closer x)) × (◌≡◌ {A = List Entry} (h.log) g.log)
-    closer_keeps clinks ctail x sized f v = same _ _ v (g, page_aside D c spare m g p actors seat (actor.Closer t) before at m.lists clinks m.page_words ctail m.ckpt m.failed (actor.Closer x) sized (omega arith) before.global.part.ckpt_part (λ z. z) f refl refl (omega arith), refl)
+    closer_keeps clinks ctail x sized f v = same _ _ v (g, page_aside D c spare m g p actors seat (actor.Closer t) before at m.lists clinks m.page_words ctail m.ckpt m.failed (actor.Closer x) sized (omega arith) before.global.part.ckpt_part (λ z. z) (inl refl) f refl refl (omega arith), refl)
 
     closer_own : (f : CloserStep) → t.step ≡ f → LogServed D p Nothing (closer_op t f) code q → KeptSo (closer_op t f) (λ r. actor.Closer (closer_took t r f))
     closer_own closer_step.LoadClosedLink is v = by (eqb (slice_index m.clinks (t.tail % 16384)) 0)
@@ -209,7 +209,7 @@ module _ (D : LogSide) (L : LogLaws D) (c : Setup) (spare : ℕ) (m : SharedWord
 
     cleaner_keeps : (lists : List ℕ) (page_words : List PageWords) (failed : ℕ) (y : CleanerState) → IsSized c.pages (record m { lists = lists; page_words = page_words; failed = failed }) → (0 < m.failed → 0 < failed) → (y.step ≡ cleaner_step.Failed → 0 < failed) → (y.step ≡ cleaner_step.StoreFailed → 0 < y.code) → ◌≡◌ {A = D.Part} q p
         → (h : LogGhost) × LogHalf D c spare (record m { lists = lists; page_words = page_words; failed = failed }) h q (set actors seat (actor.Cleaner y)) × (◌≡◌ {A = List Entry} (h.log) g.log)
-    cleaner_keeps lists page_words failed y sized up a b v = same _ _ v (g, page_aside D c spare m g p actors seat (actor.Cleaner x) before at lists m.clinks page_words m.ctail m.ckpt failed (actor.Cleaner y) sized (omega arith) before.global.part.ckpt_part up (a, b) refl refl (omega arith), refl)
+    cleaner_keeps lists page_words failed y sized up a b v = same _ _ v (g, page_aside D c spare m g p actors seat (actor.Cleaner x) before at lists m.clinks page_words m.ctail m.ckpt failed (actor.Cleaner y) sized (omega arith) before.global.part.ckpt_part up (inl refl) (a, b) refl refl (omega arith), refl)
 
     abbrev CleanerDone : SharedWords → CleanerState → Type 0
     CleanerDone m' y = (h : LogGhost) × LogHalf D c spare m' h q (set actors seat (actor.Cleaner y)) × (◌≡◌ {A = List Entry} (h.log) g.log)
@@ -291,56 +291,56 @@ module _ (D : LogSide) (L : LogLaws D) (c : Setup) (spare : ℕ) (m : SharedWord
 
     checkpointer_keeps : (lists : List ℕ) (ckpt failed : ℕ) (y : CheckpointerState) → IsSized c.pages (record m { lists = lists; ckpt = ckpt; failed = failed }) → m.ckpt ≤ ckpt → ckpt ≤ D.ckpt p → (0 < m.failed → 0 < failed) → CheckpointerFits D c (record m { lists = lists; ckpt = ckpt; failed = failed }) g p seat y → checkpointer_holds y.step ≡ checkpointer_holds t.step → ◌≡◌ {A = D.Part} q p
         → CheckpointerDone (record m { lists = lists; ckpt = ckpt; failed = failed }) y
-    checkpointer_keeps lists ckpt failed y sized a b up f keep v = same _ _ v (g, page_aside D c spare m g p actors seat (actor.Checkpointer t) before at lists m.clinks m.page_words m.ctail ckpt failed (actor.Checkpointer y) sized a b up f keep refl (omega arith), refl)
+    checkpointer_keeps lists ckpt failed y sized a b up f keep v = same _ _ v (g, page_aside D c spare m g p actors seat (actor.Checkpointer t) before at lists m.clinks m.page_words m.ctail ckpt failed (actor.Checkpointer y) sized a b up (inr its.alone) f keep refl (omega arith), refl)
 
     easy : (y : CheckpointerState) → CheckpointerFits D c m g p seat y → checkpointer_holds y.step ≡ checkpointer_holds t.step → ◌≡◌ {A = D.Part} q p → CheckpointerDone m y
     easy y f keep v = checkpointer_keeps m.lists m.ckpt m.failed y before.sized (omega arith) before.global.part.ckpt_part (λ z. z) f keep v
 
     with_list : (i n : ℕ) (y : CheckpointerState) → CheckpointerFits D c m g p seat y → checkpointer_holds y.step ≡ checkpointer_holds t.step → ◌≡◌ {A = D.Part} q p → CheckpointerDone (record m { lists = slice_set m.lists i n }) y
-    with_list i n y f keep v = checkpointer_keeps (slice_set m.lists i n) m.ckpt m.failed y (lists_sized i n before.sized) (omega arith) before.global.part.ckpt_part (λ z. z) (record { alone = f.alone; no_device_while_checking = f.no_device_while_checking; step = f.step }) keep v
+    with_list i n y f keep v = checkpointer_keeps (slice_set m.lists i n) m.ckpt m.failed y (lists_sized i n before.sized) (omega arith) before.global.part.ckpt_part (λ z. z) (record { alone = f.alone; own = f.own; no_device_while_checking = f.no_device_while_checking; step = f.step }) keep v
 
     gives_back : (y : CheckpointerState) → checkpointer_holds t.step ≡ true → checkpointer_holds y.step ≡ false → CheckpointerFits D c m g p seat y → ◌≡◌ {A = D.Part} q p → CheckpointerDone (record m { device = 0 }) y
     gives_back y had free f v = same _ _ v (gives D c spare m g p actors seat (actor.Checkpointer t) before at (actor.Checkpointer y) had free f refl (omega arith))
 
     checkpointer_own : (f : CheckpointerStep) → t.step ≡ f → CheckpointerAt D c m g p t f → LogServed D p Nothing (checkpointer_op t f) code q → KeptSo (checkpointer_op t f) (λ r. actor.Checkpointer (checkpointer_took t r f))
-    checkpointer_own checkpointer_step.LoadCtail is h v = easy (record t { ctail = m.ctail; to = m.ctail; list = 0; step = checkpointer_step.ReadList }) (record { alone = its.alone; no_device_while_checking = λ _. refl; step = h }) (sym (ap checkpointer_holds is)) v
+    checkpointer_own checkpointer_step.LoadCtail is h v = easy (record t { ctail = m.ctail; to = m.ctail; list = 0; step = checkpointer_step.ReadList }) (record { alone = its.alone; own = its.own; no_device_while_checking = λ _. refl; step = h }) (sym (ap checkpointer_holds is)) v
     checkpointer_own checkpointer_step.ReadList is h v = by (eqb (slice_index m.lists t.list) 0)
       where
         by : (b : Bool) → CheckpointerDone (cond b (record m { lists = slice_set m.lists t.list 1 }) m) (checkpointer_took t (cond b (answer.Taken (oldest_end (ls t.list))) answer.Held) checkpointer_step.ReadList)
-        by true = with_list t.list 1 (record t { to = lowered t.to (oldest_end (ls t.list)); step = checkpointer_step.GiveList }) (record { alone = its.alone; no_device_while_checking = λ _. refl; step = h }) (sym (ap checkpointer_holds is)) v
-        by false = easy (record t { checks = true; step = checkpointer_step.ReadList }) (record { alone = its.alone; no_device_while_checking = λ _. refl; step = h }) (sym (ap checkpointer_holds is)) v
+        by true = with_list t.list 1 (record t { to = lowered t.to (oldest_end (ls t.list)); step = checkpointer_step.GiveList }) (record { alone = its.alone; own = its.own; no_device_while_checking = λ _. refl; step = h }) (sym (ap checkpointer_holds is)) v
+        by false = easy (record t { checks = true; step = checkpointer_step.ReadList }) (record { alone = its.alone; own = its.own; no_device_while_checking = λ _. refl; step = h }) (sym (ap checkpointer_holds is)) v
     checkpointer_own checkpointer_step.GiveList is h v = by (eqb (t.list + 1) 4)
       where
         by : (b : Bool) → CheckpointerDone (record m { lists = slice_set m.lists t.list 0 }) (record t { list = t.list + 1; step = cond b checkpointer_step.LoadFlushed checkpointer_step.ReadList })
-        by true = with_list t.list 0 (record t { list = t.list + 1; step = checkpointer_step.LoadFlushed }) (record { alone = its.alone; no_device_while_checking = λ _. refl; step = h }) (sym (ap checkpointer_holds is)) v
-        by false = with_list t.list 0 (record t { list = t.list + 1; step = checkpointer_step.ReadList }) (record { alone = its.alone; no_device_while_checking = λ _. refl; step = h }) (sym (ap checkpointer_holds is)) v
+        by true = with_list t.list 0 (record t { list = t.list + 1; step = checkpointer_step.LoadFlushed }) (record { alone = its.alone; own = its.own; no_device_while_checking = λ _. refl; step = h }) (sym (ap checkpointer_holds is)) v
+        by false = with_list t.list 0 (record t { list = t.list + 1; step = checkpointer_step.ReadList }) (record { alone = its.alone; own = its.own; no_device_while_checking = λ _. refl; step = h }) (sym (ap checkpointer_holds is)) v
     checkpointer_own checkpointer_step.LoadFlushed is h v = by (ltb t.own (floor (min t.to m.flushed)))
       where
         by : (b : Bool) → CheckpointerDone m (cond b (record t { flushed = m.flushed; to = floor (min t.to m.flushed); step = checkpointer_step.TakeDevice }) (record t { flushed = m.flushed; checks = true; step = checkpointer_step.LoadCtail }))
-        by true = easy (record t { flushed = m.flushed; to = floor (min t.to m.flushed); step = checkpointer_step.TakeDevice }) (record { alone = its.alone; no_device_while_checking = λ _. refl; step = h }) (sym (ap checkpointer_holds is)) v
-        by false = easy (record t { flushed = m.flushed; checks = true; step = checkpointer_step.LoadCtail }) (record { alone = its.alone; no_device_while_checking = λ _. refl; step = h }) (sym (ap checkpointer_holds is)) v
+        by true = easy (record t { flushed = m.flushed; to = floor (min t.to m.flushed); step = checkpointer_step.TakeDevice }) (record { alone = its.alone; own = its.own; no_device_while_checking = λ _. refl; step = h }) (sym (ap checkpointer_holds is)) v
+        by false = easy (record t { flushed = m.flushed; checks = true; step = checkpointer_step.LoadCtail }) (record { alone = its.alone; own = its.own; no_device_while_checking = λ _. refl; step = h }) (sym (ap checkpointer_holds is)) v
     checkpointer_own checkpointer_step.TakeDevice is h v = by (eqb m.device 0) (D.failed p) refl refl
       where
         by : (b d : Bool) → eqb m.device 0 ≡ b → D.failed p ≡ d → CheckpointerDone (cond b (record m { device = 1 }) m) (checkpointer_took t (cond b (cond d answer.Broken (answer.Taken None)) answer.Held) checkpointer_step.TakeDevice)
-        by true true e f = same _ _ v (takes D c spare m g p actors seat (actor.Checkpointer t) before at (actor.Checkpointer (record t { checks = false; step = checkpointer_step.GiveBroken })) (eqb-true m.device 0 e) refl (record { alone = its.alone; no_device_while_checking = λ z. absurd (cc); step = h }) refl (omega arith))
-        by true false e f = same _ _ v (takes D c spare m g p actors seat (actor.Checkpointer t) before at (actor.Checkpointer (record t { checks = false; step = checkpointer_step.Checkpoint })) (eqb-true m.device 0 e) refl (record { alone = its.alone; no_device_while_checking = λ z. absurd (cc); step = (h, f) }) refl (omega arith))
-        by false d e f = easy (record t { checks = true; step = checkpointer_step.TakeDevice }) (record { alone = its.alone; no_device_while_checking = λ _. refl; step = h }) (sym (ap checkpointer_holds is)) v
-    checkpointer_own checkpointer_step.GiveBroken is h v = gives_back (record t { checks = true; step = checkpointer_step.TakeDevice }) (ap checkpointer_holds is) refl (record { alone = its.alone; no_device_while_checking = λ _. refl; step = h }) v
+        by true true e f = same _ _ v (takes D c spare m g p actors seat (actor.Checkpointer t) before at (actor.Checkpointer (record t { checks = false; step = checkpointer_step.GiveBroken })) (eqb-true m.device 0 e) refl (record { alone = its.alone; own = its.own; no_device_while_checking = λ z. absurd (cc); step = h }) refl (omega arith))
+        by true false e f = same _ _ v (takes D c spare m g p actors seat (actor.Checkpointer t) before at (actor.Checkpointer (record t { checks = false; step = checkpointer_step.Checkpoint })) (eqb-true m.device 0 e) refl (record { alone = its.alone; own = its.own; no_device_while_checking = λ z. absurd (cc); step = (h, f) }) refl (omega arith))
+        by false d e f = easy (record t { checks = true; step = checkpointer_step.TakeDevice }) (record { alone = its.alone; own = its.own; no_device_while_checking = λ _. refl; step = h }) (sym (ap checkpointer_holds is)) v
+    checkpointer_own checkpointer_step.GiveBroken is h v = gives_back (record t { checks = true; step = checkpointer_step.TakeDevice }) (ap checkpointer_holds is) refl (record { alone = its.alone; own = its.own; no_device_while_checking = λ _. refl; step = h }) v
     checkpointer_own checkpointer_step.Checkpoint is h v = let k = can t at is in (g, points_by D c spare m g p actors seat t before at q code (eqb code 0) refl is h.0 k.more k.below (L.checkpoints c.blocks c.base g.log t.to code p q before.global.part.holds k v), refl)
     checkpointer_own checkpointer_step.StoreCheckpoint is h v = let low = before.global.part.ckpt_part in checkpointer_keeps m.lists t.to m.failed (record t { own = t.to; step = checkpointer_step.GiveDevice }) (numbers_sized before.sized) (omega arith) (omega arith) (λ z. z)
-        (record { alone = its.alone; no_device_while_checking = λ z. let y = its.no_device_while_checking z in let x : true ≡ false = sym (ap checkpointer_holds is) ∙ y in absurd (cc); step = h }) (sym (ap checkpointer_holds is)) v
-    checkpointer_own checkpointer_step.GiveDevice is h v = gives_back (record t { step = checkpointer_step.LoadCtail }) (ap checkpointer_holds is) refl (record { alone = its.alone; no_device_while_checking = λ _. refl; step = h }) v
+        (record { alone = its.alone; own = refl; no_device_while_checking = λ z. let y = its.no_device_while_checking z in let x : true ≡ false = sym (ap checkpointer_holds is) ∙ y in absurd (cc); step = h }) (sym (ap checkpointer_holds is)) v
+    checkpointer_own checkpointer_step.GiveDevice is h v = gives_back (record t { step = checkpointer_step.LoadCtail }) (ap checkpointer_holds is) refl (record { alone = its.alone; own = its.own; no_device_while_checking = λ _. refl; step = h }) v
     checkpointer_own checkpointer_step.StoreFailed is h v = checkpointer_keeps m.lists m.ckpt t.code (record t { step = checkpointer_step.GiveFailed }) (numbers_sized before.sized) (omega arith) before.global.part.ckpt_part (λ _. h.0)
-        (record { alone = its.alone; no_device_while_checking = λ z. let y = its.no_device_while_checking z in let x : true ≡ false = sym (ap checkpointer_holds is) ∙ y in absurd (cc); step = h.0 }) (sym (ap checkpointer_holds is)) v
-    checkpointer_own checkpointer_step.GiveFailed is h v = gives_back (record t { step = checkpointer_step.Failed }) (ap checkpointer_holds is) refl (record { alone = its.alone; no_device_while_checking = λ _. refl; step = h }) v
+        (record { alone = its.alone; own = its.own; no_device_while_checking = λ z. let y = its.no_device_while_checking z in let x : true ≡ false = sym (ap checkpointer_holds is) ∙ y in absurd (cc); step = h.0 }) (sym (ap checkpointer_holds is)) v
+    checkpointer_own checkpointer_step.GiveFailed is h v = gives_back (record t { step = checkpointer_step.Failed }) (ap checkpointer_holds is) refl (record { alone = its.alone; own = its.own; no_device_while_checking = λ _. refl; step = h }) v
     checkpointer_own checkpointer_step.Failed is h v = rested (actor.Checkpointer t) at v
 
     checkpointer_any : (b : Bool) → t.checks ≡ b → LogServed D p Nothing (cond b (op.Load word.Failed) (checkpointer_op t t.step)) code q → KeptSo (cond b (op.Load word.Failed) (checkpointer_op t t.step)) (λ r. cond b (checked (actor.Checkpointer t) (old_of r)) (own_took (actor.Checkpointer t) r))
     checkpointer_any true checks v = by (eqb m.failed 0) refl
       where
         by : (b : Bool) → eqb m.failed 0 ≡ b → CheckpointerDone m (cond b (record t { checks = false }) (record t { checks = false; code = m.failed; step = checkpointer_step.Failed }))
-        by true e = easy (record t { checks = false }) (record { alone = its.alone; no_device_while_checking = λ z. absurd (cc); step = its.step }) refl v
-        by false e = let pos : 0 < m.failed = (let k = eqb-false m.failed 0 e in omega arith) in easy (record t { checks = false; code = m.failed; step = checkpointer_step.Failed }) (record { alone = its.alone; no_device_while_checking = λ _. refl; step = pos }) (sym (its.no_device_while_checking checks)) v
+        by true e = easy (record t { checks = false }) (record { alone = its.alone; own = its.own; no_device_while_checking = λ z. absurd (cc); step = its.step }) refl v
+        by false e = let pos : 0 < m.failed = (let k = eqb-false m.failed 0 e in omega arith) in easy (record t { checks = false; code = m.failed; step = checkpointer_step.Failed }) (record { alone = its.alone; own = its.own; no_device_while_checking = λ _. refl; step = pos }) (sym (its.no_device_while_checking checks)) v
     checkpointer_any false checks v = checkpointer_own t.step refl its.step v
 
   -- Whatever the actor's next Op is, its turn keeps the invariant

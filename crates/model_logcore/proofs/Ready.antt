@@ -73,7 +73,7 @@ module _ (D : LogSide) (L : LogLaws D) (c : Setup) (spare : ℕ) (m : SharedWord
   pub ready : (a : Actor) → get_elem? actors seat ≡ maybe.some a → ((t : CheckpointerState) → a ≡ actor.Checkpointer t → t.step ≡ checkpointer_step.Checkpoint → CanCheckpoint D c.blocks c.base g.log t.to p) → Ready D c g p a (next a)
   ready (actor.User u) at can = checking_ready (actor.User u) u.checks (user_op u u.step) (user_ready u u.step)
   ready (actor.Writer s) at can = let h : WriterFits D c m g p seat s = before.each seat (actor.Writer s) at in checking_ready (actor.Writer s) s.checks (writer_op s s.step) (writer_ready s at s.step refl h.step)
-  ready (actor.Flusher f) at can = let h : FlusherFits D c m g p f = before.each seat (actor.Flusher f) at in checking_ready (actor.Flusher f) f.checks (flusher_op f f.step) (flusher_ready f f.step refl h.step)
+  ready (actor.Flusher f) at can = let h : FlusherFits D c m g p seat f = before.each seat (actor.Flusher f) at in checking_ready (actor.Flusher f) f.checks (flusher_op f f.step) (flusher_ready f f.step refl h.step)
   ready (actor.Closer t) at can = checking_ready (actor.Closer t) t.checks (closer_op t t.step) (closer_ready t t.step)
   ready (actor.Cleaner v) at can = checking_ready (actor.Cleaner v) v.checks (cleaner_op v v.step) (cleaner_ready v v.step)
   ready (actor.Checkpointer t) at can = checking_ready (actor.Checkpointer t) t.checks (checkpointer_op t t.step) (checkpointer_ready t t.step refl (can t refl))

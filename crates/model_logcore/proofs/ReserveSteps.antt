@@ -24,15 +24,16 @@ use Rattle.model_logcore.specs.LogLaws.{LogLaws}
 use Rattle.model_core.specs.declared.steps.UserStep.TheVariants as user_step
 use Rattle.model_core.specs.Actors as actor
 
+-- a block with a first offset begins at or below the end of the groups
+first_low : (base : ℕ) (log : List Entry) (n q v : ℕ) → Tiles base log n → base ≤ n → 0 < v → v ≡ first_of base log q → q ≤ n / 496
+first_low base log n q v t le some_v true_v = elim (ℕ_discrete q (base / 496)) [
+  | yes d ↦ omega arith
+  | no d ↦ ⊎_elim (λ z. absurd (omega arith)) (λ z. let w = tiles_at log base n z.0 z.1 t z.2 in let k = crosses_is q z.1 z.3 in let a = w.1 in let b = k.0 in omega arith) (first_from base log q d)
+]
+
 -- the first offsets of the blocks up to the new group's stay
 firsts_old : (base : ℕ) (log : List Entry) (e : Entry) (n q v : ℕ) → Tiles base log n → e.start ≡ n → base ≤ n → 0 < v → v ≡ first_of base log q → v ≡ first_of base (log ++ e ∷ []) q
-firsts_old base log e n q v t is le some_v true_v = true_v ∙ sym (first_snoc base log e q low)
-  where
-    low : q ≤ e.start / 496
-    low = elim (ℕ_discrete q (base / 496)) [
-      | yes d ↦ omega arith
-      | no d ↦ ⊎_elim (λ z. absurd (omega arith)) (λ z. let w = tiles_at log base n z.0 z.1 t z.2 in let k = crosses_is q z.1 z.3 in let a = w.1 in let b = k.0 in omega arith) (first_from base log q d)
-    ]
+firsts_old base log e n q v t is le some_v true_v = let low = first_low base log n q v t le some_v true_v in true_v ∙ sym (first_snoc base log e q (omega arith))
 
 module _ (D : LogSide) (L : LogLaws D) (c : Setup) (spare : ℕ) (m : SharedWords) (g : LogGhost) (p : D.Part) (actors : List Actor) (seat : ℕ) (u : UserState) (before : LogHalf D c spare m g p actors) (at : get_elem? actors seat ≡ some (actor.User u)) where
   mine : UserFits D c m g p seat u
@@ -200,6 +201,10 @@ module _ (D : LogSide) (L : LogLaws D) (c : Setup) (spare : ℕ) (m : SharedWord
                   bare = λ x l r. state_in x (omega arith) r;
                 },
                 refl,
+                (λ cross. elim (dec_le 1 (g.first ((n + b) / 496))) [
+                  | yes d ↦ (let low = first_low c.base g.log n ((n + b) / 496) (g.first ((n + b) / 496)) T.tiles (omega arith) d (G.first_offsets.true_first ((n + b) / 496) d) in absurd (omega arith))
+                  | no d ↦ omega arith
+                ]),
               );
             })
             (λ j a ne a_is. others_later D c m m' g g' p p seat G
@@ -214,12 +219,13 @@ module _ (D : LogSide) (L : LogLaws D) (c : Setup) (spare : ℕ) (m : SharedWord
               states = λ x l o. state_below x l;
               linked = λ x l two. state_below x l ∙ two;
               firsts = λ r z. z;
+              bare = λ _ _ _ _ _ z. z;
               seats = λ v. refl;
               counts = λ v other. let a = count_snoc v g.log e in let z = none_of v e (λ y. other (ap g.seat_of (sym y) ∙ mine.own_seat)) in omega arith;
               answers = λ v other. refl;
             })
             (record { writer = refl; gwrite = refl; gwtail = refl; tail = refl; read = refl; entered = refl; write = refl; ckpt = omega arith; failed = λ z. z; link = λ z. refl; bytes = λ x lo hi. old x lo (omega arith); firsts = first_old; written = refl })
-            (record { flushed = omega arith; failed = λ z. z; point = refl })
+            (record { writer = refl; flushed = refl; ckpt_word = refl; failed = λ z. z; point = refl })
             j a ne (λ h. refl) (before.each j a a_is))
             (λ h. absurd (cc)) (λ j a ne a_is h. before.turns j a a_is h)
             (λ h.

@@ -13,7 +13,7 @@ use Rattle.model_core.specs.{Actor, byte_at, byte_in, cell_of, copy_place, end_o
 use Rattle.model_core.specs.LogSide.{LogSide}
 use Rattle.model_core.specs.Setup.{Setup}
 use Rattle.model_core.specs.declared.steps.UserStep.{UserStep}
-use Rattle.model_logcore.proofs.UserGroups.{first_is}
+use Rattle.model_logcore.proofs.UserGroups.{crossing_same, first_is}
 use Rattle.model_logcore.proofs.Frame.{Later, Still, others_later, moved_on}
 use Rattle.model_logcore.proofs.Same.{cells_sized, firsts_sized, stored_here, stored_else}
 use Rattle.model_logcore.specs.LogFacts.{WrittenLinks, IsBare, LogGhost, LogFacts, FirstOffsets, InHand, RingCells, count_of, Commits}
@@ -60,11 +60,11 @@ module _ (D : LogSide) (c : Setup) (spare : ℕ) (m : SharedWords) (g : LogGhost
 
   -- the user moves, and words other than SN and DEVICE, or places of its own, change
   pub steps : (m' : SharedWords) (g' : LogGhost) (w : UserState) → IsSized c.pages m' → LogFacts D c m' g' p → UserFits D c m' g' p seat w → Later D c m g m' g' seat → Still D c m m' g g' p p
-      → m'.flushed ≡ m.flushed → m'.device ≡ m.device → g'.holder ≡ g.holder → g'.log ≡ g.log → m'.sn ≡ m.sn
+      → m'.flushed ≡ m.flushed → m'.ckpt ≡ m.ckpt → m'.device ≡ m.device → g'.holder ≡ g.holder → g'.log ≡ g.log → m'.sn ≡ m.sn
       → ◌≡◌ {A = List Entry} (entries (actor.User w)) (entries (actor.User u)) → left_to_reserve (actor.User w) ≤ left_to_reserve (actor.User u)
       → LogHalf D c spare m' g' p (set actors seat (actor.User w))
-  steps m' g' w sized global f later still flushed device holder log sn same le = moved_on D c spare m m' g g' p p actors seat (actor.User u) (actor.User w) before at sized global f
-      (λ j a n e. others_later D c m m' g g' p p seat before.global later still (record { flushed = omega arith; failed = later.failed; point = refl }) j a n (λ h. refl) (before.each j a e))
+  steps m' g' w sized global f later still flushed ckpt device holder log sn same le = moved_on D c spare m m' g g' p p actors seat (actor.User u) (actor.User w) before at sized global f
+      (λ j a n e. others_later D c m m' g g' p p seat before.global later still (record { writer = still.writer; flushed = flushed; ckpt_word = ckpt; failed = later.failed; point = refl }) j a n (λ h. refl) (before.each j a e))
       device holder log sn refl same le
 
   -- where the group in hand lies
@@ -96,11 +96,11 @@ module _ (D : LogSide) (c : Setup) (spare : ℕ) (m : SharedWords) (g : LogGhost
   }
 
   copy_tested : (m' : SharedWords) (g' : LogGhost) (b d : Bool) → eqb (u.copied + next_count u) (length (group_bytes u)) ≡ b → ltb (u.start / 496) (group_end u / 496) ≡ d → m'.write ≡ m.write → u.copied + next_count u ≤ length (group_bytes u)
-      → InHand g'.log g'.place g'.state seat u.user u.k u.start (u.copied + next_count u) (line u) → UserAt D c m g p seat u user_step.AddCell
+      → ((q : ℕ) → g'.first q ≡ g.first q) → InHand g'.log g'.place g'.state seat u.user u.k u.start (u.copied + next_count u) (line u) → UserAt D c m g p seat u user_step.AddCell
       → UserAt D c m' g' p seat (record u { copied = u.copied + next_count u; step = cond b (cond d user_step.StoreFirst user_step.LoadWtail) user_step.AddCell }) (cond b (cond d user_step.StoreFirst user_step.LoadWtail) user_step.AddCell)
-  copy_tested m' g' true true e f w few i h = (h.0, h.1, i, eqb-true (u.copied + next_count u) (length (group_bytes u)) e, subst (λ (k : ℕ). lsn (group_end u) < floor k + 65536) (sym w) h.4, ltb-true (u.start / 496) (group_end u / 496) f)
-  copy_tested m' g' true false e f w few i h = (h.0, h.1, i, eqb-true (u.copied + next_count u) (length (group_bytes u)) e, λ l. let n = ltb-false (u.start / 496) (group_end u / 496) f in absurd (omega arith))
-  copy_tested m' g' false d e f w few i h = (h.0, h.1, i, (let n = eqb-false (u.copied + next_count u) (length (group_bytes u)) e in below_of (u.copied + next_count u) (length (group_bytes u)) few n), subst (λ (k : ℕ). lsn (group_end u) < floor k + 65536) (sym w) h.4)
+  copy_tested m' g' true true e f w few firsts i h = (h.0, h.1, i, eqb-true (u.copied + next_count u) (length (group_bytes u)) e, subst (λ (k : ℕ). lsn (group_end u) < floor k + 65536) (sym w) h.4, ltb-true (u.start / 496) (group_end u / 496) f, (λ cross. firsts (group_end u / 496) ∙ h.5 cross), h.6)
+  copy_tested m' g' true false e f w few firsts i h = (h.0, h.1, i, eqb-true (u.copied + next_count u) (length (group_bytes u)) e, λ l. let n = ltb-false (u.start / 496) (group_end u / 496) f in absurd (omega arith))
+  copy_tested m' g' false d e f w few firsts i h = (h.0, h.1, i, (let n = eqb-false (u.copied + next_count u) (length (group_bytes u)) e in below_of (u.copied + next_count u) (length (group_bytes u)) few n), subst (λ (k : ℕ). lsn (group_end u) < floor k + 65536) (sym w) h.4, (λ cross. firsts (group_end u / 496) ∙ h.5 cross), h.6)
     where
       below_of : (a b : ℕ) → a ≤ b → a ≢ b → a < b
       below_of a b l n = omega arith
@@ -304,7 +304,7 @@ module _ (D : LogSide) (c : Setup) (spare : ℕ) (m : SharedWords) (g : LogGhost
               commits = commits_states g.state g'.state new_two G.commits;
               part = G.part;
             })
-            (refit m' g' u.page u.cell (u.copied + n) u.loaded u.code u.checks (cond b (cond d user_step.StoreFirst user_step.LoadWtail) user_step.AddCell) refl refl refl fits.loaded (copy_tested m' g' b d refl refl refl few in_hand h))
+            (refit m' g' u.page u.cell (u.copied + n) u.loaded u.code u.checks (cond b (cond d user_step.StoreFirst user_step.LoadWtail) user_step.AddCell) refl refl refl fits.loaded (copy_tested m' g' b d refl refl refl few (λ _. refl) in_hand h))
             (record {
               write = omega arith;
               wtail = omega arith;
@@ -316,12 +316,13 @@ module _ (D : LogSide) (c : Setup) (spare : ℕ) (m : SharedWords) (g : LogGhost
               linked = λ x l two. new_two x two;
               states = λ x l o. copies_out h x (λ a e. o (hand.own x (omega arith) (omega arith)));
               firsts = λ q z. z;
+              bare = λ _ _ _ _ _ z. z;
               seats = λ v. refl;
               counts = λ v n. refl;
               answers = λ v n. refl;
             })
             (still_words m' g' refl refl refl refl refl refl refl refl refl refl (λ z. refl))
-            refl refl refl refl refl refl (omega arith),
+            refl refl refl refl refl refl refl (omega arith),
         refl,
       )
 
@@ -396,11 +397,16 @@ module _ (D : LogSide) (c : Setup) (spare : ℕ) (m : SharedWords) (g : LogGhost
                   states = λ x l o. refl;
                   linked = λ x l two. two;
                   firsts = more;
+                  bare = λ j e e_is other cross none. elim (ℕ_discrete (end_of e / 496) q) [
+                    | yes same ↦ (let start = crossing_same c m.sn g.log g.place j hand.at e (entry u.user u.k u.start (line u)) q G.tiled e_is hand.is same (omega arith) refl over_block in
+                        absurd (other (ap (λ (x : ℕ). (g.place x).owner) start ∙ hand.own u.start (omega arith) (omega arith))))
+                    | no n ↦ else (end_of e / 496) n ∙ none
+                  ];
                   seats = λ x. refl;
                   counts = λ x n. refl;
                   answers = λ x n. refl;
                 })
                 (still_words m' g' refl refl refl refl refl refl refl refl refl refl (λ z. refl))
-                refl refl refl refl refl refl (omega arith),
+                refl refl refl refl refl refl refl (omega arith),
             refl,
           )

@@ -133,7 +133,7 @@ module _ (D : LogSide) (c : Setup) (m : SharedWords) (g : LogGhost) (p : D.Part)
   -- the marks go on
   pub later_marks : {m' : SharedWords} {seat write wtail flushed tail read entered writer holder : ℕ} → m.write ≤ m'.write → m.wtail ≤ m'.wtail → m.ckpt ≤ m'.ckpt → m.flushed ≤ m'.flushed → (0 < m.failed → 0 < m'.failed)
       → Later D c m g m' (record g { write = write; wtail = wtail; flushed = flushed; tail = tail; read = read; entered = entered; writer = writer; holder = holder }) seat
-  later_marks a b d f e = record { write = a; wtail = b; ckpt = d; flushed = f; failed = e; logs = λ _ _ z. z; places = λ _ _ _. refl; states = λ _ _ _. refl; linked = λ _ _ two. two; firsts = λ _ z. z; seats = λ _. refl; counts = λ _ _. refl; answers = λ _ _. refl }
+  later_marks a b d f e = record { write = a; wtail = b; ckpt = d; flushed = f; failed = e; logs = λ _ _ z. z; places = λ _ _ _. refl; states = λ _ _ _. refl; linked = λ _ _ two. two; firsts = λ _ z. z; bare = λ _ _ _ _ _ z. z; seats = λ _. refl; counts = λ _ _. refl; answers = λ _ _. refl }
 
   -- the words that the writer doesn't read change
   pub still_same : {wtail flushed ckpt ctail failed device gflushed holder : ℕ} {lists clinks : List ℕ} {page_words : List PageWords} {q : D.Part} → m.ckpt ≤ ckpt → (0 < m.failed → 0 < failed) → D.written q ≡ D.written p

@@ -135,17 +135,17 @@ module _ (D : LogSide) (c : Setup) (m : SharedWords) (p : D.Part) (seat_of : ℕ
     no_device_while_checking = λ z. refl;
     step = ((refl, P.written ∙ sym W.write), omega arith);
   })
-  start_fits seat (actor.Flusher f) h = subst (λ (z : FlusherState). FlusherFits D c m start p z) (sym h) (record { last = (let z = W.flushed in omega arith); write = omega arith; no_device_while_checking = λ z. refl; step = tt })
+  start_fits seat (actor.Flusher f) h = subst (λ (z : FlusherState). FlusherFits D c m start p seat z) (sym h.1) (record { alone = h.0; last = sym W.flushed; write = omega arith; no_device_while_checking = λ z. refl; step = tt })
   start_fits seat (actor.Closer t) h = λ e. let z : closer_step.LoadClosedLink ≡ closer_step.Failed = sym (ap (λ (y : CloserState). y.step) h.1) ∙ e in absurd (cc)
   start_fits seat (actor.Cleaner v) h = let s : v.step ≡ cleaner_step.LoadFlushed = ap (λ (y : CleanerState). y.step) h.1 in
       ((λ e. let z : cleaner_step.LoadFlushed ≡ cleaner_step.Failed = sym s ∙ e in absurd (cc)), (λ e. let z : cleaner_step.LoadFlushed ≡ cleaner_step.StoreFailed = sym s ∙ e in absurd (cc)))
-  start_fits seat (actor.Checkpointer t) h = subst (λ (z : CheckpointerState). CheckpointerFits D c m start p seat z) (sym h.1) (record { alone = h.0; no_device_while_checking = λ z. refl; step = P.ckpt })
+  start_fits seat (actor.Checkpointer t) h = subst (λ (z : CheckpointerState). CheckpointerFits D c m start p seat z) (sym h.1) (record { alone = h.0; own = sym W.ckpt; no_device_while_checking = λ z. refl; step = P.ckpt })
   start_fits seat (actor.Joined es) h = tt
 
   start_holds : (seat : ℕ) (a : Actor) → StartActor c seat_of writer seat a → holds a ≡ false
   start_holds seat (actor.User u) h = refl
   start_holds seat (actor.Writer s) h = ap (λ (z : WriterState). holds (actor.Writer z)) h.1
-  start_holds seat (actor.Flusher f) h = ap (λ (z : FlusherState). holds (actor.Flusher z)) h
+  start_holds seat (actor.Flusher f) h = ap (λ (z : FlusherState). holds (actor.Flusher z)) h.1
   start_holds seat (actor.Closer t) h = refl
   start_holds seat (actor.Cleaner v) h = refl
   start_holds seat (actor.Checkpointer t) h = ap (λ (z : CheckpointerState). holds (actor.Checkpointer z)) h.1

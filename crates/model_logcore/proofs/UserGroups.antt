@@ -64,6 +64,12 @@ rank_same c sn log place i j e f T ei fj user k =
     ] in
     some_same log j e f (subst (λ (q : ℕ). get_elem? log q ≡ maybe.some e) equal ei) fj
 
+-- groups that cross into one block start at one place
+pub crossing_same : (c : Setup) (sn : ℕ) (log : List Entry) (place : ℕ → Place) (i j : ℕ) (e f : Entry) (q : ℕ) → Tiled c sn log place → get_elem? log i ≡ maybe.some e → get_elem? log j ≡ maybe.some f → end_of e / 496 ≡ q → e.start / 496 < q → end_of f / 496 ≡ q → f.start / 496 < q → e.start ≡ f.start
+crossing_same c sn log place i j e f q T ei fj e0 e1 f0 f1 =
+    let y : ℕ = 496 * q - 1 in
+    sym (T.placed i e ei y (omega arith) (omega arith)).0 ∙ (T.placed j f fj y (omega arith) (omega arith)).0
+
 -- the one group that crosses into a block gives its first offset
 pub first_is : (c : Setup) (sn : ℕ) (log : List Entry) (place : ℕ → Place) (i : ℕ) (e : Entry) (q : ℕ) → Tiled c sn log place → get_elem? log i ≡ maybe.some e → crosses q e ≡ true → first_of c.base log q ≡ end_of e % 496 + 12
 first_is c sn log place i e q T is x =

@@ -1,5 +1,5 @@
 -- A user's loads keep the invariant; and so each of its steps.
-use Rattle.std.proofs.Common.{Bool, List, ap, arith, cond, eq-eqb, eqb, eqb-true, false, leb-true, length, length-set, ltb, ltb-true, ne_eqb, refl, set, true, ℕ, ◌%◌, ◌*◌, ◌+◌, ◌-◌, ◌∙◌, ◌≡◌, ◌≤◌, inl, inr}
+use Rattle.std.proofs.Common.{Bool, List, ap, arith, cond, eq-eqb, eqb, eqb-true, false, leb-true, length, length-set, ltb, ltb-true, ne_eqb, refl, set, sym, true, ℕ, ◌%◌, ◌*◌, ◌+◌, ◌-◌, ◌∙◌, ◌≡◌, ◌≤◌, inl, inr}
 use Rattle.std.proofs.lemmas.Bool.{eqb-false}
 use Rattle.std.specs.Prelude.{nat_le, slice_index, slice_set}
 use lib.ListN.{get_elem?}
@@ -32,14 +32,14 @@ module _ (D : LogSide) (L : LogLaws D) (c : Setup) (spare : ℕ) (m : SharedWord
 
   -- one more of its commits is answered, and words of the pages change
   later_answered : {page_words : List PageWords} → Later D c m g (record m { page_words = page_words }) (record g { answered = changed g.answered u.user (u.k + 1) }) seat
-  later_answered = record { write = omega arith; wtail = omega arith; ckpt = omega arith; flushed = omega arith; failed = λ z. z; logs = λ _ _ z. z; places = λ _ _ _. refl; states = λ _ _ _. refl; linked = λ _ _ two. two; firsts = λ _ z. z; seats = λ _. refl; counts = λ _ _. refl; answers = λ x n. changed_else g.answered u.user (u.k + 1) x (λ e. n (ap g.seat_of e ∙ mine.own_seat)) }
+  later_answered = record { write = omega arith; wtail = omega arith; ckpt = omega arith; flushed = omega arith; failed = λ z. z; logs = λ _ _ z. z; places = λ _ _ _. refl; states = λ _ _ _. refl; linked = λ _ _ two. two; firsts = λ _ z. z; bare = λ _ _ _ _ _ z. z; seats = λ _. refl; counts = λ _ _. refl; answers = λ x n. changed_else g.answered u.user (u.k + 1) x (λ e. n (ap g.seat_of e ∙ mine.own_seat)) }
 
   -- nothing but the user's own state changes
   quiet : (w : UserState) → UserFits D c m g p seat w → ◌≡◌ {A = List Entry} (entries (actor.User w)) (entries (actor.User u)) → left_to_reserve (actor.User w) ≤ left_to_reserve (actor.User u) → LogHalf D c spare m g p (set actors seat (actor.User w))
   quiet w f same le = steps D c spare m g p actors seat u before at m g w before.sized before.global f
       (later_marks D c m g p (omega arith) (omega arith) (omega arith) (omega arith) (λ z. z))
       (still_words D c spare m g p actors seat u before at m g refl refl refl refl refl refl refl refl refl refl (λ z. refl))
-      refl refl refl refl refl same le
+      refl refl refl refl refl refl same le
 
   shift : (page cell copied : ℕ) (loaded : LoadedMarks) (code : ℕ) (checks : Bool) (ph : UserStep) → AreBelow loaded m.ckpt m.write m.wtail m.flushed → UserAt D c m g p seat (shifted D c spare m g p actors seat u before at page cell copied loaded code checks ph) ph
       → LogHalf D c spare m g p (set actors seat (actor.User (shifted D c spare m g p actors seat u before at page cell copied loaded code checks ph)))
@@ -68,9 +68,9 @@ module _ (D : LogSide) (L : LogLaws D) (c : Setup) (spare : ℕ) (m : SharedWord
   ctail_loaded : AreBelow (record u.loaded { ctail = m.ctail }) m.ckpt m.write m.wtail m.flushed
   ctail_loaded = record { ckpt_below = mine.loaded.ckpt_below; write_below = mine.loaded.write_below; wtail_below = mine.loaded.wtail_below; flushed_below = mine.loaded.flushed_below }
 
-  room_by : (b : Bool) → ltb (lsn (group_end u)) (floor m.write + 65536) ≡ b → UserAt D c m g p seat u user_step.LoadWrite → Now (cond b (record u { loaded = record u.loaded { write = m.write }; step = user_step.AddCell }) (record u { loaded = record u.loaded { write = m.write }; checks = true; step = user_step.LoadWrite }))
-  room_by true e h = shift u.page u.cell u.copied (record u.loaded { write = m.write }) u.code u.checks user_step.AddCell write_loaded (h.0, h.1, h.2, (let z = h.3 in let s = (mine.sound u.k h.1).0 in omega arith), ltb-true (lsn (group_end u)) (floor m.write + 65536) e)
-  room_by false e h = shift u.page u.cell u.copied (record u.loaded { write = m.write }) u.code true user_step.LoadWrite write_loaded h
+  room_by : u.checks ≡ false → (b : Bool) → ltb (lsn (group_end u)) (floor m.write + 65536) ≡ b → UserAt D c m g p seat u user_step.LoadWrite → Now (cond b (record u { loaded = record u.loaded { write = m.write }; step = user_step.AddCell }) (record u { loaded = record u.loaded { write = m.write }; checks = true; step = user_step.LoadWrite }))
+  room_by unasked true e h = shift u.page u.cell u.copied (record u.loaded { write = m.write }) u.code u.checks user_step.AddCell write_loaded (h.0, h.1, h.2, (let z = h.3 in let s = (mine.sound u.k h.1).0 in omega arith), ltb-true (lsn (group_end u)) (floor m.write + 65536) e, h.4, unasked)
+  room_by unasked false e h = shift u.page u.cell u.copied (record u.loaded { write = m.write }) u.code true user_step.LoadWrite write_loaded h
 
   space_by : (b : Bool) → ltb (lsn u.start) (m.wtail + 32768) ≡ b → UserAt D c m g p seat u user_step.LoadWtail → Now (cond b (record u { loaded = record u.loaded { wtail = m.wtail }; step = user_step.StoreLink }) (record u { loaded = record u.loaded { wtail = m.wtail }; checks = true; step = user_step.LoadWtail }))
   space_by true e h = shift u.page u.cell u.copied (record u.loaded { wtail = m.wtail }) u.code u.checks user_step.StoreLink wtail_loaded (h.0, h.1, h.2, h.3, h.4, ltb-true (lsn u.start) (m.wtail + 32768) e)
@@ -88,49 +88,54 @@ module _ (D : LogSide) (L : LogLaws D) (c : Setup) (spare : ℕ) (m : SharedWord
             (answered_fits D L c spare m g p actors seat u before at (with_mark u n) m g' refl refl (changed_here g.answered u.user (u.k + 1) u.user refl) lo h.0 h.1)
             later_answered
             (still_words D c spare m g p actors seat u before at m g' refl refl refl refl refl refl refl refl refl refl (λ z. refl))
-            refl refl refl refl refl refl (omega arith),
+            refl refl refl refl refl refl refl (omega arith),
         refl,
       )
   await_by n false e fl wr lo h = (g, shift u.page u.cell u.copied (with_mark u n) u.code true user_step.AwaitMark lo h, refl)
 
+  never : u.checks ≡ true → u.checks ≡ false → ⊥
+  never asks unasked = let z : true ≡ false = sym asks ∙ unasked in cc
+
   -- the length of its starts, and how far its group in hand came, where it asks
-  dead_at : (f : UserStep) → UserAt D c m g p seat u f → (length u.starts ≤ u.k + 1) × (length u.starts ≡ u.k + 1 → HasStoppedAt D c m g p seat u)
-  dead_at user_step.LoadCheckpoint h = let z = h.0 in (omega arith, λ held. absurd (omega arith))
-  dead_at user_step.LoadSn h = let z = h.0 in (omega arith, λ held. absurd (omega arith))
-  dead_at user_step.Reserve h = let z = h.0 in (omega arith, λ held. absurd (omega arith))
-  dead_at user_step.TakeLatch h = let z = h.0 in (omega arith, λ held. absurd (omega arith))
-  dead_at user_step.Done h = let z = h.0 in (omega arith, λ held. absurd (omega arith))
-  dead_at user_step.LoadWrite h = let z = h.0 in let y = h.3 in (omega arith, λ held. inl (h.2, omega arith, λ some. absurd (omega arith)))
-  dead_at user_step.AddCell h = let z = h.0 in let y = h.3 in (omega arith, λ held. inl (h.2, omega arith, λ some. h.4))
-  dead_at user_step.StoreFirst h = let z = h.0 in let y = h.3 in (omega arith, λ held. inl (h.2, omega arith, λ some. h.4))
-  dead_at user_step.LoadWtail h = let z = h.0 in let y = h.3 in (omega arith, λ held. inl (h.2, omega arith, λ some. hand_end_near D c m g p seat u before.global h.2 h.3 h.4 some))
-  dead_at user_step.StoreLink h = let z = h.0 in let y = h.3 in (omega arith, λ held. inl (h.2, omega arith, λ some. hand_end_near D c m g p seat u before.global h.2 h.3 h.4 some))
-  dead_at user_step.LoadCtail h = let z = h.0 in (omega arith, λ held. inr h.2)
-  dead_at user_step.LoadFrame h = let z = h.0 in (omega arith, λ held. inr h.2)
-  dead_at user_step.StoreFrame h = let z = h.0 in (omega arith, λ held. inr h.2)
-  dead_at user_step.StoreNewest h = let z = h.0 in (omega arith, λ held. inr h.2)
-  dead_at user_step.LoadOldest h = let z = h.0 in (omega arith, λ held. inr h.2)
-  dead_at user_step.AddToList h = let z = h.0 in (omega arith, λ held. inr h.2)
-  dead_at user_step.StoreOldest h = let z = h.0 in (omega arith, λ held. inr h.2)
-  dead_at user_step.GiveList h = let z = h.0 in (omega arith, λ held. inr h.2)
-  dead_at user_step.StoreClosedLink h = let z = h.0 in (omega arith, λ held. inr h.2)
-  dead_at user_step.ReleaseLatch h = let z = h.0 in (omega arith, λ held. inr h.2)
-  dead_at user_step.AwaitMark h = let z = h.0 in (omega arith, λ held. inr h.2)
-  dead_at user_step.Failed h = (h.0, h.3)
+  dead_at : u.checks ≡ true → (f : UserStep) → UserAt D c m g p seat u f → (length u.starts ≤ u.k + 1) × (length u.starts ≡ u.k + 1 → HasStoppedAt D c m g p seat u)
+  dead_at asks user_step.LoadCheckpoint h = let z = h.0 in (omega arith, λ held. absurd (omega arith))
+  dead_at asks user_step.LoadSn h = let z = h.0 in (omega arith, λ held. absurd (omega arith))
+  dead_at asks user_step.Reserve h = let z = h.0 in (omega arith, λ held. absurd (omega arith))
+  dead_at asks user_step.TakeLatch h = let z = h.0 in (omega arith, λ held. absurd (omega arith))
+  dead_at asks user_step.Done h = let z = h.0 in (omega arith, λ held. absurd (omega arith))
+  dead_at asks user_step.LoadWrite h = let z = h.0 in let y = h.3 in let s = (mine.sound u.k h.1).0 in (omega arith, λ held. inl (h.2, omega arith, (λ some. absurd (omega arith)), (λ _. h.4), (λ all. absurd (omega arith))))
+  dead_at asks user_step.AddCell h = absurd (never asks h.6)
+  dead_at asks user_step.StoreFirst h = absurd (never asks h.7)
+  dead_at asks user_step.LoadWtail h = let z = h.0 in let y = h.3 in (omega arith, λ held. inl (h.2, omega arith, (λ some. hand_end_near D c m g p seat u before.global h.2 h.3 h.4 some), (λ part. absurd (omega arith)), (λ _. h.4)))
+  dead_at asks user_step.StoreLink h = let z = h.0 in let y = h.3 in (omega arith, λ held. inl (h.2, omega arith, (λ some. hand_end_near D c m g p seat u before.global h.2 h.3 h.4 some), (λ part. absurd (omega arith)), (λ _. h.4)))
+  dead_at asks user_step.LoadCtail h = let z = h.0 in (omega arith, λ held. inr h.2)
+  dead_at asks user_step.LoadFrame h = let z = h.0 in (omega arith, λ held. inr h.2)
+  dead_at asks user_step.StoreFrame h = let z = h.0 in (omega arith, λ held. inr h.2)
+  dead_at asks user_step.StoreNewest h = let z = h.0 in (omega arith, λ held. inr h.2)
+  dead_at asks user_step.LoadOldest h = let z = h.0 in (omega arith, λ held. inr h.2)
+  dead_at asks user_step.AddToList h = let z = h.0 in (omega arith, λ held. inr h.2)
+  dead_at asks user_step.StoreOldest h = let z = h.0 in (omega arith, λ held. inr h.2)
+  dead_at asks user_step.GiveList h = let z = h.0 in (omega arith, λ held. inr h.2)
+  dead_at asks user_step.StoreClosedLink h = let z = h.0 in (omega arith, λ held. inr h.2)
+  dead_at asks user_step.ReleaseLatch h = let z = h.0 in (omega arith, λ held. inr h.2)
+  dead_at asks user_step.AwaitMark h = let z = h.0 in (omega arith, λ held. inr h.2)
+  dead_at asks user_step.Failed h = (h.0, h.3)
 
   -- where it doesn't check, its place asks no more
   unchecked : (f : UserStep) → UserAt D c m g p seat u f → UserAt D c m g p seat (record u { checks = false }) f
+  unchecked user_step.AddCell h = (h.0, h.1, h.2, h.3, h.4, h.5, refl)
+  unchecked user_step.StoreFirst h = (h.0, h.1, h.2, h.3, h.4, h.5, h.6, refl)
   unchecked user_step.Done h = (h.0, h.1, refl)
   unchecked user_step.Failed h = (h.0, h.1, refl, h.3)
   unchecked _ h = h
 
   -- it loads FAILED
-  pub user_checked : Now (cond (eqb m.failed 0) (record u { checks = false }) (record u { checks = false; code = m.failed; step = user_step.Failed }))
-  user_checked = by (eqb m.failed 0) refl
+  pub user_checked : u.checks ≡ true → Now (cond (eqb m.failed 0) (record u { checks = false }) (record u { checks = false; code = m.failed; step = user_step.Failed }))
+  user_checked asks = by (eqb m.failed 0) refl
     where
       by : (b : Bool) → eqb m.failed 0 ≡ b → Now (cond b (record u { checks = false }) (record u { checks = false; code = m.failed; step = user_step.Failed }))
       by true e = shift u.page u.cell u.copied u.loaded u.code false u.step mine.loaded (unchecked u.step mine.step)
-      by false e = shift u.page u.cell u.copied u.loaded m.failed false user_step.Failed mine.loaded (let k = dead_at u.step mine.step in (k.0, (let n = eqb-false m.failed 0 e in omega arith), refl, k.1))
+      by false e = shift u.page u.cell u.copied u.loaded m.failed false user_step.Failed mine.loaded (let k = dead_at asks u.step mine.step in (k.0, (let n = eqb-false m.failed 0 e in omega arith), refl, k.1))
 
   -- words of the pages change, and the closer's: the log half doesn't read them
   pub aside : (lists clinks : List ℕ) (page_words : List PageWords) (ctail : ℕ) (w : UserState) → IsSized c.pages (record m { lists = lists; clinks = clinks; page_words = page_words; ctail = ctail }) → UserFits D c m g p seat w → ◌≡◌ {A = List Entry} (entries (actor.User w)) (entries (actor.User u)) → left_to_reserve (actor.User w) ≤ left_to_reserve (actor.User u)
@@ -142,7 +147,7 @@ module _ (D : LogSide) (L : LogLaws D) (c : Setup) (spare : ℕ) (m : SharedWord
       (record { own_seat = f.own_seat; blocks = f.blocks; lines = f.lines; sound = f.sound; are_bytes = f.are_bytes; counted = f.counted; answers = f.answers; loaded = f.loaded; step = f.step })
       (later_marks D c m g p (omega arith) (omega arith) (omega arith) (omega arith) (λ z. z))
       (still_words D c spare m g p actors seat u before at m' g refl refl refl refl refl refl refl refl refl refl (λ z. refl))
-      refl refl refl refl refl same le
+      refl refl refl refl refl refl same le
 
   moves : (lists clinks : List ℕ) (page_words : List PageWords) (ctail : ℕ) → IsSized c.pages (record m { lists = lists; clinks = clinks; page_words = page_words; ctail = ctail }) → (page cell : ℕ) (checks : Bool) (ph : UserStep)
       → UserAt D c m g p seat (shifted D c spare m g p actors seat u before at page cell u.copied u.loaded u.code checks ph) ph
@@ -199,7 +204,7 @@ module _ (D : LogSide) (L : LogLaws D) (c : Setup) (spare : ℕ) (m : SharedWord
             (answered_fits D L c spare m g p actors seat u before at u.loaded m' g' refl refl (changed_here g.answered u.user (u.k + 1) u.user refl) mine.loaded h.0 h.1)
             later_answered
             (still_words D c spare m g p actors seat u before at m' g' refl refl refl refl refl refl refl refl refl refl (λ z. refl))
-            refl refl refl refl refl refl (omega arith),
+            refl refl refl refl refl refl refl (omega arith),
         refl,
       )
 
@@ -226,26 +231,26 @@ module _ (D : LogSide) (L : LogLaws D) (c : Setup) (spare : ℕ) (m : SharedWord
   mark_loaded false = write_loaded
 
   -- Each step of a user that doesn't check
-  pub user_keeps : (f : UserStep) → u.step ≡ f → UserAt D c m g p seat u f → OnWord (user_op u f) → KeptSo (user_op u f) (user_took u (found (user_op u f) m) f) f
-  user_keeps user_step.LoadCheckpoint is h on = (g, shift u.page u.cell u.copied (record u.loaded { ckpt = m.ckpt }) u.code u.checks user_step.LoadSn (record { ckpt_below = omega arith; write_below = mine.loaded.write_below; wtail_below = mine.loaded.wtail_below; flushed_below = mine.loaded.flushed_below }) h, refl)
-  user_keeps user_step.LoadSn is h on = (g, total_by (nat_le (lsn m.sn + 278528) (u.loaded.ckpt + 512 * u.blocks)) h, refl)
-  user_keeps user_step.Reserve is h on = keeps_reserve D L c spare m g p actors seat u before at h
-  user_keeps user_step.LoadWrite is h on = (g, room_by (ltb (lsn (group_end u)) (floor m.write + 65536)) refl h, refl)
-  user_keeps user_step.AddCell is h on = keeps_add_cell D c spare m g p actors seat u before at is h
-  user_keeps user_step.StoreFirst is h on = keeps_store_first D c spare m g p actors seat u before at is h
-  user_keeps user_step.LoadWtail is h on = (g, space_by (ltb (lsn u.start) (m.wtail + 32768)) refl h, refl)
-  user_keeps user_step.StoreLink is h on = keeps_store_link D L c spare m g p actors seat u before at h
-  user_keeps user_step.AwaitMark is h on = await_by (found (user_op u user_step.AwaitMark) m) (nat_le (lsn (group_end u)) (found (user_op u user_step.AwaitMark) m)) refl mode_flush mode_write (mark_loaded (eqb (mode u) 1)) h
-  user_keeps user_step.TakeLatch is h on = (g, latch_by (eqb (page_words_at m.page_words (page_of u)).latch 0) (eqb (u.page + 1) (length (changes u))) h, refl)
-  user_keeps user_step.LoadCtail is h on = (g, tail_by (ltb (lsn u.start) (m.ctail + 16384)) (eqb u.cell (length (cells_of u))) (is_whole (cells_of u) u.cell) h, refl)
-  user_keeps user_step.LoadFrame is h on = (g, worded m.page_words before.sized u.cell (slice_index (page_words_at m.page_words (page_of u)).frame (frame_word u)) user_step.StoreFrame h, refl)
-  user_keeps user_step.StoreFrame is h on = (g, cell_by (slice_set m.page_words (page_of u) (record (page_words_at m.page_words (page_of u)) { frame = slice_set (page_words_at m.page_words (page_of u)).frame (frame_word u) (stored_word u) })) (page_sized (page_of u) (record (page_words_at m.page_words (page_of u)) { frame = slice_set (page_words_at m.page_words (page_of u)).frame (frame_word u) (stored_word u) }) (length-set (page_words_at m.page_words (page_of u)).frame (frame_word u) (stored_word u)) before.sized) (u.cell + frame_count u) (eqb (u.cell + frame_count u) (length (cells_of u))) (is_whole (cells_of u) (u.cell + frame_count u)) h, refl)
-  user_keeps user_step.StoreNewest is h on = (g, moves m.lists m.clinks (slice_set m.page_words (page_of u) (record (page_words_at m.page_words (page_of u)) { newest = lsn (group_end u) })) m.ctail (page_sized (page_of u) (record (page_words_at m.page_words (page_of u)) { newest = lsn (group_end u) }) refl before.sized) u.page u.cell u.checks user_step.LoadOldest h, refl)
-  user_keeps user_step.LoadOldest is h on = (g, oldest_by (eqb (page_words_at m.page_words (page_of u)).oldest 0) h, refl)
-  user_keeps user_step.AddToList is h on = absurd on
-  user_keeps user_step.StoreOldest is h on = (g, moves m.lists m.clinks (slice_set m.page_words (page_of u) (record (page_words_at m.page_words (page_of u)) { oldest = lsn u.start })) m.ctail (page_sized (page_of u) (record (page_words_at m.page_words (page_of u)) { oldest = lsn u.start }) refl before.sized) u.page u.cell u.checks user_step.GiveList h, refl)
-  user_keeps user_step.GiveList is h on = absurd on
-  user_keeps user_step.StoreClosedLink is h on = (g, moves m.lists (slice_set m.clinks (lsn u.start % 16384) (lsn (group_end u) - lsn u.start)) m.page_words m.ctail (clinks_sized (lsn u.start % 16384) (lsn (group_end u) - lsn u.start) before.sized) 0 u.cell u.checks user_step.ReleaseLatch h, refl)
-  user_keeps user_step.ReleaseLatch is h on = free_by (slice_set m.page_words (page_of u) (record (page_words_at m.page_words (page_of u)) { latch = 0 })) (page_sized (page_of u) (record (page_words_at m.page_words (page_of u)) { latch = 0 }) refl before.sized) (eqb (u.page + 1) (length (changes u))) (eqb (mode u) 0) refl h
-  user_keeps user_step.Done is h on = absurd on
-  user_keeps user_step.Failed is h on = absurd on
+  pub user_keeps : (f : UserStep) → u.step ≡ f → UserAt D c m g p seat u f → u.checks ≡ false → OnWord (user_op u f) → KeptSo (user_op u f) (user_took u (found (user_op u f) m) f) f
+  user_keeps user_step.LoadCheckpoint is h unasked on = (g, shift u.page u.cell u.copied (record u.loaded { ckpt = m.ckpt }) u.code u.checks user_step.LoadSn (record { ckpt_below = omega arith; write_below = mine.loaded.write_below; wtail_below = mine.loaded.wtail_below; flushed_below = mine.loaded.flushed_below }) h, refl)
+  user_keeps user_step.LoadSn is h unasked on = (g, total_by (nat_le (lsn m.sn + 278528) (u.loaded.ckpt + 512 * u.blocks)) h, refl)
+  user_keeps user_step.Reserve is h unasked on = keeps_reserve D L c spare m g p actors seat u before at h
+  user_keeps user_step.LoadWrite is h unasked on = (g, room_by unasked (ltb (lsn (group_end u)) (floor m.write + 65536)) refl h, refl)
+  user_keeps user_step.AddCell is h unasked on = keeps_add_cell D c spare m g p actors seat u before at is h
+  user_keeps user_step.StoreFirst is h unasked on = keeps_store_first D c spare m g p actors seat u before at is h
+  user_keeps user_step.LoadWtail is h unasked on = (g, space_by (ltb (lsn u.start) (m.wtail + 32768)) refl h, refl)
+  user_keeps user_step.StoreLink is h unasked on = keeps_store_link D L c spare m g p actors seat u before at h
+  user_keeps user_step.AwaitMark is h unasked on = await_by (found (user_op u user_step.AwaitMark) m) (nat_le (lsn (group_end u)) (found (user_op u user_step.AwaitMark) m)) refl mode_flush mode_write (mark_loaded (eqb (mode u) 1)) h
+  user_keeps user_step.TakeLatch is h unasked on = (g, latch_by (eqb (page_words_at m.page_words (page_of u)).latch 0) (eqb (u.page + 1) (length (changes u))) h, refl)
+  user_keeps user_step.LoadCtail is h unasked on = (g, tail_by (ltb (lsn u.start) (m.ctail + 16384)) (eqb u.cell (length (cells_of u))) (is_whole (cells_of u) u.cell) h, refl)
+  user_keeps user_step.LoadFrame is h unasked on = (g, worded m.page_words before.sized u.cell (slice_index (page_words_at m.page_words (page_of u)).frame (frame_word u)) user_step.StoreFrame h, refl)
+  user_keeps user_step.StoreFrame is h unasked on = (g, cell_by (slice_set m.page_words (page_of u) (record (page_words_at m.page_words (page_of u)) { frame = slice_set (page_words_at m.page_words (page_of u)).frame (frame_word u) (stored_word u) })) (page_sized (page_of u) (record (page_words_at m.page_words (page_of u)) { frame = slice_set (page_words_at m.page_words (page_of u)).frame (frame_word u) (stored_word u) }) (length-set (page_words_at m.page_words (page_of u)).frame (frame_word u) (stored_word u)) before.sized) (u.cell + frame_count u) (eqb (u.cell + frame_count u) (length (cells_of u))) (is_whole (cells_of u) (u.cell + frame_count u)) h, refl)
+  user_keeps user_step.StoreNewest is h unasked on = (g, moves m.lists m.clinks (slice_set m.page_words (page_of u) (record (page_words_at m.page_words (page_of u)) { newest = lsn (group_end u) })) m.ctail (page_sized (page_of u) (record (page_words_at m.page_words (page_of u)) { newest = lsn (group_end u) }) refl before.sized) u.page u.cell u.checks user_step.LoadOldest h, refl)
+  user_keeps user_step.LoadOldest is h unasked on = (g, oldest_by (eqb (page_words_at m.page_words (page_of u)).oldest 0) h, refl)
+  user_keeps user_step.AddToList is h unasked on = absurd on
+  user_keeps user_step.StoreOldest is h unasked on = (g, moves m.lists m.clinks (slice_set m.page_words (page_of u) (record (page_words_at m.page_words (page_of u)) { oldest = lsn u.start })) m.ctail (page_sized (page_of u) (record (page_words_at m.page_words (page_of u)) { oldest = lsn u.start }) refl before.sized) u.page u.cell u.checks user_step.GiveList h, refl)
+  user_keeps user_step.GiveList is h unasked on = absurd on
+  user_keeps user_step.StoreClosedLink is h unasked on = (g, moves m.lists (slice_set m.clinks (lsn u.start % 16384) (lsn (group_end u) - lsn u.start)) m.page_words m.ctail (clinks_sized (lsn u.start % 16384) (lsn (group_end u) - lsn u.start) before.sized) 0 u.cell u.checks user_step.ReleaseLatch h, refl)
+  user_keeps user_step.ReleaseLatch is h unasked on = free_by (slice_set m.page_words (page_of u) (record (page_words_at m.page_words (page_of u)) { latch = 0 })) (page_sized (page_of u) (record (page_words_at m.page_words (page_of u)) { latch = 0 }) refl before.sized) (eqb (u.page + 1) (length (changes u))) (eqb (mode u) 0) refl h
+  user_keeps user_step.Done is h unasked on = absurd on
+  user_keeps user_step.Failed is h unasked on = absurd on

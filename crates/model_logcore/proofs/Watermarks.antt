@@ -1,19 +1,21 @@
 -- The log half of the invariant gives the watermarks.
-use Rattle.std.proofs.Common.{List, ap, arith, inl, inr, length, refl, subst, ℕ, ⊎_elim, ◌+◌, ◌<◌, ◌∙◌, ◌≡◌, ◌≤◌}
+use Rattle.std.proofs.Common.{Bool, List, ap, arith, cond, eqb, eqb-true, false, inl, inr, length, refl, subst, true, ℕ, ⊎_elim, ◌%◌, ◌+◌, ◌/◌, ◌<◌, ◌∙◌, ◌≡◌, ◌≢◌, ◌≤◌}
+use Rattle.std.proofs.lemmas.Bool.{eqb-false}
 use lib.ListN.{get_elem?}
 use native.Mathlib.Decide.{dec_le}
-use Rattle.model_core.proofs.Groups.{tiles_at}
+use Rattle.model_core.proofs.Groups.{is_crosses, tiles_at}
 use Rattle.model_core.proofs.Lanes.{word_grows}
 use Rattle.model_core.proofs.Lsns.{lsn_le}
-use Rattle.model_core.specs.{Actor, end_of, Entry, first_of, floor, lsn, SharedWords, UserState}
+use Rattle.model_core.specs.{Actor, end_of, Entry, entry, first_of, floor, group_bytes, group_end, line, lsn, SharedWords, UserState}
 use Rattle.model_core.specs.LogSide.{LogSide}
 use Rattle.model_core.specs.Setup.{Setup}
 use Rattle.model_core.specs.declared.steps.UserStep.{UserStep}
 use Rattle.model_logcore.proofs.GroupEnds.{end_near, hand_end_near}
+use Rattle.model_logcore.proofs.UserGroups.{first_is}
 use Rattle.model_logcore.specs.LogFacts.{LogGhost}
-use Rattle.model_logcore.specs.LogFits.{CheckpointerAt, CheckpointerFits, EndIsNear, FlusherAt, FlusherFits, Hand, HasLinked, UserAt, UserFits, WriterAt, WriterFits}
+use Rattle.model_logcore.specs.LogFits.{CheckpointerAt, CheckpointerFits, EndIsNear, FlusherAt, FlusherFits, Hand, HasFirst, HasLinked, LacksFirst, UserAt, UserFits, WriterAt, WriterFits}
 use Rattle.model_logcore.specs.LogHalf.{LogHalf}
-use Rattle.model_logcore.specs.Watermarks.{HandAgrees, HasCopied, HasLoadedBelow, HasMetFailure, IsGroupLinked, LogWatermarks, UsersAgree}
+use Rattle.model_logcore.specs.Watermarks.{first_in_hand, HandAgrees, HasCopied, HasLoadedBelow, HasMetFailure, IsGroupLinked, LogWatermarks, OwnMarkIs, UsersAgree}
 use Rattle.model_core.specs.declared.steps.UserStep.TheVariants as user_step
 use Rattle.model_core.specs.declared.steps.WriterStep.TheVariants as writer_step
 use Rattle.model_core.specs.declared.steps.FlusherStep.TheVariants as flusher_step
@@ -26,11 +28,20 @@ module _ (D : LogSide) (c : Setup) (spare : ℕ) (m : SharedWords) (g : LogGhost
   pub loaded_below : (seat : ℕ) (a : Actor) → get_elem? actors seat ≡ maybe.some a → HasLoadedBelow m a
   loaded_below seat (actor.User u) at = let f : UserFits D c m g p seat u = half.each seat (actor.User u) at in f.loaded
   loaded_below seat (actor.Writer s) at = let f : WriterFits D c m g p seat s = half.each seat (actor.Writer s) at in ((let z = f.write in omega arith), f.ckpt)
-  loaded_below seat (actor.Flusher t) at = let f : FlusherFits D c m g p t = half.each seat (actor.Flusher t) at in (f.write, f.last)
+  loaded_below seat (actor.Flusher t) at = let f : FlusherFits D c m g p seat t = half.each seat (actor.Flusher t) at in (f.write, (let z = f.last in omega arith))
   loaded_below seat (actor.Closer t) at = tt
   loaded_below seat (actor.Cleaner v) at = tt
   loaded_below seat (actor.Checkpointer t) at = tt
   loaded_below seat (actor.Joined es) at = tt
+
+  own_mark : (seat : ℕ) (a : Actor) → get_elem? actors seat ≡ maybe.some a → OwnMarkIs m a
+  own_mark seat (actor.User u) at = tt
+  own_mark seat (actor.Writer s) at = let f : WriterFits D c m g p seat s = half.each seat (actor.Writer s) at in f.write
+  own_mark seat (actor.Flusher t) at = let f : FlusherFits D c m g p seat t = half.each seat (actor.Flusher t) at in f.last
+  own_mark seat (actor.Closer t) at = tt
+  own_mark seat (actor.Cleaner v) at = tt
+  own_mark seat (actor.Checkpointer t) at = let f : CheckpointerFits D c m g p seat t = half.each seat (actor.Checkpointer t) at in f.own
+  own_mark seat (actor.Joined es) at = tt
 
   pub failures_show : (seat : ℕ) (a : Actor) → get_elem? actors seat ≡ maybe.some a → HasMetFailure a → 0 < m.failed
   failures_show seat (actor.User u) at met = let f : UserFits D c m g p seat u = half.each seat (actor.User u) at in
@@ -38,7 +49,7 @@ module _ (D : LogSide) (c : Setup) (spare : ℕ) (m : SharedWords) (g : LogGhost
   failures_show seat (actor.Writer s) at met = let f : WriterFits D c m g p seat s = half.each seat (actor.Writer s) at in
       ⊎_elim (λ e. let z : WriterAt D c m g p seat s writer_step.GiveFailed = subst (WriterAt D c m g p seat s) e f.step in z)
       (λ e. let z : WriterAt D c m g p seat s writer_step.Failed = subst (WriterAt D c m g p seat s) e f.step in z) met
-  failures_show seat (actor.Flusher t) at met = let f : FlusherFits D c m g p t = half.each seat (actor.Flusher t) at in
+  failures_show seat (actor.Flusher t) at met = let f : FlusherFits D c m g p seat t = half.each seat (actor.Flusher t) at in
       ⊎_elim (λ e. let z : FlusherAt D c m g p t flusher_step.GiveFailed = subst (FlusherAt D c m g p t) e f.step in z)
       (λ e. let z : FlusherAt D c m g p t flusher_step.Failed = subst (FlusherAt D c m g p t) e f.step in z) met
   failures_show seat (actor.Closer t) at met = half.each seat (actor.Closer t) at met
@@ -48,14 +59,16 @@ module _ (D : LogSide) (c : Setup) (spare : ℕ) (m : SharedWords) (g : LogGhost
       (λ e. let z : CheckpointerAt D c m g p t checkpointer_step.Failed = subst (CheckpointerAt D c m g p t) e f.step in z) met
   failures_show seat (actor.Joined es) at met = absurd met
 
-  -- a group with a byte that is copied and not linked isn't linked
-  not_linked : (u : UserState) → HasLinked D c m g p u → HasCopied g.state u → 0 < u.copied → ⊥
-  not_linked u h copied some =
-      let one = copied.copied u.start (omega arith) (omega arith) in
+  -- a group of which so many bytes are copied isn't linked
+  not_linked : (u : UserState) → HasLinked D c m g p u → HasCopied g.state u → ⊥
+  not_linked u h copied =
       let w = tiles_at g.log c.base m.sn h.0 _ half.global.tiled.tiles h.1 in
       let w0 = w.2 in
       let two = h.2 u.start (omega arith) (omega arith) in
-      omega arith
+      elim (dec_le 1 u.copied) [
+        | yes d ↦ (let one = copied.copied u.start (omega arith) (omega arith) in omega arith)
+        | no d ↦ (let none = copied.left u.start (omega arith) (omega arith) in omega arith)
+      ]
 
   hand_copied : (seat : ℕ) (u : UserState) → Hand D c m g p seat u → HasCopied g.state u
   hand_copied seat u h = record { copied = h.done; left = h.bare }
@@ -111,8 +124,42 @@ module _ (D : LogSide) (c : Setup) (spare : ℕ) (m : SharedWords) (g : LogGhost
   hand_near seat u user_step.LoadWtail h held copied some = hand_end_near D c m g p seat u half.global h.2 h.3 h.4 some
   hand_near seat u user_step.StoreLink h held copied some = hand_end_near D c m g p seat u half.global h.2 h.3 h.4 some
   hand_near seat u user_step.Done h held copied some = let z = h.0 in absurd (omega arith)
-  hand_near seat u user_step.Failed h held copied some = ⊎_elim (λ z. z.2 some) (λ z. absurd (not_linked u z copied some)) (h.3 held)
-  hand_near seat u _ h held copied some = absurd (not_linked u h.2 copied some)
+  hand_near seat u user_step.Failed h held copied some = ⊎_elim (λ z. z.2 some) (λ z. absurd (not_linked u z copied)) (h.3 held)
+  hand_near seat u _ h held copied some = absurd (not_linked u h.2 copied)
+
+  -- FIRST of the block that a group in hand crosses into
+  stored_first : (seat : ℕ) (u : UserState) → Hand D c m g p seat u → u.start / 496 < group_end u / 496 → 0 < g.first (group_end u / 496) → g.first (group_end u / 496) ≡ group_end u % 496 + 12
+  stored_first seat u h cross some = let G = half.global in let e : Entry = entry u.user u.k u.start (line u) in let q : ℕ = group_end u / 496 in
+      G.first_offsets.true_first q some ∙ first_is c m.sn g.log g.place h.at e q G.tiled h.is (is_crosses q e refl cross)
+
+  stopped_first : (seat : ℕ) (u : UserState) (b : Bool) → eqb u.copied (length (group_bytes u)) ≡ b → Hand D c m g p seat u → u.copied ≤ length (group_bytes u) → (u.copied < length (group_bytes u) → LacksFirst D c m g p u) → (u.copied ≡ length (group_bytes u) → HasFirst D c m g p u) → u.start / 496 < group_end u / 496
+      → g.first (group_end u / 496) ≡ cond b (group_end u % 496 + 12) 0
+  stopped_first seat u true e h few lacks has cross = stored_first seat u h cross (has (eqb-true u.copied (length (group_bytes u)) e) cross)
+  stopped_first seat u false e h few lacks has cross = lacks (let n = eqb-false u.copied (length (group_bytes u)) e in below_of u.copied (length (group_bytes u)) few n) cross
+    where
+      below_of : (a b : ℕ) → a ≤ b → a ≢ b → a < b
+      below_of a b l n = omega arith
+
+  first_hand : (seat : ℕ) (u : UserState) (f : UserStep) → UserAt D c m g p seat u f → length u.starts ≡ u.k + 1 → HasCopied g.state u → u.start / 496 < group_end u / 496 → g.first (group_end u / 496) ≡ first_in_hand u f
+  first_hand seat u user_step.LoadCheckpoint h held copied cross = let z = h.0 in absurd (omega arith)
+  first_hand seat u user_step.LoadSn h held copied cross = let z = h.0 in absurd (omega arith)
+  first_hand seat u user_step.TakeLatch h held copied cross = let z = h.0 in absurd (omega arith)
+  first_hand seat u user_step.Reserve h held copied cross = let z = h.0 in absurd (omega arith)
+  first_hand seat u user_step.LoadWrite h held copied cross = h.4 cross
+  first_hand seat u user_step.AddCell h held copied cross = h.5 cross
+  first_hand seat u user_step.StoreFirst h held copied cross = h.6 cross
+  first_hand seat u user_step.LoadWtail h held copied cross = stored_first seat u h.2 cross (h.4 cross)
+  first_hand seat u user_step.StoreLink h held copied cross = stored_first seat u h.2 cross (h.4 cross)
+  first_hand seat u user_step.Done h held copied cross = let z = h.0 in absurd (omega arith)
+  first_hand seat u user_step.Failed h held copied cross = ⊎_elim (λ z. stopped_first seat u (eqb u.copied (length (group_bytes u))) refl z.0 z.1 z.3 z.4 cross) (λ z. absurd (not_linked u z copied)) (h.3 held)
+  first_hand seat u _ h held copied cross = absurd (not_linked u h.2 copied)
+
+  -- FIRST of a block into which no group crosses
+  first_none : (q : ℕ) → first_of c.base g.log q ≡ 0 → g.first q ≡ 0
+  first_none q none = elim (dec_le 1 (g.first q)) [
+    | yes d ↦ (let is = half.global.first_offsets.true_first q d in omega arith)
+    | no d ↦ omega arith
+  ]
 
   pub log_watermarks : LogWatermarks D c m p actors
   log_watermarks = let G = half.global in let O = G.order in let P = G.part in record {
@@ -139,6 +186,8 @@ module _ (D : LogSide) (c : Setup) (spare : ℕ) (m : SharedWords) (g : LogGhost
       first_true = G.first_offsets.true_first;
       first_below = G.first_offsets.near;
       first_begun = G.first_offsets.begun;
+      first_of_hand = λ seat u at. let f = user_fits seat u at in first_hand seat u u.step f.step;
+      first_bare = first_none;
     };
     links_are_groups = record { link = G.written_links.links_are; first_stored = G.first_offsets.stored; standing = G.written_links.standing };
     marks_are_ordered = record {
@@ -158,6 +207,7 @@ module _ (D : LogSide) (c : Setup) (spare : ℕ) (m : SharedWords) (g : LogGhost
       tail_boundary = O.tail_bound;
       writer = λ seat s at. let f : WriterFits D c m g p seat s = half.each seat (actor.Writer s) at in (f.tail, f.long, f.wide);
       loaded = loaded_below;
+      own = own_mark;
     };
     device_holds_stream = record {
       holds = P.holds;

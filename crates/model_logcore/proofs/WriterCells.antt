@@ -147,7 +147,7 @@ module _ (D : LogSide) (c : Setup) (spare : ℕ) (m : SharedWords) (g : LogGhost
                   step = (h.0, h.1, h.2, (let z = h.3 in omega (arith, length-append s.firsts (s.first ∷ []))));
                 })
                 (later_marks D c m g p (omega arith) (omega arith) (omega arith) (omega arith) (λ z. z))
-                refl refl refl refl refl (sym (ap writer_holds is)) (λ z. refl),
+                refl refl refl refl refl refl (sym (ap writer_holds is)) (λ z. refl),
             refl,
           )
 
@@ -242,7 +242,7 @@ module _ (D : LogSide) (c : Setup) (spare : ℕ) (m : SharedWords) (g : LogGhost
               step = (h.0, h.1, h.2, h.3, whole e, λ j l. word_true j l (below j (left_in_word (read_place s)) l (whole e)));
             })
             (later_marks D c m g p (omega arith) (omega arith) (omega arith) (omega arith) (λ z. z))
-            refl refl refl refl refl (sym (ap writer_holds is)) (λ z. refl),
+            refl refl refl refl refl refl (sym (ap writer_holds is)) (λ z. refl),
         refl,
       )
       by false e = kept_part (s.tail - lsn (read_place s)) (part (s.tail - lsn (read_place s)) refl e)
@@ -285,7 +285,7 @@ module _ (D : LogSide) (c : Setup) (spare : ℕ) (m : SharedWords) (g : LogGhost
                       step = (h.0, refl, h.2);
                     })
                     (later_marks D c m g p (omega arith) (omega arith) (omega arith) (omega arith) (λ z. z))
-                    refl refl refl refl refl (sym (ap writer_holds is)) (λ z. refl),
+                    refl refl refl refl refl refl (sym (ap writer_holds is)) (λ z. refl),
                 refl,
               )
 
@@ -388,7 +388,7 @@ module _ (D : LogSide) (c : Setup) (spare : ℕ) (m : SharedWords) (g : LogGhost
                   step = goes b d e f;
                 })
                 (later_marks D c m g p (omega arith) (omega arith) (omega arith) (omega arith) (λ z. z))
-                refl refl refl refl refl (free_word b d ∙ sym (ap writer_holds is)) (λ z. refl),
+                refl refl refl refl refl refl (free_word b d ∙ sym (ap writer_holds is)) (λ z. refl),
             refl,
           )
         where

@@ -33,10 +33,10 @@ module _ (D : LogSide) (c : Setup) (spare : ℕ) (m : SharedWords) (g : LogGhost
       by false free = same free
 
   -- the writer moves, and holds what it held
-  pub wsteps : (m' : SharedWords) (g' : LogGhost) (q : D.Part) (point : D.ckpt q ≡ D.ckpt p) (w : WriterState) → IsSized c.pages m' → LogFacts D c m' g' q → WriterFits D c m' g' q seat w → Later D c m g m' g' seat → m'.flushed ≡ m.flushed → m'.device ≡ m.device → g'.holder ≡ g.holder → g'.log ≡ g.log → m'.sn ≡ m.sn
+  pub wsteps : (m' : SharedWords) (g' : LogGhost) (q : D.Part) (point : D.ckpt q ≡ D.ckpt p) (w : WriterState) → IsSized c.pages m' → LogFacts D c m' g' q → WriterFits D c m' g' q seat w → Later D c m g m' g' seat → m'.flushed ≡ m.flushed → m'.ckpt ≡ m.ckpt → m'.device ≡ m.device → g'.holder ≡ g.holder → g'.log ≡ g.log → m'.sn ≡ m.sn
       → writer_holds w.step ≡ writer_holds s.step → (writer_holds s.step ≡ false → ◌≡◌ {A = D.Part} q p) → LogHalf D c spare m' g' q (set actors seat (actor.Writer w))
-  wsteps m' g' q point w sized global f later flushed device holder log sn keep same = moved_on D c spare m m' g g' p q actors seat (actor.Writer s) (actor.Writer w) before at sized global f
-      (λ j a n e. others_writer D c m m' g g' p q seat own.alone before.global later (record { flushed = omega arith; failed = later.failed; point = point }) j a n (part_by q same j a n e) (before.each j a e))
+  wsteps m' g' q point w sized global f later flushed ckpt device holder log sn keep same = moved_on D c spare m m' g g' p q actors seat (actor.Writer s) (actor.Writer w) before at sized global f
+      (λ j a n e. others_writer D c m m' g g' p q seat own.alone before.global later (record { writer = sym f.alone ∙ own.alone; flushed = flushed; ckpt_word = ckpt; failed = later.failed; point = point }) j a n (part_by q same j a n e) (before.each j a e))
       device holder log sn keep refl (omega arith)
 
   -- nothing but these of the writer's own state changes
@@ -47,7 +47,7 @@ module _ (D : LogSide) (c : Setup) (spare : ℕ) (m : SharedWords) (g : LogGhost
   pub wquiet : (link first ckpt code : ℕ) (checks : Bool) (st : WriterStep) → ckpt ≤ m.ckpt → (checks ≡ true → writer_holds st ≡ false) → writer_holds st ≡ writer_holds s.step → WriterAt D c m g p seat (record s { link = link; first = first; ckpt = ckpt; code = code; checks = checks; step = st }) st
       → LogHalf D c spare m g p (set actors seat (actor.Writer (record s { link = link; first = first; ckpt = ckpt; code = code; checks = checks; step = st })))
   wquiet link first ckpt code checks st le no_device_while_checking keep h = wsteps m g p refl (record s { link = link; first = first; ckpt = ckpt; code = code; checks = checks; step = st }) before.sized before.global (staged link first ckpt code checks st le no_device_while_checking h)
-      (later_marks D c m g p (omega arith) (omega arith) (omega arith) (omega arith) (λ z. z)) refl refl refl refl refl keep (λ z. refl)
+      (later_marks D c m g p (omega arith) (omega arith) (omega arith) (omega arith) (λ z. z)) refl refl refl refl refl refl keep (λ z. refl)
 
   abbrev pub WNow : WriterState → Type 0
   WNow w = LogHalf D c spare m g p (set actors seat (actor.Writer w))
@@ -166,7 +166,7 @@ module _ (D : LogSide) (c : Setup) (spare : ℕ) (m : SharedWords) (g : LogGhost
                   step = goes g' w b b_is h.0 (omega arith);
                 })
                 (later_marks D c m g p (omega arith) (omega arith) (omega arith) (omega arith) (λ z. z))
-                refl refl refl refl refl (unfinished b ∙ sym free) (λ z. refl),
+                refl refl refl refl refl refl (unfinished b ∙ sym free) (λ z. refl),
             refl,
           )
         where

@@ -71,7 +71,7 @@ module _ (D : LogSide) (c : Setup) (spare : ℕ) (m : SharedWords) (g : LogGhost
             })
             (writer_same D c m g p fit fit.ckpt (λ z. refl) ((refl, h.1, h.0.1), h.0.0))
             (later_marks D c m g p (omega arith) up (omega arith) (omega arith) (λ z. z))
-            refl refl refl refl refl (sym (ap writer_holds is)) (λ z. refl),
+            refl refl refl refl refl refl (sym (ap writer_holds is)) (λ z. refl),
         refl,
       )
 
@@ -158,7 +158,7 @@ module _ (D : LogSide) (c : Setup) (spare : ℕ) (m : SharedWords) (g : LogGhost
               step = ((k3, k2), refl);
             })
             (later_marks D c m g p up (omega arith) (omega arith) (omega arith) (λ z. z))
-            refl refl refl refl refl (sym (ap writer_holds is)) (λ z. refl),
+            refl refl refl refl refl refl (sym (ap writer_holds is)) (λ z. refl),
         refl,
       )
 
@@ -172,4 +172,4 @@ module _ (D : LogSide) (c : Setup) (spare : ℕ) (m : SharedWords) (g : LogGhost
       (facts_same D c m g p G.part G)
       (writer_same D c m g p fit fit.ckpt (λ z. let y = fit.no_device_while_checking z in let x : true ≡ false = sym (ap writer_holds is) ∙ y in absurd (cc)) h0)
       (later_marks D c m g p (omega arith) (omega arith) (omega arith) (omega arith) (λ z. h0))
-      refl refl refl refl refl (sym (ap writer_holds is)) (λ z. refl)
+      refl refl refl refl refl refl (sym (ap writer_holds is)) (λ z. refl)

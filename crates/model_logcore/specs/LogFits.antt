@@ -48,22 +48,26 @@ module _ (D : LogSide) (c : Setup) (m : SharedWords) (g : LogGhost) (p : D.Part)
   abbrev pub EndIsNear : UserState → Type 0
   EndIsNear u = lsn (group_end u) < floor m.write + LOG_BUFFER
 
-  -- How far the group in hand came of a user that has ended by a failure: so many of its bytes are copied, none but where its
-  -- end is near; or it is linked.
-  abbrev pub HasStoppedAt : ℕ → UserState → Type 0
-  HasStoppedAt seat u = (Hand seat u × (u.copied ≤ length (group_bytes u)) × (0 < u.copied → EndIsNear u)) ⊎ HasLinked u
-
   -- FIRST of the block in which it ends is stored, if it starts in another
   abbrev pub HasFirst : UserState → Type 0
   HasFirst u = u.start / BLOCK_DATA < group_end u / BLOCK_DATA → 0 < g.first (group_end u / BLOCK_DATA)
+
+  -- that FIRST isn't stored yet
+  abbrev pub LacksFirst : UserState → Type 0
+  LacksFirst u = u.start / BLOCK_DATA < group_end u / BLOCK_DATA → g.first (group_end u / BLOCK_DATA) ≡ 0
+
+  -- How far the group in hand came of a user that has ended by a failure: so many of its bytes are copied, none but where its
+  -- end is near, and with all of them FIRST is stored; or it is linked.
+  abbrev pub HasStoppedAt : ℕ → UserState → Type 0
+  HasStoppedAt seat u = (Hand seat u × (u.copied ≤ length (group_bytes u)) × (0 < u.copied → EndIsNear u) × (u.copied < length (group_bytes u) → LacksFirst u) × (u.copied ≡ length (group_bytes u) → HasFirst u)) ⊎ HasLinked u
 
   abbrev pub UserAt : ℕ → UserState → UserStep → Type 0
   UserAt seat u user_step.LoadCheckpoint = IsBefore u
   UserAt seat u user_step.LoadSn = IsBefore u
   UserAt seat u user_step.Reserve = IsBefore u
-  UserAt seat u user_step.LoadWrite = (length u.starts ≡ u.k + 1) × (u.k < length u.lines) × Hand seat u × (u.copied ≡ 0)
-  UserAt seat u user_step.AddCell = (length u.starts ≡ u.k + 1) × (u.k < length u.lines) × Hand seat u × (u.copied < length (group_bytes u)) × EndIsNear u
-  UserAt seat u user_step.StoreFirst = (length u.starts ≡ u.k + 1) × (u.k < length u.lines) × Hand seat u × (u.copied ≡ length (group_bytes u)) × EndIsNear u × (u.start / BLOCK_DATA < group_end u / BLOCK_DATA)
+  UserAt seat u user_step.LoadWrite = (length u.starts ≡ u.k + 1) × (u.k < length u.lines) × Hand seat u × (u.copied ≡ 0) × LacksFirst u
+  UserAt seat u user_step.AddCell = (length u.starts ≡ u.k + 1) × (u.k < length u.lines) × Hand seat u × (u.copied < length (group_bytes u)) × EndIsNear u × LacksFirst u × (u.checks ≡ false)
+  UserAt seat u user_step.StoreFirst = (length u.starts ≡ u.k + 1) × (u.k < length u.lines) × Hand seat u × (u.copied ≡ length (group_bytes u)) × EndIsNear u × (u.start / BLOCK_DATA < group_end u / BLOCK_DATA) × LacksFirst u × (u.checks ≡ false)
   UserAt seat u user_step.LoadWtail = (length u.starts ≡ u.k + 1) × (u.k < length u.lines) × Hand seat u × (u.copied ≡ length (group_bytes u)) × HasFirst u
   UserAt seat u user_step.StoreLink = (length u.starts ≡ u.k + 1) × (u.k < length u.lines) × Hand seat u × (u.copied ≡ length (group_bytes u)) × HasFirst u × (lsn u.start < m.wtail + WRITTEN_LINKS)
   UserAt seat u user_step.TakeLatch = IsBefore u
@@ -148,8 +152,10 @@ module _ (D : LogSide) (c : Setup) (m : SharedWords) (g : LogGhost) (p : D.Part)
   FlusherAt f flusher_step.Failed = 0 < m.failed
   FlusherAt f _ = Unit {0}
 
-  pub record FlusherFits (f : FlusherState) : Type 0 where
-    pub last : f.last ≤ m.flushed
+  -- it sits behind the writer
+  pub record FlusherFits (seat : ℕ) (f : FlusherState) : Type 0 where
+    pub alone : seat ≡ g.writer + 1
+    pub last : f.last ≡ m.flushed
     pub write : f.write ≤ m.write
     pub no_device_while_checking : f.checks ≡ true → flusher_holds f.step ≡ false
     pub step : FlusherAt f f.step
@@ -168,13 +174,14 @@ module _ (D : LogSide) (c : Setup) (m : SharedWords) (g : LogGhost) (p : D.Part)
 
   pub record CheckpointerFits (seat : ℕ) (t : CheckpointerState) : Type 0 where
     pub alone : seat ≡ c.checkpointer
+    pub own : t.own ≡ m.ckpt
     pub no_device_while_checking : t.checks ≡ true → checkpointer_holds t.step ≡ false
     pub step : CheckpointerAt t t.step
 
   abbrev pub Fits : ℕ → Actor → Type 0
   Fits seat (actor.User u) = UserFits seat u
   Fits seat (actor.Writer s) = WriterFits seat s
-  Fits seat (actor.Flusher f) = FlusherFits f
+  Fits seat (actor.Flusher f) = FlusherFits seat f
   Fits seat (actor.Closer t) = t.step ≡ closer_step.Failed → 0 < m.failed
   Fits seat (actor.Cleaner v) = CleanerTold v
   Fits seat (actor.Checkpointer t) = CheckpointerFits seat t

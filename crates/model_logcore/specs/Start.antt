@@ -34,11 +34,11 @@ pub record StartUser (c : Setup) (u : UserState) : Type 0 where
   pub sound : (j : ℕ) → j < length (c.script u.user) → (0 < length (line_at (c.script u.user) j).bytes) × (length (line_at (c.script u.user) j).bytes ≤ MAX_GROUP) × ((line_at (c.script u.user) j).mode < 3)
   pub are_bytes : (j i : ℕ) → i < length (line_at (c.script u.user) j).bytes → slice_index (line_at (c.script u.user) j).bytes i < 256
 
--- each user has one seat, and there is one of each other actor
+-- each user has one seat, and there is one of each other actor; the flusher sits behind the writer
 abbrev pub StartActor : Setup → (ℕ → ℕ) → ℕ → ℕ → Actor → Type 0
 StartActor c seat_of writer seat (actor.User u) = (seat_of u.user ≡ seat) × StartUser c u
 StartActor c seat_of writer seat (actor.Writer s) = (seat ≡ writer) × (s ≡ writer_start c)
-StartActor c seat_of writer seat (actor.Flusher f) = f ≡ flusher_start c
+StartActor c seat_of writer seat (actor.Flusher f) = (seat ≡ writer + 1) × (f ≡ flusher_start c)
 StartActor c seat_of writer seat (actor.Closer t) = (seat ≡ c.closer) × ◌≡◌ {A = CloserState} t (closer_start c)
 StartActor c seat_of writer seat (actor.Cleaner v) = (seat ≡ c.cleaner) × ◌≡◌ {A = CleanerState} v (cleaner_start c)
 StartActor c seat_of writer seat (actor.Checkpointer t) = (seat ≡ c.checkpointer) × ◌≡◌ {A = CheckpointerState} t (checkpointer_start c)

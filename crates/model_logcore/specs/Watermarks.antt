@@ -1,14 +1,14 @@
 -- The watermarks of the log: what holds of its words, of the log part and of the actors between any two turns. Places of
 -- the stream are sns, counted as the groups' bytes.
-use Rattle.std.specs.Prelude.{List, length, slice_index, take, ℕ, ◌%◌, ◌*◌, ◌+◌, ◌/◌, ◌<◌, ◌≡◌, ◌≤◌, ◌⊎◌, false}
+use Rattle.std.specs.Prelude.{List, cond, length, slice_index, take, ℕ, ◌%◌, ◌*◌, ◌+◌, ◌/◌, ◌<◌, ◌==◌, ◌≡◌, ◌≤◌, ◌⊎◌, false}
 use lib.ListN.{get_elem?}
 use mathlib.Core.Option.{some}
 use Rattle.model_base.specs.declared.limits.TheConstants.{BLOCK_SIZE}
-use Rattle.model_core.specs.{Actor, byte_at, byte_in, end_of, Entry, first_of, floor, group_end, IsBound, line_at, lsn, PageChange, read_place, SharedWords, Tiles, UserState, WriterState}
+use Rattle.model_core.specs.{Actor, byte_at, byte_in, end_of, Entry, first_of, floor, group_bytes, group_end, IsBound, line_at, lsn, PageChange, read_place, SharedWords, Tiles, UserState, WriterState}
 use Rattle.model_core.specs.LogSide.{LogSide}
 use Rattle.model_core.specs.Setup.{Setup}
 use Rattle.model_core.specs.declared.limits.TheConstants.{BUFFER_BLOCKS, LOG_BUFFER, WORD_LANES, WRITTEN_LINKS}
-use Rattle.model_log.specs.declared.layout.TheConstants.{BLOCK_DATA}
+use Rattle.model_log.specs.declared.layout.TheConstants.{BLOCK_DATA, BLOCK_HEADER}
 use Rattle.model_logcore.specs.LogFacts.{IsBare, WrittenLink, count_of}
 use Rattle.model_logcore.specs.LogFits.{AreBelow}
 use Rattle.model_logcore.specs.LogHalf.{Counted}
@@ -51,6 +51,15 @@ HandAgrees progress u user_step.Done = length u.starts ≡ u.k
 HandAgrees progress u user_step.Failed = length u.starts ≡ u.k + 1 → HasCopied progress u ⊎ HasLinkedGroup progress u
 HandAgrees progress u _ = HasLinkedGroup progress u
 
+-- What FIRST is of the block in which the group in hand ends, if it starts in another and isn't linked: the end's offset from
+-- the store on, and 0 before. A user that has ended by a failure has stored it where it has copied all bytes.
+abbrev pub first_in_hand : UserState → UserStep → ℕ
+first_in_hand u user_step.LoadWrite = 0
+first_in_hand u user_step.AddCell = 0
+first_in_hand u user_step.StoreFirst = 0
+first_in_hand u user_step.Failed = cond (u.copied == length (group_bytes u)) (group_end u % BLOCK_DATA + BLOCK_HEADER) 0
+first_in_hand u _ = group_end u % BLOCK_DATA + BLOCK_HEADER
+
 -- HOW FAR A GROUP HAS COME IS WHAT ITS USER SAYS: each group whose commit is answered is linked, and of the group in hand so
 -- much is copied, or it is linked, as its user's step says. A user that has ended by a failure has left it at one of these. A
 -- user that has ended doesn't check for a failure.
@@ -70,9 +79,10 @@ pub record GroupsTile (c : Setup) (sn : ℕ) (actors : List Actor) (log : List E
 
 -- COPIED BYTES STAND IN THEIR LANES: from the block floor of WRITE to that plus the log buffer each lane holds the copied byte
 -- of the one place that it stands for, or 0 where that byte isn't copied or its word was cleared. A word is cleared where all
--- its places are read; so each one below the block floor of WRITE was. So low are the writer's tail, the end of each linked group that isn't wholly read, and that of a user's group in hand once a
--- byte of it is copied. A first offset that was stored stands until the writer enters its block, and is the true one; the
--- others are 0.
+-- its places are read; so each one below the block floor of WRITE was. So low are the writer's tail, the end of each linked
+-- group that isn't wholly read, and that of a user's group in hand once a byte of it is copied. A first offset that was stored
+-- stands until the writer enters its block, and is the true one. The others are 0: that of a block into which a group crosses
+-- that is reserved and hasn't come to its store, and that of each block into which no group crosses.
 pub record CopiedBytesStand (base : ℕ) (m : SharedWords) (actors : List Actor) (log : List Entry) (progress first : ℕ → ℕ) (read entered : ℕ) : Type 0 where
   pub lane_stands : (x : ℕ) → lsn read / WORD_LANES ≤ lsn x / WORD_LANES → x < m.sn → IsCopied progress x → byte_in m.cells x ≡ byte_at base log x
   pub lane_bare : (x : ℕ) → floor m.write ≤ lsn x → lsn x < floor m.write + LOG_BUFFER → IsBare m.sn progress read x → byte_in m.cells x ≡ 0
@@ -85,6 +95,8 @@ pub record CopiedBytesStand (base : ℕ) (m : SharedWords) (actors : List Actor)
   pub first_true : (q : ℕ) → 0 < first q → first q ≡ first_of base log q
   pub first_below : (q : ℕ) → 0 < first q → q * BLOCK_SIZE < floor m.write + LOG_BUFFER
   pub first_begun : 0 < first (base / BLOCK_DATA)
+  pub first_of_hand : (seat : ℕ) (u : UserState) → get_elem? actors seat ≡ some (actor.User u) → length u.starts ≡ u.k + 1 → HasCopied progress u → u.start / BLOCK_DATA < group_end u / BLOCK_DATA → first (group_end u / BLOCK_DATA) ≡ first_in_hand u u.step
+  pub first_bare : (q : ℕ) → first_of base log q ≡ 0 → first q ≡ 0
 
 -- A WRITTEN LINK IS A WHOLE GROUP: it is the distance from the start to the end of one group behind the writer's tail, all
 -- bytes of which are copied, and the first offset of the block that it ends in, if it starts in an earlier one. And each
@@ -105,6 +117,13 @@ HasLoadedBelow m (actor.Writer s) = (s.write ≤ m.write) × (s.ckpt ≤ m.ckpt)
 HasLoadedBelow m (actor.Flusher f) = (f.write ≤ m.write) × (f.last ≤ m.flushed)
 HasLoadedBelow m _ = Unit {0}
 
+-- what an actor keeps as the last mark that it has stored is the word: it compares with it and loads nothing
+abbrev pub OwnMarkIs : SharedWords → Actor → Type 0
+OwnMarkIs m (actor.Writer s) = s.write ≡ m.write
+OwnMarkIs m (actor.Flusher f) = f.last ≡ m.flushed
+OwnMarkIs m (actor.Checkpointer t) = t.own ≡ m.ckpt
+OwnMarkIs m _ = Unit {0}
+
 -- THE ORDER OF THE LOG'S MARKS. All but the read place stand between groups, and below the tail all is linked. The writer
 -- has entered each block of which it has read a byte, and none that begins at its tail or behind.
 pub record MarksAreOrdered (base : ℕ) (m : SharedWords) (actors : List Actor) (log : List Entry) (progress : ℕ → ℕ) (write wtail flushed tail read entered : ℕ) : Type 0 where
@@ -124,6 +143,7 @@ pub record MarksAreOrdered (base : ℕ) (m : SharedWords) (actors : List Actor) 
   pub tail_boundary : IsBound base log tail
   pub writer : (seat : ℕ) (s : WriterState) → get_elem? actors seat ≡ some (actor.Writer s) → (s.tail ≡ lsn tail) × (read_place s ≡ read) × (entered_place s ≡ BLOCK_DATA * entered)
   pub loaded : (seat : ℕ) (a : Actor) → get_elem? actors seat ≡ some a → HasLoadedBelow m a
+  pub own : (seat : ℕ) (a : Actor) → get_elem? actors seat ≡ some a → OwnMarkIs m a
 
 -- THE DEVICE HOLDS THE FRAMED STREAM, and beyond the log's end nothing fits: what that says of each image is the log
 -- part's own. The writer's kept bytes and first offsets are the stream's.

@@ -1,5 +1,5 @@
 -- The answer to any actor's Op is one that it can take.
-use Rattle.std.proofs.Common.{Bool, List, [], arith, cond, eqb, false, get_or, length, refl, set, subst, suc, sym, true, zero, ℕ, ⊎_elim, ◌%◌, ◌<◌, ◌^◌, ◌∷◌, ◌≡◌}
+use Rattle.std.proofs.Common.{Bool, List, [], arith, cond, eqb, false, get_or, refl, set, subst, suc, sym, true, zero, ℕ, ⊎_elim, ◌%◌, ◌<◌, ◌^◌, ◌∷◌, ◌≡◌}
 use Rattle.std.specs.Prelude.{slice_index}
 use lib.ListN.{get_elem?}
 use mathlib.Core.Option.{some}
@@ -7,7 +7,7 @@ use native.Mathlib.Decide.{dec_le}
 use Rattle.model_base.specs.declared.limits.TheConstants.{LSN_LIMIT}
 use Rattle.model_core.proofs.Groups.{tiles_at}
 use Rattle.model_core.proofs.Lsns.{lsn_le}
-use Rattle.model_core.specs.{Actor, CellWrite, change_at, checkpointer_op, cleaner_fits, cleaner_op, CleanerState, closer_fits, closer_op, CloserState, end_of, Entry, flusher_op, is_checking, Listed, lsn, next, old_of, own_op, page_words_at, PageChange, PageFitting, shared_answer, SharedWords, user_op, writer_op}
+use Rattle.model_core.specs.{Actor, CellWrite, change_at, checkpointer_op, cleaner_fits, cleaner_op, CleanerState, closer_fits, closer_op, CloserState, end_of, Entry, flusher_op, is_checking, Listed, lsn, next, old_of, own_op, PageChange, PageFitting, shared_answer, SharedWords, user_op, writer_op}
 use Rattle.model_core.specs.AnswerFits.{AnswerFits}
 use Rattle.model_core.specs.DataSide.{DataSide}
 use Rattle.model_core.specs.LogSide.{LogSide}
@@ -17,7 +17,7 @@ use Rattle.model_core.specs.declared.steps.CleanerStep.{CleanerStep}
 use Rattle.model_core.specs.declared.steps.CloserStep.{CloserStep}
 use Rattle.model_logcore.proofs.AnswersFit.{can_take, small_sn}
 use Rattle.model_logcore.specs.{LogGhost}
-use Rattle.model_pagecore.specs.{Agree, All, applied_all, At, cells_on, CleanerAt, CleanerFits, CloserFits, Last, none_in_hand, PageGhost, write_cells}
+use Rattle.model_pagecore.specs.{applied_all, cells_on, CleanerAt, CleanerFits, CloserFits, PageGhost, write_cells}
 use Rattle.model_running.specs.Bounds.{HasBytes, HaveSmallCodes}
 use Rattle.model_running.specs.RunningStore.{BothHalves}
 use Rattle.model_core.specs.declared.words.Word.TheVariants as word

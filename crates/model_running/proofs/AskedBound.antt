@@ -83,7 +83,7 @@ module _ (D : LogSide) (L : LogLaws D) (E : DataSide) (EL : DataLaws E) (c : Set
   pub asked_bound : (a : Actor) → get_elem? actors seat ≡ some a → LogServed D p (lent a) (next a) code q → IsWithin
   asked_bound (actor.User u) at w = checking Nothing u.checks (user_op u u.step) (user_within u u.step) w
   asked_bound (actor.Writer s) at w = checking (Blocks s.kept s.firsts) s.checks (writer_op s s.step) (let S : marks.WriterFits D c m g p seat s = both.logged.each seat (actor.Writer s) at in writer_within s at s.step S.step) w
-  asked_bound (actor.Flusher t) at w = checking Nothing t.checks (flusher_op t t.step) (let T : marks.FlusherFits D c m g p t = both.logged.each seat (actor.Flusher t) at in flusher_within t t.step T.step) w
+  asked_bound (actor.Flusher t) at w = checking Nothing t.checks (flusher_op t t.step) (let T : marks.FlusherFits D c m g p seat t = both.logged.each seat (actor.Flusher t) at in flusher_within t t.step T.step) w
   asked_bound (actor.Closer t) at w = checking Nothing t.checks (closer_op t t.step) (closer_within t t.step) w
   asked_bound (actor.Cleaner v) at w = checking (Batch v.batch) v.checks (cleaner_op v v.step) (cleaner_within v v.step) w
   asked_bound (actor.Checkpointer t) at w = checking Nothing t.checks (checkpointer_op t t.step) (checkpointer_within t at t.step refl) w

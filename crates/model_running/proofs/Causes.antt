@@ -142,7 +142,7 @@ module _ (D : LogSide) (L : LogLaws D) (E : DataSide) (EL : DataLaws E) (c : Set
     where
       by : (b : Bool) → LogServed D p Nothing (cond b (op.Load word.Failed) (flusher_op t t.step)) code q → DataServed E d Nothing (cond b (op.Load word.Failed) (flusher_op t t.step)) code e → CausedBy (cond b (op.Load word.Failed) (flusher_op t t.step))
       by true w v = quiet (op.Load word.Failed) tt w v
-      by false w v = let T : marks.FlusherFits D c m g p t = both.logged.each seat (actor.Flusher t) at in flusher_caused t t.step T.step w v
+      by false w v = let T : marks.FlusherFits D c m g p seat t = both.logged.each seat (actor.Flusher t) at in flusher_caused t t.step T.step w v
   caused (actor.Closer t) at w v = by t.checks w v
     where
       by : (b : Bool) → LogServed D p Nothing (cond b (op.Load word.Failed) (closer_op t t.step)) code q → DataServed E d Nothing (cond b (op.Load word.Failed) (closer_op t t.step)) code e → CausedBy (cond b (op.Load word.Failed) (closer_op t t.step))

@@ -158,7 +158,7 @@ module _ (D : LogSide) (c : Setup) (spare : ℕ) (m : SharedWords) (g : LogGhost
   stores : (a : Actor) → get_elem? actors seat ≡ some a → next a ≡ op.Store word.Failed x → 0 < x
   stores (actor.User u) at = checking_stores u.checks (user_op u u.step) (user_stores u u.step)
   stores (actor.Writer s) at = let f : WriterFits D c m g p seat s = half.each seat (actor.Writer s) at in checking_stores s.checks (writer_op s s.step) (writer_stores s s.step f.step)
-  stores (actor.Flusher t) at = let f : FlusherFits D c m g p t = half.each seat (actor.Flusher t) at in checking_stores t.checks (flusher_op t t.step) (flusher_stores t t.step f.step)
+  stores (actor.Flusher t) at = let f : FlusherFits D c m g p seat t = half.each seat (actor.Flusher t) at in checking_stores t.checks (flusher_op t t.step) (flusher_stores t t.step f.step)
   stores (actor.Closer t) at = checking_stores t.checks (closer_op t t.step) (closer_stores t t.step)
   stores (actor.Cleaner v) at = checking_stores v.checks (cleaner_op v v.step) (cleaner_stores v v.step refl (half.each seat (actor.Cleaner v) at))
   stores (actor.Checkpointer t) at = let f : CheckpointerFits D c m g p seat t = half.each seat (actor.Checkpointer t) at in checking_stores t.checks (checkpointer_op t t.step) (checkpointer_stores t t.step f.step)

@@ -95,7 +95,7 @@ module _ (D : LogSide) (L : LogLaws D) (E : DataSide) (c : Setup) (spare : ℕ) 
     writer_turn false x k after w v = writer_lists s.step g.log (shared_left m (writer_op s s.step)) (actor.Writer x) (writer_page s s.step x k after (writer_ge s.step S1.step w) (writer_stored s.step v))
 
   module _ (t : FlusherState) (at : get_elem? actors seat ≡ some (actor.Flusher t)) where
-    T1 : marks.FlusherFits D c m g p t
+    T1 : marks.FlusherFits D c m g p seat t
     T1 = both.logged.each seat (actor.Flusher t) at
 
     synced_ge : (b : Bool) → D.stable q ≡ cond b (D.written p) (D.stable p) → D.stable p ≤ D.stable q

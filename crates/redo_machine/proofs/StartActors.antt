@@ -111,7 +111,7 @@ module _ (shape : Shape) (pages : List Content) (start : ℕ) (script : List Scr
     others_start zero a at = subst (IsHere (length users + 0)) (some-injective (actor.Writer (new_writer shape.log_blocks start)) a at)
         (record { start = (omega arith, ap (new_writer shape.log_blocks) (sym place)); with_pages = tt })
     others_start (suc zero) a at = subst (IsHere (length users + 1)) (some-injective (actor.Flusher (new_flusher start)) a at)
-        (record { start = ap new_flusher (sym place); with_pages = tt })
+        (record { start = (refl, ap new_flusher (sym place)); with_pages = tt })
     others_start (suc (suc i)) a at = subst (λ (n : ℕ). IsHere (length users + n) a) (let e : 2 + i ≡ suc (suc i) = omega arith in e) (pages_start log_only refl i a at)
 
     -- each actor is new, and in its seat
