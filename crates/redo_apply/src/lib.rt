@@ -1,5 +1,5 @@
 //! The pages of a store in memory, and what groups do to them. A layer above may rely on `apply` meeting the definition
-//! of a group's effect, and on no call but `blank` taking memory.
+//! of a group's effect, and on no call but `blank` and `copy` taking memory.
 #![tactic(auto)]
 
 mod pages;

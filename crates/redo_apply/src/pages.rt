@@ -17,7 +17,7 @@ use std::alloc::{AllocError, Global};
 use std::marker::Model;
 
 /// The pages of a store, numbered from 0. Contracts see them as the list of what each holds. All frames stand in one
-/// allocation, and only `blank` takes memory.
+/// allocation, and only `blank` and `copy` take memory.
 #[derive(Debug, Drop)]
 pub struct Pages {
     // user bytes of a page
@@ -51,6 +51,19 @@ impl Pages {
         let lsns = vec![in alloc; 0; count]?;
         let users = vec![in alloc; 0; size * count]?;
         Ok(Pages { size, lsns, users })
+    }
+
+    /// The same pages once more.
+    pub fn copy(&self, alloc: Global) -> Result<Pages, NoMemory>
+        ensures { IfOk result (λ pages. pages ≡ self.now) }
+    {
+        let lsns = Vec::from_slice(alloc, self.lsns.as_slice())?;
+        let users = Vec::from_slice(alloc, self.users.as_slice())?;
+        Ok(Pages {
+            size: self.size,
+            lsns,
+            users,
+        })
     }
 
     /// How many pages there are.

@@ -15,7 +15,8 @@ use Rattle.model_store.proofs.Folding.{ends-below, replayed-below}
 use Rattle.model_store.proofs.Places.{push_place}
 use Rattle.redo_recover.specs.Blocks.{AreFew, HasFirst, HaveFirsts}
 use Rattle.redo_recover.specs.Groups.{AreParsed, IsEndOf}
-use Rattle.redo_recover.specs.Pages.{AreNotAhead, AreReplayed}
+use Rattle.redo_apply.specs.{AreReplayed}
+use Rattle.redo_recover.specs.Pages.{AreNotAhead}
 
 -- THE FIRST OFFSETS.
 

@@ -12,8 +12,8 @@ use Rattle.model_page.specs.declared.content.Content.{Content}
 use Rattle.model_store.specs.{AreReadPages, IsKeptAt, page_after, replayed}
 use Rattle.model_store.specs.declared.refusal.Refusal.TheVariants as refusal
 use Rattle.model_store.proofs.Places.{has_place}
-use Rattle.redo_apply.specs.{AreAfterWhere, ArePagesOf, HaveLsns}
-use Rattle.redo_recover.specs.Pages.{AreKept, AreNotAhead, AreReplayed, IsFirstLost, IsFirstAhead, RefusesPages}
+use Rattle.redo_apply.specs.{AreAfterWhere, AreReplayed, ArePagesOf, HaveLsns}
+use Rattle.redo_recover.specs.Pages.{AreKept, AreNotAhead, IsFirstLost, IsFirstAhead, RefusesPages}
 use Rattle.redo_recover.proofs.Setting.{slice_get-set}
 
 -- KEPT PAGES

@@ -12,7 +12,8 @@ use Rattle.redo_recover.proofs.Rising.{replayed-above}
 use Rattle.redo_recover.proofs.Setting.{slice_get-set}
 use Rattle.redo_recover.specs.Devices.{OnContent}
 use Rattle.redo_recover.specs.Groups.{EndBehindStarts}
-use Rattle.redo_recover.specs.Pages.{AreKept, AreReplayed, HoldsSlots}
+use Rattle.redo_apply.specs.{AreReplayed}
+use Rattle.redo_recover.specs.Pages.{AreKept, HoldsSlots}
 use Rattle.redo_recover.specs.Places.{AreFoundAt, AreFoundOn, AreFoundWith, ArePlacesOf, HasItsSlot, IsFoundAt, PutsFound}
 use Rattle.redo_recover.specs.declared.places.Found.{Found}
 use Rattle.redo_recover.specs.declared.places.Places.{Places}

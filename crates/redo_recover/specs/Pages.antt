@@ -2,10 +2,9 @@
 use Rattle.std.specs.Prelude.{ℕ, ◌≡◌, ◌≤◌, ◌<◌, ◌*◌, List, length, take, slice_get, slice_set, Option, Some, IfSome, ⊤}
 use Rattle.model_device.specs.Disk.{Disk}
 use Rattle.model_base.specs.declared.shape.Shape.{Shape}
-use Rattle.model_record.specs.declared.group.Whole.{Whole}
 use Rattle.model_page.specs.{IsKept, IsLost}
 use Rattle.model_page.specs.declared.content.Content.{Content}
-use Rattle.model_store.specs.{AreKeptBelow, AreNotAheadBelow, IsKeptAt, replayed}
+use Rattle.model_store.specs.{AreKeptBelow, AreNotAheadBelow, IsKeptAt}
 use Rattle.model_store.specs.declared.refusal.Refusal.{Refusal}
 use Rattle.model_store.specs.declared.refusal.Refusal.TheVariants as refusal
 use Rattle.redo_recover.specs.Devices.{OnContent, refusal_of}
@@ -63,12 +62,6 @@ pub record IsFirstAhead (pages : List Content) (end p lsn : ℕ) : Type 0 where
 abbrev pub IsAheadFault : List Content → ℕ → RecFault → Type 0
 IsAheadFault pages end (PageAhead p lsn) = IsFirstAhead pages end p lsn
 IsAheadFault pages end _ = ⊥
-
--- each page is an old one with each of these groups applied that starts at or above its lsn
-pub record AreReplayed (wholes : List Whole) (old new : List Content) : Type 0 where
-  pub count : length new ≡ length old
-  pub each : (p : ℕ) (page : Content) → slice_get new p ≡ Some page
-      → (kept : Content) × (slice_get old p ≡ Some kept) × (page ≡ replayed p kept.lsn wholes kept)
 
 -- why the pages of a store aren't read whose log ends there
 abbrev pub RefusesPages : Shape → List ℕ → ℕ → Refusal → Type 0

@@ -12,6 +12,7 @@ mod piece;
 mod places;
 mod recovered;
 mod recovery;
+mod replay;
 mod scan;
 mod start;
 
@@ -19,5 +20,5 @@ pub use errors::{data_fault, log_fault};
 pub use fault::RecFault;
 pub use places::{Found, Places};
 pub use recovered::Recovered;
-pub use recovery::recover;
+pub use recovery::{recover, recover_with};
 pub use start::check_lengths;

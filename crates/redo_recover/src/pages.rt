@@ -1,25 +1,27 @@
 // The pages of a store: as they are kept, judged, and with the scanned groups applied.
 ghost use Rattle.std.specs.Prelude.{ℕ, ◌≤◌, ◌<◌, length, All, IfOk, IfErr, IsErrOf};
 ghost use Rattle.model_base.specs.{HasRisen, IsWithinLimits};
+ghost use Rattle.model_base.specs.declared.limits.TheConstants.{MAX_PAGES};
 ghost use Rattle.model_page.specs.{data_device_length};
 ghost use Rattle.model_record.specs.{GroupFits};
 ghost use Rattle.model_record.specs.declared.group.Whole.{Whole};
 ghost use Rattle.std.specs.List.{AllByRecursion};
 ghost use Rattle.model_store.specs.{AreReadPages};
-ghost use Rattle.redo_apply.specs.{ArePagesOf, HaveLsns};
+ghost use Rattle.redo_apply.specs.{ArePagesOf};
 ghost use Rattle.redo_disk.specs.{MakesCalls};
 ghost use Rattle.redo_recover.specs.Calls.{IsOfStore, ReadsWhere, data_error_of};
 ghost use Rattle.redo_recover.specs.Devices.{HasLengthCause, IsUnchanged, OnContent};
 ghost use Rattle.redo_recover.specs.Groups.{EndBehindStarts};
 ghost use Rattle.redo_recover.specs.Order.{IsOfPages};
-ghost use Rattle.redo_recover.specs.Pages.{AreNotAhead, IsAheadFault, AreReplayed, HasPageCause};
+ghost use Rattle.redo_recover.specs.Pages.{AreNotAhead, IsAheadFault, HasPageCause};
 ghost use Rattle.redo_recover.specs.Places.{AreFoundOn, ArePlacesOf};
 
 use crate::errors::data_fault;
 use crate::kept::keep_pages;
 use crate::piece::read_part;
+use crate::replay::Replay;
 use crate::{Places, RecFault};
-use model_base::{MAX_PAGES, Shape};
+use model_base::Shape;
 use model_record::Whole;
 use redo_apply::Pages;
 use redo_disk::Sectors;
@@ -47,43 +49,17 @@ fn check_ahead(pages: &Pages, end: u64) -> Result<(), RecFault>
     Ok(())
 }
 
-/// Applies to each page, for which its lsn is named, each of these groups that starts at or above the lsn. It goes over the
-/// groups once.
-fn replay_groups(pages: &mut Pages, lsns: &[u64], groups: &[Whole], shape: &Shape)
-    requires its_pages { ArePagesOf shape.now pages.old }
-    requires lsns { HaveLsns pages.old lsns.now }
-    requires fit { All (λ whole. GroupFits shape.now whole.group) groups.now }
-    ensures replayed { AreReplayed groups.now pages.old pages.new }
-    ensures its_pages { ArePagesOf shape.now pages.new }
-{
-    for whole in groups {
-        pages.apply_where(lsns, &whole.group, whole.start, whole.end);
-    }
-}
-
-/// Applies to each page each of these groups that starts at or above its lsn.
-fn replay_pages(pages: &mut Pages, groups: &[Whole], shape: &Shape)
-    requires limits { IsWithinLimits shape.now }
-    requires its_pages { ArePagesOf shape.now pages.old }
-    requires fit { All (λ whole. GroupFits shape.now whole.group) groups.now }
-    ensures replayed { AreReplayed groups.now pages.old pages.new }
-    ensures its_pages { ArePagesOf shape.now pages.new }
-{
-    let mut lsns = [0; MAX_PAGES as usize];
-    let count = pages.len();
-    lsns[..count].copy_from_slice(pages.lsns());
-    replay_groups(pages, &lsns[..count], groups, shape);
-}
-
 /// Reads the pages off the data device, where the log has these groups and ends there. All are judged for being lost
 /// before one is for being ahead. The slots are read once and handed on, and each place is read by itself.
-pub(crate) fn read_pages<D: Sectors>(
+pub(crate) fn read_pages<D: Sectors, P: Replay>(
     alloc: Global,
     device: &mut D,
     shape: &Shape,
     groups: &[Whole],
     end: u64,
+    replay: &P,
 ) -> Result<Placed, RecFault>
+    requires ready { P.is_ready replay.now }
     requires limits { IsWithinLimits shape.now }
     requires long { data_device_length shape.now ≤ (D.seen device.old).size }
     requires fit { All (λ whole. GroupFits shape.now whole.group) groups.now }
@@ -111,7 +87,7 @@ pub(crate) fn read_pages<D: Sectors>(
     };
     let (mut pages, found) = keep_pages(alloc, device, shape, slots.as_slice())?;
     check_ahead(&pages, end)?;
-    replay_pages(&mut pages, groups, shape);
+    replay.replay(alloc, &mut pages, groups, shape)?;
     let places = Places { slots, found };
     Ok(Placed { pages, places })
 }

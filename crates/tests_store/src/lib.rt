@@ -13,3 +13,5 @@ mod recovery;
 mod stops;
 #[cfg(test)]
 mod store;
+#[cfg(test)]
+mod workers;

@@ -16,6 +16,7 @@ use Rattle.redo_recover.specs.Devices.{OnContent}
 use Rattle.redo_recover.specs.Order.{IsOfPages}
 use Rattle.redo_recover.specs.Pages.{AreKept, HasPageCause}
 use Rattle.redo_recover.specs.Places.{AreFoundAt}
+use Rattle.redo_recover.specs.declared.fault.RecFault.TheVariants.{NoMemory}
 use Rattle.redo_recover.proofs.pages.read_pages.Goals as goal
 
 pub returns-in-Err-clause-calls : goal.returns-in-Err-clause-calls
@@ -46,36 +47,41 @@ returns-in_err-check_ahead-clause-calls g c =
     (slots_then c.args.shape.now (where_read c.in-Ok.ensures.calls) c.in_ok-pages.ensures.calls) in
     let p = err_from_is_err_and c.from_residual-in_err-check_ahead.result c.from_residual-in_err-check_ahead.ensures.1 in rw (p.1, p.2) made
 
+pub returns-in_err-replay-clause-calls : goal.returns-in_err-replay-clause-calls
+returns-in_err-replay-clause-calls g c =
+    let made = own_where (IsOfStore c.args.shape.now) (data_error NoMemory) tt (slots_then c.args.shape.now (where_read c.in-Ok.ensures.calls) c.in_ok-pages.ensures.calls) in
+    let p = err_from_is_err_and c.from_residual-in_err-replay.result c.from_residual-in_err-replay.ensures.1 in rw (p.1, p.2) made
+
 pub returns-clause-pages : goal.returns-clause-pages
 returns-clause-pages g c =
     let shape = c.args.shape.now in
     let told = (g.D.Sectors.seen c.args.device.now).tells in
-    content-weaker told (λ content. AreKept shape content c.in_ok-pages.pages) (λ content. AreReadPages shape content c.args.groups.now c.args.end c.replay_pages.new.pages)
-    (λ content kept. pages-read shape content c.args.groups.now c.args.end c.in_ok-pages.pages c.replay_pages.new.pages
-    kept c.in_ok-check_ahead.ensures.fine c.replay_pages.ensures.replayed)
+    content-weaker told (λ content. AreKept shape content c.in_ok-pages.pages) (λ content. AreReadPages shape content c.args.groups.now c.args.end c.replay.new.pages)
+    (λ content kept. pages-read shape content c.args.groups.now c.args.end c.in_ok-pages.pages c.replay.new.pages
+    kept c.in_ok-check_ahead.ensures.fine c.in_ok-replay.ensures.replayed)
     (content-before (g.D.Sectors.seen c.args.device.now) (g.D.Sectors.seen c.read_part.new.device) (λ content. AreKept shape content c.in_ok-pages.pages)
     c.in-Ok.ensures.unchanged c.in_ok-pages.ensures.kept)
 
 pub returns-clause-its_places : goal.returns-clause-its_places
 returns-clause-its_places g c =
-    places-of c.args.shape.now (record { slots = c.in-Ok.slots; found = c.in_ok-pages.found }) c.args.groups.now c.in_ok-pages.pages c.replay_pages.new.pages
-    (search rules) c.requires.rise c.in_ok-pages.ensures.lsns c.replay_pages.ensures.replayed
+    places-of c.args.shape.now (record { slots = c.in-Ok.slots; found = c.in_ok-pages.found }) c.args.groups.now c.in_ok-pages.pages c.replay.new.pages
+    (search rules) c.requires.rise c.in_ok-pages.ensures.lsns c.in_ok-replay.ensures.replayed
 
 pub returns-clause-found : goal.returns-clause-found
 returns-clause-found g c =
     let shape = c.args.shape.now in
     let old = g.D.Sectors.seen c.args.device.now in
     let middle = g.D.Sectors.seen c.read_part.new.device in
-    found-read shape (record { slots = c.in-Ok.slots; found = c.in_ok-pages.found }) c.args.groups.now c.in_ok-pages.pages c.replay_pages.new.pages old.tells
-    c.requires.rise c.in_ok-pages.ensures.lsns c.replay_pages.ensures.replayed
+    found-read shape (record { slots = c.in-Ok.slots; found = c.in_ok-pages.found }) c.args.groups.now c.in_ok-pages.pages c.replay.new.pages old.tells
+    c.requires.rise c.in_ok-pages.ensures.lsns c.in_ok-replay.ensures.replayed
     (search rules)
     (content-before old middle (λ content. AreKept shape content c.in_ok-pages.pages) c.in-Ok.ensures.unchanged c.in_ok-pages.ensures.kept)
     (content-before old middle (AreFoundAt shape c.in_ok-pages.found.items) c.in-Ok.ensures.unchanged c.in_ok-pages.ensures.found)
 
 pub returns-clause-not_ahead : goal.returns-clause-not_ahead
 returns-clause-not_ahead g c =
-    replayed-not_ahead c.args.groups.now c.in_ok-pages.pages c.replay_pages.new.pages c.args.end c.requires.ends c.in_ok-check_ahead.ensures.fine
-    c.replay_pages.ensures.replayed
+    replayed-not_ahead c.args.groups.now c.in_ok-pages.pages c.replay.new.pages c.args.end c.requires.ends c.in_ok-check_ahead.ensures.fine
+    c.in_ok-replay.ensures.replayed
 
 pub returns-clause-calls : goal.returns-clause-calls
 returns-clause-calls g c =

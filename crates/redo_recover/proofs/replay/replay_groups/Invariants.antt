@@ -1,6 +1,6 @@
 use Rattle.redo_apply.specs.{ArePagesOf}
 use Rattle.redo_recover.proofs.Paging.{AreReplaying}
-use Rattle.redo_recover.proofs.pages.replay_groups.Given as goal
+use Rattle.redo_recover.proofs.replay.replay_groups.Given as goal
 
 abbrev pub invariant-loop-whole : goal.invariant-loop-whole
 invariant-loop-whole l = record {

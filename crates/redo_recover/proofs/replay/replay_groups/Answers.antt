@@ -1,6 +1,6 @@
 use Rattle.std.proofs.Common.{arith, sym, ◌∙◌}
 use Rattle.redo_recover.proofs.Paging.{replaying-none, replaying-more, replaying-all}
-use Rattle.redo_recover.proofs.pages.replay_groups.Goals as goal
+use Rattle.redo_recover.proofs.replay.replay_groups.Goals as goal
 
 pub loop-whole-init : goal.loop-whole-init
 loop-whole-init c = record {

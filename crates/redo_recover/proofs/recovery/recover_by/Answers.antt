@@ -13,9 +13,9 @@ use Rattle.redo_recover.proofs.Ordering.{before-pages, behind-log, log-read, pag
 use Rattle.redo_recover.proofs.Judging.{fault-behind, log_made, log_then, ok-behind}
 use Rattle.redo_recover.proofs.Making.{log-own, data-own, err-of}
 use Rattle.redo_recover.proofs.Naming.{no_pages, pages_made}
-use Rattle.redo_recover.proofs.recovery.recover.Goals.{In_ok-pages, In_ok-views}
-use Rattle.redo_recover.proofs.recovery.recover.Given.{Over}
-use Rattle.redo_recover.proofs.recovery.recover.Goals as goal
+use Rattle.redo_recover.proofs.recovery.recover_by.Goals.{In_ok-pages, In_ok-views}
+use Rattle.redo_recover.proofs.recovery.recover_by.Given.{Over}
+use Rattle.redo_recover.proofs.recovery.recover_by.Goals as goal
 
 pub returns-in_err-views-clause-lengths : goal.returns-in_err-views-clause-lengths
 returns-in_err-views-clause-lengths g c =

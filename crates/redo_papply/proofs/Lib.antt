@@ -1,0 +1,4 @@
+mod Cutting
+mod Grouping
+mod Merging
+mod Replaying

@@ -1,0 +1,106 @@
+// How the scanned groups are applied to the pages: by one worker, or by several.
+ghost use Rattle.std.specs.Prelude.{◌≤◌, length, All, OnOk, ⊤};
+ghost use Rattle.std.specs.Thread.{IsSync};
+ghost use Rattle.model_base.specs.{IsWithinLimits};
+ghost use Rattle.model_record.specs.{GroupFits};
+ghost use Rattle.redo_apply.specs.{ArePagesOf, AreReplayed, HaveLsns};
+ghost use Rattle.redo_papply.specs.declared.apply.TheConstants.{MAX_WORKERS};
+
+use model_base::{MAX_PAGES, Shape};
+use model_record::Whole;
+use redo_apply::Pages;
+use redo_lsn::NoMemory;
+use redo_papply::apply_all;
+use std::alloc::Global;
+use std::thread::Threads;
+
+/// What applies groups to pages.
+pub(crate) trait Replay {
+    // that it may be called
+    ghost is_ready: { Self → Type 0 };
+
+    /// Applies to each page each of these groups that starts at or above its lsn. Where it fails, nothing is known of the
+    /// pages.
+    fn replay(
+        &self,
+        alloc: Global,
+        pages: &mut Pages,
+        groups: &[Whole],
+        shape: &Shape,
+    ) -> Result<(), NoMemory>
+        requires ready { is_ready self.now }
+        requires limits { IsWithinLimits shape.now }
+        requires its_pages { ArePagesOf shape.now pages.old }
+        requires fit { All (λ whole. GroupFits shape.now whole.group) groups.now }
+        ensures replayed { OnOk result (AreReplayed groups.now pages.old pages.new) }
+        ensures its_pages { OnOk result (ArePagesOf shape.now pages.new) };
+}
+
+/// One worker, the caller itself.
+#[derive(Drop)]
+pub(crate) struct OneWorker;
+
+impl Replay for OneWorker {
+    ghost is_ready = { λ _. ⊤ };
+
+    fn replay(
+        &self,
+        alloc: Global,
+        pages: &mut Pages,
+        groups: &[Whole],
+        shape: &Shape,
+    ) -> Result<(), NoMemory> {
+        replay_pages(pages, groups, shape);
+        Ok(())
+    }
+}
+
+/// So many workers.
+#[derive(Drop)]
+pub(crate) struct Workers<'a, R> {
+    pub(crate) rt: &'a R,
+    pub(crate) count: u32,
+}
+
+impl<'a, R: Threads + Sync> Replay for Workers<'a, R> {
+    ghost is_ready = { λ workers. (1 ≤ workers.count) × (workers.count ≤ MAX_WORKERS) × IsSync R.row };
+
+    fn replay(
+        &self,
+        alloc: Global,
+        pages: &mut Pages,
+        groups: &[Whole],
+        shape: &Shape,
+    ) -> Result<(), NoMemory> {
+        *pages = apply_all(self.rt, alloc, pages, groups, self.count)?;
+        Ok(())
+    }
+}
+
+/// Applies to each page, for which its lsn is named, each of these groups that starts at or above the lsn. It goes over the
+/// groups once.
+fn replay_groups(pages: &mut Pages, lsns: &[u64], groups: &[Whole], shape: &Shape)
+    requires its_pages { ArePagesOf shape.now pages.old }
+    requires lsns { HaveLsns pages.old lsns.now }
+    requires fit { All (λ whole. GroupFits shape.now whole.group) groups.now }
+    ensures replayed { AreReplayed groups.now pages.old pages.new }
+    ensures its_pages { ArePagesOf shape.now pages.new }
+{
+    for whole in groups {
+        pages.apply_where(lsns, &whole.group, whole.start, whole.end);
+    }
+}
+
+/// Applies to each page each of these groups that starts at or above its lsn.
+fn replay_pages(pages: &mut Pages, groups: &[Whole], shape: &Shape)
+    requires limits { IsWithinLimits shape.now }
+    requires its_pages { ArePagesOf shape.now pages.old }
+    requires fit { All (λ whole. GroupFits shape.now whole.group) groups.now }
+    ensures replayed { AreReplayed groups.now pages.old pages.new }
+    ensures its_pages { ArePagesOf shape.now pages.new }
+{
+    let mut lsns = [0; MAX_PAGES as usize];
+    let count = pages.len();
+    lsns[..count].copy_from_slice(pages.lsns());
+    replay_groups(pages, &lsns[..count], groups, shape);
+}
