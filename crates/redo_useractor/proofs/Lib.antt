@@ -1,2 +1,11 @@
 pub mod Heard
+pub mod LinePlaces
+pub mod Lines
+pub mod Pages
+pub mod Parts
+pub mod Places
+pub mod RecordBytes
+pub mod Skipped
 pub mod Texts
+pub mod UserSteps
+pub mod WordCells
