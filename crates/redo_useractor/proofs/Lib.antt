@@ -1,4 +1,13 @@
 pub mod Heard
+pub mod LinePlaces
+pub mod Lines
+pub mod Pages
+pub mod Parts
+pub mod Places
+pub mod RecordBytes
+pub mod Skipped
 pub mod Texts
+pub mod UserSteps
 pub mod WayToLink
+pub mod WordCells
 pub mod WordsSpanned

@@ -1,7 +1,10 @@
 pub mod CellsStep
 pub mod Ending
 pub mod Lines
+pub mod Places
 pub mod ToLink
 pub mod UserView
+pub mod Words
+pub mod Written
 pub use Rattle.redo_useractor.specs.Ending.{has_ended}
 pub use Rattle.redo_useractor.specs.Lines.{AreUserLines, IsUserLine, lines_of}

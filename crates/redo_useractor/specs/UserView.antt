@@ -3,6 +3,8 @@ use Rattle.std.specs.Prelude.{length, vec_capacity, vec_len, ℕ, ◌+◌, ◌<�
 use Rattle.model_core.specs.{answer_limit, cells_of, changes, group_bytes, group_end, line_at, UserState}
 use Rattle.model_core.specs.declared.steps.UserStep.{UserStep}
 use Rattle.model_core.specs.declared.steps.UserStep.TheVariants as user_step
+use Rattle.redo_useractor.specs.Places.{IsPlace}
+use Rattle.redo_useractor.specs.Written.{words_end}
 use Rattle.redo_useractor.specs.declared.actor.UserActor.TheInside.{Inside}
 
 abbrev pub user_view : Inside → UserState
@@ -46,6 +48,10 @@ IsAtPage u = u.page < length (changes (user_view u))
 abbrev pub IsAtFirst : Inside → Type 0
 IsAtFirst u = (u.page ≡ 0) × (u.cell ≡ 0)
 
+-- it is at the word in which the next changed cell lies
+abbrev pub IsAtWord : Inside → Type 0
+IsAtWord u = IsPlace (cells_of (user_view u)) u.at.word u.at.count u.cell × (u.at.word < words_end)
+
 abbrev pub IsAt : Inside → UserStep → Type 0
 IsAt u user_step.LoadCheckpoint = BeforeGroup u
 IsAt u user_step.LoadSn = BeforeGroup u
@@ -57,8 +63,8 @@ IsAt u user_step.StoreFirst = HasGroup u × IsAtFirst u
 IsAt u user_step.LoadWtail = HasGroup u × IsAtFirst u
 IsAt u user_step.StoreLink = HasGroup u × IsAtFirst u
 IsAt u user_step.LoadCtail = HasGroup u × IsAtPage u × (u.cell ≡ 0)
-IsAt u user_step.LoadFrame = HasGroup u × IsAtPage u × (u.cell < length (cells_of (user_view u)))
-IsAt u user_step.StoreFrame = HasGroup u × IsAtPage u × (u.cell < length (cells_of (user_view u)))
+IsAt u user_step.LoadFrame = HasGroup u × IsAtPage u × IsAtWord u
+IsAt u user_step.StoreFrame = HasGroup u × IsAtPage u × IsAtWord u
 IsAt u user_step.StoreClosedLink = HasGroup u × (0 < length (changes (user_view u)))
 IsAt u user_step.AwaitMark = HasGroup u
 IsAt u user_step.Done = Unit {0}

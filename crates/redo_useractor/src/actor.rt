@@ -1,5 +1,5 @@
 // The state of a user.
-use crate::line::UserLine;
+use crate::line::{Place, UserLine};
 use model_core::UserStep;
 use std::marker::Model;
 
@@ -34,6 +34,8 @@ pub struct UserActor {
     pub(crate) copied: usize,
     pub(crate) page: usize,
     pub(crate) cell: usize,
+    // where it is in the frame, while it loads and stores its words
+    pub(crate) at: Place,
     pub(crate) word: u64,
     pub(crate) loaded: Marks,
     pub(crate) code: u32,

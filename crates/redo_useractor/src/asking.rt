@@ -7,8 +7,7 @@ ghost use Rattle.redo_words.specs.{Lends};
 ghost use Rattle.redo_useractor.specs.UserView.{end_limit};
 
 use crate::actor::UserActor;
-use crate::line::{Cell, ChangedPage, UserLine};
-use crate::words::{same_word, with_cells};
+use crate::line::UserLine;
 use model_base::BLOCK_SIZE;
 use model_core::{BUFFER_BLOCKS, CLOSED_LINKS, FLUSH_LISTS, UserStep, WORD_LANES, WRITTEN_LINKS};
 use model_log::{BLOCK_DATA, BLOCK_HEADER};
@@ -35,31 +34,12 @@ impl UserActor {
         &self.lines[self.k]
     }
 
-    /// The page that it is at.
-    pub(crate) fn changed_page(&self) -> &ChangedPage
-        requires line { self.now.k < length self.now.lines }
-        requires page { self.now.page < length (changes self.now) }
-        ensures { result.now ≡ change_at (changes self.now) self.now.page }
-    {
-        &self.line().pages[self.page]
-    }
-
     fn page_number(&self) -> u32
         requires line { self.now.k < length self.now.lines }
         requires page { self.now.page < length (changes self.now) }
         ensures { result ≡ page_of self.now }
     {
-        self.changed_page().page
-    }
-
-    /// The changed cell that it is at.
-    fn changed_cell(&self) -> &Cell
-        requires line { self.now.k < length self.now.lines }
-        requires page { self.now.page < length (changes self.now) }
-        requires cell { self.now.cell < length (cells_of self.now) }
-        ensures { result.now ≡ put_of self.now }
-    {
-        &self.changed_page().cells[self.cell]
+        self.line().page_number(self.page)
     }
 
     /// The lsn at which the group in hand starts.
@@ -153,52 +133,6 @@ impl UserActor {
         Op::Store(Word::First(slot as u32), end % BLOCK_SIZE)
     }
 
-    /// The word of the frame in which the changed cell lies that it is at.
-    fn frame_word(&self) -> u16
-        requires line { self.now.k < length self.now.lines }
-        requires page { self.now.page < length (changes self.now) }
-        requires cell { self.now.cell < length (cells_of self.now) }
-        ensures { result ≡ frame_word self.now }
-    {
-        self.changed_cell().at / WORD_LANES as u16
-    }
-
-    /// How many of the next changed cells lie there.
-    pub(crate) fn frame_count(&self) -> usize
-        requires line { self.now.k < length self.now.lines }
-        requires page { self.now.page < length (changes self.now) }
-        requires cell { self.now.cell < length (cells_of self.now) }
-        ensures count { result ≡ frame_count self.now }
-        ensures within { self.now.cell + result ≤ length (cells_of self.now) }
-        ensures small { self.now.cell + result < 2 ^ 63 }
-    {
-        let cells = self.changed_page().cells.as_slice();
-        same_word(self.frame_word(), &cells[self.cell..])
-    }
-
-    /// That word with these cells in their lanes.
-    fn stored_word(&self) -> u64
-        requires line { self.now.k < length self.now.lines }
-        requires page { self.now.page < length (changes self.now) }
-        requires cell { self.now.cell < length (cells_of self.now) }
-        ensures { result ≡ stored_word self.now }
-    {
-        let count = self.frame_count();
-        let cells = self.changed_page().cells.as_slice();
-        let rest = &cells[self.cell..];
-        with_cells(self.word, &rest[..count])
-    }
-
-    /// That word's name.
-    fn frame(&self) -> Word
-        requires line { self.now.k < length self.now.lines }
-        requires page { self.now.page < length (changes self.now) }
-        requires cell { self.now.cell < length (cells_of self.now) }
-        ensures { result ≡ Word.Frame (page_of self.now) (frame_word self.now) }
-    {
-        Word::Frame(self.page_number(), u32::from(self.frame_word()))
-    }
-
     /// The place of its link in the recent-written buffer.
     fn written_link(&self) -> Word
         requires { self.now.start < end_limit }
@@ -233,8 +167,12 @@ impl UserActor {
             UserStep::LoadWtail => Op::Load(Word::Wtail),
             UserStep::StoreLink => Op::Store(self.written_link(), self.link()),
             UserStep::LoadCtail => Op::Load(Word::Ctail),
-            UserStep::LoadFrame => Op::Load(self.frame()),
-            UserStep::StoreFrame => Op::Store(self.frame(), self.stored_word()),
+            UserStep::LoadFrame => Op::Load(self.line().frame(self.page, self.at)),
+            UserStep::StoreFrame => {
+                let line = self.line();
+                let word = line.with_cells(self.page, self.at, self.word);
+                Op::Store(line.frame(self.page, self.at), word)
+            }
             UserStep::StoreNewest => Op::Store(Word::Newest(self.page_number()), self.end_lsn()),
             UserStep::LoadOldest => Op::Load(Word::Oldest(self.page_number())),
             UserStep::AddToList => Op::TakeAdd(self.page_number(), self.start_lsn()),

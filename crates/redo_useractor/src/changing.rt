@@ -1,16 +1,45 @@
 // What a user makes of the answers while it changes the pages of its group.
-ghost use Rattle.std.specs.Prelude.{◌≡◌, ◌<◌, ◌≤◌, ◌+◌, ◌==◌, false, length};
+ghost use Rattle.std.specs.Prelude.{◌≡◌, ◌<◌, ◌+◌, ◌==◌, false, length};
 ghost use Rattle.model_core.specs.{change_at, changes, group_end, to_next_page, user_took};
 ghost use Rattle.redo_useractor.specs.CellsStep.{cells_step};
 ghost use Rattle.redo_useractor.specs.Ending.{step_end};
+ghost use Rattle.redo_useractor.specs.Places.{IsPlace};
 ghost use Rattle.redo_useractor.specs.UserView.{end_limit};
 
 use crate::actor::UserActor;
-use crate::words::word_step;
+use crate::line::Place;
 use model_core::{CLOSED_LINKS, UserStep};
 use redo_words::Step;
 
 impl UserActor {
+    /// It goes on at this place of a page, behind so many of the changed cells there.
+    fn goes_on(&mut self, page: usize, cell: usize, at: Place)
+        requires line { self.old.k < length self.old.lines }
+        requires one { length self.old.starts ≡ self.old.k + 1 }
+        requires small { group_end self.old < end_limit }
+        requires page { page < length (changes self.old) }
+        requires place { IsPlace (change_at (changes self.old) page).cells at.word at.count cell }
+        ensures { self.new ≡ record self.old { page = page; cell = cell; step = cells_step (change_at (changes self.old) page).cells cell } }
+    {
+        self.page = page;
+        self.cell = cell;
+        self.at = at;
+        self.step = at.step();
+    }
+
+    /// It goes on at the first changed cell of a page.
+    fn to_cells(&mut self, page: usize, cell: usize)
+        requires line { self.old.k < length self.old.lines }
+        requires one { length self.old.starts ≡ self.old.k + 1 }
+        requires small { group_end self.old < end_limit }
+        requires page { page < length (changes self.old) }
+        requires first { cell ≡ 0 }
+        ensures { self.new ≡ record self.old { page = page; cell = cell; step = cells_step (change_at (changes self.old) page).cells cell } }
+    {
+        let at = self.line().first_place(page);
+        self.goes_on(page, cell, at);
+    }
+
     /// CTAIL was loaded: whether the recent-closed buffer has the place of its link.
     pub(crate) fn checks_close(&mut self, n: u64) -> Step
         requires step { self.old.step ≡ UserStep.LoadCtail }
@@ -18,28 +47,13 @@ impl UserActor {
         ensures step { result ≡ step_end self.old n UserStep.LoadCtail self.new }
     {
         let start = self.start_lsn();
-        let step = self.cells_step(self.page, self.cell);
+        let (page, cell) = (self.page, self.cell);
         self.loaded.ctail = n;
         if n.saturating_add(CLOSED_LINKS) <= start {
             return self.waits();
         }
-        self.step = step;
+        self.to_cells(page, cell);
         Step::Moved
-    }
-
-    /// At this place among the changed cells of a page it goes on with their word, or behind the last with NEWEST.
-    fn cells_step(&self, page: usize, place: usize) -> UserStep
-        requires line { self.now.k < length self.now.lines }
-        requires page { page < length (changes self.now) }
-        requires place { place ≤ length (change_at (changes self.now) page).cells }
-        ensures { result ≡ cells_step (change_at (changes self.now) page).cells place }
-    {
-        let cells = self.line().pages[page].cells.as_slice();
-        if place == cells.len() {
-            UserStep::StoreNewest
-        } else {
-            word_step(cells, place)
-        }
     }
 
     /// The word of the changed cells that it is at is loaded.
@@ -59,11 +73,11 @@ impl UserActor {
         ensures state { self.new ≡ user_took self.old n UserStep.StoreFrame }
         ensures step { result ≡ step_end self.old n UserStep.StoreFrame self.new }
     {
-        let next = self.cell + self.frame_count();
-        let step = self.cells_step(self.page, next);
-        self.cell = next;
+        let page = self.page;
+        let next = self.cell + self.at.count;
+        let at = self.line().place_behind(page, self.at);
         self.word = 0;
-        self.step = step;
+        self.goes_on(page, next, at);
         Step::Moved
     }
 
@@ -90,16 +104,15 @@ impl UserActor {
         ensures state { self.new ≡ to_next_page self.old }
         ensures step { result ≡ Step.Moved }
     {
-        let pages = self.line().pages.len();
+        let pages = self.line().page_count();
         let next = self.page + 1;
-        let step = if next == pages {
-            UserStep::StoreClosedLink
-        } else {
-            self.cells_step(next, 0)
-        };
-        self.page = next;
-        self.cell = 0;
-        self.step = step;
+        if next == pages {
+            self.page = next;
+            self.cell = 0;
+            self.step = UserStep::StoreClosedLink;
+            return Step::Moved;
+        }
+        self.to_cells(next, 0);
         Step::Moved
     }
 
@@ -109,7 +122,7 @@ impl UserActor {
         ensures state { self.new ≡ user_took self.old n UserStep.ReleaseLatch }
         ensures step { result ≡ step_end self.old n UserStep.ReleaseLatch self.new }
     {
-        let pages = self.line().pages.len();
+        let pages = self.line().page_count();
         if self.page + 1 == pages {
             return self.linked();
         }

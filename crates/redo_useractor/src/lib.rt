@@ -11,5 +11,6 @@ mod making;
 mod taking;
 mod telling;
 mod words;
+mod written;
 
 pub use actor::UserActor;

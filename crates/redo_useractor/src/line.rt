@@ -1,49 +1,134 @@
 // The lines of a user, as its actor holds them.
+ghost use Rattle.std.specs.Prelude.{ℕ, ◌≡◌, ◌≤◌, ◌<◌, ◌+◌, List, length};
+ghost use Rattle.model_core.specs.{CellWrite, change_at, lanes, packed, put_lanes};
+ghost use Rattle.redo_useractor.specs.CellsStep.{cells_step};
+ghost use Rattle.redo_useractor.specs.Places.{cells_before, cells_in, IsPlace, word_at};
+ghost use Rattle.redo_useractor.specs.Written.{words_end};
+
+use crate::words::{count_in, with_written};
+use crate::written::{WORDS_END, next_word};
 use model_base::Bytes;
+use model_core::{UserStep, WORD_LANES};
+use model_record::Group;
+use redo_words::Word;
 use std::marker::Model;
 
-/// A changed cell of a page, and its value then.
-#[derive(Debug, Drop)]
-pub struct Cell {
-    pub(crate) at: u16,
-    pub(crate) value: u8,
+/// A word of a frame, and how many of its cells a group changes; behind the last word that it changes the end.
+#[derive(Clone, Copy, Debug)]
+pub struct Place {
+    pub(crate) word: usize,
+    pub(crate) count: usize,
 }
 
-impl Model for Cell {
-    ghost use Rattle.model_core.specs.{CellWrite};
-
-    ghost Value = { CellWrite };
-
-    ghost view = { λ cell. record { at = cell.at; value = cell.value } };
+impl Place {
+    /// What a user that has come here does: it stores the word at once where all its lanes change, else it loads it first; behind
+    /// the last word it goes on with NEWEST.
+    pub(crate) fn step(self) -> UserStep
+        ensures { (cells : List CellWrite) (number : ℕ) → IsPlace cells self.word self.count number → result ≡ cells_step cells number }
+    {
+        if self.word == WORDS_END {
+            UserStep::StoreNewest
+        } else if self.count < WORD_LANES as usize {
+            UserStep::LoadFrame
+        } else {
+            UserStep::StoreFrame
+        }
+    }
 }
 
-/// A page that a group touches, and the cells that it changes there, ascending.
-#[derive(Debug, Drop)]
-pub struct ChangedPage {
-    pub(crate) page: u32,
-    pub(crate) cells: Vec<Cell>,
-}
-
-impl Model for ChangedPage {
-    ghost use Rattle.model_core.specs.{PageChange};
-
-    ghost Value = { PageChange };
-
-    ghost view = { λ change. record { page = change.page; cells = change.cells.items } };
-}
-
-/// A line: what it waits for, the text of its group, and the pages that the group touches, ascending.
+/// A line: what it waits for, its group and the text of that, and the pages that the group is on, ascending. What it changes
+/// there isn't held cell by cell: the records say it.
 #[derive(Debug, Drop)]
 pub struct UserLine {
     pub(crate) mode: u32,
     pub(crate) text: Bytes,
-    pub(crate) pages: Vec<ChangedPage>,
+    pub(crate) group: Group,
+    pub(crate) pages: Vec<u32>,
 }
 
 impl Model for UserLine {
+    ghost use Rattle.std.specs.List.{AllByRecursion};
+    ghost use Rattle.model_base.specs.declared.limits.TheConstants.{USER_BYTES};
     ghost use Rattle.model_core.specs.{Line};
+    ghost use Rattle.redo_apply.specs.{WritesWithin};
+    ghost use Rattle.redo_useractor.specs.Places.{changes_on};
 
     ghost Value = { Line };
 
-    ghost view = { λ line. record { mode = line.mode; bytes = line.text; changes = line.pages.items } };
+    ghost view = { λ line. record { mode = line.mode; bytes = line.text; changes = changes_on line.group line.pages.items } };
+
+    ghost invariant = { λ line. AllByRecursion (WritesWithin USER_BYTES) line.group };
+}
+
+impl UserLine {
+    /// How many pages its group is on.
+    pub(crate) fn page_count(&self) -> usize
+        ensures { result ≡ length self.now.changes }
+    {
+        self.pages.len()
+    }
+
+    /// The number of one of them.
+    pub(crate) fn page_number(&self, page: usize) -> u32
+        requires { page < length self.now.changes }
+        ensures { result ≡ (change_at self.now.changes page).page }
+    {
+        self.pages[page]
+    }
+
+    /// The first word of that page's frame that its group changes, from this word on.
+    fn place_from(&self, page: usize, word: usize) -> Place
+        requires page { page < length self.now.changes }
+        requires word { word ≤ words_end }
+        ensures { IsPlace (change_at self.now.changes page).cells result.word result.count (cells_before word (change_at self.now.changes page).cells) }
+    {
+        let recs = self.group.0.as_slice();
+        let number = self.pages[page];
+        let word = next_word(recs, number, word, WORDS_END);
+        let count = if word < WORDS_END {
+            count_in(recs, number, word)
+        } else {
+            0
+        };
+        Place { word, count }
+    }
+
+    /// The first one that its group changes.
+    pub(crate) fn first_place(&self, page: usize) -> Place
+        requires { page < length self.now.changes }
+        ensures { IsPlace (change_at self.now.changes page).cells result.word result.count 0 }
+    {
+        self.place_from(page, 0)
+    }
+
+    /// The next one behind this.
+    pub(crate) fn place_behind(&self, page: usize, at: Place) -> Place
+        requires page { page < length self.now.changes }
+        requires word { at.word < words_end }
+        ensures { (number : ℕ) → IsPlace (change_at self.now.changes page).cells at.word at.count number
+            → IsPlace (change_at self.now.changes page).cells result.word result.count (number + at.count) }
+    {
+        self.place_from(page, at.word + 1)
+    }
+
+    /// The name of the word of that page's frame in which the next changed cell lies.
+    #[tactic(auto, using(crate::proofs::Places::next_in_word))]
+    pub(crate) fn frame(&self, page: usize, at: Place) -> Word
+        requires page { page < length self.now.changes }
+        requires word { at.word < words_end }
+        ensures { (number : ℕ) → IsPlace (change_at self.now.changes page).cells at.word at.count number
+            → result ≡ Word.Frame (change_at self.now.changes page).page (word_at (change_at self.now.changes page).cells number) }
+    {
+        Word::Frame(self.pages[page], at.word as u32)
+    }
+
+    /// That word with the next changed cells in their lanes.
+    pub(crate) fn with_cells(&self, page: usize, at: Place, old: u64) -> u64
+        requires page { page < length self.now.changes }
+        requires word { at.word < words_end }
+        ensures { (number : ℕ) → IsPlace (change_at self.now.changes page).cells at.word at.count number
+            → result ≡ packed 0 (put_lanes (cells_in (word_at (change_at self.now.changes page).cells number) number (change_at self.now.changes page).cells) (lanes 0 WORD_LANES old)) }
+    {
+        with_written(self.group.0.as_slice(), self.pages[page], at.word, old)
+    }
 }

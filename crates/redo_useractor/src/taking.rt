@@ -93,7 +93,7 @@ impl UserActor {
             self.step = UserStep::LoadCheckpoint;
             return Step::Idle;
         }
-        let pages = self.line().pages.len();
+        let pages = self.line().page_count();
         self.page = 0;
         self.cell = 0;
         self.step = if pages == 0 {
@@ -113,7 +113,7 @@ impl UserActor {
         if n != 0 {
             return self.waits();
         }
-        let pages = self.line().pages.len();
+        let pages = self.line().page_count();
         self.page += 1;
         self.step = if self.page == pages {
             UserStep::Reserve
@@ -196,7 +196,7 @@ impl UserActor {
         ensures state { self.new ≡ user_took self.old n UserStep.StoreLink }
         ensures step { result ≡ step_end self.old n UserStep.StoreLink self.new }
     {
-        if self.line().pages.is_empty() {
+        if self.line().page_count() == 0 {
             return self.linked();
         }
         self.step = UserStep::LoadCtail;

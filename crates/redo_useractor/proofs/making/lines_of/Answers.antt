@@ -1,18 +1,11 @@
-use Rattle.std.proofs.Common.{Some, ap, sym, ◌∙◌}
-use Rattle.std.proofs.lemmas.Option.{slice_get-get_or}
+use Rattle.std.proofs.Common.{length, ◌∙◌}
+use Rattle.std.proofs.lemmas.Iterator.Adapters.{YieldsList-from_vec}
+use Rattle.std.proofs.lemmas.Iterator.Consumers.{YieldsList-turn}
+use Rattle.redo_useractor.proofs.Lines.{line_here}
 use Rattle.redo_useractor.proofs.making.lines_of.Goals as goal
 
-pub line_of-requires-clause-is_group : goal.line_of-requires-clause-is_group
-line_of-requires-clause-is_group c =
-    let line = c.requires.lines c.loop-line.line-index c.line-item.result (slice_get-get_or c.args.lines.now c.loop-line.line-index c.line-item.result c.loop-line-test.true ∙ ap Some (sym c.line-item.is)) in
-    line.is_group
-
-pub line_of-requires-clause-short : goal.line_of-requires-clause-short
-line_of-requires-clause-short c =
-    let line = c.requires.lines c.loop-line.line-index c.line-item.result (slice_get-get_or c.args.lines.now c.loop-line.line-index c.line-item.result c.loop-line-test.true ∙ ap Some (sym c.line-item.is)) in
-    line.short
-
-pub line_of-requires-clause-fits : goal.line_of-requires-clause-fits
-line_of-requires-clause-fits c =
-    let line = c.requires.lines c.loop-line.line-index c.line-item.result (slice_get-get_or c.args.lines.now c.loop-line.line-index c.line-item.result c.loop-line-test.true ∙ ap Some (sym c.line-item.is)) in
-    line.fits
+pub line_of-requires-clause-line : goal.line_of-requires-clause-line
+line_of-requires-clause-line c =
+    let gives = c.into_iter-mode-iterator.ensures.into_iter_gives in
+    let turn = YieldsList-turn (YieldsList-from_vec c.args.lines.items gives.0 (gives.1 ∙ c.args.lines.ok.0)) c.loop-mode.yielded c.loop-mode.mode-iterator c.loop-mode.yielded_by c.next.result c.next.new.self (c.in-Some.mode, c.in-Some.group) c.in-Some.is c.next.ensures.steps in
+    line_here c.args.shape.now c.args.lines.items (length c.loop-mode.yielded) (c.in-Some.mode, c.in-Some.group) c.requires.lines turn.0 turn.1

@@ -2,19 +2,13 @@
 use Rattle.std.proofs.Common.{List, arith, length, subst, sym, ℕ, ◌<◌}
 use Rattle.std.proofs.lemmas.Grind.{common_steps}
 use Rattle.model_core.specs.{Line, line_at}
-use Rattle.model_record.specs.declared.rec.Rec.{Rec}
 use Rattle.redo_useractor.proofs.Texts.{some_texts}
-use Rattle.redo_useractor.specs.Lines.{AreUserLines}
 use Rattle.redo_useractor.proofs.actor.UserActor.new.Goals as goal
 use Rattle.redo_useractor.proofs.actor.UserActor.new.Goals.{then-has_lines, else-has_lines}
 
-pub lines_of-requires-clause-lines : goal.lines_of-requires-clause-lines
-lines_of-requires-clause-lines c = subst (λ (l : List (ℕ × List Rec)). AreUserLines c.args.shape.now l) (sym c.as_slice.ensures.value) c.requires.lines
-
 pub invariant_of-result : goal.invariant_of-result
 invariant_of-result c =
-    let are = subst (λ (l : List (ℕ × List Rec)). AreUserLines c.args.shape.now l) (sym c.as_slice.ensures.value) c.requires.lines in
-    let texts = some_texts c.args.shape.now c.args.log_only c.args.shape.now.pages c.as_slice.result.now are in
+    let texts = some_texts c.args.shape.now c.args.log_only c.args.shape.now.pages c.args.lines.items c.requires.lines in
     record {
       ckpt = omega arith;
       room = grind (arith, common_steps);

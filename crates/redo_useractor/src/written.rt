@@ -1,0 +1,157 @@
+// What the records of a group write on a page.
+ghost use Rattle.std.specs.Prelude.{◌≡◌, ◌≤◌, ◌==◌, if◌then◌else◌};
+ghost use Rattle.std.specs.Int.{byte_at};
+ghost use Rattle.model_record.specs.{page_of};
+ghost use Rattle.redo_useractor.specs.Written.{cell_byte, cells_end, first_cell, first_page, first_word, later, next_page, next_word, own_byte, words_end, written};
+
+use model_base::{USER_BYTES, USER_START};
+use model_core::WORD_LANES;
+use model_record::Rec;
+use redo_apply::page_of;
+
+/// Words of a frame that hold user bytes end here.
+pub(crate) const WORDS_END: usize = ((USER_START + USER_BYTES) as u64 / WORD_LANES) as usize;
+
+/// A byte of a number; its lowest is byte 0.
+fn number_byte(value: u64, place: usize) -> u8
+    ensures { result ≡ byte_at place value }
+{
+    let mut left = value;
+    for _ in 0..place {
+        left /= 256;
+    }
+    (left % 256) as u8
+}
+
+/// The byte that a record writes at this user byte of its page, if it writes there.
+fn own_byte(rec: &Rec, j: usize) -> Option<u8>
+    ensures { result ≡ own_byte rec.now j }
+{
+    match rec {
+        Rec::Num {
+            width,
+            offset,
+            value,
+            ..
+        } => {
+            let width = *width as usize;
+            let start = offset.saturating_sub(USER_START) as usize;
+            if start <= j && j - start < width {
+                Some(number_byte(*value, width - 1 - (j - start)))
+            } else {
+                None
+            }
+        }
+        Rec::Text { offset, bytes, .. } => {
+            let start = offset.saturating_sub(USER_START) as usize;
+            if start <= j && j - start < bytes.len() {
+                Some(bytes.as_slice()[j - start])
+            } else {
+                None
+            }
+        }
+        Rec::Init { .. } => Some(0),
+    }
+}
+
+/// The byte that a record leaves at this user byte of this page, where one of the records before it left the old one.
+fn left_byte(rec: &Rec, page: u32, j: usize, old: Option<u8>) -> Option<u8>
+    ensures { result ≡ (if page_of rec.now == page then later (own_byte rec.now j) old else old) }
+{
+    if page_of(rec) == page {
+        match own_byte(rec, j) {
+            Some(byte) => Some(byte),
+            None => old,
+        }
+    } else {
+        old
+    }
+}
+
+/// The byte that the records leave at this user byte of this page, if one of them writes there, else the old one.
+fn written(recs: &[Rec], page: u32, j: usize, old: Option<u8>) -> Option<u8>
+    ensures { result ≡ written page recs.now j old }
+{
+    match recs {
+        [rec, rest @ ..] => written(rest, page, j, left_byte(rec, page, j, old)),
+        [] => old,
+    }
+}
+
+/// The byte that the records leave in this cell of the page, if one of them writes there.
+pub(crate) fn cell_byte(recs: &[Rec], page: u32, cell: usize) -> Option<u8>
+    ensures { result ≡ cell_byte page recs.now cell }
+{
+    if cell < USER_START as usize {
+        return None;
+    }
+    written(recs, page, cell - USER_START as usize, None)
+}
+
+/// The first cell that a record writes.
+fn first_cell(rec: &Rec) -> usize
+    ensures { result ≡ first_cell rec.now }
+{
+    match rec {
+        Rec::Num { offset, .. } | Rec::Text { offset, .. } => *offset as usize,
+        Rec::Init { .. } => USER_START as usize,
+    }
+}
+
+/// The cell behind the last that a record writes.
+fn cells_end(rec: &Rec) -> usize
+    ensures { result ≡ cells_end rec.now }
+{
+    match rec {
+        Rec::Num { width, offset, .. } => *offset as usize + *width as usize,
+        Rec::Text { offset, bytes, .. } => *offset as usize + bytes.as_slice().len(),
+        Rec::Init { .. } => (USER_START + USER_BYTES) as usize,
+    }
+}
+
+/// The first word of this page's frame, from this one on, that a record changes.
+fn first_word(rec: &Rec, page: u32, word: usize) -> usize
+    requires { word ≤ words_end }
+    ensures { result ≡ first_word page word rec.now }
+{
+    let first = first_cell(rec);
+    let end = cells_end(rec);
+    if page_of(rec) == page && first < end && WORD_LANES as usize * word < end {
+        word.max(first / WORD_LANES as usize)
+    } else {
+        WORDS_END
+    }
+}
+
+/// The first word of this page's frame, from this one on, that one of the records changes, or the best so far.
+pub(crate) fn next_word(recs: &[Rec], page: u32, word: usize, best: usize) -> usize
+    requires { word ≤ words_end }
+    ensures { result ≡ next_word page word recs.now best }
+{
+    match recs {
+        [rec, rest @ ..] => next_word(rest, page, word, best.min(first_word(rec, page, word))),
+        [] => best,
+    }
+}
+
+/// The page of a record, if that is below the best so far and none of those before this one.
+fn first_page(rec: &Rec, from: u32, best: u32) -> u32
+    ensures { result ≡ first_page from rec.now best }
+{
+    let page = page_of(rec);
+    if from <= page && page < best {
+        page
+    } else {
+        best
+    }
+}
+
+/// The first page, from this one on, that one of the records is on, or the best so far.
+pub(crate) fn next_page(recs: &[Rec], from: u32, best: u32) -> u32
+    ensures { result ≡ next_page from recs.now best }
+{
+    match recs {
+        [rec, rest @ ..] => next_page(rest, from, first_page(rec, from, best)),
+        [] => best,
+    }
+}
