@@ -1,9 +1,12 @@
 // One block of the log, filled and read in place.
-ghost use Rattle.std.specs.Prelude.{◌≡◌, ◌≤◌, ◌<◌, ◌^◌, length, IfSome, IsTrue};
+ghost use Rattle.std.specs.Prelude.{◌≡◌, ◌≢◌, ◌≤◌, ◌<◌, ◌^◌, ◌↔◌, length, None, IfSome, IsTrue};
 ghost use Rattle.model_log.specs.{block_text, data_of, fits_number, is_first, is_length, length_of, read_block, view_of};
+ghost use Rattle.model_stop.specs.{fit_of};
+ghost use Rattle.model_stop.specs.declared.fit.Fit.TheVariants.{Whole};
 
 use model_base::BLOCK_SIZE;
 use model_log::{BLOCK_DATA, BLOCK_DATA_END, BLOCK_HEADER, BlockView};
+use model_stop::Fit;
 use redo_crc::sector::{field_u16, field_u32, is_sealed, put, seal};
 use redo_lsn::number_of;
 
@@ -83,6 +86,27 @@ pub fn read(bytes: &[u8; 512], lsn: u64) -> Option<BlockView>
         Some(view)
     } else {
         None
+    }
+}
+
+/// Why 512 bytes are read as a block of an lsn, or aren't. It takes no memory.
+#[tactic(auto, unfolding(model_log::specs::Block::read_block, model_log::specs::Block::is_block_at))]
+pub fn why(bytes: &[u8; 512], lsn: u64) -> Fit
+    requires { lsn < 2 ^ 61 }
+    ensures value { result ≡ fit_of lsn bytes.now }
+    ensures unread { (read_block lsn bytes.now ≡ None) ↔ (result ≢ Whole) }
+{
+    let view = view_of(bytes);
+    if !fits_number(bytes, lsn) {
+        Fit::Number
+    } else if !is_length(view.length) {
+        Fit::Length
+    } else if !is_first(view.length, view.first) {
+        Fit::First
+    } else if !is_sealed(bytes) {
+        Fit::Checksum
+    } else {
+        Fit::Whole
     }
 }
 

@@ -1,5 +1,5 @@
 -- What a source and a sink in memory are, and what one call does to them.
-use Rattle.std.specs.Prelude.{ℕ, ◌≡◌, ◌↔◌, min, List, ◌++◌, length, take, drop, Some, Result, IfOk, OnOk, OnErr, IsErr, IsTrue}
+use Rattle.std.specs.Prelude.{ℕ, ◌≡◌, ◌↔◌, min, List, ◌++◌, length, take, drop, Some, Result, IfOk, OnErr, IsErr, IsTrue}
 use Rattle.redo_io.specs.Plan.{Planned, after_failure, after_ok, fails_now}
 use Rattle.redo_io.specs.Sink.{SinkSeen}
 use Rattle.redo_io.specs.Source.{SourceSeen}
@@ -30,6 +30,8 @@ pub record ReadsSupply (old : Supply) (room : ℕ) (result : Result ℕ IoFault)
 pub record Store : Type 0 where
   -- the bytes taken
   pub taken : List ℕ
+  -- how many bytes a write takes at the most
+  pub piece : ℕ
   -- which writes fail
   pub plan : Planned
 
@@ -37,10 +39,10 @@ pub record Store : Type 0 where
 abbrev pub store_seen : Store → SinkSeen
 store_seen store = record { taken = Some store.taken; faults = store.plan.faults }
 
--- A write of these bytes. It takes all of them, or it fails and takes none: where the plan says so, and where there is no
--- memory.
+-- A write of these bytes. It takes as many of them as fit a piece, or it fails and takes none: where the plan says so, and
+-- where there is no memory.
 pub record WritesStore (old : Store) (bytes : List ℕ) (result : Result ℕ IoFault) (new : Store) : Type 0 where
   pub fails : IsTrue (fails_now old.plan) → IsErr result
-  pub count : IfOk result (λ n. n ≡ length bytes)
-  pub ok : OnOk result (new ≡ record { taken = old.taken ++ bytes; plan = after_ok old.plan })
-  pub err : OnErr result (new ≡ record { taken = old.taken; plan = after_failure old.plan })
+  pub count : IfOk result (λ n. n ≡ min old.piece (length bytes))
+  pub ok : IfOk result (λ n. new ≡ record old { taken = old.taken ++ take n bytes; plan = after_ok old.plan })
+  pub err : OnErr result (new ≡ record old { plan = after_failure old.plan })

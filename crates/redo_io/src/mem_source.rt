@@ -54,7 +54,7 @@ impl MemSource {
     }
 
     /// A source that gives at most so many bytes a read, and doesn't fail.
-    pub fn in_pieces(bytes: Vec<u8>, piece: usize) -> Self
+    pub fn short(bytes: Vec<u8>, piece: usize) -> Self
         requires { 0 < piece }
         ensures { result ≡ record { left = bytes.items; piece = piece; plan = unused [] } }
     {

@@ -4,13 +4,15 @@ ghost use Rattle.redo_disk.specs.{HasCause};
 ghost use Rattle.redo_memdisk.specs.File.{CountsFailure, FileCrash, FileGives, file_faults, file_seen, filled};
 
 use redo_disk::{DevError, Sectors};
-use std::fs::{OpenFile, OpenOptions};
+use crate::lock::LockFiles;
+use std::fs::{File, OpenFile, OpenOptions};
 use std::io;
 use std::io::{ErrorKind, Read, Seek, SeekFrom, Write};
 use std::rt::Files;
 
-/// A device in a file of its own, which its first call opens or makes. What stands behind the file's end reads as zeros.
-/// It doesn't tell what it means, and its crash does nothing: a real one is the machine's.
+/// A device in a file of its own, which its first call opens or makes, and locks: while another process holds the file, that
+/// call fails. What stands behind the file's end reads as zeros. It doesn't tell what it means, and its crash does nothing: a
+/// real one is the machine's.
 #[derive(Drop)]
 pub struct FileDisk<R: Files> {
     files: R,
@@ -22,7 +24,16 @@ pub struct FileDisk<R: Files> {
 /// Bytes of every device in a file, of which the file holds those up to the last that was written.
 pub const FILE_DISK_LEN: u64 = 1 << 40;
 
-impl<R: Files> FileDisk<R> {
+/// The folder that a file of this path stands in.
+fn folder_of(path: &str) -> &str {
+    match path.rsplit_once('/') {
+        Some(("", _)) => "/",
+        Some((folder, _)) => folder,
+        None => ".",
+    }
+}
+
+impl<R: LockFiles> FileDisk<R> {
     /// The device in the file at this path.
     pub fn new(files: R, path: String) -> Self
         ensures { file_faults result ≡ 0 }
@@ -40,11 +51,31 @@ impl<R: Files> FileDisk<R> {
     {
         match self.file.take() {
             Some(file) => Ok(file),
-            None => OpenOptions::new()
-                .read(true)
-                .write(true)
-                .create(true)
-                .open(&self.files, self.path.as_str()),
+            None => self.open(),
+        }
+    }
+
+    /// Opens the file for this device alone. Where standard input, output or error is closed, the system gives its number
+    /// to the next file, and what is printed would reach the device. A duplicate never gets such a number.
+    fn open(&self) -> io::Result<R::File> {
+        let file = self.open_or_make()?.try_clone()?;
+        self.files.try_lock(&file)?;
+        Ok(file)
+    }
+
+    /// Opens the file, or makes it, for good: its name stands in the folder when the first call answers.
+    fn open_or_make(&self) -> io::Result<R::File> {
+        let mut options = OpenOptions::new();
+        options.read(true).write(true);
+        match options.open(&self.files, self.path.as_str()) {
+            Err(error) if error.kind() == ErrorKind::NotFound => {
+                let file = options
+                    .create(true)
+                    .open(&self.files, self.path.as_str())?;
+                File::open(&self.files, folder_of(&self.path))?.sync_all()?;
+                Ok(file)
+            }
+            answer => answer,
         }
     }
 
@@ -109,7 +140,7 @@ fn write_at<F: Write + Seek>(file: &mut F, at: u64, bytes: &[u8]) -> io::Result<
     file.write_all(bytes)
 }
 
-impl<R: Files> Sectors for FileDisk<R> {
+impl<R: LockFiles> Sectors for FileDisk<R> {
     ghost seen = { file_seen };
 
     ghost gives = { FileGives };

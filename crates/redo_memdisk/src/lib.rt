@@ -9,6 +9,7 @@ mod fuse;
 mod fused;
 mod image;
 mod laws;
+mod lock;
 mod medium;
 mod memory;
 mod plan;
@@ -19,6 +20,7 @@ pub use fuse::{Fuse, Stage};
 pub use fused::Fused;
 pub use image::is_image;
 pub use laws::a_fuse_counts_calls;
+pub use lock::LockFiles;
 pub use memory::MemDisk;
 
 /// Bytes of a sector.

@@ -8,6 +8,7 @@ pub mod Endings
 pub mod Erases
 pub mod Formats
 pub mod Gathers
+pub mod Inside
 pub mod GatherSteps
 pub mod Lengths
 pub mod Marks

@@ -2,12 +2,14 @@
 use Rattle.std.specs.Prelude.{ℕ, ◌≡◌, ◌≤◌, ◌<◌, ◌⊎◌, Option, Some, None, Result, Ok, Err}
 use Rattle.model_base.specs.{HasRisen}
 use Rattle.model_base.specs.declared.shape.Shape.{Shape}
+use Rattle.model_device.specs.{IsWithin}
 use Rattle.model_log.specs.{log_device_length}
 use Rattle.model_page.specs.{data_device_length}
 use Rattle.redo_disk.specs.{Call, EndWith, MakesCalls}
 use Rattle.redo_disk.specs.Seen.{Seen}
 use Rattle.redo_disk.specs.declared.error.DevError.{DevError}
 use Rattle.redo_disk.specs.declared.error.DevError.TheVariants as device
+use Rattle.redo_open.specs.Puts.{ArePuts}
 use Rattle.redo_recover.specs.{IsLengthFault}
 use Rattle.redo_recover.specs.declared.fault.RecFault.{RecFault}
 use Rattle.redo_recover.specs.declared.fault.RecFault.TheVariants.{SmallLog, SmallData, LogDev, DataDev, NoMemory}
@@ -32,6 +34,11 @@ pub record MakesBoth {L D : Type 0} (log_gives : L → Call → L → Type 0) (d
     (log_error data_error : Option DevError) : Type 0 where
   pub log : MakesCalls log_gives log_old log_new (EndWith log_error)
   pub data_device : MakesCalls data_gives data_old data_new (EndWith data_error)
+
+-- None of the calls is a read, and no write reaches beyond the lengths that a store of this shape has.
+pub record WritesInside {L D : Type 0} (log_gives : L → Call → L → Type 0) (data_gives : D → Call → D → Type 0) (shape : Shape) (log_old log_new : L) (data_old data_new : D) : Type 0 where
+  pub log : MakesCalls log_gives log_old log_new (ArePuts (IsWithin (log_device_length shape)))
+  pub data_device : MakesCalls data_gives data_old data_new (ArePuts (IsWithin (data_device_length shape)))
 
 -- Every call answered Ok but the one for which formatting ended, which was the last. Where a device is too short there is
 -- no call.

@@ -16,5 +16,5 @@ pub mod Store
 pub mod Zeros
 pub use Rattle.redo_open.specs.Called.{OpensData, OpensLog, RecoversFirst}
 pub use Rattle.redo_open.specs.Devices.{HasSameCheckpoint, WhereBothTell}
-pub use Rattle.redo_open.specs.Formatting.{FormatCalls, HasFormatCause, JudgesLengths}
+pub use Rattle.redo_open.specs.Formatting.{FormatCalls, HasFormatCause, JudgesLengths, WritesInside}
 pub use Rattle.redo_open.specs.Opening.{HasFaultCause, IsOpenedReady, IsOpeningOf}

@@ -22,6 +22,10 @@ pub record MayPutWhere (IsSuch : Write → Type 0) (error : Option DevError) (ca
   pub puts : AllByRecursion (IsPut IsSuch) calls
   pub ends : MayEndWith error calls
 
+-- none of the calls is a read, and each write is such a one
+abbrev pub ArePuts : (Write → Type 0) → List Call → Type 0
+ArePuts IsSuch = AllByRecursion (IsPut IsSuch)
+
 -- the write is any
 abbrev pub IsAnyWrite : Write → Type 0
 IsAnyWrite write = Unit {0}

@@ -2,10 +2,12 @@
 ghost use Rattle.std.specs.Prelude.{◌≡◌, ◌≤◌, OnOk, OnErr};
 ghost use Rattle.model_base.specs.{IsWithinLimits};
 ghost use Rattle.model_base.specs.declared.limits.TheConstants.{BLOCK_SIZE};
+ghost use Rattle.model_device.specs.{IsWithin};
 ghost use Rattle.model_log.specs.{log_device_length};
 ghost use Rattle.model_page.specs.{data_device_length};
-ghost use Rattle.redo_disk.specs.{EndWith, error_of, HasCause, HasSize, MakesCalls, OnTold};
+ghost use Rattle.redo_disk.specs.{error_of, HasCause, HasSize, MakesCalls, OnTold};
 ghost use Rattle.redo_open.specs.Blank.{LosesHead, HasNoHead, HasNoBlocks, HasBlankPages, IsHeadless};
+ghost use Rattle.redo_open.specs.Puts.{PutsWhere};
 
 use crate::zeros::erase;
 use model_base::{BLOCK_SIZE, Shape};
@@ -21,7 +23,7 @@ pub(crate) fn clear_head<L: Sectors>(log: &mut L) -> Result<(), DevError>
         (λ old new. HasSize (L.seen log.old).size old → HasSize (L.seen log.old).size new × HasNoHead new)) }
     ensures size { (L.seen log.new).size ≡ (L.seen log.old).size }
     ensures cause { HasCause (L.seen log.old).faults (L.seen log.new).faults result }
-    ensures calls { MakesCalls L.gives log.old log.new (EndWith (error_of result)) }
+    ensures calls { MakesCalls L.gives log.old log.new (PutsWhere (IsWithin BLOCK_SIZE) (error_of result)) }
 {
     erase(log, 0, BLOCK_SIZE)?;
     log.sync()
@@ -38,7 +40,7 @@ pub(crate) fn clear_blocks<L: Sectors>(log: &mut L, shape: &Shape) -> Result<(),
         → HasSize (L.seen log.old).size new × HasNoBlocks shape.now new)) }
     ensures size { (L.seen log.new).size ≡ (L.seen log.old).size }
     ensures cause { HasCause (L.seen log.old).faults (L.seen log.new).faults result }
-    ensures calls { MakesCalls L.gives log.old log.new (EndWith (error_of result)) }
+    ensures calls { MakesCalls L.gives log.old log.new (PutsWhere (IsWithin (log_device_length shape.now)) (error_of result)) }
 {
     let log_end = HEADER_BYTES + BLOCK_SIZE * u64::from(shape.log_blocks);
     erase(log, 2 * BLOCK_SIZE, log_end)?;
@@ -54,7 +56,7 @@ pub(crate) fn clear_pages<D: Sectors>(device: &mut D, shape: &Shape) -> Result<(
         (λ old new. HasSize (D.seen device.old).size old → HasBlankPages shape.now new)) }
     ensures size { (D.seen device.new).size ≡ (D.seen device.old).size }
     ensures cause { HasCause (D.seen device.old).faults (D.seen device.new).faults result }
-    ensures calls { MakesCalls D.gives device.old device.new (EndWith (error_of result)) }
+    ensures calls { MakesCalls D.gives device.old device.new (PutsWhere (IsWithin (data_device_length shape.now)) (error_of result)) }
 {
     let data_end = u64::from(shape.slots + shape.pages) * u64::from(shape.page_size);
     erase(device, 0, data_end)?;

@@ -6,7 +6,7 @@ ghost use Rattle.model_opening.specs.{IsFormatted, KeepsNoStore};
 ghost use Rattle.model_page.specs.{data_device_length};
 ghost use Rattle.redo_disk.specs.{HasSize};
 ghost use Rattle.redo_open.specs.Devices.{IsSameDevice, WhereBothTell};
-ghost use Rattle.redo_open.specs.Formatting.{FormatCalls, JudgesLengths, HasFormatCause};
+ghost use Rattle.redo_open.specs.Formatting.{FormatCalls, HasFormatCause, JudgesLengths, WritesInside};
 
 use crate::blank::{clear_blocks, clear_head, clear_pages};
 use crate::mark::{mark, put_head};
@@ -34,6 +34,7 @@ fn format_devices<L: Sectors, D: Sectors>(
     ensures log { IsSameDevice (L.seen log.old) (L.seen log.new) }
     ensures data_device { IsSameDevice (D.seen data_device.old) (D.seen data_device.new) }
     ensures calls { FormatCalls L.gives D.gives log.old log.new data_device.old data_device.new result }
+    ensures inside { WritesInside L.gives D.gives shape.now log.old log.new data_device.old data_device.new }
 {
     match clear_head(log) {
         Ok(()) => {}
@@ -75,6 +76,7 @@ pub fn format<L: Sectors, D: Sectors>(
     ensures log { IsSameDevice (L.seen log.old) (L.seen log.new) }
     ensures data_device { IsSameDevice (D.seen data_device.old) (D.seen data_device.new) }
     ensures calls { FormatCalls L.gives D.gives log.old log.new data_device.old data_device.new result }
+    ensures inside { WritesInside L.gives D.gives shape.now log.old log.new data_device.old data_device.new }
 {
     match check_lengths(shape, log.len(), data_device.len()) {
         Ok(()) => format_devices(log, data_device, shape),

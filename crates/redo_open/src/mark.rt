@@ -2,11 +2,13 @@
 ghost use Rattle.std.specs.Prelude.{◌≡◌, ◌≤◌, ◌<◌, ◌^◌, OnOk, OnErr};
 ghost use Rattle.model_base.specs.{IsWithinLimits};
 ghost use Rattle.model_base.specs.declared.limits.TheConstants.{START_LSN};
+ghost use Rattle.model_device.specs.{IsWithin};
 ghost use Rattle.model_log.specs.{log_device_length};
-ghost use Rattle.redo_disk.specs.{EndWith, error_of, HasCause, MakesCalls, OnTold, put_requests, Serve};
+ghost use Rattle.redo_disk.specs.{error_of, HasCause, MakesCalls, OnTold, put_requests, Serve};
 ghost use Rattle.redo_logdev.specs.Calls.{checkpoint_write};
 ghost use Rattle.redo_open.specs.Blank.{MayHaveHead, HasHeadNow};
 ghost use Rattle.redo_open.specs.Mark.{IsSettledLog, MarksLog, HasMarked};
+ghost use Rattle.redo_open.specs.Puts.{PutsWhere};
 
 use model_base::{BLOCK_SIZE, Shape};
 use redo_disk::{DevError, Sectors, write_and_sync};
@@ -47,7 +49,7 @@ pub(crate) fn put_head<L: Sectors>(log: &mut L, shape: &Shape) -> Result<(), Dev
         (λ old new. IsSettledLog shape.now old → HasHeadNow shape.now old.base new)) }
     ensures size { (L.seen log.new).size ≡ (L.seen log.old).size }
     ensures cause { HasCause (L.seen log.old).faults (L.seen log.new).faults result }
-    ensures calls { MakesCalls L.gives log.old log.new (EndWith (error_of result)) }
+    ensures calls { MakesCalls L.gives log.old log.new (PutsWhere (IsWithin (log_device_length shape.now)) (error_of result)) }
 {
     let mut block = [0; 512];
     fill_head(&mut block, shape);

@@ -1,8 +1,10 @@
 // Writing zeros.
 ghost use Rattle.std.specs.Prelude.{◌≡◌, ◌≤◌, ◌%◌, None, OnOk, OnErr, replicate};
 ghost use Rattle.model_base.specs.declared.limits.TheConstants.{BLOCK_SIZE};
-ghost use Rattle.redo_disk.specs.{EndWith, error_of, HasCause, HasSize, IsRange, MakesCall, MakesCalls, OnTold, write_at, Writes, WriteStep};
+ghost use Rattle.model_device.specs.{IsWithin};
+ghost use Rattle.redo_disk.specs.{error_of, HasCause, HasSize, IsRange, MakesCall, MakesCalls, OnTold, write_at, Writes, WriteStep};
 ghost use Rattle.redo_open.specs.Erase.{Erases, HasErased};
+ghost use Rattle.redo_open.specs.Puts.{PutsWhere};
 ghost use Rattle.redo_open.specs.Zeros.{zeros};
 
 use crate::PIECE;
@@ -38,7 +40,7 @@ pub(crate) fn erase<D: Sectors>(device: &mut D, from: u64, end: u64) -> Result<(
         (λ old new. HasSize (D.seen device.old).size old → Erases (D.seen device.old).size from end old new)) }
     ensures size { (D.seen device.new).size ≡ (D.seen device.old).size }
     ensures cause { HasCause (D.seen device.old).faults (D.seen device.new).faults result }
-    ensures calls { MakesCalls D.gives device.old device.new (EndWith (error_of result)) }
+    ensures calls { MakesCalls D.gives device.old device.new (PutsWhere (IsWithin end) (error_of result)) }
 {
     let mut at = from;
     while at < end {

@@ -88,7 +88,7 @@ fn call_by(
 #[test]
 fn reads_its_script_in_pieces(rt: HostRuntime) -> Result<(), Fail> {
     let alloc = rt.alloc();
-    let source = MemSource::in_pieces(LINE.as_bytes().to_vec(alloc)?, 10);
+    let source = MemSource::short(LINE.as_bytes().to_vec(alloc)?, 10);
     let called = call_by(alloc, "crash", source, MemSink::new(alloc))?;
     let outcome =
         "0 | open 8204 / g 8204 8210 1 0 flushed / marks 8210 8210 8210 8192 / recovered 1 8210 / p 3 8210 (00*62)07";

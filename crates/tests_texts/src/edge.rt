@@ -24,7 +24,7 @@ fn expect_read(
     requires few { limit ≤ 100 }
 {
     let alloc = rt.alloc();
-    let mut source = MemSource::in_pieces(TEXT.to_vec(alloc)?, piece);
+    let mut source = MemSource::short(TEXT.to_vec(alloc)?, piece);
     let read = read_all(alloc, &mut source, limit);
     let read = match &read {
         Ok(text) => Ok(text.as_slice()),

@@ -4,9 +4,11 @@ use Rattle.std.proofs.lemmas.Result.{err_from_is_err_and, on_ok_weaker}
 use Rattle.model_device.specs.{synced}
 use Rattle.model_device.specs.Disk.{Disk}
 use Rattle.redo_disk.specs.{HasSize}
-use Rattle.redo_disk.proofs.Made.{call_ends, ends_then}
+use Rattle.model_log.specs.{log_device_length}
 use Rattle.redo_open.specs.Blank.{HasNoBlocks, HasNoHead, IsHeadless}
 use Rattle.redo_open.specs.Erase.{Erases, HasErased}
+use Rattle.redo_open.proofs.Inside.{within-longer}
+use Rattle.redo_open.proofs.Puts.{put_one, put_weaker, puts_then}
 use Rattle.redo_open.proofs.Blanks.{erases-headless, synced-headless, synced-no_blocks}
 use Rattle.redo_disk.proofs.Told.{OnTold-then, told-as, told-same}
 use Rattle.redo_open.proofs.Told.{either-way, cause-since}
@@ -53,10 +55,13 @@ returns-in_err-erase-clause-cause g c =
 
 pub returns-in_err-erase-clause-calls : goal.returns-in_err-erase-clause-calls
 returns-in_err-erase-clause-calls g c =
-    let p = err_from_is_err_and c.from_residual.result c.from_residual.ensures.1 in rw (p.1, p.2) c.in_err-erase.ensures.calls
+    let made = put_weaker (within-longer (2048 + 512 * c.from.result) (log_device_length c.args.shape.now) (omega (arith, c.from.ensures))) c.in_err-erase.ensures.calls in
+    let p = err_from_is_err_and c.from_residual.result c.from_residual.ensures.1 in rw (p.1, p.2) made
 
 pub returns-clause-cause : goal.returns-clause-cause
 returns-clause-cause g c = cause-since _ _ _ c.sync.result c.in_ok-erase.ensures.cause.later c.sync.ensures.step.cause
 
 pub returns-clause-calls : goal.returns-clause-calls
-returns-clause-calls g c = ends_then c.in_ok-erase.ensures.calls (call_ends c.sync.ensures.gives)
+returns-clause-calls g c =
+    let made = put_weaker (within-longer (2048 + 512 * c.from.result) (log_device_length c.args.shape.now) (omega (arith, c.from.ensures))) c.in_ok-erase.ensures.calls in
+    puts_then made (put_one tt c.sync.ensures.gives)

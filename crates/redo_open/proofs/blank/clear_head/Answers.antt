@@ -4,9 +4,9 @@ use Rattle.std.proofs.lemmas.Result.{err_from_is_err_and, on_ok_weaker}
 use Rattle.model_device.specs.{synced}
 use Rattle.model_device.specs.Disk.{Disk}
 use Rattle.redo_disk.specs.{HasSize}
-use Rattle.redo_disk.proofs.Made.{call_ends, ends_then}
 use Rattle.redo_open.specs.Blank.{HasNoHead, LosesHead}
 use Rattle.redo_open.specs.Erase.{Erases, HasErased}
+use Rattle.redo_open.proofs.Puts.{put_one, puts_then}
 use Rattle.redo_open.proofs.Blanks.{erases-loses, synced-loses, synced-no_head}
 use Rattle.redo_disk.proofs.Told.{OnTold-then, told-as, told-same}
 use Rattle.redo_open.proofs.Told.{either-way, cause-since}
@@ -52,4 +52,4 @@ pub returns-clause-cause : goal.returns-clause-cause
 returns-clause-cause g c = cause-since _ _ _ c.sync.result c.in_ok-erase.ensures.cause.later c.sync.ensures.step.cause
 
 pub returns-clause-calls : goal.returns-clause-calls
-returns-clause-calls g c = ends_then c.in_ok-erase.ensures.calls (call_ends c.sync.ensures.gives)
+returns-clause-calls g c = puts_then c.in_ok-erase.ensures.calls (put_one tt c.sync.ensures.gives)

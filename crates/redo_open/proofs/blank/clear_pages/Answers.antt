@@ -5,9 +5,10 @@ use Rattle.model_device.specs.{synced}
 use Rattle.model_device.specs.Disk.{Disk}
 use Rattle.model_page.specs.{data_device_length}
 use Rattle.redo_disk.specs.{HasSize}
-use Rattle.redo_disk.proofs.Made.{call_ends, ends_then}
 use Rattle.redo_open.specs.Blank.{HasBlankPages}
 use Rattle.redo_open.specs.Erase.{HasErased}
+use Rattle.redo_open.proofs.Inside.{within-longer}
+use Rattle.redo_open.proofs.Puts.{put_one, put_weaker, puts_then}
 use Rattle.redo_open.proofs.Blanks.{synced-blank}
 use Rattle.redo_disk.proofs.Told.{OnTold-then}
 use Rattle.redo_open.proofs.Told.{cause-since}
@@ -31,10 +32,17 @@ returns-in_err-erase-clause-cause g c =
 
 pub returns-in_err-erase-clause-calls : goal.returns-in_err-erase-clause-calls
 returns-in_err-erase-clause-calls g c =
-    let p = err_from_is_err_and c.from_residual.result c.from_residual.ensures.1 in rw (p.1, p.2) c.in_err-erase.ensures.calls
+    let end = c.from.result * c.from-2.result in
+    let length_is : end ≡ data_device_length c.args.shape.now = cc in
+    let made = put_weaker (within-longer end (data_device_length c.args.shape.now) (omega (arith, length_is))) c.in_err-erase.ensures.calls in
+    let p = err_from_is_err_and c.from_residual.result c.from_residual.ensures.1 in rw (p.1, p.2) made
 
 pub returns-clause-cause : goal.returns-clause-cause
 returns-clause-cause g c = cause-since _ _ _ c.sync.result c.in_ok-erase.ensures.cause.later c.sync.ensures.step.cause
 
 pub returns-clause-calls : goal.returns-clause-calls
-returns-clause-calls g c = ends_then c.in_ok-erase.ensures.calls (call_ends c.sync.ensures.gives)
+returns-clause-calls g c =
+    let end = c.from.result * c.from-2.result in
+    let length_is : end ≡ data_device_length c.args.shape.now = cc in
+    let made = put_weaker (within-longer end (data_device_length c.args.shape.now) (omega (arith, length_is))) c.in_ok-erase.ensures.calls in
+    puts_then made (put_one tt c.sync.ensures.gives)

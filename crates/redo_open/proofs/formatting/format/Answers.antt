@@ -1,5 +1,7 @@
 use Rattle.std.proofs.Common.{ℕ, subst}
 use Rattle.redo_recover.specs.{IsLengthFault}
+use Rattle.redo_open.proofs.Inside.{puts_of}
+use Rattle.redo_open.proofs.Puts.{put_nothing}
 use Rattle.redo_open.proofs.Causes.{judges-fault, length-calls, length-cause}
 use Rattle.redo_open.proofs.formatting.format.Goals as goal
 
@@ -19,3 +21,9 @@ returns-in-Err-clause-cause g c =
 pub returns-in-Err-clause-calls : goal.returns-in-Err-clause-calls
 returns-in-Err-clause-calls g c =
     length-calls g.L.Sectors.gives g.D.Sectors.gives c.args.log.now c.args.data_device.now c.args.shape.now _ _ c.in-Err.fault c.in-Err.ensures.fault
+
+pub returns-in-Err-clause-inside : goal.returns-in-Err-clause-inside
+returns-in-Err-clause-inside g c = record {
+  log = puts_of (put_nothing g.L.Sectors.gives c.args.log.now);
+  data_device = puts_of (put_nothing g.D.Sectors.gives c.args.data_device.now);
+}

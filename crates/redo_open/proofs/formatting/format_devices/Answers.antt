@@ -5,6 +5,9 @@ use Rattle.redo_disk.specs.{HasSize}
 use Rattle.redo_disk.proofs.Made.{ends_then, none_ends, serves_end}
 use Rattle.redo_open.specs.Blank.{HasNoHead, HasNoBlocks, HasFirstCheckpoint, HasBlankPages}
 use Rattle.redo_open.specs.Mark.{IsSettledLog}
+use Rattle.model_log.specs.{log_device_length}
+use Rattle.redo_open.proofs.Inside.{ends_of, mark-within, puts_of, within-longer}
+use Rattle.redo_open.proofs.Puts.{put_nothing, put_served, put_weaker, puts_then}
 use Rattle.redo_open.proofs.Causes.{calls-log, calls-data, format-log, format-data}
 use Rattle.redo_open.proofs.Formats.{no_head-known, blocks-headless, blank-known, sized-step, headless-step, marking-headless, marked-first, heading-step, headed-step, keeps-losing, keeps-headless, keeps-headed, formatted-both}
 use Rattle.redo_open.proofs.Told.{cause-since}
@@ -108,28 +111,78 @@ returns-in-Err-put_head-clause-cause g c =
 pub returns-in-Err-clause-calls : goal.returns-in-Err-clause-calls
 returns-in-Err-clause-calls g c =
     calls-log g.L.Sectors.gives g.D.Sectors.gives c.args.log.now _ c.args.data_device.now _ c.in-Err.error c.log_fault.result c.log_fault.ensures
-    (record { log = c.in-Err.ensures.calls; data_device = none_ends g.D.Sectors.gives c.args.data_device.now })
+    (record { log = (ends_of c.in-Err.ensures.calls); data_device = none_ends g.D.Sectors.gives c.args.data_device.now })
 
 pub returns-in-Err-clear_blocks-clause-calls : goal.returns-in-Err-clear_blocks-clause-calls
 returns-in-Err-clear_blocks-clause-calls g c =
     calls-log g.L.Sectors.gives g.D.Sectors.gives c.args.log.now _ c.args.data_device.now _ c.in-Err-clear_blocks.error c.log_fault-in-Err-clear_blocks.result c.log_fault-in-Err-clear_blocks.ensures
-    (record { log = ends_then c.in-Ok.ensures.calls c.in-Err-clear_blocks.ensures.calls; data_device = none_ends g.D.Sectors.gives c.args.data_device.now })
+    (record { log = ends_then (ends_of c.in-Ok.ensures.calls) (ends_of c.in-Err-clear_blocks.ensures.calls); data_device = none_ends g.D.Sectors.gives c.args.data_device.now })
 
 pub returns-in-Err-clear_pages-clause-calls : goal.returns-in-Err-clear_pages-clause-calls
 returns-in-Err-clear_pages-clause-calls g c =
     calls-data g.L.Sectors.gives g.D.Sectors.gives c.args.log.now _ c.args.data_device.now _ c.in-Err-clear_pages.error c.data_fault.result c.data_fault.ensures
-    (record { log = ends_then c.in-Ok.ensures.calls c.in-Ok-clear_blocks.ensures.calls; data_device = c.in-Err-clear_pages.ensures.calls })
+    (record { log = ends_then (ends_of c.in-Ok.ensures.calls) (ends_of c.in-Ok-clear_blocks.ensures.calls); data_device = (ends_of c.in-Err-clear_pages.ensures.calls) })
 
 pub returns-in-Err-mark-clause-calls : goal.returns-in-Err-mark-clause-calls
 returns-in-Err-mark-clause-calls g c =
     calls-log g.L.Sectors.gives g.D.Sectors.gives c.args.log.now _ c.args.data_device.now _ c.in-Err-mark.error c.log_fault-in-Err-mark.result c.log_fault-in-Err-mark.ensures
-    (record { log = ends_then c.in-Ok.ensures.calls (ends_then c.in-Ok-clear_blocks.ensures.calls (serves_end c.in-Err-mark.ensures.calls)); data_device = c.in-Ok-clear_pages.ensures.calls })
+    (record { log = ends_then (ends_of c.in-Ok.ensures.calls) (ends_then (ends_of c.in-Ok-clear_blocks.ensures.calls) (serves_end c.in-Err-mark.ensures.calls)); data_device = (ends_of c.in-Ok-clear_pages.ensures.calls) })
 
 pub returns-in-Err-put_head-clause-calls : goal.returns-in-Err-put_head-clause-calls
 returns-in-Err-put_head-clause-calls g c =
     calls-log g.L.Sectors.gives g.D.Sectors.gives c.args.log.now _ c.args.data_device.now _ c.in-Err-put_head.error c.log_fault-in-Err-put_head.result c.log_fault-in-Err-put_head.ensures
-    (record { log = ends_then c.in-Ok.ensures.calls (ends_then c.in-Ok-clear_blocks.ensures.calls (ends_then (serves_end c.in-Ok-mark.ensures.calls) c.in-Err-put_head.ensures.calls)); data_device = c.in-Ok-clear_pages.ensures.calls })
+    (record { log = ends_then (ends_of c.in-Ok.ensures.calls) (ends_then (ends_of c.in-Ok-clear_blocks.ensures.calls) (ends_then (serves_end c.in-Ok-mark.ensures.calls) (ends_of c.in-Err-put_head.ensures.calls))); data_device = (ends_of c.in-Ok-clear_pages.ensures.calls) })
 
 pub returns-in-Ok-put_head-clause-calls : goal.returns-in-Ok-put_head-clause-calls
 returns-in-Ok-put_head-clause-calls g c =
-    record { log = ends_then c.in-Ok.ensures.calls (ends_then c.in-Ok-clear_blocks.ensures.calls (ends_then (serves_end c.in-Ok-mark.ensures.calls) c.in-Ok-put_head.ensures.calls)); data_device = c.in-Ok-clear_pages.ensures.calls }
+    record { log = ends_then (ends_of c.in-Ok.ensures.calls) (ends_then (ends_of c.in-Ok-clear_blocks.ensures.calls) (ends_then (serves_end c.in-Ok-mark.ensures.calls) (ends_of c.in-Ok-put_head.ensures.calls))); data_device = (ends_of c.in-Ok-clear_pages.ensures.calls) }
+
+-- THE LENGTHS.
+
+pub returns-in-Err-clause-inside : goal.returns-in-Err-clause-inside
+returns-in-Err-clause-inside g c = record {
+  log = puts_of (put_weaker (within-longer 512 (log_device_length c.args.shape.now) (omega arith)) c.in-Err.ensures.calls);
+  data_device = puts_of (put_nothing g.D.Sectors.gives c.args.data_device.now);
+}
+
+pub returns-in-Err-clear_blocks-clause-inside : goal.returns-in-Err-clear_blocks-clause-inside
+returns-in-Err-clear_blocks-clause-inside g c =
+    let head = put_weaker (within-longer 512 (log_device_length c.args.shape.now) (omega arith)) c.in-Ok.ensures.calls in
+    record {
+      log = puts_of (puts_then head c.in-Err-clear_blocks.ensures.calls);
+      data_device = puts_of (put_nothing g.D.Sectors.gives c.args.data_device.now);
+    }
+
+pub returns-in-Err-clear_pages-clause-inside : goal.returns-in-Err-clear_pages-clause-inside
+returns-in-Err-clear_pages-clause-inside g c =
+    let head = put_weaker (within-longer 512 (log_device_length c.args.shape.now) (omega arith)) c.in-Ok.ensures.calls in
+    record {
+      log = puts_of (puts_then head c.in-Ok-clear_blocks.ensures.calls);
+      data_device = puts_of c.in-Err-clear_pages.ensures.calls;
+    }
+
+pub returns-in-Err-mark-clause-inside : goal.returns-in-Err-mark-clause-inside
+returns-in-Err-mark-clause-inside g c =
+    let head = put_weaker (within-longer 512 (log_device_length c.args.shape.now) (omega arith)) c.in-Ok.ensures.calls in
+    record {
+      log = puts_of (puts_then head (puts_then c.in-Ok-clear_blocks.ensures.calls (put_served (mark-within c.args.shape.now 0 8192) c.in-Err-mark.ensures.calls)));
+      data_device = puts_of c.in-Ok-clear_pages.ensures.calls;
+    }
+
+pub returns-in-Err-put_head-clause-inside : goal.returns-in-Err-put_head-clause-inside
+returns-in-Err-put_head-clause-inside g c =
+    let head = put_weaker (within-longer 512 (log_device_length c.args.shape.now) (omega arith)) c.in-Ok.ensures.calls in
+    record {
+      log = puts_of (puts_then head (puts_then c.in-Ok-clear_blocks.ensures.calls
+          (puts_then (put_served (mark-within c.args.shape.now 0 8192) c.in-Ok-mark.ensures.calls) c.in-Err-put_head.ensures.calls)));
+      data_device = puts_of c.in-Ok-clear_pages.ensures.calls;
+    }
+
+pub returns-in-Ok-put_head-clause-inside : goal.returns-in-Ok-put_head-clause-inside
+returns-in-Ok-put_head-clause-inside g c =
+    let head = put_weaker (within-longer 512 (log_device_length c.args.shape.now) (omega arith)) c.in-Ok.ensures.calls in
+    record {
+      log = puts_of (puts_then head (puts_then c.in-Ok-clear_blocks.ensures.calls
+          (puts_then (put_served (mark-within c.args.shape.now 0 8192) c.in-Ok-mark.ensures.calls) c.in-Ok-put_head.ensures.calls)));
+      data_device = puts_of c.in-Ok-clear_pages.ensures.calls;
+    }

@@ -1,14 +1,14 @@
 -- The first sector is written, and made to stay.
 use Rattle.std.proofs.Common.{◌≡◌, length, sym, ap, subst, ◌∙◌, ⊎_elim, arith}
 use Rattle.std.proofs.lemmas.Result.{on_ok_weaker}
-use Rattle.model_device.specs.{IsPutOrNot, synced, written}
+use Rattle.model_device.specs.{IsPutOrNot, IsWithin, synced, written}
 use Rattle.model_device.specs.Disk.{Disk}
 use Rattle.model_device.specs.declared.write.Write.{Write}
-use Rattle.model_log.specs.{head_text}
-use Rattle.redo_disk.proofs.Made.{serves_end}
+use Rattle.model_log.specs.{head_text, log_device_length}
 use Rattle.redo_disk.specs.{write_at}
 use Rattle.redo_open.specs.Blank.{MayHaveHead, HasHeadNow}
 use Rattle.redo_open.specs.Mark.{IsSettledLog}
+use Rattle.redo_open.proofs.Puts.{put_served}
 use Rattle.redo_open.proofs.Blanks.{failed-head, written-head, synced-head, head-kept}
 use Rattle.redo_open.proofs.Marks.{IsOneSector}
 use Rattle.redo_disk.proofs.Told.{told-as}
@@ -47,4 +47,6 @@ returns-clause-ok g c =
     c.write_and_sync.ensures.ok
 
 pub returns-clause-calls : goal.returns-clause-calls
-returns-clause-calls g c = serves_end c.write_and_sync.ensures.calls
+returns-clause-calls g c =
+    let inside : IsWithin (log_device_length c.args.shape.now) (write_at 0 c.fill_head.new.out) = omega (arith, c.fill_head.array_long) in
+    put_served inside c.write_and_sync.ensures.calls

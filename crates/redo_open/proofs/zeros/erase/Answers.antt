@@ -4,8 +4,9 @@ use Rattle.std.proofs.lemmas.Result.{err_from_is_err_and}
 use Rattle.model_device.specs.{FailsWrite, written}
 use Rattle.model_device.specs.Disk.{Disk}
 use Rattle.redo_disk.specs.{HasCause, HasSize, OnTold}
-use Rattle.redo_disk.proofs.Made.{call_ends, ends_then, none_ends}
 use Rattle.redo_open.specs.Erase.{Erases, HasErased}
+use Rattle.redo_open.proofs.Inside.{zeros-within}
+use Rattle.redo_open.proofs.Puts.{put_nothing, put_one, puts_then}
 use Rattle.redo_open.proofs.Erases.{IsPart, zeros_write, erases-failed, erased-none, erased-more}
 use Rattle.redo_disk.proofs.Told.{OnTold-then, on-err, told-same}
 use Rattle.redo_open.proofs.Told.{cause-since}
@@ -20,7 +21,7 @@ loop-at-init g c = record {
   later = omega arith;
   told = told-same _ _ (λ old new. HasSize (g.D.Sectors.seen c.args.device.now).size old → HasErased (g.D.Sectors.seen c.args.device.now).size c.args.from c.args.from old new)
       (λ disk sized. erased-none (g.D.Sectors.seen c.args.device.now).size c.args.from disk sized) refl;
-  calls = none_ends g.D.Sectors.gives c.args.device.now;
+  calls = put_nothing g.D.Sectors.gives c.args.device.now;
 }
 
 pub returns-in_err-write_zeros-clause-err : goal.returns-in_err-write_zeros-clause-err
@@ -47,6 +48,7 @@ loop-at-preserved g c =
       high = omega arith;
       range = record { from_sector = c.loop-at.invariant.aligned; whole_sectors = omega (arith, c.loop-at.invariant.aligned, c.requires.whole); within = omega (arith, c.requires.within) };
     } in
+    let inside = zeros-within c.args.end at c.min-count.result (omega arith) in
     record {
       aligned = omega (arith, c.loop-at.invariant.aligned, c.requires.whole);
       from = omega (arith, c.loop-at.invariant.from);
@@ -58,7 +60,7 @@ loop-at-preserved g c =
           (λ a b d so_far is_written sized. subst (HasErased size c.args.from (at + c.min-count.result) a) (sym is_written)
           (erased-more size c.args.from at c.min-count.result a b part (so_far sized)))
           c.loop-at.invariant.told c.in_ok-write_zeros.ensures.step.ok;
-      calls = ends_then c.loop-at.invariant.calls (call_ends c.in_ok-write_zeros.ensures.gives);
+      calls = puts_then c.loop-at.invariant.calls (put_one inside c.in_ok-write_zeros.ensures.gives);
     }
 
 pub returns-in_err-write_zeros-clause-cause : goal.returns-in_err-write_zeros-clause-cause
@@ -69,7 +71,8 @@ returns-in_err-write_zeros-clause-cause g c =
 
 pub returns-in_err-write_zeros-clause-calls : goal.returns-in_err-write_zeros-clause-calls
 returns-in_err-write_zeros-clause-calls g c =
-    let made = ends_then c.loop-at.invariant.calls (call_ends c.in_err-write_zeros.ensures.gives) in
+    let inside = zeros-within c.args.end c.loop-at.at c.min-count.result (omega arith) in
+    let made = puts_then c.loop-at.invariant.calls (put_one inside c.in_err-write_zeros.ensures.gives) in
     let p = err_from_is_err_and c.from_residual.result c.from_residual.ensures.1 in rw (p.1, p.2) made
 
 pub returns-clause-ok : goal.returns-clause-ok

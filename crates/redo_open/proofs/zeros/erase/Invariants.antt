@@ -1,7 +1,9 @@
 -- The sectors below the offset are zeros, and no call has failed.
 use Rattle.std.proofs.Common.{◌-◌, ◌≡◌, ◌≤◌, ◌%◌, None}
-use Rattle.redo_disk.specs.{EndWith, HasSize, MakesCalls, OnTold}
+use Rattle.model_device.specs.{IsWithin}
+use Rattle.redo_disk.specs.{HasSize, MakesCalls, OnTold}
 use Rattle.redo_open.specs.Erase.{HasErased}
+use Rattle.redo_open.specs.Puts.{PutsWhere}
 use Rattle.redo_open.proofs.zeros.erase.Given as goal
 
 abbrev pub invariant-loop-at : goal.invariant-loop-at
@@ -13,7 +15,7 @@ invariant-loop-at g l = record {
   later : (g.D.Sectors.seen l.fn.device).faults ≤ (g.D.Sectors.seen l.device).faults;
   told : OnTold (g.D.Sectors.seen l.fn.device).tells (g.D.Sectors.seen l.device).tells
       (λ old new. HasSize (g.D.Sectors.seen l.fn.device).size old → HasErased (g.D.Sectors.seen l.fn.device).size l.fn.from l.at old new);
-  calls : MakesCalls g.D.Sectors.gives l.fn.device l.device (EndWith None);
+  calls : MakesCalls g.D.Sectors.gives l.fn.device l.device (PutsWhere (IsWithin l.end) None);
 }
 
 abbrev pub decreases-loop-at : goal.decreases-loop-at

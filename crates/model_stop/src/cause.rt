@@ -1,0 +1,15 @@
+// Why no further block is read.
+use crate::Fit;
+
+/// Why no block is read behind the ones that are.
+#[derive(Clone, Copy, Debug, PartialEq, Eq)]
+pub enum Cause {
+    /// The last of them isn't full.
+    Partial,
+    /// They are as many as the log has.
+    Round,
+    /// The next one's lsn is the limit or above.
+    End,
+    /// What stands in the next one's place is no block of its lsn.
+    Misfit(Fit),
+}
