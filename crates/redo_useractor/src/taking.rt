@@ -224,7 +224,7 @@ impl UserActor {
 
     /// The Op of its own step was answered, and not a check of FAILED.
     #[tactic(auto, using(crate::proofs::Heard::heard_at_most))]
-    fn goes_on(&mut self, answer: Answer) -> Step
+    fn took_own(&mut self, answer: Answer) -> Step
         requires own { self.old.checks ≡ false }
         requires fits { AnswerFits (actor.User self.old) answer }
         ensures state { actor.User self.new ≡ took (actor.User self.old) answer }
@@ -277,6 +277,6 @@ impl UserActor {
         if self.checks {
             return self.checked(old_of(answer));
         }
-        self.goes_on(answer)
+        self.took_own(answer)
     }
 }
