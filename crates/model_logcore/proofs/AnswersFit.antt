@@ -8,7 +8,7 @@ use Rattle.model_base.specs.declared.limits.TheConstants.{LSN_LIMIT}
 use Rattle.model_core.proofs.Groups.{first_base, first_from, tiles_at}
 use Rattle.model_core.proofs.Lanes.{part_word}
 use Rattle.model_core.proofs.Lsns.{lsn_le, lsn_below, lsn_wide, sn_below}
-use Rattle.model_core.specs.{Actor, answer_limit, checkpointer_op, cleaner_op, closer_op, end_of, first_of, flusher_op, group_bytes, lane_of, left_in_word, Listed, lsn, next, old_of, read_place, shared_answer, SharedWords, user_fits, user_op, UserState, writer_fits, writer_op, WriterState}
+use Rattle.model_core.specs.{Actor, answer_limit, checkpointer_op, cleaner_op, closer_op, end_of, first_of, flusher_op, group_bytes, left_in_word, Listed, lsn, next, old_of, read_place, shared_answer, SharedWords, user_fits, user_op, UserState, writer_fits, writer_op, WriterState}
 use Rattle.model_core.specs.Fitting.{Fitting}
 use Rattle.model_core.specs.LogSide.{LogSide}
 use Rattle.model_core.specs.Setup.{Setup}
