@@ -1,10 +1,8 @@
 -- The words of a frame: cells stored in the lanes of a word are stored in the frame's bytes.
-use Rattle.std.proofs.Common.{Bool, List, [], ap, arith, cond, drop, eq-eqb, eqb, eqb-true, get_or-set_other, get_or-set_same, length, length-append, length-set, length-take-le, ne_eqb, refl, subst, suc, sym, take, true, false, zero, ℕ, ◌%◌, ◌*◌, ◌++◌, ◌+◌, ◌-◌, ◌/◌, ◌<◌, ◌^◌, ◌∙◌, ◌∷◌, ◌≡◌, ◌≢◌, ◌≤◌}
-use Rattle.std.proofs.Math.Seq.{take-add}
-use Rattle.std.proofs.lemmas.Bool.{eqb-false}
+use Rattle.std.proofs.Common.{Bool, List, [], ap, arith, cond, eq-eqb, eqb, eqb-true, get_or-set_other, get_or-set_same, length, length-append, length-set, length-take-le, ne_eqb, refl, subst, suc, sym, take, true, false, zero, ℕ, ◌%◌, ◌*◌, ◌++◌, ◌+◌, ◌-◌, ◌/◌, ◌<◌, ◌∙◌, ◌∷◌, ◌≡◌, ◌≢◌, ◌≤◌}
 use Rattle.std.proofs.lemmas.List.{ext_get_or, get_or-take}
 use Rattle.std.proofs.lemmas.Nat.{le_bytes_8}
-use Rattle.std.specs.Int.{from_le_bytes, to_le_bytes, w64}
+use Rattle.std.specs.Int.{from_le_bytes, w64}
 use Rattle.std.specs.Prelude.{get_or, slice_index, slice_set}
 use native.Mathlib.Decide.{dec_le, ℕ_discrete}
 use Rattle.model_core.proofs.Groups.{back, front}

@@ -1,13 +1,12 @@
 -- Facts on the eight lanes of a word: what stands there after an addition onto lanes that are 0, and which places of the stream
 -- share a word.
-use Rattle.std.proofs.Common.{List, [], ap, arith, drop, length, length-append, length-drop, length-take-le, refl, subst, suc, sym, zero, ℕ, ⊎_elim, ◌%◌, ◌*◌, ◌++◌, ◌+◌, ◌-◌, ◌/◌, ◌<◌, ◌^◌, ◌∙◌, ◌∷◌, ◌≡◌, ◌≢◌, ◌≤◌, ◌⊎◌}
+use Rattle.std.proofs.Common.{List, [], ap, arith, drop, length, length-drop, length-take-le, refl, subst, suc, sym, zero, ℕ, ⊎_elim, ◌%◌, ◌*◌, ◌++◌, ◌+◌, ◌-◌, ◌/◌, ◌<◌, ◌^◌, ◌∙◌, ◌∷◌, ◌≡◌, ◌≤◌, ◌⊎◌}
 use Rattle.std.proofs.Math.Nat.{zero-div}
 use Rattle.std.proofs.lemmas.List.{get_or-drop, get_or-replicate, get_or-take, length-replicate}
 use Rattle.std.proofs.lemmas.Nat.{from_le_bytes-to_le_bytes_8, le_bytes_8}
 use Rattle.std.specs.Int.{byte_at, bytes_low_first, from_le_bytes, to_le_bytes, w64}
 use Rattle.std.specs.Prelude.{get_or, min, replicate, slice_index}
 use native.Mathlib.Decide.{dec_le}
-use Rattle.model_base.specs.declared.limits.TheConstants.{BLOCK_SIZE}
 use Rattle.model_core.proofs.Groups.{back, front}
 use Rattle.model_core.proofs.Lsns.{lsn_same, ring_same}
 use Rattle.model_core.specs.Lanes.{cell_of, lane_of, left_in_word}
@@ -15,8 +14,7 @@ unfoldable use Rattle.model_core.specs.Lanes.{lane, lanes, packed}
 use Rattle.model_core.specs.Lsn.{floor, lsn}
 use Rattle.model_core.specs.States.{UserState}
 use Rattle.model_core.specs.UserProgram.{copy_place, group_bytes, next_bytes, next_count}
-use Rattle.model_core.specs.declared.limits.TheConstants.{BUFFER_WORDS, LOG_BUFFER, WORD_LANES}
-use Rattle.model_log.specs.declared.layout.TheConstants.{BLOCK_DATA}
+use Rattle.model_core.specs.declared.limits.TheConstants.{LOG_BUFFER}
 
 -- ON LANES. What stands in a lane is a byte
 pub lane_small : (j w : ℕ) → lane j w < 256

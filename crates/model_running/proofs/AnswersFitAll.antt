@@ -1,5 +1,5 @@
 -- The answer to any actor's Op is one that it can take.
-use Rattle.std.proofs.Common.{Bool, List, [], arith, cond, eqb, false, get_or, refl, set, subst, suc, sym, true, zero, ℕ, ⊎_elim, ◌%◌, ◌<◌, ◌^◌, ◌∷◌, ◌≡◌}
+use Rattle.std.proofs.Common.{Bool, List, arith, cond, false, true, ℕ, ⊎_elim, ◌%◌, ◌<◌, ◌^◌, ◌≡◌}
 use Rattle.std.specs.Prelude.{slice_index}
 use lib.ListN.{get_elem?}
 use mathlib.Core.Option.{some}
@@ -7,7 +7,7 @@ use native.Mathlib.Decide.{dec_le}
 use Rattle.model_base.specs.declared.limits.TheConstants.{LSN_LIMIT}
 use Rattle.model_core.proofs.Groups.{tiles_at}
 use Rattle.model_core.proofs.Lsns.{lsn_le}
-use Rattle.model_core.specs.{Actor, CellWrite, change_at, checkpointer_op, cleaner_fits, cleaner_op, CleanerState, closer_fits, closer_op, CloserState, end_of, Entry, flusher_op, is_checking, Listed, lsn, next, old_of, own_op, PageChange, PageFitting, shared_answer, SharedWords, user_op, writer_op}
+use Rattle.model_core.specs.{Actor, checkpointer_op, cleaner_fits, cleaner_op, CleanerState, closer_fits, closer_op, CloserState, end_of, flusher_op, is_checking, Listed, lsn, next, old_of, own_op, PageFitting, shared_answer, SharedWords, user_op, writer_op}
 use Rattle.model_core.specs.AnswerFits.{AnswerFits}
 use Rattle.model_core.specs.DataSide.{DataSide}
 use Rattle.model_core.specs.LogSide.{LogSide}
@@ -17,7 +17,7 @@ use Rattle.model_core.specs.declared.steps.CleanerStep.{CleanerStep}
 use Rattle.model_core.specs.declared.steps.CloserStep.{CloserStep}
 use Rattle.model_logcore.proofs.AnswersFit.{can_take, small_sn}
 use Rattle.model_logcore.specs.{LogGhost}
-use Rattle.model_pagecore.specs.{applied_all, cells_on, CleanerAt, CleanerFits, CloserFits, PageGhost, write_cells}
+use Rattle.model_pagecore.specs.{CleanerAt, CleanerFits, CloserFits, PageGhost}
 use Rattle.model_running.specs.Bounds.{HasBytes, HaveSmallCodes}
 use Rattle.model_running.specs.RunningStore.{BothHalves}
 use Rattle.model_core.specs.declared.words.Word.TheVariants as word
@@ -25,36 +25,6 @@ use Rattle.model_core.specs.declared.ops.Op.TheVariants as op
 use Rattle.model_core.specs.declared.steps.CloserStep.TheVariants as closer_step
 use Rattle.model_core.specs.declared.steps.CleanerStep.TheVariants as cleaner_step
 use Rattle.model_core.specs.Actors as actor
-
--- bytes stay bytes where one is stored
-set_bytes : (b : List ℕ) (at v : ℕ) → v < 256 → ((i : ℕ) → slice_index b i < 256) → (i : ℕ) → slice_index (set b at v) i < 256
-set_bytes [] at v small each i = omega arith
-set_bytes (x ∷ xs) zero v small each zero = small
-set_bytes (x ∷ xs) zero v small each (suc i) = each (suc i)
-set_bytes (x ∷ xs) (suc at) v small each zero = each 0
-set_bytes (x ∷ xs) (suc at) v small each (suc i) = set_bytes xs at v small (λ j. each (suc j)) i
-
-abbrev none_written : CellWrite
-none_written = record { at = 0; value = 0 }
-
-abbrev AreSmall : List CellWrite → Type 0
-AreSmall xs = (i : ℕ) → (get_or xs i none_written).value < 256
-
-write_bytes : (xs : List CellWrite) (b : List ℕ) → AreSmall xs → ((i : ℕ) → slice_index b i < 256) → (i : ℕ) → slice_index (write_cells xs b) i < 256
-write_bytes [] b small each i = each i
-write_bytes (x ∷ xs) b small each i = write_bytes xs (set b x.at x.value) (λ j. small (suc j)) (set_bytes b x.at x.value (small 0) each) i
-
-cells_small : (p : ℕ) (cs : List PageChange) → ((k : ℕ) → AreSmall (change_at cs k).cells) → AreSmall (cells_on p cs)
-cells_small p [] small = λ i. omega arith
-cells_small p (x ∷ xs) small = by (eqb x.page p) (cells_small p xs (λ k. small (suc k)))
-  where
-    by : (b : Bool) → AreSmall (cells_on p xs) → AreSmall (cond b x.cells (cells_on p xs))
-    by true rest = small 0
-    by false rest = rest
-
-applied_bytes : (p : ℕ) (log : List Entry) (b : List ℕ) → ((n : ℕ) (e : Entry) → get_elem? log n ≡ some e → (k : ℕ) → AreSmall (change_at e.changes k).cells) → ((i : ℕ) → slice_index b i < 256) → (i : ℕ) → slice_index (applied_all p log b) i < 256
-applied_bytes p [] b small each i = each i
-applied_bytes p (e ∷ es) b small each i = applied_bytes p es (write_cells (cells_on p e.changes) b) (λ n x is. small (suc n) x is) (write_bytes (cells_on p e.changes) b (cells_small p e.changes (small 0 e refl)) each) i
 
 module _ (D : LogSide) (E : DataSide) (c : Setup) (spare : ℕ) (m : SharedWords) (g : LogGhost) (h : PageGhost) (ls : ℕ → List Listed) (p : D.Part) (d : E.Part) (actors : List Actor) (seat : ℕ) (both : BothHalves D E c spare m g h ls p d actors) (bytes : HasBytes c) (codes : HaveSmallCodes D E) (broken : Bool) (code mark : ℕ) where
   small_top : lsn m.sn < LSN_LIMIT
@@ -72,9 +42,6 @@ module _ (D : LogSide) (E : DataSide) (c : Setup) (spare : ℕ) (m : SharedWords
         | no none ↦ omega arith
       ]
   closer_can t at _ = tt
-
-  cell_small : (n : ℕ) (e : Entry) → get_elem? g.log n ≡ some e → (k : ℕ) → AreSmall (change_at e.changes k).cells
-  cell_small n e is k = let l = both.logged.global.tiled.lines n e is in subst (λ (cs : List PageChange). AreSmall (change_at cs k).cells) (sym l.2) (bytes.cells e.user e.k k)
 
   cleaner_can : (v : CleanerState) → (f : CleanerStep) → CleanerAt E c m g.log h ls d seat v f → cleaner_fits (old_of (shared_answer ls broken code mark m (cleaner_op v f))) f
   cleaner_can v cleaner_step.LoadFlushed at = tt

@@ -1,10 +1,9 @@
 -- Where the writer stands once it has kept a whole word.
-use Rattle.std.proofs.Common.{Bool, List, ap, arith, cond, eqb, length, length-append, refl, ℕ, ◌*◌, ◌++◌, ◌+◌, ◌∙◌, ◌≡◌}
+use Rattle.std.proofs.Common.{List, ap, arith, cond, eqb, length, length-append, ℕ, ◌*◌, ◌++◌, ◌+◌, ◌∙◌, ◌≡◌}
 use Rattle.model_core.proofs.Lanes.{lanes_long}
 unfoldable use Rattle.model_core.specs.{lanes}
 use Rattle.model_core.specs.{lane_of, left_in_word, lsn, read_place, writer_took, WriterState}
 use Rattle.model_core.specs.declared.ops.Answer.{Answer}
-use Rattle.model_core.specs.declared.steps.WriterStep.{WriterStep}
 use Rattle.model_core.specs.declared.steps.WriterStep.TheVariants as writer_step
 use Rattle.redo_logactors.specs.WriterView.{after_word}
 

@@ -1,5 +1,5 @@
 -- A page's frame while its user bytes are written into it.
-use Rattle.std.proofs.Common.{List, [], ap, arith, length, refl, set, subst, suc, sym, zero, ℕ, ◌+◌, ◌<◌, ◌∙◌, ◌∷◌, ◌≡◌}
+use Rattle.std.proofs.Common.{List, [], ap, arith, length, refl, set, subst, suc, sym, zero, ℕ, ◌<◌, ◌∙◌, ◌∷◌, ◌≡◌}
 use Rattle.std.specs.Prelude.{slice_index, slice_set}
 use Rattle.std.proofs.lemmas.List.{ext_get_or, get_or-set_same, set-get_or, set-set}
 use Rattle.model_core.specs.{blank_words, page_words_at, PageWords, SharedWords, with_page_words, wrote}

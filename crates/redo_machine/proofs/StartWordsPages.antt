@@ -1,8 +1,8 @@
 -- The pages of a store as a run finds them: their cells, and what they hold.
-use Rattle.std.proofs.Common.{List, [], ap, append_assoc, arith, drop, get_or, length, length-append, refl, replicate, set, subst, suc, sym, take, zero, ℕ, ⊎_elim, ◌++◌, ◌+◌, ◌-◌, ◌<◌, ◌∙◌, ◌∷◌, ◌≡◌, ◌≤◌}
-use Rattle.std.specs.Prelude.{Some, slice_get, slice_index, slice_set}
+use Rattle.std.proofs.Common.{List, [], ap, append_assoc, arith, drop, get_or, length, length-append, refl, replicate, subst, suc, sym, take, zero, ℕ, ⊎_elim, ◌++◌, ◌+◌, ◌-◌, ◌<◌, ◌∙◌, ◌∷◌, ◌≡◌, ◌≤◌}
+use Rattle.std.specs.Prelude.{Some, slice_get, slice_index}
 use Rattle.std.proofs.lemmas.Bool.{cases_lt}
-use Rattle.std.proofs.lemmas.List.{drop_at, get_or_past, length-replicate, set-append_left, set-append_right, take_at}
+use Rattle.std.proofs.lemmas.List.{drop_at, get_or_past, length-replicate, take_at}
 use Rattle.std.proofs.lemmas.Option.{get_or_from_slice_get, slice_get-get_or, slice_get_within}
 use Rattle.model_base.specs.{IsWithinLimits}
 use Rattle.model_base.specs.declared.limits.TheConstants.{USER_BYTES, USER_START}
@@ -51,14 +51,6 @@ module _ (before behind : ℕ) (user : List ℕ) where
       zeros : (n i : ℕ) → slice_index (replicate n 0) i < limit
       zeros n i = subst (λ (k : ℕ). k < limit) (sym (replicate_zero n i)) some
 
--- a byte of them that changes
-framed-set : (before behind : ℕ) (user : List ℕ) (i x : ℕ) → i < length user → set (framed before behind user) (before + i) x ≡ framed before behind (set user i x)
-framed-set before behind user i x there =
-    let front : List ℕ = replicate before 0 in
-    set-append_left (front ++ user) (replicate behind 0) (before + i) x (omega (arith, length-append front user, length-replicate {A = ℕ} before 0))
-    ∙ ap (λ (xs : List ℕ). xs ++ replicate behind 0) (set-append_right front user before (before + i) x (length-replicate {A = ℕ} before 0) (omega arith)
-    ∙ ap (λ (k : ℕ). front ++ set user k x) (let e : before + i - before ≡ i = omega arith in e))
-
 -- the cells of a page by its user bytes
 pub page_cells-length : (user : List ℕ) → length (page_cells user) ≡ USER_START + length user + TRAILER_LENGTH
 unfolding page_cells
@@ -71,13 +63,6 @@ user_part-page_cells user = framed-user USER_START TRAILER_LENGTH user
 pub page_cells-small : (limit : ℕ) (user : List ℕ) → 0 < limit → ((i : ℕ) → slice_index user i < limit) → (i : ℕ) → slice_index (page_cells user) i < limit
 unfolding page_cells
 page_cells-small limit user some small = framed-small USER_START TRAILER_LENGTH user limit some small
-
-pub page_cells-zero : (user : List ℕ) → ((i : ℕ) → slice_index user i ≡ 0) → (i : ℕ) → slice_index (page_cells user) i ≡ 0
-page_cells-zero user zero_each i = let small = page_cells-small 1 user (omega arith) (λ j. omega (arith, zero_each j)) i in omega arith
-
-pub page_cells-set : (user : List ℕ) (i x : ℕ) → i < length user → slice_set (page_cells user) (USER_START + i) x ≡ page_cells (slice_set user i x)
-unfolding page_cells
-page_cells-set user i x there = framed-set USER_START TRAILER_LENGTH user i x there
 
 -- a page that was never written has all its user bytes, each 0
 pub unwritten-length : length unwritten_page.user ≡ USER_BYTES

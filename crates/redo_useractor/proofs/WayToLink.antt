@@ -1,12 +1,11 @@
 -- On the way from a reservation to its link each Op that doesn't wait brings a user one Op nearer.
-use Rattle.std.proofs.Common.{Bool, ap, arith, cond, eq-eqb, eqb, false, length, min, nat_lt, ne_eqb, refl, subst, sym, true, ℕ, ⊎_elim, ◌+◌, ◌-◌, ◌/◌, ◌<◌, ◌==◌, ◌∙◌, ◌≡◌, ◌≢◌, ◌≤◌}
+use Rattle.std.proofs.Common.{Bool, ap, arith, cond, eq-eqb, false, length, min, nat_lt, ne_eqb, refl, subst, sym, true, ℕ, ⊎_elim, ◌+◌, ◌-◌, ◌/◌, ◌<◌, ◌==◌, ◌∙◌, ◌≡◌, ◌≢◌, ◌≤◌}
 use Rattle.std.proofs.lemmas.Bool.{cases_eq}
 use Rattle.model_core.specs.{can_link, changes, checked, copy_place, group_bytes, group_end, has_room, heard, left_in_word, mode, next_count, old_of, own_took, step_of, took, user_took, user_waits, UserState}
 use Rattle.model_core.specs.Actors as actor
 use Rattle.model_core.specs.Waiting.{ending}
 use Rattle.model_core.specs.Actors.{Actor}
 use Rattle.model_core.specs.declared.ops.Answer.{Answer}
-use Rattle.model_core.specs.declared.ops.Step.{Step}
 use Rattle.model_core.specs.declared.ops.Step.TheVariants as step
 use Rattle.model_core.specs.declared.steps.UserStep.{UserStep}
 use Rattle.model_core.specs.declared.steps.UserStep.TheVariants as user_step

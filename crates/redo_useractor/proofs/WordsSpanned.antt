@@ -1,5 +1,5 @@
 -- How many words the bytes of a group fill, by the numbers of the words.
-use Rattle.std.proofs.Common.{Bool, ap, arith, cond, eq-eqb, ne_eqb, refl, subst, suc, sym, zero, ℕ, ⊎_elim, ◌+◌, ◌-◌, ◌/◌, ◌<◌, ◌==◌, ◌∙◌, ◌≡◌, ◌≢◌, ◌≤◌}
+use Rattle.std.proofs.Common.{Bool, ap, arith, cond, eq-eqb, ne_eqb, subst, suc, sym, zero, ℕ, ⊎_elim, ◌+◌, ◌-◌, ◌/◌, ◌<◌, ◌==◌, ◌∙◌, ◌≡◌, ◌≢◌, ◌≤◌}
 use Rattle.std.proofs.lemmas.Bool.{cases_eq}
 use Rattle.model_core.proofs.WordCounts.{data_word, last_number, next_number, numbers_grow, same_number, same_word_of}
 use Rattle.model_core.specs.{left_in_word, lsn}

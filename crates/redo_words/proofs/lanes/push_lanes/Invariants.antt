@@ -1,4 +1,4 @@
-use Rattle.std.proofs.Common.{◌≡◌, ◌++◌, vec_capacity, ℕ}
+use Rattle.std.proofs.Common.{◌≡◌, ◌++◌, vec_capacity}
 unfoldable use Rattle.model_core.specs.{lanes}
 use Rattle.redo_words.proofs.lanes.push_lanes.Given as goal
 

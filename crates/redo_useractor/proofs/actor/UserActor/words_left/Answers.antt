@@ -1,4 +1,4 @@
-use Rattle.std.proofs.Common.{ap, arith, length, sym, ◌+◌, ◌-◌, ◌∙◌, ◌≡◌}
+use Rattle.std.proofs.Common.{ap, arith, length, ◌+◌, ◌-◌, ◌∙◌, ◌≡◌}
 use Rattle.model_core.specs.{copy_place, group_bytes, Line, UserState}
 use Rattle.redo_useractor.proofs.WordsSpanned.{by_numbers}
 use Rattle.redo_useractor.specs.ToLink.{data_word}
