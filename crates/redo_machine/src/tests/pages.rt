@@ -16,6 +16,9 @@ const THREE_LINES: &[u8] = b"1 n b1 3 100 7\n1 n b1 3 100 9\n2 n b1 4 100 8\n";
 /// A line whose group of 13 bytes is on two pages.
 const TWO_PAGES: &[u8] = b"1 f b1 3 100 7;b1 4 100 8\n";
 
+/// A line whose group of 29 bytes writes over its own bytes, with all of the page's user bytes set to 0 in between.
+const OVERLAPPING: &[u8] = b"1 f b8 3 40 1;i 3;s 3 41 0a0b;b2 3 42 7\n";
+
 /// Two users on one page: the second waits until the first has released the latch. The cleaner writes both bytes.
 #[test]
 fn two_users_on_one_page(rt: HostRuntime) -> Result<(), Fail> {
@@ -135,6 +138,25 @@ fn a_batch_is_stopped(rt: HostRuntime) -> Result<(), Fail> {
                 assert_eq!(rt; (lsn, user.get(62)), (8217, Some(&byte)), "page {page}");
             }
         }
+    }
+    Ok(())
+}
+
+/// The last record that writes a cell decides it. The user goes over the 507 words of user bytes: the first holds two of them
+/// and is loaded before it is stored, the others are stored at once. So it takes 4 turns up to its latch, 2 for its place, 5 to copy
+/// its words, 2 for its link, 1 for the closed mark, 508 for the frame, and 7 up to the latch's release.
+#[test]
+fn records_write_over_one_another(rt: HostRuntime) -> Result<(), Fail> {
+    let turns = [(0, 529, Moved)];
+    let run = Run {
+        rounds: 4,
+        ..Run::by_hand(OVERLAPPING, &turns)
+    };
+    let mut outcome = outcome_of(&rt, rt.alloc(), &run)?;
+    assert_eq!(rt; (outcome.ended, outcome.code), (Ran::Done, 0));
+    assert_eq!(rt; outcome.read, (1, 8233));
+    for (offset, byte) in [(38, 0), (40, 0), (41, 10), (42, 0), (43, 7), (47, 0), (4087, 0)] {
+        assert_eq!(rt; byte_in_place(&rt, &mut outcome, 3, offset)?, byte, "offset {offset}");
     }
     Ok(())
 }
