@@ -1,5 +1,5 @@
 -- What a crash meets: a run whose lines were played, or none, where a device stopped opening.
-use Rattle.std.proofs.Common.{ℕ, ◌≡◌, ◌≤◌, ◌<◌, ◌+◌, Bool, List, [], Option, Some, None, IfSome, refl, sym, subst, arith}
+use Rattle.std.proofs.Common.{ℕ, ◌≡◌, ◌<◌, ◌+◌, List, [], Option, Some, None, IfSome, refl, sym, subst, arith}
 use Rattle.model_base.specs.{default_shape}
 use Rattle.model_device.specs.{IsImage}
 use Rattle.model_command.specs.declared.asked.Command.{Command}

@@ -1,6 +1,6 @@
 -- What a crash comes to: a report, or why there is none.
 use Rattle.model_theorem.specs.{ReadsPrefix}
-use Rattle.std.proofs.Common.{ℕ, ◌≡◌, ◌≤◌, ◌+◌, Bool, List, Option, Some, None, IfSome, refl, sym, subst, ◌∙◌, inr, arith}
+use Rattle.std.proofs.Common.{ℕ, ◌≡◌, ◌+◌, List, Option, Some, None, IfSome, refl, sym, subst, ◌∙◌, inr, arith}
 use Rattle.std.proofs.lemmas.Bool.{false≢true}
 use Rattle.model_command.specs.declared.asked.Command.TheVariants.{Crash}
 use Rattle.model_command.specs.declared.asked.Drive.{Drive}
@@ -11,7 +11,6 @@ use Rattle.model_script.specs.declared.script.ScriptLine.{ScriptLine}
 use Rattle.model_store.specs.declared.refusal.Refusal.{Refusal}
 use Rattle.model_theorem.specs.{entries_of, IsOpenedBefore, LosesOnlyByFailure, Opened, Ran}
 use Rattle.model_history.specs.{IsLeft}
-use Rattle.redo_disk.specs.Seen.{Seen}
 use Rattle.redo_lab.specs.declared.outcome.Outcome.{Outcome}
 use Rattle.redo_lab.specs.declared.outcome.Outcome.TheVariants as outcome
 use Rattle.redo_lab.specs.declared.playing.Played.{Played}

@@ -16,7 +16,6 @@ use Rattle.redo_lab.proofs.RunPossible.{OneReading}
 use Rattle.redo_lab.specs.Answer.{IsDevice, stop_of}
 use Rattle.redo_lab.specs.Call.{Call, Guarded}
 use Rattle.redo_lab.specs.Course.{AreUnderWay}
-use Rattle.redo_lab.specs.Playing.{unopened}
 use Rattle.redo_lab.specs.Stages.{IsCrashedWith, Shown, now_of}
 
 -- the crash theorem holds of a call whose run is safe

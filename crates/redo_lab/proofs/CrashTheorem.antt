@@ -1,9 +1,9 @@
 -- The crash theorem of a call, put together.
-use Rattle.std.proofs.Common.{ℕ, ◌≡◌, ◌≢◌, ◌+◌, ◌++◌, Bool, List, Option, Some, None, IfSome, refl, subst, arith}
+use Rattle.std.proofs.Common.{ℕ, ◌≡◌, ◌≢◌, ◌+◌, List, Option, Some, None, IfSome, refl, subst, arith}
 use Rattle.model_command.specs.declared.asked.Drive.{Drive}
 use Rattle.model_device.specs.Disk.{Disk}
 use Rattle.model_script.specs.declared.script.ScriptLine.{ScriptLine}
-use Rattle.model_theorem.specs.{Account, CrashOptions, CrashSafe, Opened, Ran, RunSafe}
+use Rattle.model_theorem.specs.{Account, CrashSafe, Opened, Ran, RunSafe}
 use Rattle.model_theorem.specs.Premises.{Premises}
 use Rattle.model_theorem.specs.Values as values
 use Rattle.redo_lab.specs.declared.playing.Stops.{Stops}

@@ -1,20 +1,14 @@
 -- From the outcome of a command to the ending of the call.
-use Rattle.std.proofs.Common.{ℕ, ◌≡◌, ◌≢◌, ◌+◌, ◌⊎◌, List, [], ◌++◌, Option, Some, None, IfSome, refl, sym, ap, subst, ◌∙◌, inl, inr, ⊎_elim, arith, true}
+use Rattle.std.proofs.Common.{ℕ, ◌≡◌, ◌+◌, ◌⊎◌, List, [], Some, None, refl, subst, inl, inr, ⊎_elim, true}
 use Rattle.model_base.specs.{HasRisen}
 use Rattle.model_base.specs.declared.limits.TheConstants.{MAX_SCRIPT}
 use Rattle.model_command.specs.declared.asked.Command.{Command}
-use Rattle.model_command.specs.declared.asked.Command.TheVariants.{Format, Run, Crash, Recover, Dump, Gen}
-use Rattle.model_command.specs.declared.asked.Drive.{Drive}
+use Rattle.model_command.specs.declared.asked.Command.TheVariants.{Run}
 use Rattle.model_report.specs.{status_of}
 use Rattle.model_report.specs.declared.fault.Fault.{Fault}
 use Rattle.model_report.specs.declared.fault.Fault.TheVariants as fault
-use Rattle.model_theorem.specs.{CrashOptions}
-use Rattle.model_store.specs.declared.refusal.Refusal.TheVariants as refusal
-use Rattle.redo_io.specs.{SinkSeen, TakesAtMost, with_taken}
+use Rattle.redo_io.specs.{SinkSeen, TakesAtMost}
 use Rattle.redo_io.specs.declared.read.TheConstants.{PIECE}
-use Rattle.redo_disk.specs.Seen.{Seen}
-use Rattle.redo_memdisk.specs.{fresh}
-use Rattle.redo_memdisk.specs.declared.fuse.Fuse.{Fuse}
 use Rattle.redo_lab.specs.declared.outcome.Outcome.{Outcome}
 use Rattle.redo_lab.specs.declared.outcome.Outcome.TheVariants as outcome
 use Rattle.redo_lab.proofs.Keeping.{OpenableLaw}
@@ -24,7 +18,6 @@ use Rattle.redo_lab.specs.Call.{LabCall}
 use Rattle.redo_lab.specs.Complete.{MayKeepFrom}
 use Rattle.redo_lab.specs.Ending.{HasFault, HasReport, HasText, IsCallOf, IsFaultPrinted, success}
 use Rattle.redo_lab.specs.Outcome.{EndsWith, IsDoneOrKeptFrom, IsOutcome, IsOutcomePrinted, IsReported}
-use Rattle.redo_lab.specs.Playing.{ended_by}
 
 -- a device that ended a run is reported of `run` alone
 reported-run : (lab : LabCall) (command : Command) (text : List ℕ) (f : Fault)

@@ -1,6 +1,5 @@
 -- The devices behind the fuses are those that were handed in.
-use Rattle.std.proofs.Common.{◌≡◌, List, Option, Some, None, Result, Ok, Err, refl, sym, ap, ◌∙◌, ⊎_elim}
-use Rattle.model_report.specs.declared.fault.Fault.TheVariants as fault
+use Rattle.std.proofs.Common.{◌≡◌, List, Result, Ok, Err, refl, ap, ◌∙◌, ⊎_elim}
 use Rattle.model_script.specs.declared.script.ScriptLine.{ScriptLine}
 use Rattle.redo_disk.specs.{Call, MakesCalls}
 use Rattle.redo_disk.specs.Seen.{Seen}
@@ -13,7 +12,6 @@ use Rattle.redo_pageactors.specs.declared.opened.Opened.{Opened}
 use Rattle.redo_recover.specs.declared.fault.RecFault.{RecFault}
 use Rattle.redo_recover.specs.declared.fault.RecFault.TheVariants.{LogDev, DataDev, NoMemory}
 use Rattle.redo_lab.specs.declared.playing.Course.{Course}
-use Rattle.redo_lab.specs.declared.playing.Course.TheVariants as course
 use Rattle.redo_lab.specs.Handed.{AreOf}
 use Rattle.redo_lab.specs.Playing.{AreDriven, AreLeftOpened}
 

@@ -1,19 +1,18 @@
 -- What `format` comes to.
 use Rattle.model_report.specs.declared.fault.Fault.TheVariants as fault
-use Rattle.std.proofs.Common.{ℕ, ◌≡◌, ◌≤◌, ◌<◌, ◌+◌, true, List, Result, Ok, Err, IfSome, IfOk, refl, sym, subst, inl, inr, arith}
+use Rattle.std.proofs.Common.{ℕ, ◌≡◌, List, Result, Ok, Err, IfSome, IfOk, sym, subst, arith}
 use Rattle.std.proofs.lemmas.Bool.{false≢true}
 use Rattle.model_base.specs.{IsWithinLimits}
 use Rattle.model_base.specs.declared.shape.Shape.{Shape}
 use Rattle.model_command.specs.declared.asked.Command.TheVariants.{Format}
-use Rattle.model_device.specs.{IsImage}
 use Rattle.model_device.specs.Disk.{Disk}
 use Rattle.model_opening.specs.Formatted as opening
-use Rattle.model_opening.specs.{formatted_store, IsOpenable, KeepsNoStore}
+use Rattle.model_opening.specs.{formatted_store, IsOpenable}
 use Rattle.model_report.specs.{format_text}
 use Rattle.model_store.specs.{IsOrderly}
 use Rattle.model_store.specs.declared.refusal.Refusal.TheVariants as refusal
 use Rattle.redo_disk.specs.Seen.{Seen}
-use Rattle.redo_open.specs.{HasFormatCause, WhereBothTell}
+use Rattle.redo_open.specs.{HasFormatCause}
 use Rattle.redo_recover.specs.declared.fault.RecFault.{RecFault}
 use Rattle.redo_recover.specs.declared.fault.RecFault.TheVariants.{SmallLog, NotFormatted, BadFormat, SmallData, NoCheckpoint, BadRecord, PageLost, PageAhead, LogDev, DataDev, NoMemory}
 use Rattle.model_store.specs.declared.refusal.Refusal.{Refusal}
@@ -24,7 +23,7 @@ use Rattle.redo_lab.proofs.RunPlayed.{FormattedLaw}
 use Rattle.redo_lab.proofs.Running.{AreTelling}
 use Rattle.redo_lab.proofs.Told.{both-told}
 use Rattle.redo_lab.proofs.Unscripted.{AreLeftAlone, tells-alone, unfailed-alone}
-use Rattle.redo_lab.specs.Answer.{IsFormatted, shape_of}
+use Rattle.redo_lab.specs.Answer.{shape_of}
 use Rattle.redo_lab.specs.Call.{Call, Each, IsUnfailed, WhereToldNow}
 use Rattle.redo_lab.specs.Cause.{IsPastSource}
 use Rattle.redo_lab.specs.Complete.{AreLongEnough}

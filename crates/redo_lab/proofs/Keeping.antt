@@ -1,14 +1,12 @@
 -- A store in use, as long as both devices mean what they meant.
-use Rattle.std.proofs.Common.{ℕ, ◌≡◌, List, Option, Some, sym, subst, ◌∙◌, ⊎_elim}
+use Rattle.std.proofs.Common.{ℕ, ◌≡◌, List, Option, Some}
 use Rattle.model_device.specs.Disk.{Disk}
 use Rattle.model_opening.specs.{IsAtRest, IsOpenable, KeepsOpened}
-use Rattle.model_store.specs.{IsFair, IsReading, IsUnused, OpensOrderly}
+use Rattle.model_store.specs.{IsReading, IsUnused, OpensOrderly}
 use Rattle.model_opening.proofs.Formatted.{zeros-refused}
 use Rattle.model_store.specs.Reading.{Reading}
 use Rattle.model_store.specs.declared.refusal.Refusal.TheVariants.{NotFormatted}
 use Rattle.model_theorem.specs.{IsFresh, Opened}
-use Rattle.redo_open.specs.{WhereBothTell}
-use Rattle.redo_lab.specs.declared.playing.Stops.{Stops}
 use Rattle.redo_lab.proofs.Told.{OneAnswer}
 
 -- a store that may be opened is read so

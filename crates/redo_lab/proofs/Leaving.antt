@@ -1,13 +1,12 @@
 -- What is left of both devices: each image is accepted, and may be opened again.
-use Rattle.std.proofs.Common.{ℕ, ◌≡◌, ◌⊎◌, List, Option, Some, ap, subst, sym, ◌∙◌, inl, inr, ⊎_elim, Bool}
+use Rattle.std.proofs.Common.{ℕ, ◌≡◌, List, ap, subst, inl, inr, ⊎_elim, Bool}
 use Rattle.model_base.specs.declared.shape.Shape.{Shape}
-use Rattle.model_device.specs.{IsImage}
 use Rattle.model_device.specs.Disk.{Disk}
 use Rattle.model_opening.specs.{IsOpenable, KeepsOpened}
 use Rattle.model_script.specs.declared.script.ScriptLine.{ScriptLine}
 use Rattle.model_store.specs.{IsFair, Opens}
 use Rattle.model_store.specs.Reading.{Reading}
-use Rattle.model_theorem.specs.{Opened, Ran, ReadsPrefix}
+use Rattle.model_theorem.specs.{Opened, Ran}
 use Rattle.redo_memdisk.specs.declared.fuse.Stage.TheVariants.{Before}
 use Rattle.redo_open.specs.{WhereBothTell}
 use Rattle.redo_lab.specs.declared.playing.Stops.{Stops}

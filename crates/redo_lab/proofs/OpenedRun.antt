@@ -1,5 +1,5 @@
 -- A store that was opened on two devices whose fuses are armed, and the run of a script on it.
-use Rattle.std.proofs.Common.{ℕ, ◌≡◌, ◌≤◌, ◌<◌, ◌+◌, ◌⊎◌, cond, List, Option, Some, None, IfSome, refl, sym, ap, subst, ◌∙◌, inl, inr, ⊎_elim, arith}
+use Rattle.std.proofs.Common.{ℕ, ◌≡◌, ◌≤◌, ◌<◌, ◌+◌, cond, List, Option, Some, None, IfSome, refl, sym, ap, subst, ◌∙◌, inl, inr, ⊎_elim, arith}
 use Rattle.std.specs.List.{AllByRecursion}
 use Rattle.std.proofs.lemmas.Bool.{eq-eqb}
 use Rattle.model_base.specs.{default_shape}
@@ -10,7 +10,6 @@ use Rattle.model_device.specs.Disk.{Disk}
 use Rattle.model_log.specs.{block_of, IsAtDataStart, start_after}
 use Rattle.model_log.specs.declared.layout.TheConstants.{BLOCK_HEADER}
 use Rattle.model_opening.specs.{formatted_store, IsFormatted, IsOpenable, IsReady, KeepsOpened}
-use Rattle.model_report.specs.declared.fault.Fault.TheVariants as fault
 use Rattle.model_run.specs.{IsClosed, IsHeld, IsStart, opened_as}
 use Rattle.model_script.specs.{first_misfit, LineFits, ScriptFits}
 use Rattle.model_script.specs.declared.misfit.Misfit.{Misfit}
@@ -38,7 +37,6 @@ use Rattle.model_theorem.specs.{LosesOnlyByFailure}
 use Rattle.redo_machine.specs.Beginning.{IsOpenedAs as IsStartedAs}
 use Rattle.redo_machine.specs.declared.drive.Turns.{Turns}
 use Rattle.redo_lab.specs.declared.playing.Course.{Course}
-use Rattle.redo_lab.specs.declared.playing.Course.TheVariants as course
 use Rattle.redo_lab.specs.declared.playing.Played.{Played}
 use Rattle.redo_lab.specs.declared.playing.Stops.{Stops}
 use Rattle.redo_lab.proofs.Telling.{calls-go_on}
@@ -424,8 +422,8 @@ pub unplayed-comes : {L D : Type 0} {log_seen : L → Seen} {log_gives : L → C
     → AreLeftOpened store turns script c log_now data_now
     → ComesTo by log_entry data_entry stops turns script c (shown log_seen log_now) (shown data_seen data_now)
 unplayed-comes {L} {D} {log_seen = log_seen} {data_seen = data_seen} {log_entry = log_entry} {data_entry = data_entry} {stops = stops} {store = store} by turns script c log_now data_now is left =
-    let Comes : Course → Fused L → Fused D → Type 0 = λ c log_now data_now.
-    ComesTo by log_entry data_entry stops turns script c (shown log_seen log_now) (shown data_seen data_now) in
+    let Comes : Course → Fused L → Fused D → Type 0 = λ c one other.
+    ComesTo by log_entry data_entry stops turns script c (shown log_seen one) (shown data_seen other) in
     subst (λ (one : Fused L). Comes c one data_now) (sym left.log_same) (subst (λ (one : Fused D). Comes c store.log.dev one) (sym left.data_same)
     (⊎_elim
     (λ memory. subst (λ (c : Course). Comes c store.log.dev store.store.dev) (sym memory) (inr (inl (unstarted is))))
@@ -440,8 +438,8 @@ pub driven-comes : {L D : Type 0} {log_seen : L → Seen} {log_gives : L → Cal
     → AreDriven (seen_through log_seen) (CallsThrough log_seen log_gives) (seen_through data_seen) (CallsThrough data_seen data_gives) store turns script c log_now data_now
     → ComesTo (ByTurns log_seen log_gives data_seen data_gives turns script) log_entry data_entry stops turns script c (shown log_seen log_now) (shown data_seen data_now)
 driven-comes {L} {D} {log_seen = log_seen} {log_gives = log_gives} {data_seen = data_seen} {data_gives = data_gives} {log_entry = log_entry} {data_entry = data_entry} {stops = stops} turns script c log_now data_now is are =
-    let Comes : Course → Fused L → Fused D → Type 0 = λ c log_now data_now.
-    ComesTo (ByTurns log_seen log_gives data_seen data_gives turns script) log_entry data_entry stops turns script c (shown log_seen log_now) (shown data_seen data_now) in
+    let Comes : Course → Fused L → Fused D → Type 0 = λ c one other.
+    ComesTo (ByTurns log_seen log_gives data_seen data_gives turns script) log_entry data_entry stops turns script c (shown log_seen one) (shown data_seen other) in
     subst (λ (one : Fused L). Comes c one data_now) (sym are.log_is) (subst (λ (one : Fused D). Comes c are.driven.closed.log.dev one) (sym are.data_is)
     (subst (λ (c : Course). Comes c are.driven.closed.log.dev are.driven.closed.store.dev) (sym are.course_is)
     (ended-by turns script are.driven is are.fits are.by_turns are.comes_to are.holds are.owed are.owed_synced are.driven.ended refl)))

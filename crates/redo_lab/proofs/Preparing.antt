@@ -1,16 +1,16 @@
 -- The two devices while a run prepares them.
-use Rattle.std.proofs.Common.{ℕ, ◌≡◌, ◌≤◌, ◌<◌, ◌↔◌, Bool, true, false, IsTrue, List, length, Option, Some, None, Result, Ok, Err, IfSome, refl, sym, ap, subst, ◌∙◌, inl, inr, ⊎_elim, arith}
+use Rattle.std.proofs.Common.{ℕ, ◌≡◌, ◌≤◌, ◌<◌, ◌↔◌, true, false, IsTrue, length, Option, Some, None, Ok, Err, IfSome, refl, sym, ap, subst, ◌∙◌, inl, inr, ⊎_elim, arith}
 use Rattle.std.proofs.lemmas.Bool.{cases_lt, false≢true}
 use Rattle.model_base.specs.{default_shape}
 use Rattle.model_device.specs.Disk.{Disk}
 use Rattle.model_log.specs.{log_device_length}
 use Rattle.model_log.specs.declared.layout.TheConstants.{HEADER_BYTES}
-use Rattle.model_opening.specs.{IsFormatted, KeepsNoStore}
+use Rattle.model_opening.specs.{IsFormatted}
 use Rattle.model_page.specs.{data_device_length}
 use Rattle.model_store.specs.{IsUnused}
 use Rattle.model_store.specs.declared.refusal.Refusal.{Refusal}
 use Rattle.model_store.specs.declared.refusal.Refusal.TheVariants as refusal
-use Rattle.redo_disk.specs.{Call, error_of, failures, HasSize, MakesCalls}
+use Rattle.redo_disk.specs.{Call, failures, HasSize, MakesCalls}
 use Rattle.redo_disk.specs.Seen.{Seen}
 use Rattle.redo_disk.specs.declared.error.DevError.{DevError}
 use Rattle.redo_disk.specs.declared.error.DevError.TheVariants as device
@@ -20,7 +20,7 @@ use Rattle.redo_memdisk.proofs.Behind.{counts-calls}
 use Rattle.redo_memdisk.specs.{before_arming, CallsThrough, counted, fresh, fuse_of, inner_of}
 use Rattle.redo_memdisk.specs.declared.fuse.Fuse.{Fuse}
 use Rattle.redo_memdisk.specs.declared.fused.Fused.{Fused}
-use Rattle.redo_open.specs.{FormatCalls, JudgesLengths, WhereBothTell}
+use Rattle.redo_open.specs.{FormatCalls, JudgesLengths}
 use Rattle.redo_recover.specs.{log_fault_of}
 use Rattle.redo_recover.specs.declared.fault.RecFault.{RecFault}
 use Rattle.redo_recover.specs.declared.fault.RecFault.TheVariants.{SmallLog, NotFormatted, BadFormat, SmallData, NoCheckpoint, BadRecord, PageLost, PageAhead, LogDev, DataDev, NoMemory}

@@ -1,13 +1,10 @@
 -- What the command `run` comes to whose lines were run.
-use Rattle.std.proofs.Common.{ℕ, ◌≤◌, Bool, List, Option, Some, None, refl, sym, subst, inr, ⊎_elim, arith}
-use Rattle.std.proofs.lemmas.Bool.{false≢true}
-use Rattle.model_base.specs.{HasRisen}
+use Rattle.std.proofs.Common.{ℕ, List, Option, Some, None, sym, subst, ⊎_elim, arith}
 use Rattle.model_command.specs.declared.asked.Command.TheVariants.{Run}
 use Rattle.model_command.specs.declared.asked.Drive.{Drive}
 use Rattle.model_report.specs.declared.fault.Fault.{Fault}
 use Rattle.model_report.specs.declared.fault.Fault.TheVariants as fault
 use Rattle.model_script.specs.declared.script.ScriptLine.{ScriptLine}
-use Rattle.redo_disk.specs.Seen.{Seen}
 use Rattle.redo_lab.specs.declared.outcome.Outcome.{Outcome}
 use Rattle.redo_lab.specs.declared.outcome.Outcome.TheVariants as outcome
 use Rattle.redo_lab.specs.declared.playing.Played.{Played}

@@ -1,11 +1,9 @@
 -- What is so of devices that tell what they mean.
-use Rattle.std.proofs.Common.{ℕ, ◌≡◌, List, Option, Some, None, IfSome, subst, ⊎_elim}
+use Rattle.std.proofs.Common.{ℕ, ◌≡◌, List, Option, Some, None, IfSome, subst}
 use Rattle.model_device.specs.Disk.{Disk}
 use Rattle.model_store.specs.{IsReading, Refuses}
 use Rattle.model_store.specs.Reading.{Reading}
 use Rattle.model_store.specs.declared.refusal.Refusal.{Refusal}
-use Rattle.model_theorem.specs.{Opened}
-use Rattle.redo_disk.specs.Seen.{Seen}
 use Rattle.redo_open.specs.{WhereBothTell}
 use Rattle.redo_recover.specs.{OnContents}
 

@@ -18,7 +18,6 @@ use Rattle.redo_memdisk.specs.declared.fused.Fused.{Fused}
 use Rattle.redo_memdisk.proofs.Behind.{counts-calls}
 use Rattle.redo_open.specs.{HasFaultCause, HasSameCheckpoint, WhereBothTell}
 use Rattle.redo_recover.specs.{BeginWithHeader, data_error, log_error, OnContents, refusal_of}
-use Rattle.redo_recover.specs.Devices.{IsUnchanged}
 use Rattle.redo_recover.specs.declared.fault.RecFault.{RecFault}
 use Rattle.redo_recover.specs.declared.fault.RecFault.TheVariants.{SmallLog, NotFormatted, BadFormat, SmallData, NoCheckpoint, BadRecord, PageLost, PageAhead, LogDev, DataDev, NoMemory}
 use Rattle.redo_machine.specs.declared.drive.Turns.{Turns}

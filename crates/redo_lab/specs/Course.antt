@@ -1,5 +1,5 @@
 -- How far a run came, and what it leaves of the two devices.
-use Rattle.std.specs.Prelude.{ℕ, ◌≡◌, ◌≢◌, ◌≤◌, ◌<◌, ◌+◌, ◌⊎◌, Bool, List, Option, Some, None, IfSome}
+use Rattle.std.specs.Prelude.{ℕ, ◌≡◌, ◌≤◌, ◌<◌, ◌+◌, ◌⊎◌, Bool, List, Option, Some, None, IfSome}
 use Rattle.model_device.specs.{synced}
 use Rattle.model_device.specs.Disk.{Disk}
 use Rattle.model_history.specs.{IsLeft}

@@ -10,7 +10,7 @@ use Rattle.model_store.specs.{IsReading}
 use Rattle.model_store.specs.Reading.{Reading}
 use Rattle.model_theorem.specs.{entries_of, FitsOpened, IsOpenedBefore, IsRun, LosesOnlyByFailure, Opened, Ran}
 use Rattle.redo_lab.specs.Call.{Call, Done, RunEnd, WhereOpened, WhereToldAtEntry, WhereToldNow, mids}
-use Rattle.redo_lab.specs.Script.{IsScriptFor, IsTextOf}
+use Rattle.redo_lab.specs.Script.{IsScriptFor}
 use Rattle.redo_lab.specs.Store.{AreReadAsPrefix, IsOpenedAs}
 
 -- The run took place: of the whole script, which fits the store that was opened; a legal history; and it is the drive's.

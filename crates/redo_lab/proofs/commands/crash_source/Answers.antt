@@ -1,5 +1,4 @@
 use Rattle.std.proofs.Common.{ap}
-use Rattle.redo_lab.proofs.Behind.{entered}
 use Rattle.redo_lab.proofs.Unscripted.{crash-unscripted}
 use Rattle.redo_lab.proofs.commands.crash_source.Goals as goal
 

@@ -1,4 +1,3 @@
-use Rattle.redo_lab.proofs.Behind.{entered}
 use Rattle.redo_lab.proofs.Called.{all-left}
 use Rattle.redo_lab.proofs.commands.done.Goals as goal
 

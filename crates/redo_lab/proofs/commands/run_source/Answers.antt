@@ -1,5 +1,4 @@
 use Rattle.std.proofs.Common.{ap}
-use Rattle.redo_lab.proofs.Behind.{entered}
 use Rattle.redo_lab.proofs.Unscripted.{run-unscripted}
 use Rattle.redo_lab.proofs.commands.run_source.Goals as goal
 

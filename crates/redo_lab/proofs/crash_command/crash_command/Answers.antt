@@ -1,5 +1,4 @@
 use Rattle.model_command.specs.declared.asked.Command.TheVariants.{Crash}
-use Rattle.redo_lab.proofs.Behind.{entered}
 use Rattle.redo_lab.proofs.ByDrive.{ended-by-drive, played-by-drive}
 use Rattle.redo_lab.proofs.CrashDone.{crash-played, crash-stopped}
 use Rattle.redo_lab.proofs.Entered.{entries-then}

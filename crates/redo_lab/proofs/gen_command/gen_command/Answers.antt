@@ -1,4 +1,3 @@
-use Rattle.redo_lab.proofs.Behind.{entered}
 use Rattle.redo_lab.proofs.gen_command.gen_command.Goals as goal
 
 pub returns-then-run-clause-ends : goal.returns-then-run-clause-ends

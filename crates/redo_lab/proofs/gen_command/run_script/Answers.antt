@@ -1,6 +1,5 @@
 use Rattle.std.proofs.Common.{refl, inl, inr, true}
 use Rattle.model_command.specs.declared.asked.Command.TheVariants.{Gen}
-use Rattle.redo_lab.proofs.Behind.{entered}
 use Rattle.redo_lab.proofs.Entered.{entries-then}
 use Rattle.redo_lab.proofs.GenDone.{seed-cut, seed-played}
 use Rattle.redo_lab.proofs.Running.{RunLaws, ended-early, ended-stopped, no_stops, running-gen, uncrashing-gen}

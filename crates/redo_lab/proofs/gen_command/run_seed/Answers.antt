@@ -1,5 +1,4 @@
 use Rattle.std.proofs.Common.{ap, refl}
-use Rattle.redo_lab.proofs.Behind.{entered}
 use Rattle.redo_lab.proofs.PlainEnds.{gen-unscripted}
 use Rattle.redo_lab.proofs.Unscripted.{AreLeftAlone}
 use Rattle.redo_lab.specs.Outcome.{call_of}

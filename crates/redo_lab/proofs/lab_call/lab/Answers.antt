@@ -1,6 +1,5 @@
-use Rattle.std.proofs.Common.{ap, ◌∙◌}
+use Rattle.std.proofs.Common.{ap}
 use Rattle.redo_lab.proofs.AskedLimits.{command-of-served, command-of-within}
-use Rattle.redo_lab.proofs.Behind.{entered}
 use Rattle.redo_lab.proofs.Called.{Printed, command-called, nothing-called}
 use Rattle.redo_lab.proofs.lab_call.lab.Goals as goal
 use Rattle.redo_lab.proofs.lab_call.lab.Goals.{in-Ok, in-Err}

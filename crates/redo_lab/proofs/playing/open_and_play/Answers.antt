@@ -5,7 +5,6 @@ use Rattle.redo_lab.proofs.Entered.{both-entries, driven-entries, entries-then, 
 use Rattle.redo_lab.proofs.OpenedRun.{IsOpenedUnderWay, driven-comes, unplayed-comes}
 use Rattle.redo_lab.proofs.UnderWay.{header-first, unopened-comes}
 use Rattle.redo_lab.specs.Course.{ByTurns}
-use Rattle.redo_lab.specs.Playing.{unopened}
 use Rattle.redo_lab.proofs.playing.open_and_play.Goals as goal
 
 pub returns-in-Ok-clause-comes_to : goal.returns-in-Ok-clause-comes_to

@@ -1,11 +1,10 @@
-use Rattle.std.proofs.Common.{refl, ◌∙◌, Ok, Err}
+use Rattle.std.proofs.Common.{refl, Ok, Err}
 use Rattle.redo_disk.specs.Seen.{Seen}
 use Rattle.redo_memdisk.specs.{seen_through}
 use Rattle.redo_lab.proofs.Behind.{entered, format-leaves, formats-both}
 use Rattle.redo_lab.proofs.Entered.{entries-then, format-entries}
 use Rattle.redo_lab.proofs.Formatting.{IsFormatFault, format-ends, format-fails, format-fault}
 use Rattle.redo_lab.specs.Answer.{shape_of}
-use Rattle.redo_lab.specs.Faults.{fault_of}
 use Rattle.redo_lab.proofs.simple.format_devices.Goals as goal
 use Rattle.redo_lab.proofs.simple.format_devices.Goals.{in-Ok, in-Err}
 

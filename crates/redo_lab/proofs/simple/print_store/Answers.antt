@@ -7,7 +7,6 @@ use Rattle.redo_recover.specs.{HasCauseIn, OnContents, reading_of}
 use Rattle.redo_lab.proofs.Behind.{entered, log-behind, pages-behind}
 use Rattle.redo_lab.proofs.Entered.{both-entries, entries-then}
 use Rattle.redo_lab.proofs.PlainEnds.{dumps-off, plain-fails, plain-reads}
-use Rattle.redo_lab.specs.Faults.{fault_of}
 use Rattle.redo_lab.proofs.simple.print_store.Goals as goal
 use Rattle.redo_lab.proofs.simple.print_store.Goals.{in-Ok, in-Err}
 
