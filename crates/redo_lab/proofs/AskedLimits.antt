@@ -13,8 +13,8 @@ use Rattle.model_command.specs.declared.words.Name.{Name}
 use Rattle.model_command.specs.declared.words.Name.TheVariants as name
 use Rattle.model_command.specs.declared.words.Expected.TheVariants.{Any}
 use Rattle.model_script.specs.declared.misfit.TheConstants.{MAX_USERS}
-use Rattle.redo_lab.specs.Asked.{IsWithin, command_of, where_served}
 use borrow.Author.Tests.{leb-true}
+use Rattle.redo_lab.specs.Asked.{IsWithin, command_of, is_served, where_served}
 
 -- the number is between these
 abbrev IsBetween : ℕ → ℕ → ℕ → Type 0
@@ -142,3 +142,13 @@ pub command-of-within : (words : List (List ℕ)) (command : Command) → comman
 command-of-within words command is =
     let asked = and_then-some where_served (asked_of words) command is in
     subst IsWithin (where-served _ asked.0.command command asked.2) (asked-within words asked.0 asked.1)
+
+served-some : (served : Bool) (command found : Command) → (if served then Some command else None) ≡ Some found → served ≡ true
+served-some true command found is = refl
+served-some false command found is = cc
+
+pub command-of-served : (words : List (List ℕ)) (command : Command) → command_of words ≡ Some command → is_served command ≡ true
+command-of-served words command is =
+    let asked = and_then-some where_served (asked_of words) command is in
+    subst (λ (found : Command). is_served found ≡ true) (where-served _ asked.0.command command asked.2)
+    (served-some (is_served asked.0.command) asked.0.command command asked.2)

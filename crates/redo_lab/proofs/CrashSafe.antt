@@ -10,14 +10,13 @@ use Rattle.model_theorem.specs.{Account, AreArmedFirst, CrashSafe, Device, failu
 use Rattle.model_theorem.specs.Values as values
 use Rattle.redo_disk.specs.{OnTold}
 use Rattle.redo_disk.specs.Seen.{Seen}
-use Rattle.redo_lab.specs.Took.{TookPlace}
-use Rattle.redo_lab.specs.Call.{Call, Guarded}
-use Rattle.redo_lab.specs.Course.{AreUnderWay}
-use Rattle.redo_lab.specs.Promise.{IsDevice, stop_of}
-use Rattle.redo_lab.specs.Stages.{IsCrashedWith}
 use Rattle.redo_lab.specs.declared.playing.Stops.{Stops}
 use Rattle.redo_lab.proofs.RunPlayed.{FormattedLaw, unopened-as}
 use Rattle.redo_lab.proofs.RunPossible.{OneReading}
+use Rattle.redo_lab.specs.Answer.{IsDevice, stop_of}
+use Rattle.redo_lab.specs.Call.{Call, Guarded}
+use Rattle.redo_lab.specs.Course.{AreUnderWay}
+use Rattle.redo_lab.specs.Stages.{IsCrashedWith, Shown, now_of}
 
 -- the crash theorem holds of a call whose run is safe
 abbrev pub CrashLaw : Type 0
@@ -26,7 +25,7 @@ CrashLaw = (crash : values.Crash) (opened : Opened) (account : Account) → IsCr
     → RunSafe (failures_of crash) (before_crash crash opened account) → CrashSafe crash opened account
 
 -- WHAT A DEVICE TOLD: when it was handed in, when its fuse was armed, just before its crash, and now.
-pub record HasTold (entry : Seen) (found old now : Guarded) : Type 0 where
+pub record HasTold (entry : Seen) (found old now : Shown) : Type 0 where
   pub at_entry : Disk
   pub armed_from : Disk
   pub crashed_from : Disk
@@ -40,7 +39,7 @@ pub told-some : (o : Option Disk) → o ≢ None → (disk : Disk) × (o ≡ Som
 told-some None tells = absurd (tells refl)
 told-some (Some disk) tells = (disk, refl)
 
-pub has-told : (entry : Seen) (found old now : Guarded) → entry.tells ≢ None → (entry.tells ≢ None → found.seen.tells ≢ None)
+pub has-told : (entry : Seen) (found old now : Shown) → entry.tells ≢ None → (entry.tells ≢ None → found.seen.tells ≢ None)
     → (entry.tells ≢ None → old.seen.tells ≢ None) → (entry.tells ≢ None → now.seen.tells ≢ None) → HasTold entry found old now
 has-told entry found old now tells found_tells old_tells now_tells =
     let at_entry = told-some entry.tells tells in
@@ -59,7 +58,7 @@ has-told entry found old now tells found_tells old_tells now_tells =
     }
 
 -- the device of the theorem
-abbrev pub device_of : (entry : Seen) (found old now : Guarded) → HasTold entry found old now → Device
+abbrev pub device_of : (entry : Seen) (found old now : Shown) → HasTold entry found old now → Device
 device_of entry found old now told = record {
   at_entry = told.at_entry;
   faults_at_entry = entry.faults;
@@ -70,9 +69,10 @@ device_of entry found old now told = record {
   stop = stop_of now.fuse;
 }
 
-pub is-device : (limit : Option ℕ) (pick : ℕ) (entry : Seen) (found old now : Guarded) (failed : ℕ) (told : HasTold entry found old now)
-    → IsCrashedWith limit pick entry found failed 0 now → now.seen.crashed_from ≡ old.seen.tells → IsDevice entry now (device_of entry found old now told)
-is-device limit pick entry found old now failed told crashed from = record {
+pub is-device : (limit : Option ℕ) (pick : ℕ) (device : Guarded) (found old : Shown) (failed : ℕ) (told : HasTold device.entry found old (now_of device))
+    → IsCrashedWith limit pick device.entry found failed 0 (now_of device) → device.now.crashed_from ≡ old.seen.tells
+    → IsDevice device (device_of device.entry found old (now_of device) told)
+is-device limit pick device found old failed told crashed from = record {
   at_entry = told.entry_is;
   faults_at_entry = refl;
   armed_from = crashed.armed_from ∙ told.armed_is;
@@ -82,15 +82,14 @@ is-device limit pick entry found old now failed told crashed from = record {
   stop = refl;
 }
 
-pub stopped-as : (asked limit : Option ℕ) (pick : ℕ) (entry : Seen) (found old now : Guarded) (failed : ℕ) (told : HasTold entry found old now) → asked ≡ limit
-    → IsCrashedWith limit pick entry found failed 0 now → IsStoppedAsAsked asked (device_of entry found old now told)
-stopped-as asked limit pick entry found old now failed told same crashed =
-    subst (λ (o : Option ℕ). IsStoppedAsAsked o (device_of entry found old now told)) (sym same) (record {
-      limit = crashed.limit_is;
-      passed_at_most = crashed.within;
-      armed_first = crashed.early;
-      cause = λ some. crashed.cause (omega (arith, crashed.mid));
-    })
+pub stopped-as : (limit : Option ℕ) (pick : ℕ) (entry : Seen) (found old now : Shown) (failed : ℕ) (told : HasTold entry found old now)
+    → IsCrashedWith limit pick entry found failed 0 now → IsStoppedAsAsked limit (device_of entry found old now told)
+stopped-as limit pick entry found old now failed told crashed = record {
+  limit = crashed.limit_is;
+  passed_at_most = crashed.within;
+  armed_first = crashed.early;
+  cause = λ some. crashed.cause (omega (arith, crashed.mid));
+}
 
 -- the crash of a device that tells
 pub crashes-told : (old new : Option Disk) (before after : Disk) → OnTold old new Crashes → old ≡ Some before → new ≡ Some after → Crashes before after
@@ -104,12 +103,12 @@ crashes-told (Some disk) new before after told old_is new_is =
 pub left-image : (before after : Disk) → Crashes before after → IsImage before after.reads
 left-image before after crashes = subst (IsImage before) (sym (ap (λ (d : Disk). d.reads) crashes.left)) crashes.possible
 
-pub is-crashed : (asked : ℕ) (limit : Option ℕ) (pick : ℕ) (entry : Seen) (found old now : Guarded) (failed : ℕ) (told : HasTold entry found old now) → asked ≡ pick
-    → IsCrashedWith limit pick entry found failed 0 now → OnTold old.seen.tells now.seen.tells Crashes → IsCrashed asked (device_of entry found old now told)
-is-crashed asked limit pick entry found old now failed told same crashed left =
+pub is-crashed : (limit : Option ℕ) (pick : ℕ) (entry : Seen) (found old now : Shown) (failed : ℕ) (told : HasTold entry found old now)
+    → IsCrashedWith limit pick entry found failed 0 now → OnTold old.seen.tells now.seen.tells Crashes → IsCrashed pick (device_of entry found old now told)
+is-crashed limit pick entry found old now failed told crashed left =
     let crashes = crashes-told old.seen.tells now.seen.tells told.crashed_from told.left left told.crashed_is told.left_is in
     record {
-      pick_is = crashed.pick ∙ ap (λ (n : ℕ). Some n) (sym same);
+      pick_is = crashed.pick;
       kept = left-image told.crashed_from told.left crashes;
       one_image = crashes.left ∙ ap settled (sym (ap (λ (d : Disk). d.reads) crashes.left));
       unchanged_since = crashed.late_changes;
@@ -117,16 +116,16 @@ is-crashed asked limit pick entry found old now failed told same crashed left =
     }
 
 -- THE ARMING came before opening.
-pub armed-first : (call : Call) (stops : Stops) (pick log_failed data_failed : ℕ) (log_old data_old : Guarded) → FormattedLaw
-    → (way : AreUnderWay call.log_device call.data_device stops log_failed data_failed log_old data_old)
-    → (log_told : HasTold call.log_device way.log_found log_old call.log_device_now) (data_told : HasTold call.data_device way.data_found data_old call.data_device_now)
-    → IsCrashedWith stops.log pick call.log_device way.log_found log_failed 0 call.log_device_now
-    → IsCrashedWith stops.store pick call.data_device way.data_found data_failed 0 call.data_device_now
-    → call.log_device_now.fuse.passed ≡ log_old.fuse.passed
-    → AreArmedFirst (device_of call.log_device way.log_found log_old call.log_device_now log_told) (device_of call.data_device way.data_found data_old call.data_device_now data_told)
+pub armed-first : (call : Call) (stops : Stops) (pick log_failed data_failed : ℕ) (log_old data_old : Shown) → FormattedLaw
+    → (way : AreUnderWay call.log.entry call.store.entry stops log_failed data_failed log_old data_old)
+    → (log_told : HasTold call.log.entry way.log_found log_old (now_of call.log)) (data_told : HasTold call.store.entry way.data_found data_old (now_of call.store))
+    → IsCrashedWith stops.log pick call.log.entry way.log_found log_failed 0 (now_of call.log)
+    → IsCrashedWith stops.store pick call.store.entry way.data_found data_failed 0 (now_of call.store)
+    → call.log.fuse.passed ≡ log_old.fuse.passed
+    → AreArmedFirst (device_of call.log.entry way.log_found log_old (now_of call.log) log_told) (device_of call.store.entry way.data_found data_old (now_of call.store) data_told)
 armed-first call stops pick log_failed data_failed log_old data_old law way log_told data_told log_crashed data_crashed passed = record {
   opening_counted = omega (arith, way.counted, passed, way.log_device.mid, log_crashed.mid);
-  unopened = unopened-as call.log_device call.data_device way.log_found way.data_found log_told.at_entry data_told.at_entry log_told.armed_from data_told.armed_from
+  unopened = unopened-as call.log.entry call.store.entry way.log_found way.data_found log_told.at_entry data_told.at_entry log_told.armed_from data_told.armed_from
       law way.prepared log_told.entry_is data_told.entry_is log_told.armed_is data_told.armed_is;
   log_calls = λ used. ⊎_elim
       (λ formatted. absurd (used (formatted.unused log_told.at_entry data_told.at_entry log_told.entry_is data_told.entry_is)))
@@ -139,11 +138,10 @@ armed-first call stops pick log_failed data_failed log_old data_old law way log_
 }
 
 -- a script that was run fits
-pub fits-run : (call : Call) (log_only asked : Bool) (was opened : Opened) (script : List ScriptLine) (run : Option Ran) → asked ≡ log_only
-    → IfSome run (TookPlace call log_only was script) → IfSome run (λ ran. was ≡ opened) → IfSome run (λ ran. FitsOpened asked opened script)
-fits-run call log_only asked was opened script None is place same = tt
-fits-run call log_only asked was opened script (Some ran) is place same =
-    subst (λ (b : Bool). FitsOpened b opened script) (sym is) (subst (λ (o : Opened). FitsOpened log_only o script) same place.fits)
+pub fits-run : (log_only : Bool) (was opened : Opened) (script : List ScriptLine) (run : Option Ran)
+    → IfSome run (λ ran. FitsOpened log_only was script) → IfSome run (λ ran. was ≡ opened) → IfSome run (λ ran. FitsOpened log_only opened script)
+fits-run log_only was opened script None fits same = tt
+fits-run log_only was opened script (Some ran) fits same = subst (λ (o : Opened). FitsOpened log_only o script) same fits
 
 -- of two readings of one store what the one says the other does
 pub same-copies : (log_bytes data_bytes : List ℕ) (first second : Reading) → OneReading → IsReading log_bytes data_bytes first → IsReading log_bytes data_bytes second

@@ -17,23 +17,22 @@ use Rattle.redo_memdisk.specs.declared.fuse.Fuse.{Fuse}
 use Rattle.redo_memdisk.specs.declared.fuse.Stage.{Stage}
 use Rattle.redo_memdisk.specs.declared.fuse.Stage.TheVariants.{Before, Stopping, Crashed}
 use Rattle.redo_memdisk.specs.declared.fused.Fused.{Fused}
-use Rattle.redo_recover.specs.{data_error, data_error_of, HasCauseIn, HasLengthCause, log_error, log_error_of, OnContents, ReadsLog, ReadsPages}
+use Rattle.redo_recover.specs.{data_error, data_error_of, HasCauseIn, log_error, log_error_of, OnContents, ReadsLog, ReadsPages}
 use Rattle.redo_recover.specs.declared.recovered.Recovered.{Recovered}
 use Rattle.redo_recover.specs.declared.fault.RecFault.{RecFault}
 use Rattle.redo_recover.specs.declared.fault.RecFault.TheVariants.{SmallLog, NotFormatted, BadFormat, SmallData, NoCheckpoint, BadRecord, PageLost, PageAhead, LogDev, DataDev, NoMemory}
-use Rattle.redo_lab.specs.Call.{Guarded, guarded}
+use Rattle.redo_lab.specs.declared.outcome.Outcome.TheVariants as outcome
+use Rattle.redo_lab.proofs.Behind.{reads-of-pieces}
+use Rattle.redo_lab.proofs.Stages.{after-crashed, crashed-now, crashed-reads}
+use Rattle.redo_lab.proofs.Telling.{reads-keep}
+use Rattle.redo_lab.proofs.Told.{on-contents}
 use Rattle.redo_lab.specs.Crashed.{AreCrashedSince, IsCrashedSince, ReadsBack}
 use Rattle.redo_lab.specs.Faults.{fault_of}
 use Rattle.redo_lab.specs.Outcome.{outcome_of}
 use Rattle.redo_lab.specs.Prepared.{WhereTold}
 use Rattle.redo_lab.specs.Reported.{IsReportOf}
 use Rattle.redo_lab.specs.Reread.{AreRefusedSince, FailsReading}
-use Rattle.redo_lab.specs.Store.{IsShorter}
-use Rattle.redo_lab.specs.declared.outcome.Outcome.TheVariants as outcome
-use Rattle.redo_lab.proofs.Behind.{reads-of-pieces}
-use Rattle.redo_lab.proofs.Stages.{after-crashed, crashed-now, crashed-reads}
-use Rattle.redo_lab.proofs.Telling.{reads-keep}
-use Rattle.redo_lab.proofs.Told.{on-contents}
+use Rattle.redo_lab.specs.Stages.{Shown, shown}
 
 -- a crash counts no call as passed
 changed-passed : (stage : Stage) (fuse : Fuse) → (with_change stage fuse).passed ≡ fuse.passed
@@ -44,7 +43,7 @@ changed-passed Crashed fuse = refl
 -- THE CRASH, and reads behind it.
 pub crashed-since : {D : Type 0} {seen : D → Seen} {gives : D → Call → D → Type 0} {crash_gives : D → ℕ → D → Type 0} {pick : ℕ} {old met new : Fused D} {error : Option DevError}
     → CrashesThrough seen crash_gives old pick met → MakesCalls (CallsThrough seen gives) met new (ReadsMayEndWith error)
-    → IsCrashedSince pick (failures error) (guarded seen old) (guarded seen new)
+    → IsCrashedSince pick (failures error) (shown seen old) (shown seen new)
 crashed-since {seen = seen} {gives = gives} {crash_gives = crash_gives} {pick = pick} {old = old} {met = met} {new = new} crash made =
     let kept = reads-keep seen gives met new made.calls made.are.reads made.made in
     let stage = ap (λ (fuse : Fuse). fuse.stage) crash.notes in
@@ -60,27 +59,26 @@ crashed-since {seen = seen} {gives = gives} {crash_gives = crash_gives} {pick = 
 -- the same of recovery's reads
 pub log-crashed : {D : Type 0} {seen : D → Seen} {gives : D → Call → D → Type 0} {crash_gives : D → ℕ → D → Type 0} {pick : ℕ} {old met new : Fused D} {log : Seen} {data_size : ℕ} {result : Result Recovered RecFault}
     → CrashesThrough seen crash_gives old pick met → MakesCalls (CallsThrough seen gives) met new (ReadsLog log data_size result)
-    → IsCrashedSince pick (failures (log_error_of result)) (guarded seen old) (guarded seen new)
+    → IsCrashedSince pick (failures (log_error_of result)) (shown seen old) (shown seen new)
 log-crashed {result = result} crash made = crashed-since crash (weaker_calls (λ calls log. reads-of-pieces (log_error_of result) calls log.reads) made)
 
 pub data-crashed : {D : Type 0} {seen : D → Seen} {gives : D → Call → D → Type 0} {crash_gives : D → ℕ → D → Type 0} {pick : ℕ} {old met new : Fused D} {log_told : Option Disk} {result : Result Recovered RecFault}
     → CrashesThrough seen crash_gives old pick met → MakesCalls (CallsThrough seen gives) met new (ReadsPages log_told result)
-    → IsCrashedSince pick (failures (data_error_of result)) (guarded seen old) (guarded seen new)
+    → IsCrashedSince pick (failures (data_error_of result)) (shown seen old) (shown seen new)
 data-crashed {result = result} crash made = crashed-since crash (weaker_calls (λ calls pages. reads-of-pieces (data_error_of result) calls pages.reads) made)
 
--- the device tells what the reads behind the crash met, and has its size
-pub record IsAsMet (met now : Seen) : Type 0 where
-  pub tells : now.tells ≡ met.tells
-  pub size : now.size ≡ met.size
+-- the device tells what the reads behind the crash met
+abbrev pub IsAsMet : Seen → Seen → Type 0
+IsAsMet met now = now.tells ≡ met.tells
 
 -- what is read of what the devices told is what they tell
 pub told-now : (log_met data_met log_now data_now : Seen) (P : List ℕ → List ℕ → Type 0) → IsAsMet log_met log_now → IsAsMet data_met data_now
     → OnContents log_met.tells data_met.tells P → WhereTold log_now data_now (λ log data_disk. P log.reads data_disk.reads)
 told-now log_met data_met log_now data_now P log_same data_same holds log data_disk log_is data_is =
-    on-contents log_met.tells data_met.tells P holds log data_disk (sym log_same.tells ∙ log_is) (sym data_same.tells ∙ data_is)
+    on-contents log_met.tells data_met.tells P holds log data_disk (sym log_same ∙ log_is) (sym data_same ∙ data_is)
 
 -- THE STORE WAS READ.
-pub back-read : {E : Type 0} (pick : ℕ) (script : List ScriptLine) (run : Option Ran) (reading : Reading) (log_old data_old log_now data_now : Guarded)
+pub back-read : {E : Type 0} (pick : ℕ) (script : List ScriptLine) (run : Option Ran) (reading : Reading) (log_old data_old log_now data_now : Shown)
     (log_met data_met : Seen) (r : Result (List ℕ) E) → AreCrashedSince pick 0 0 log_old data_old log_now data_now
     → IsAsMet log_met log_now.seen → IsAsMet data_met data_now.seen
     → OnContents log_met.tells data_met.tells (λ log_bytes data_bytes. IsReading log_bytes data_bytes reading)
@@ -93,51 +91,43 @@ back-read pick script run reading log_old data_old log_now data_now log_met data
 }
 back-read pick script run reading log_old data_old log_now data_now log_met data_met (Err error) crashed log_same data_same read report = crashed
 
-same-lengths : (log_met data_met log_now data_now : Seen) (f : RecFault) → IsAsMet log_met log_now → IsAsMet data_met data_now
-    → HasLengthCause log_met.size data_met.size f → HasLengthCause log_now.size data_now.size f
-same-lengths log_met data_met log_now data_now f log_same data_same lengths =
-    subst (λ size. HasLengthCause log_now.size size f) (sym data_same.size) (subst (λ size. HasLengthCause size data_met.size f) (sym log_same.size) lengths)
-
 -- THE STORE WASN'T READ.
-refused-since : (Since : Type 0) (cause : Refusal) (log_now data_now : Guarded) (log_met data_met : Seen) → Since → IsAsMet log_met log_now.seen → IsAsMet data_met data_now.seen
-    → OnContents log_met.tells data_met.tells (λ log_bytes data_bytes. Refuses log_bytes data_bytes cause) → IsShorter log_now.seen.size data_now.seen.size cause
+refused-since : (Since : Type 0) (cause : Refusal) (log_now data_now : Shown) (log_met data_met : Seen) → Since → IsAsMet log_met log_now.seen → IsAsMet data_met data_now.seen
+    → OnContents log_met.tells data_met.tells (λ log_bytes data_bytes. Refuses log_bytes data_bytes cause)
     → AreRefusedSince Since cause log_now data_now
-refused-since Since cause log_now data_now log_met data_met since log_same data_same refused shorter = record {
+refused-since Since cause log_now data_now log_met data_met since log_same data_same refused = record {
   since = since;
-  shorter = shorter;
   refused = told-now log_met data_met log_now.seen data_now.seen (λ log_bytes data_bytes. Refuses log_bytes data_bytes cause) log_same data_same refused;
 }
 
-pub reading-fails : (Since : ℕ → ℕ → Type 0) (log_now data_now : Guarded) (log_met data_met : Seen) (f : RecFault)
+pub reading-fails : (Since : ℕ → ℕ → Type 0) (log_now data_now : Shown) (log_met data_met : Seen) (f : RecFault)
     → Since (failures (log_error f)) (failures (data_error f))
     → IsAsMet log_met log_now.seen → IsAsMet data_met data_now.seen → HasCauseIn log_met.tells data_met.tells f
-    → HasLengthCause log_met.size data_met.size f → FailsReading Since (fault_of f) log_now data_now
-reading-fails Since log_now data_now log_met data_met (SmallLog n) since log_same data_same cause lengths =
+    → FailsReading Since (fault_of f) log_now data_now
+reading-fails Since log_now data_now log_met data_met (SmallLog n) since log_same data_same cause =
     refused-since _ (refusal.SmallLog n) log_now data_now log_met data_met since log_same data_same cause
-    (same-lengths log_met data_met log_now.seen data_now.seen (SmallLog n) log_same data_same lengths)
-reading-fails Since log_now data_now log_met data_met (SmallData n) since log_same data_same cause lengths =
+reading-fails Since log_now data_now log_met data_met (SmallData n) since log_same data_same cause =
     refused-since _ (refusal.SmallData n) log_now data_now log_met data_met since log_same data_same cause
-    (same-lengths log_met data_met log_now.seen data_now.seen (SmallData n) log_same data_same lengths)
-reading-fails Since log_now data_now log_met data_met NotFormatted since log_same data_same cause lengths =
-    refused-since _ refusal.NotFormatted log_now data_now log_met data_met since log_same data_same cause tt
-reading-fails Since log_now data_now log_met data_met (BadFormat n) since log_same data_same cause lengths =
-    refused-since _ (refusal.BadFormat n) log_now data_now log_met data_met since log_same data_same cause tt
-reading-fails Since log_now data_now log_met data_met NoCheckpoint since log_same data_same cause lengths =
-    refused-since _ refusal.NoCheckpoint log_now data_now log_met data_met since log_same data_same cause tt
-reading-fails Since log_now data_now log_met data_met (BadRecord lsn) since log_same data_same cause lengths =
-    refused-since _ (refusal.BadRecord lsn) log_now data_now log_met data_met since log_same data_same cause tt
-reading-fails Since log_now data_now log_met data_met (PageLost p) since log_same data_same cause lengths =
-    refused-since _ (refusal.PageLost p) log_now data_now log_met data_met since log_same data_same cause tt
-reading-fails Since log_now data_now log_met data_met (PageAhead p lsn) since log_same data_same cause lengths =
-    refused-since _ (refusal.PageAhead p lsn) log_now data_now log_met data_met since log_same data_same cause tt
-reading-fails Since log_now data_now log_met data_met LogDev since log_same data_same cause lengths = since
-reading-fails Since log_now data_now log_met data_met DataDev since log_same data_same cause lengths = since
-reading-fails Since log_now data_now log_met data_met NoMemory since log_same data_same cause lengths = since
+reading-fails Since log_now data_now log_met data_met NotFormatted since log_same data_same cause =
+    refused-since _ refusal.NotFormatted log_now data_now log_met data_met since log_same data_same cause
+reading-fails Since log_now data_now log_met data_met (BadFormat n) since log_same data_same cause =
+    refused-since _ (refusal.BadFormat n) log_now data_now log_met data_met since log_same data_same cause
+reading-fails Since log_now data_now log_met data_met NoCheckpoint since log_same data_same cause =
+    refused-since _ refusal.NoCheckpoint log_now data_now log_met data_met since log_same data_same cause
+reading-fails Since log_now data_now log_met data_met (BadRecord lsn) since log_same data_same cause =
+    refused-since _ (refusal.BadRecord lsn) log_now data_now log_met data_met since log_same data_same cause
+reading-fails Since log_now data_now log_met data_met (PageLost p) since log_same data_same cause =
+    refused-since _ (refusal.PageLost p) log_now data_now log_met data_met since log_same data_same cause
+reading-fails Since log_now data_now log_met data_met (PageAhead p lsn) since log_same data_same cause =
+    refused-since _ (refusal.PageAhead p lsn) log_now data_now log_met data_met since log_same data_same cause
+reading-fails Since log_now data_now log_met data_met LogDev since log_same data_same cause = since
+reading-fails Since log_now data_now log_met data_met DataDev since log_same data_same cause = since
+reading-fails Since log_now data_now log_met data_met NoMemory since log_same data_same cause = since
 
-pub back-fails : (pick : ℕ) (script : List ScriptLine) (run : Option Ran) (log_old data_old log_now data_now : Guarded) (log_met data_met : Seen) (f : RecFault)
+pub back-fails : (pick : ℕ) (script : List ScriptLine) (run : Option Ran) (log_old data_old log_now data_now : Shown) (log_met data_met : Seen) (f : RecFault)
     → AreCrashedSince pick (failures (log_error f)) (failures (data_error f)) log_old data_old log_now data_now
     → IsAsMet log_met log_now.seen → IsAsMet data_met data_now.seen → HasCauseIn log_met.tells data_met.tells f
-    → HasLengthCause log_met.size data_met.size f → ReadsBack pick script run (outcome.Fault (fault_of f)) log_old data_old log_now data_now
-back-fails pick script run log_old data_old log_now data_now log_met data_met f crashed log_same data_same cause lengths =
+    → ReadsBack pick script run (outcome.Fault (fault_of f)) log_old data_old log_now data_now
+back-fails pick script run log_old data_old log_now data_now log_met data_met f crashed log_same data_same cause =
     reading-fails (λ log_failed data_failed. AreCrashedSince pick log_failed data_failed log_old data_old log_now data_now) log_now data_now log_met data_met f
-    crashed log_same data_same cause lengths
+    crashed log_same data_same cause

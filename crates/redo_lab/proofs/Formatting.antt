@@ -1,33 +1,36 @@
 -- What `format` comes to.
-use Rattle.std.proofs.Common.{ℕ, ◌≡◌, List, Result, Ok, Err, IfSome, IfOk, refl, sym, subst, inl, inr, arith}
+use Rattle.model_report.specs.declared.fault.Fault.TheVariants as fault
+use Rattle.std.proofs.Common.{ℕ, ◌≡◌, List, Result, Ok, Err, IfSome, IfOk, sym, subst, arith}
 use Rattle.std.proofs.lemmas.Bool.{false≢true}
 use Rattle.model_base.specs.{IsWithinLimits}
 use Rattle.model_base.specs.declared.shape.Shape.{Shape}
 use Rattle.model_command.specs.declared.asked.Command.TheVariants.{Format}
-use Rattle.model_device.specs.{IsImage}
 use Rattle.model_device.specs.Disk.{Disk}
 use Rattle.model_opening.specs.Formatted as opening
-use Rattle.model_opening.specs.{formatted_store, IsOpenable, KeepsNoStore}
+use Rattle.model_opening.specs.{formatted_store, IsOpenable}
 use Rattle.model_report.specs.{format_text}
 use Rattle.model_store.specs.{IsOrderly}
 use Rattle.model_store.specs.declared.refusal.Refusal.TheVariants as refusal
 use Rattle.redo_disk.specs.Seen.{Seen}
-use Rattle.redo_open.specs.{HasFormatCause, WhereBothTell}
+use Rattle.redo_open.specs.{HasFormatCause}
 use Rattle.redo_recover.specs.declared.fault.RecFault.{RecFault}
 use Rattle.redo_recover.specs.declared.fault.RecFault.TheVariants.{SmallLog, NotFormatted, BadFormat, SmallData, NoCheckpoint, BadRecord, PageLost, PageAhead, LogDev, DataDev, NoMemory}
-use Rattle.redo_lab.specs.Answer.{shape_of}
-use Rattle.redo_lab.specs.Call.{AreLeftAlone, Call, IsUnread}
-use Rattle.redo_lab.specs.Cause.{LeavesNoStore}
-use Rattle.redo_lab.specs.Devices.{WhereToldNow}
-use Rattle.redo_lab.specs.Faults.{fault_of}
-use Rattle.redo_lab.specs.Outcome.{EndsCommand, outcome_of}
-use Rattle.redo_lab.specs.Store.{AreBlank, IsTooShort}
+use Rattle.model_store.specs.declared.refusal.Refusal.{Refusal}
+use Rattle.redo_lab.specs.declared.outcome.Outcome.{Outcome}
 use Rattle.redo_lab.specs.declared.outcome.Outcome.TheVariants as outcome
 use Rattle.redo_lab.proofs.Behind.{AreUnarmed, BothAlone, FormatLeaves}
-use Rattle.redo_lab.proofs.Endings.{still-tells, told-fresh}
-use Rattle.redo_lab.proofs.Keeping.{same-told}
-use Rattle.redo_lab.proofs.PlainEnds.{failed-unarmed, kept-alone, told-unarmed, unfailed-unarmed}
+use Rattle.redo_lab.proofs.RunPlayed.{FormattedLaw}
+use Rattle.redo_lab.proofs.Running.{AreTelling}
 use Rattle.redo_lab.proofs.Told.{both-told}
+use Rattle.redo_lab.proofs.Unscripted.{AreLeftAlone, tells-alone, unfailed-alone}
+use Rattle.redo_lab.specs.Answer.{shape_of}
+use Rattle.redo_lab.specs.Call.{Call, Each, IsUnfailed, WhereToldNow}
+use Rattle.redo_lab.specs.Cause.{IsPastSource}
+use Rattle.redo_lab.specs.Complete.{AreLongEnough}
+use Rattle.redo_lab.specs.Faults.{fault_of}
+use Rattle.redo_lab.specs.Outcome.{EndsWith, IsDoneOrKeptFrom, IsOutcome, outcome_of}
+use Rattle.redo_lab.specs.Stages.{now_of}
+use Rattle.redo_lab.specs.Store.{AreBlank, IsTooShort}
 
 -- a device that is too short to be formatted, or a failure
 abbrev pub IsFormatFault : Shape → (log_size data_size : ℕ) → RecFault → Type 0
@@ -52,11 +55,6 @@ format-fault shape log data_device log_after data_after (BadRecord lsn) cause = 
 format-fault shape log data_device log_after data_after (PageLost p) cause = absurd cause
 format-fault shape log data_device log_after data_after (PageAhead p lsn) cause = absurd cause
 
--- Formatting that opens: a formatted store is in order.
-abbrev pub FormattedLaw : Type 0
-FormattedLaw = (shape : Shape) (log_disk data_disk : Disk) → IsWithinLimits shape → opening.IsFormatted shape log_disk data_disk
-    → IsOpenable (formatted_store shape) log_disk data_disk
-
 blank-of : (shape : Shape) (log data_disk : Disk) → IsOpenable (formatted_store shape) log data_disk → AreBlank shape log data_disk
 blank-of shape log data_disk openable log_bytes data_bytes log_image data_image =
     subst (λ (bytes : List ℕ). IsOrderly bytes data_bytes (formatted_store shape)) (sym (openable.log_rests.one_image log_bytes log_image))
@@ -64,135 +62,69 @@ blank-of shape log data_disk openable log_bytes data_bytes log_image data_image 
 
 -- what formatting wrote stands there, and is a new store
 formatted-now : (call : Call) (shape : Shape)
-    → IfSome call.log_device_now.seen.tells (λ log. IfSome call.data_device_now.seen.tells (λ data_disk. opening.IsFormatted shape log data_disk))
+    → IfSome call.log.now.tells (λ log. IfSome call.store.now.tells (λ data_disk. opening.IsFormatted shape log data_disk))
     → WhereToldNow call (opening.IsFormatted shape)
-formatted-now call shape formatted = both-told call.log_device_now.seen.tells call.data_device_now.seen.tells (opening.IsFormatted shape) formatted
+formatted-now call shape formatted = both-told call.log.now.tells call.store.now.tells (opening.IsFormatted shape) formatted
 
 blank-now : (call : Call) (shape : Shape) → IsWithinLimits shape → FormattedLaw → WhereToldNow call (opening.IsFormatted shape) → WhereToldNow call (AreBlank shape)
 blank-now call shape limits law written log data_disk log_is data_is =
     blank-of shape log data_disk (law shape log data_disk limits (written log data_disk log_is data_is))
 
--- formatting keeps no store but the new one
-abbrev pub FormatKeeps : Shape → (log_entry data_entry log_now data_now : Seen) → Type 0
-FormatKeeps shape log_entry data_entry log_now data_now =
-    WhereBothTell log_entry.tells data_entry.tells (λ log data_disk. WhereBothTell log_now.tells data_now.tells (KeepsNoStore shape log data_disk))
-
-leaves-no-store : (call : Call) (shape : Shape)
-    → FormatKeeps shape call.log_device call.data_device call.log_device_now.seen call.data_device_now.seen → LeavesNoStore call shape
-leaves-no-store call shape keeps log data_disk log_is data_is =
-    both-told call.log_device_now.seen.tells call.data_device_now.seen.tells (KeepsNoStore shape log data_disk)
-    (both-told call.log_device.tells call.data_device.tells
-    (λ log data_disk. WhereBothTell call.log_device_now.seen.tells call.data_device_now.seen.tells (KeepsNoStore shape log data_disk))
-    keeps log data_disk log_is data_is)
-
--- and so does a call that leaves both devices alone: they are what they were
-pub alone-no-store : (call : Call) (shape : Shape) → AreLeftAlone call → LeavesNoStore call shape
-alone-no-store call shape alone log data_disk log_is data_is log_now data_now log_now_is data_now_is log_bytes data_bytes log_image data_image =
-    let kept = kept-alone call alone in
-    let log_same : log ≡ log_now = same-told _ _ log log_now kept.log_device.tells log_is log_now_is in
-    let data_same : data_disk ≡ data_now = same-told _ _ data_disk data_now kept.data_device.tells data_is data_now_is in
-    inl (
-      subst (λ (disk : Disk). IsImage disk log_bytes) (sym log_same) log_image,
-      subst (λ (disk : Disk). IsImage disk data_bytes) (sym data_same) data_image,
-    )
-
 -- FORMAT.
-pub format-ends : {E : Type 0} (call : Call) (pages space log_blocks : ℕ) (r : Result (List ℕ) E) → IsUnread call
-    → AreUnarmed call.log_device call.data_device 0 0 call.log_device_now call.data_device_now
-    → IsWithinLimits (shape_of pages space log_blocks) → FormattedLaw
-    → IfSome call.log_device_now.seen.tells (λ log. IfSome call.data_device_now.seen.tells (λ data_disk. opening.IsFormatted (shape_of pages space log_blocks) log data_disk))
-    → FormatKeeps (shape_of pages space log_blocks) call.log_device call.data_device call.log_device_now.seen call.data_device_now.seen
-    → IfOk r (λ text. text ≡ format_text) → EndsCommand call (Format pages space log_blocks) (outcome_of r)
-format-ends call pages space log_blocks (Ok text) unread both limits law formatted keeps is = record {
-  means = (
-    record { log_device = unfailed-unarmed _ _ both.log_device; data_device = unfailed-unarmed _ _ both.data_device },
+module _ (call : Call) (pages space log_blocks : ℕ) (unread : call.source_now ≡ call.source) where
+  format-end : (o : Outcome) → AreTelling call → IsOutcome call (Format pages space log_blocks) o
+      → (AreLongEnough (shape_of pages space log_blocks) call.log.entry.size call.store.entry.size → Each IsUnfailed call
+      → IsDoneOrKeptFrom (Format pages space log_blocks) o) → EndsWith call (Format pages space log_blocks) o
+  format-end o tells means complete = record {
+    means = means;
+    unread = λ plain. unread;
+    unwritten = λ leaves. absurd (false≢true leaves);
+    left = λ runs. absurd (false≢true runs);
+    tells = tells;
+    complete = λ possible source unfailed. complete possible unfailed;
+  }
+
+  past : IsPastSource call (Format pages space log_blocks)
+  past = λ reads. absurd (false≢true reads)
+
+  tells-both : (log_failed data_failed : ℕ) → AreUnarmed call.log.entry call.store.entry log_failed data_failed (now_of call.log) (now_of call.store) → AreTelling call
+  tells-both log_failed data_failed both = (both.log_device.same.tells, both.data_device.same.tells)
+
+  pub format-ends : {E : Type 0} (r : Result (List ℕ) E)
+      → AreUnarmed call.log.entry call.store.entry 0 0 (now_of call.log) (now_of call.store)
+      → IsWithinLimits (shape_of pages space log_blocks) → FormattedLaw
+      → IfSome call.log.now.tells (λ log. IfSome call.store.now.tells (λ data_disk. opening.IsFormatted (shape_of pages space log_blocks) log data_disk))
+      → IfOk r (λ text. text ≡ format_text) → EndsWith call (Format pages space log_blocks) (outcome_of r)
+  format-ends (Ok text) both limits law formatted is = format-end (outcome.Text text) (tells-both 0 0 both) (
+    ((both.log_device.early, both.log_device.mid, both.log_device.late), (both.data_device.early, both.data_device.mid, both.data_device.late)),
     record {
-      unread = unread;
-      written = formatted-now call (shape_of pages space log_blocks) formatted;
       blank = blank-now call (shape_of pages space log_blocks) limits law (formatted-now call (shape_of pages space log_blocks) formatted);
       text_is = is;
     },
-  );
-  unread = λ plain. unread;
-  kept = λ leaves. absurd (false≢true leaves);
-  told = record { log_device = told-unarmed _ _ _ _ _ both.log_device; data_device = told-unarmed _ _ _ _ _ both.data_device };
-  log_tells = both.log_device.same.tells;
-  data_tells = both.data_device.same.tells;
-  complete = λ possible source unfailed. tt;
-  safe = tt;
-}
-format-ends call pages space log_blocks (Err e) unread both limits law formatted keeps is = record {
-  means = (tt, leaves-no-store call (shape_of pages space log_blocks) keeps);
-  unread = λ plain. unread;
-  kept = λ leaves. absurd (false≢true leaves);
-  told = record { log_device = told-unarmed _ _ _ _ _ both.log_device; data_device = told-unarmed _ _ _ _ _ both.data_device };
-  log_tells = both.log_device.same.tells;
-  data_tells = both.data_device.same.tells;
-  complete = λ possible source unfailed. tt;
-  safe = tt;
-}
+  )
+      (λ long unfailed. tt)
+  format-ends (Err e) both limits law formatted is = format-end (outcome.Fault fault.Memory) (tells-both 0 0 both) tt (λ long unfailed. tt)
 
-alone-of-both : (call : Call) → BothAlone call.log_device call.data_device call.log_device_now call.data_device_now → AreLeftAlone call
-alone-of-both call both = record { log_device = both.log_device; data_device = both.data_device }
+  -- no device was called
+  format-short : (refusal : Refusal) → BothAlone call.log.entry call.store.entry (now_of call.log) (now_of call.store)
+      → IsTooShort (shape_of pages space log_blocks) call.log.entry.size call.store.entry.size refusal
+      → (AreLongEnough (shape_of pages space log_blocks) call.log.entry.size call.store.entry.size → ⊥)
+      → EndsWith call (Format pages space log_blocks) (outcome.Fault (fault.Store refusal))
+  format-short refusal both short not_long =
+      let alone : AreLeftAlone call = record { log_device = both.log_device; data_device = both.data_device } in
+      format-end (outcome.Fault (fault.Store refusal)) (tells-alone call alone) (past, unfailed-alone call alone, short) (λ long unfailed. absurd (not_long long))
 
-pub format-fails : (call : Call) (pages space log_blocks : ℕ) (f : RecFault) → IsUnread call
-    → FormatLeaves call.log_device call.data_device f call.log_device_now call.data_device_now
-    → IsFormatFault (shape_of pages space log_blocks) call.log_device.size call.data_device.size f
-    → FormatKeeps (shape_of pages space log_blocks) call.log_device call.data_device call.log_device_now.seen call.data_device_now.seen
-    → EndsCommand call (Format pages space log_blocks) (outcome.Fault (fault_of f))
-format-fails call pages space log_blocks (SmallLog n) unread both short keeps = record {
-  means = ((inr (refl, unread), (alone-of-both call both, short)), leaves-no-store call (shape_of pages space log_blocks) keeps);
-  unread = λ plain. unread;
-  kept = λ leaves. absurd (false≢true leaves);
-  told = record { log_device = told-fresh _ _ _ both.log_device.fuse; data_device = told-fresh _ _ _ both.data_device.fuse };
-  log_tells = still-tells _ _ both.log_device.seen;
-  data_tells = still-tells _ _ both.data_device.seen;
-  complete = λ possible source unfailed. absurd (omega (arith, possible.log_long, short.0));
-  safe = tt;
-}
-format-fails call pages space log_blocks (SmallData n) unread both short keeps = record {
-  means = ((inr (refl, unread), (alone-of-both call both, short)), leaves-no-store call (shape_of pages space log_blocks) keeps);
-  unread = λ plain. unread;
-  kept = λ leaves. absurd (false≢true leaves);
-  told = record { log_device = told-fresh _ _ _ both.log_device.fuse; data_device = told-fresh _ _ _ both.data_device.fuse };
-  log_tells = still-tells _ _ both.log_device.seen;
-  data_tells = still-tells _ _ both.data_device.seen;
-  complete = λ possible source unfailed. absurd (omega (arith, possible.data_long, short.1));
-  safe = tt;
-}
-format-fails call pages space log_blocks LogDev unread both short keeps = record {
-  means = ((refl, inr (refl, unread), failed-unarmed _ _ both.log_device), leaves-no-store call (shape_of pages space log_blocks) keeps);
-  unread = λ plain. unread;
-  kept = λ leaves. absurd (false≢true leaves);
-  told = record { log_device = told-unarmed _ _ _ _ _ both.log_device; data_device = told-unarmed _ _ _ _ _ both.data_device };
-  log_tells = both.log_device.same.tells;
-  data_tells = both.data_device.same.tells;
-  complete = λ possible source unfailed. absurd (omega (arith, both.log_device.early, unfailed.log_device.early));
-  safe = tt;
-}
-format-fails call pages space log_blocks DataDev unread both short keeps = record {
-  means = ((refl, inr (refl, unread), unfailed-unarmed _ _ both.log_device, failed-unarmed _ _ both.data_device), leaves-no-store call (shape_of pages space log_blocks) keeps);
-  unread = λ plain. unread;
-  kept = λ leaves. absurd (false≢true leaves);
-  told = record { log_device = told-unarmed _ _ _ _ _ both.log_device; data_device = told-unarmed _ _ _ _ _ both.data_device };
-  log_tells = both.log_device.same.tells;
-  data_tells = both.data_device.same.tells;
-  complete = λ possible source unfailed. absurd (omega (arith, both.data_device.early, unfailed.data_device.early));
-  safe = tt;
-}
-format-fails call pages space log_blocks NoMemory unread both short keeps = record {
-  means = (tt, leaves-no-store call (shape_of pages space log_blocks) keeps);
-  unread = λ plain. unread;
-  kept = λ leaves. absurd (false≢true leaves);
-  told = record { log_device = told-unarmed _ _ _ _ _ both.log_device; data_device = told-unarmed _ _ _ _ _ both.data_device };
-  log_tells = both.log_device.same.tells;
-  data_tells = both.data_device.same.tells;
-  complete = λ possible source unfailed. tt;
-  safe = tt;
-}
-format-fails call pages space log_blocks NotFormatted unread both short keeps = absurd short
-format-fails call pages space log_blocks (BadFormat n) unread both short keeps = absurd short
-format-fails call pages space log_blocks NoCheckpoint unread both short keeps = absurd short
-format-fails call pages space log_blocks (BadRecord lsn) unread both short keeps = absurd short
-format-fails call pages space log_blocks (PageLost p) unread both short keeps = absurd short
-format-fails call pages space log_blocks (PageAhead p lsn) unread both short keeps = absurd short
+  pub format-fails : (f : RecFault)
+      → FormatLeaves call.log.entry call.store.entry f (now_of call.log) (now_of call.store)
+      → IsFormatFault (shape_of pages space log_blocks) call.log.entry.size call.store.entry.size f
+      → EndsWith call (Format pages space log_blocks) (outcome.Fault (fault_of f))
+  format-fails (SmallLog n) both short = format-short (refusal.SmallLog n) both short (λ long. omega (arith, long.log_long, short.0))
+  format-fails (SmallData n) both short = format-short (refusal.SmallData n) both short (λ long. omega (arith, long.data_long, short.1))
+  format-fails LogDev both short = format-end (outcome.Fault fault.LogDevice) (tells-both 1 0 both)
+      (past, (both.log_device.risen (omega arith), omega (arith, both.log_device.early)), tt)
+      (λ long unfailed. absurd (omega (arith, both.log_device.early, unfailed.0.0)))
+  format-fails DataDev both short = format-end (outcome.Fault fault.DataDevice) (tells-both 0 1 both)
+      (past, (both.data_device.risen (omega arith), omega (arith, both.data_device.early)), tt)
+      (λ long unfailed. absurd (omega (arith, both.data_device.early, unfailed.1.0)))
+  format-fails NoMemory both short = format-end (outcome.Fault fault.Memory) (tells-both 0 0 both) tt (λ long unfailed. tt)
+  format-fails f both short = absurd short

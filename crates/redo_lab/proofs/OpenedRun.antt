@@ -1,5 +1,5 @@
 -- A store that was opened on two devices whose fuses are armed, and the run of a script on it.
-use Rattle.std.proofs.Common.{ℕ, ◌≡◌, ◌≤◌, ◌+◌, cond, List, Option, Some, None, IfSome, refl, sym, ap, subst, ◌∙◌, inl, inr, ⊎_elim, arith}
+use Rattle.std.proofs.Common.{ℕ, ◌≡◌, ◌≤◌, ◌<◌, ◌+◌, cond, List, Option, Some, None, IfSome, refl, sym, ap, subst, ◌∙◌, inl, inr, ⊎_elim, arith}
 use Rattle.std.specs.List.{AllByRecursion}
 use Rattle.std.proofs.lemmas.Bool.{eq-eqb}
 use Rattle.model_base.specs.{default_shape}
@@ -10,7 +10,6 @@ use Rattle.model_device.specs.Disk.{Disk}
 use Rattle.model_log.specs.{block_of, IsAtDataStart, start_after}
 use Rattle.model_log.specs.declared.layout.TheConstants.{BLOCK_HEADER}
 use Rattle.model_opening.specs.{formatted_store, IsFormatted, IsOpenable, IsReady, KeepsOpened}
-use Rattle.model_report.specs.declared.fault.Fault.TheVariants as fault
 use Rattle.model_run.specs.{IsClosed, IsHeld, IsStart, opened_as}
 use Rattle.model_script.specs.{first_misfit, LineFits, ScriptFits}
 use Rattle.model_script.specs.declared.misfit.Misfit.{Misfit}
@@ -25,26 +24,35 @@ use Rattle.redo_disk.specs.declared.error.DevError.TheVariants as device
 use Rattle.redo_memdisk.specs.{CallsThrough, seen_through}
 use Rattle.redo_memdisk.specs.declared.fused.Fused.{Fused}
 use Rattle.redo_open.specs.{IsOpenedReady, IsOpeningOf, WhereBothTell}
-use Rattle.redo_open.specs.Opening.{MarksStart}
 use Rattle.redo_pageactors.specs.{IsRunnable}
 use Rattle.redo_pageactors.specs.declared.opened.Opened.{Opened}
 use Rattle.redo_recover.specs.{OnContents}
-use Rattle.redo_lab.specs.Call.{Guarded, guarded}
-use Rattle.redo_machine.specs.{room_from}
+use Rattle.redo_disk.proofs.Made.{may_end}
+use Rattle.redo_machine.specs.{ComesToRun, HasMemory, IsOwed, IsOwedSynced, IsOwedWith, room_from, RunsByTurns}
+use Rattle.redo_machine.specs.Drive.{failed_in, HoldsRun as IsRunHeld}
+use Rattle.redo_machine.specs.declared.drive.Driven.{Driven}
+use Rattle.redo_machine.specs.declared.running.Ran.{Ran}
+use Rattle.redo_machine.specs.declared.running.Ran.TheVariants as ended
+use Rattle.model_theorem.specs.{LosesOnlyByFailure}
 use Rattle.redo_machine.specs.Beginning.{IsOpenedAs as IsStartedAs}
 use Rattle.redo_machine.specs.declared.drive.Turns.{Turns}
-use Rattle.redo_lab.specs.Course.{AreMisfitted, ArePlayed, ArePlayedThrough, AreSpent, AreUnstarted, CameSoFar, ClosesRun, ComesTo, HasRunOut, HoldsRun, ran_of}
-use Rattle.redo_lab.specs.Playing.{AreArmed, AreRun, AreRunSoFar, AreSpentOn, HasRunOutOn, HoldsRunOn, OwesRun, Plays}
-use Rattle.redo_lab.specs.Prepared.{ArePrepared, WhereTold}
-use Rattle.redo_lab.specs.Store.{IsOpenedAs}
-use Rattle.redo_lab.specs.Opening.{opened_at}
 use Rattle.redo_lab.specs.declared.playing.Course.{Course}
-use Rattle.redo_lab.specs.declared.playing.Course.TheVariants as course
 use Rattle.redo_lab.specs.declared.playing.Played.{Played}
 use Rattle.redo_lab.specs.declared.playing.Stops.{Stops}
-use Rattle.redo_lab.proofs.Told.{both-told, kept-opened, on-contents}
 use Rattle.redo_lab.proofs.Telling.{calls-go_on}
-use Rattle.redo_lab.proofs.UnderWay.{AreCounted, counted-more, counted-opening, formatted-read, goes-on, HeaderFirst, keeps-found, ReadingLaws, same-both, told-some, way-of}
+use Rattle.redo_lab.proofs.Told.{both-told, on-contents}
+use Rattle.redo_lab.proofs.UnderWay.{AreCounted, HeaderFirst, ReadingLaws, counted-more, counted-opening, formatted-read, goes-on, keeps-found, same-both, told-some, way-of}
+use Rattle.redo_lab.specs.Call.{Done, RunEnd, Spent}
+use Rattle.redo_lab.specs.Course.{AreMisfitted, ArePlayed, AreUnstarted, ByTurns, CameSoFar, ClosesRun, ComesTo, Driving, HoldsRun, ran_of}
+use Rattle.redo_lab.specs.Drives.{ended_of}
+use Rattle.redo_lab.specs.Playing.{AreArmed, AreDriven, AreLeftOpened, course_done, course_of, ended_by, played_of}
+use Rattle.redo_lab.specs.Prepared.{ArePrepared, WhereTold}
+use Rattle.redo_lab.specs.Stages.{Shown, shown}
+use Rattle.redo_lab.specs.Store.{IsOpenedAs}
+
+-- the opened store, as the theorem has it: its log ends there
+abbrev pub opened_at : {L D : Type 0} → Opened L D → ℕ → values.Opened
+opened_at opened end = record { shape = opened.shape; pages = opened.pages; end = end }
 
 -- what was read of these bytes is that
 pub record IsReadOff {L D : Type 0} (store : Opened L D) (end : ℕ) (log_bytes data_bytes : List ℕ) : Type 0 where
@@ -76,7 +84,7 @@ has-end (Some log) (Some data_told) store runnable read = record {
 }
 
 -- it is the new store, where the log device was unused, or what was read off the devices at entry
-opens-formatted : {L D : Type 0} → ReadingLaws → (log_entry data_entry : Seen) (log_found data_found : Guarded) (store : Opened L D) (end : ℕ)
+opens-formatted : {L D : Type 0} → ReadingLaws → (log_entry data_entry : Seen) (log_found data_found : Shown) (store : Opened L D) (end : ℕ)
     → ArePrepared log_entry data_entry log_found data_found
     → IfSome log_found.seen.tells (λ log. IfSome data_found.seen.tells (λ data_disk. IsFormatted default_shape log data_disk))
     → OnContents log_found.seen.tells data_found.seen.tells (IsReadOff store end)
@@ -89,7 +97,7 @@ opens-formatted laws log_entry data_entry log_found data_found store end prepare
     let blank = formatted-read laws.formatted log_found.seen.tells data_found.seen.tells log_told.0 data_told.0 formatted log_told.1 data_told.1 in
     there.same ∙ ap opened_as (laws.one_reading log_told.0.reads data_told.0.reads there.reading (formatted_store default_shape) there.is_read blank)
 
-pub opens-as : {L D : Type 0} → ReadingLaws → (log_entry data_entry : Seen) (log_found data_found : Guarded) (store : Opened L D) (end : ℕ)
+pub opens-as : {L D : Type 0} → ReadingLaws → (log_entry data_entry : Seen) (log_found data_found : Shown) (store : Opened L D) (end : ℕ)
     → ArePrepared log_entry data_entry log_found data_found → OnContents log_found.seen.tells data_found.seen.tells (IsReadOff store end)
     → WhereTold log_entry data_entry (IsOpenedAs (opened_at store end))
 opens-as laws log_entry data_entry log_found data_found store end prepared read log data_disk log_is data_is = ⊎_elim
@@ -104,7 +112,7 @@ opens-as laws log_entry data_entry log_found data_found store end prepared read 
     (λ both.
     let there : IsReadOff store end log.reads data_disk.reads =
     on-contents log_found.seen.tells data_found.seen.tells (IsReadOff store end) read log data_disk
-    (both.kept.log_device.tells ∙ log_is) (both.kept.data_device.tells ∙ data_is) in
+    (both.kept.log_device ∙ log_is) (both.kept.data_device ∙ data_is) in
     inr (
       both.used log data_disk log_is data_is,
       record {
@@ -129,7 +137,6 @@ pub record IsOpened {L D : Type 0} (log_seen : L → Seen) (log_gives : L → Ca
   pub runnable : IsRunnable store
   pub log_calls : MakesCalls (CallsThrough log_seen log_gives) log store.log.dev (HeaderFirst (log_seen log.inner).size None)
   pub data_calls : MakesCalls (CallsThrough data_seen data_gives) data_device store.store.dev (MayEndWith None)
-  pub marks : MarksStart (CallsThrough log_seen log_gives) log store
 
 -- one failure at the most is counted
 pub one-failure : (error : Option DevError) → failures error ≤ 1
@@ -178,20 +185,20 @@ run-told {log_seen = log_seen} {log_gives = log_gives} {data_seen = data_seen} {
 -- THE RUN ON IT
 -- what stands between the arming and the opened store
 pub record IsOpenedUnderWay {L D : Type 0} (log_seen : L → Seen) (log_gives : L → Call → L → Type 0) (data_seen : D → Seen) (data_gives : D → Call → D → Type 0)
-    (log_entry data_entry : Seen) (stops : Stops) (log_found data_found : Guarded) (log : Fused L) (data_device : Fused D) (store : Opened (Fused L) (Fused D)) : Type 0 where
+    (log_entry data_entry : Seen) (stops : Stops) (log_found data_found : Shown) (log : Fused L) (data_device : Fused D) (store : Opened (Fused L) (Fused D)) : Type 0 where
   pub laws : ReadingLaws
-  pub armed : AreArmed log_entry data_entry stops log_found data_found (guarded log_seen log) (guarded data_seen data_device)
+  pub armed : AreArmed log_entry data_entry stops log_found data_found (shown log_seen log) (shown data_seen data_device)
   pub opened : IsOpened log_seen log_gives data_seen data_gives log data_device store
 
 pub counted-opened : {L D : Type 0} {log_seen : L → Seen} {log_gives : L → Call → L → Type 0} {data_seen : D → Seen} {data_gives : D → Call → D → Type 0}
-    {log_entry data_entry : Seen} {stops : Stops} {log_found data_found : Guarded} {log : Fused L} {data_device : Fused D} {store : Opened (Fused L) (Fused D)}
+    {log_entry data_entry : Seen} {stops : Stops} {log_found data_found : Shown} {log : Fused L} {data_device : Fused D} {store : Opened (Fused L) (Fused D)}
     → IsOpenedUnderWay log_seen log_gives data_seen data_gives log_entry data_entry stops log_found data_found log data_device store
-    → AreCounted log_entry data_entry stops log_found data_found 0 0 (guarded log_seen store.log.dev) (guarded data_seen store.store.dev)
+    → AreCounted log_entry data_entry stops log_found data_found 0 0 (shown log_seen store.log.dev) (shown data_seen store.store.dev)
 counted-opened is = counted-opening is.armed is.opened.log_calls is.opened.data_calls
 
 -- what was opened, as the two devices were found
 pub read-found : {L D : Type 0} {log_seen : L → Seen} {log_gives : L → Call → L → Type 0} {data_seen : D → Seen} {data_gives : D → Call → D → Type 0}
-    {log_entry data_entry : Seen} {stops : Stops} {log_found data_found : Guarded} {log : Fused L} {data_device : Fused D} {store : Opened (Fused L) (Fused D)}
+    {log_entry data_entry : Seen} {stops : Stops} {log_found data_found : Shown} {log : Fused L} {data_device : Fused D} {store : Opened (Fused L) (Fused D)}
     → IsOpenedUnderWay log_seen log_gives data_seen data_gives log_entry data_entry stops log_found data_found log data_device store
     → OnContents log_found.seen.tells data_found.seen.tells (λ log_bytes data_bytes. IsOpeningOf log_bytes data_bytes store)
 read-found {log_seen = log_seen} {data_seen = data_seen} {log_found = log_found} {data_found = data_found} {log = log} {data_device = data_device} {store = store} is =
@@ -200,7 +207,7 @@ read-found {log_seen = log_seen} {data_seen = data_seen} {log_found = log_found}
     (ap (λ (seen : Seen). seen.tells) is.armed.log_same) (ap (λ (seen : Seen). seen.tells) is.armed.data_same) is.opened.read
 
 pub end-found : {L D : Type 0} {log_seen : L → Seen} {log_gives : L → Call → L → Type 0} {data_seen : D → Seen} {data_gives : D → Call → D → Type 0}
-    {log_entry data_entry : Seen} {stops : Stops} {log_found data_found : Guarded} {log : Fused L} {data_device : Fused D} {store : Opened (Fused L) (Fused D)}
+    {log_entry data_entry : Seen} {stops : Stops} {log_found data_found : Shown} {log : Fused L} {data_device : Fused D} {store : Opened (Fused L) (Fused D)}
     → IsOpenedUnderWay log_seen log_gives data_seen data_gives log_entry data_entry stops log_found data_found log data_device store
     → HasEnd log_found.seen.tells data_found.seen.tells store
 end-found {log_found = log_found} {data_found = data_found} {store = store} is =
@@ -208,7 +215,7 @@ end-found {log_found = log_found} {data_found = data_found} {store = store} is =
 
 -- what was opened, as the two devices were handed in
 pub opens-found : {L D : Type 0} {log_seen : L → Seen} {log_gives : L → Call → L → Type 0} {data_seen : D → Seen} {data_gives : D → Call → D → Type 0}
-    {log_entry data_entry : Seen} {stops : Stops} {log_found data_found : Guarded} {log : Fused L} {data_device : Fused D} {store : Opened (Fused L) (Fused D)}
+    {log_entry data_entry : Seen} {stops : Stops} {log_found data_found : Shown} {log : Fused L} {data_device : Fused D} {store : Opened (Fused L) (Fused D)}
     → (is : IsOpenedUnderWay log_seen log_gives data_seen data_gives log_entry data_entry stops log_found data_found log data_device store)
     → WhereTold log_entry data_entry (IsOpenedAs (opened_at store (end-found is).end))
 opens-found {log_entry = log_entry} {data_entry = data_entry} {log_found = log_found} {data_found = data_found} {store = store} is =
@@ -217,7 +224,7 @@ opens-found {log_entry = log_entry} {data_entry = data_entry} {log_found = log_f
 
 -- what is so behind the run on it
 run-on : {L D : Type 0} {log_seen : L → Seen} {log_gives : L → Call → L → Type 0} {data_seen : D → Seen} {data_gives : D → Call → D → Type 0}
-    {log_entry data_entry : Seen} {stops : Stops} {log_found data_found : Guarded} {log : Fused L} {data_device : Fused D} {store : Opened (Fused L) (Fused D)}
+    {log_entry data_entry : Seen} {stops : Stops} {log_found data_found : Shown} {log : Fused L} {data_device : Fused D} {store : Opened (Fused L) (Fused D)}
     (script : List ScriptLine) (log_after data_after : Option Disk) (P : values.Opened → Disk → Disk → Type 0) (reading : Reading)
     (is : IsOpenedUnderWay log_seen log_gives data_seen data_gives log_entry data_entry stops log_found data_found log data_device store)
     → AllByRecursion (LineFits store.shape) script
@@ -234,108 +241,24 @@ run-on {log_seen = log_seen} {data_seen = data_seen} {log_found = log_found} {da
     (same-both (λ log_disk data_disk. IsOpenable reading log_disk data_disk → IsOpenedReady (seen_through log_seen) (seen_through data_seen) reading store)
     log_found.seen.tells data_found.seen.tells (log_seen log.inner).tells (data_seen data_device.inner).tells log_tells data_tells (is.opened.ready reading))
 
--- the run is closed
-closes-on : {L D : Type 0} {log_seen : L → Seen} {log_gives : L → Call → L → Type 0} {data_seen : D → Seen} {data_gives : D → Call → D → Type 0}
-    {log_entry data_entry : Seen} {stops : Stops} {log_found data_found : Guarded} {log : Fused L} {data_device : Fused D} {store : Opened (Fused L) (Fused D)}
-    {script : List ScriptLine} (played : Played) (log_now : Fused L) (data_now : Fused D)
-    (is : IsOpenedUnderWay log_seen log_gives data_seen data_gives log_entry data_entry stops log_found data_found log data_device store)
-    → AllByRecursion (LineFits store.shape) script → (becomes : Disk → Disk) (failed : ℕ)
-    → OwesRun becomes (seen_through log_seen) (seen_through data_seen) store script played failed log_now data_now
-    → ClosesRun becomes log_found data_found (opened_at store (end-found is).end) script played failed (guarded log_seen log_now) (guarded data_seen data_now)
-closes-on {log_seen = log_seen} {data_seen = data_seen} {script = script} played log_now data_now is lines becomes failed owes reading left left_is =
-    run-on script (log_seen log_now.inner).tells (data_seen data_now.inner).tells (λ opened log_after data_after. IsClosed failed (record {
-      script = script;
-      opened = opened;
-      number = reading.number + 1;
-      run = ran_of played;
-      left = left;
-      log_disk = becomes log_after;
-      data_disk = becomes data_after;
-    }))
-    reading is lines (λ started. owes reading left started left_is)
-
--- both devices hold it
-holds-on : {L D : Type 0} {log_seen : L → Seen} {log_gives : L → Call → L → Type 0} {data_seen : D → Seen} {data_gives : D → Call → D → Type 0}
-    {log_entry data_entry : Seen} {stops : Stops} {log_found data_found : Guarded} {log : Fused L} {data_device : Fused D} {store : Opened (Fused L) (Fused D)}
-    (script : List ScriptLine) (played : Played) (log_now : Fused L) (data_now : Fused D)
-    (is : IsOpenedUnderWay log_seen log_gives data_seen data_gives log_entry data_entry stops log_found data_found log data_device store)
-    → AllByRecursion (LineFits store.shape) script
-    → HoldsRunOn (seen_through log_seen) (seen_through data_seen) store script played log_now data_now
-    → HoldsRun log_found data_found script (opened_at store (end-found is).end) (ran_of played) (guarded log_seen log_now) (guarded data_seen data_now)
-holds-on {log_seen = log_seen} {data_seen = data_seen} script played log_now data_now is lines holds reading =
-    run-on script (log_seen log_now.inner).tells (data_seen data_now.inner).tells (λ opened log_after data_after. IsHeld (record {
-      script = script;
-      opened = opened;
-      number = reading.number + 1;
-      run = ran_of played;
-      log_disk = log_after;
-      data_disk = data_after;
-    }))
-    reading is lines (holds reading)
-
--- a run came so far on it
-abbrev came-so-far : {L D : Type 0} {log_seen : L → Seen} {log_gives : L → Call → L → Type 0} {data_seen : D → Seen} {data_gives : D → Call → D → Type 0}
-    {log_entry data_entry : Seen} {stops : Stops} {log_found data_found : Guarded} {log : Fused L} {data_device : Fused D} {store : Opened (Fused L) (Fused D)}
-    {turns : Turns} {script : List ScriptLine} {played : Played} (log_error data_error : Option DevError) {log_now : Fused L} {data_now : Fused D}
-    → IsOpenedUnderWay log_seen log_gives data_seen data_gives log_entry data_entry stops log_found data_found log data_device store
-    → AreRunSoFar (CallsThrough log_seen log_gives) (CallsThrough data_seen data_gives) store turns script played log_error data_error log_now data_now
-    → CameSoFar log_entry data_entry stops turns.log_only script (ran_of played) (failures log_error) (failures data_error) (guarded log_seen log_now) (guarded data_seen data_now)
-came-so-far {log_found = log_found} {data_found = data_found} {store = store} {turns = turns} {script = script} log_error data_error is run =
-    let ends : HasEnd log_found.seen.tells data_found.seen.tells store = end-found is in
-    record {
-      way = way-of log_found data_found is.armed.prepared (counted-more (counted-opened is) run.calls.log run.calls.data_part);
-      opened = opened_at store ends.end;
-      opens = opens-found is;
-      limits = is.opened.runnable.limits;
-      fits = subst (λ start. ScriptFits store.shape start (room_from turns.log_only store.shape start) script) ends.start run.fits;
-      is_run = run.is_run ends.end ends.start;
-    }
-
-played-on : {L D : Type 0} {log_seen : L → Seen} {log_gives : L → Call → L → Type 0} {data_seen : D → Seen} {data_gives : D → Call → D → Type 0}
-    {log_entry data_entry : Seen} {stops : Stops} {log_found data_found : Guarded} {log : Fused L} {data_device : Fused D} {store : Opened (Fused L) (Fused D)}
-    {turns : Turns} {script : List ScriptLine} {played : Played} (log_error data_error : Option DevError) {log_now : Fused L} {data_now : Fused D}
-    → IsOpenedUnderWay log_seen log_gives data_seen data_gives log_entry data_entry stops log_found data_found log data_device store
-    → AreRun (seen_through log_seen) (CallsThrough log_seen log_gives) (seen_through data_seen) (CallsThrough data_seen data_gives) store turns script played log_error data_error log_now data_now
-    → ArePlayed log_entry data_entry stops turns.log_only script played (failures log_error) (failures data_error) (guarded log_seen log_now) (guarded data_seen data_now)
-played-on {played = played} log_error data_error {log_now = log_now} {data_now = data_now} is run = record {
-  so_far = came-so-far log_error data_error is run.so_far;
-  loses = run.loses;
-  closed = closes-on played log_now data_now is run.fits.lines (λ disk. disk) (failures log_error + failures data_error) run.owed;
-}
-
--- no call answered an error
-played-through : {L D : Type 0} {log_seen : L → Seen} {log_gives : L → Call → L → Type 0} {data_seen : D → Seen} {data_gives : D → Call → D → Type 0}
-    {log_entry data_entry : Seen} {stops : Stops} {log_found data_found : Guarded} {log : Fused L} {data_device : Fused D} {store : Opened (Fused L) (Fused D)}
-    {turns : Turns} {script : List ScriptLine} {played : Played} {log_now : Fused L} {data_now : Fused D}
-    → IsOpenedUnderWay log_seen log_gives data_seen data_gives log_entry data_entry stops log_found data_found log data_device store
-    → AreRun (seen_through log_seen) (CallsThrough log_seen log_gives) (seen_through data_seen) (CallsThrough data_seen data_gives) store turns script played None None log_now data_now
-    → ArePlayedThrough log_entry data_entry stops turns.log_only script played (guarded log_seen log_now) (guarded data_seen data_now)
-unfolding played-on
-played-through {played = played} {log_now = log_now} {data_now = data_now} is run = record {
-  are = played-on None None is run;
-  if_synced = closes-on played log_now data_now is run.fits.lines synced 0 (run.owed_synced refl refl);
-}
-
 -- no line was run on it
 unstarted : {L D : Type 0} {log_seen : L → Seen} {log_gives : L → Call → L → Type 0} {data_seen : D → Seen} {data_gives : D → Call → D → Type 0}
-    {log_entry data_entry : Seen} {stops : Stops} {log_found data_found : Guarded} {log : Fused L} {data_device : Fused D} {store : Opened (Fused L) (Fused D)}
+    {log_entry data_entry : Seen} {stops : Stops} {log_found data_found : Shown} {log : Fused L} {data_device : Fused D} {store : Opened (Fused L) (Fused D)}
     → IsOpenedUnderWay log_seen log_gives data_seen data_gives log_entry data_entry stops log_found data_found log data_device store
-    → AreUnstarted log_entry data_entry stops (guarded log_seen store.log.dev) (guarded data_seen store.store.dev)
+    → AreUnstarted log_entry data_entry stops (shown log_seen store.log.dev) (shown data_seen store.store.dev)
 unstarted {log_seen = log_seen} {data_seen = data_seen} {log_entry = log_entry} {data_entry = data_entry} {log_found = log_found} {data_found = data_found} {log = log} {data_device = data_device} {store = store} is = record {
   way = way-of log_found data_found is.armed.prepared (counted-opened is);
-  keeps = keeps-found log_found data_found (guarded log_seen log) (guarded data_seen data_device) (guarded log_seen store.log.dev) (guarded data_seen store.store.dev)
+  keeps = keeps-found log_found data_found (shown log_seen log) (shown data_seen data_device) (shown log_seen store.log.dev) (shown data_seen store.store.dev)
       is.armed.log_same is.armed.data_same is.opened.keeps;
-  kept = kept-opened is.laws.one_answer log_entry data_entry (guarded log_seen store.log.dev) (guarded data_seen store.store.dev)
-      (opened_at store (end-found is).end) (opens-found is);
 }
 
 -- a script that doesn't fit
 misfitted : {L D : Type 0} {log_seen : L → Seen} {log_gives : L → Call → L → Type 0} {data_seen : D → Seen} {data_gives : D → Call → D → Type 0}
-    {log_entry data_entry : Seen} {stops : Stops} {log_found data_found : Guarded} {log : Fused L} {data_device : Fused D} {store : Opened (Fused L) (Fused D)}
+    {log_entry data_entry : Seen} {stops : Stops} {log_found data_found : Shown} {log : Fused L} {data_device : Fused D} {store : Opened (Fused L) (Fused D)}
     {script : List ScriptLine} {misfit : Misfit} (turns : Turns)
     → IsOpenedUnderWay log_seen log_gives data_seen data_gives log_entry data_entry stops log_found data_found log data_device store
     → first_misfit store.shape store.start (room_from turns.log_only store.shape store.start) script ≡ Some misfit
-    → AreMisfitted log_entry data_entry stops turns.log_only script misfit (guarded log_seen store.log.dev) (guarded data_seen store.store.dev)
+    → AreMisfitted log_entry data_entry stops turns.log_only script misfit (shown log_seen store.log.dev) (shown data_seen store.store.dev)
 misfitted {log_found = log_found} {data_found = data_found} {store = store} {script = script} {misfit = misfit} turns is first =
     let ends : HasEnd log_found.seen.tells data_found.seen.tells store = end-found is in
     let before = unstarted is in
@@ -344,78 +267,179 @@ misfitted {log_found = log_found} {data_found = data_found} {store = store} {scr
       keeps = before.keeps;
       opened = opened_at store ends.end;
       opens = opens-found is;
-      limits = is.opened.runnable.limits;
       first = subst (λ start. first_misfit store.shape start (room_from turns.log_only store.shape start) script ≡ Some misfit) ends.start first;
     }
 
--- turns that were spent
-spent-on : {L D : Type 0} {log_seen : L → Seen} {log_gives : L → Call → L → Type 0} {data_seen : D → Seen} {data_gives : D → Call → D → Type 0}
-    {log_entry data_entry : Seen} {stops : Stops} {log_found data_found : Guarded} {log : Fused L} {data_device : Fused D} {store : Opened (Fused L) (Fused D)}
-    {turns : Turns} {script : List ScriptLine} {count user : ℕ} {log_now : Fused L} {data_now : Fused D}
-    → IsOpenedUnderWay log_seen log_gives data_seen data_gives log_entry data_entry stops log_found data_found log data_device store
-    → AreSpentOn (seen_through log_seen) (CallsThrough log_seen log_gives) (seen_through data_seen) (CallsThrough data_seen data_gives) store turns script count user log_now data_now
-    → AreSpent log_entry data_entry stops turns script count user (guarded log_seen log_now) (guarded data_seen data_now)
-spent-on {script = script} {log_now = log_now} {data_now = data_now} is spent = record {
-  count_is = spent.count_is;
-  run = ran_of spent.played;
-  log_error = spent.log_error;
-  data_error = spent.data_error;
-  so_far = came-so-far spent.log_error spent.data_error is spent.so_far;
-  holds = holds-on script spent.played log_now data_now is spent.so_far.fits.lines spent.holds;
-  leaves = spent.leaves;
-}
+-- THE LINES WERE RUN ON IT
+module _ {L D : Type 0} {log_seen : L → Seen} {log_gives : L → Call → L → Type 0} {data_seen : D → Seen} {data_gives : D → Call → D → Type 0}
+    {log_entry data_entry : Seen} {stops : Stops} {log_found data_found : Shown} {log : Fused L} {data_device : Fused D} {store : Opened (Fused L) (Fused D)}
+    (turns : Turns) (script : List ScriptLine) (driven : Driven (Fused L) (Fused D))
+    (is : IsOpenedUnderWay log_seen log_gives data_seen data_gives log_entry data_entry stops log_found data_found log data_device store)
+    (fits : ScriptFits store.shape store.start (room_from turns.log_only store.shape store.start) script)
+    (by_turns : RunsByTurns (seen_through log_seen) (CallsThrough log_seen log_gives) (seen_through data_seen) (CallsThrough data_seen data_gives) store script turns driven)
+    (comes_to : ComesToRun (CallsThrough log_seen log_gives) (CallsThrough data_seen data_gives) store script driven) where
+  abbrev log_now : Shown
+  log_now = shown log_seen driven.closed.log.dev
 
--- a device that had no memory
-run-out : {L D : Type 0} {log_seen : L → Seen} {log_gives : L → Call → L → Type 0} {data_seen : D → Seen} {data_gives : D → Call → D → Type 0}
-    {log_entry data_entry : Seen} {stops : Stops} {log_found data_found : Guarded} {log : Fused L} {data_device : Fused D} {store : Opened (Fused L) (Fused D)}
-    {turns : Turns} {script : List ScriptLine} {log_now : Fused L} {data_now : Fused D}
-    → IsOpenedUnderWay log_seen log_gives data_seen data_gives log_entry data_entry stops log_found data_found log data_device store
-    → HasRunOutOn (seen_through log_seen) (CallsThrough log_seen log_gives) (seen_through data_seen) (CallsThrough data_seen data_gives) store turns script log_now data_now
-    → HasRunOut log_entry data_entry stops turns.log_only script (guarded log_seen log_now) (guarded data_seen data_now)
-run-out {script = script} {log_now = log_now} {data_now = data_now} is out = record {
-  run = ran_of out.played;
-  so_far = came-so-far (Some device.NoMemory) (Some device.NoMemory) is out.so_far;
-  holds = holds-on script out.played log_now data_now is out.so_far.fits.lines out.holds;
-}
+  abbrev data_now : Shown
+  data_now = shown data_seen driven.closed.store.dev
 
--- WHAT A RUN COMES TO whose store was opened.
-pub opened-comes : {L D : Type 0} {log_seen : L → Seen} {log_gives : L → Call → L → Type 0} {data_seen : D → Seen} {data_gives : D → Call → D → Type 0}
-    {log_entry data_entry : Seen} {stops : Stops} {log_found data_found : Guarded} {log : Fused L} {data_device : Fused D} {store : Opened (Fused L) (Fused D)}
+  abbrev by : Driving
+  by = ByTurns log_seen log_gives data_seen data_gives turns script
+
+  abbrev played : Played
+  played = played_of store.start driven.closed
+
+  -- a run came so far
+  abbrev came-so-far : (log_error data_error : Option DevError) → driven.closed.log.failed ≡ log_error → driven.closed.store.failed ≡ data_error
+      → CameSoFar log_entry data_entry stops turns.log_only script (ran_of played) (failures log_error) (failures data_error) log_now data_now
+  came-so-far log_error data_error log_is data_is =
+      let log_made = subst (λ (e : Option DevError). MakesCalls (CallsThrough log_seen log_gives) store.log.dev driven.closed.log.dev (MayEndWith e)) log_is
+      (may_end (comes_to.log_calls.live refl)) in
+      let data_made = subst (λ (e : Option DevError). MakesCalls (CallsThrough data_seen data_gives) store.store.dev driven.closed.store.dev (MayEndWith e)) data_is
+      (may_end (comes_to.data_calls.live refl)) in
+      record {
+        way = way-of log_found data_found is.armed.prepared (counted-more (counted-opened is) log_made data_made);
+        opened = opened_at store (end-found is).end;
+        opens = opens-found is;
+        fits = subst (λ start. ScriptFits store.shape start (room_from turns.log_only store.shape start) script) (end-found is).start fits;
+        is_run = comes_to.is_run (end-found is).end (end-found is).start;
+      }
+
+  -- the turns of the drive led to this end
+  driven-so : (end : RunEnd) → driven.ended ≡ ended_of end
+      → by (opened_at store (end-found is).end) (ran_of played) end (log_seen driven.closed.log.dev.inner).tells (data_seen driven.closed.store.dev.inner).tells
+  driven-so end ends = record {
+    store = store;
+    is_opened = record { shape = refl; pages = refl; start = (end-found is).start; runnable = is.opened.runnable };
+    driven = driven;
+    by_turns = by_turns;
+    ends = ends;
+    run_is = refl;
+    log_is = refl;
+    store_is = refl;
+  }
+
+  -- both devices hold it
+  holds-on : IsRunHeld (seen_through log_seen) (seen_through data_seen) store script driven
+      → HoldsRun log_found data_found script (opened_at store (end-found is).end) (ran_of played) log_now data_now
+  holds-on holds reading =
+      run-on script log_now.seen.tells data_now.seen.tells (λ opened log_after data_after. IsHeld (record {
+        script = script;
+        opened = opened;
+        number = reading.number + 1;
+        run = ran_of played;
+        log_disk = log_after;
+        data_disk = data_after;
+      }))
+      reading is fits.lines (holds reading)
+
+  -- it is closed
+  closes-on : (becomes : Disk → Disk) (failed : ℕ) → failed_in driven.closed ≡ failed → driven.ended ≡ ended.Done → HasMemory driven.closed
+      → IsOwedWith becomes (seen_through log_seen) (seen_through data_seen) store script driven
+      → ClosesRun becomes log_found data_found (opened_at store (end-found is).end) script played failed log_now data_now
+  closes-on becomes failed counted done memory owes =
+      subst (λ (n : ℕ). ClosesRun becomes log_found data_found (opened_at store (end-found is).end) script played n log_now data_now) counted
+      (λ reading left left_is. run-on script log_now.seen.tells data_now.seen.tells (λ opened log_after data_after. IsClosed (failed_in driven.closed) (record {
+        script = script;
+        opened = opened;
+        number = reading.number + 1;
+        run = ran_of played;
+        left = left;
+        log_disk = becomes log_after;
+        data_disk = becomes data_after;
+      }))
+      reading is fits.lines (λ started. owes reading left done memory started left_is))
+
+  module _ (holds : IsRunHeld (seen_through log_seen) (seen_through data_seen) store script driven)
+      (owed : IsOwed (seen_through log_seen) (seen_through data_seen) store script driven)
+      (owed_synced : IsOwedSynced (seen_through log_seen) (seen_through data_seen) store script driven) where
+    -- all users ended, and no device was without memory, or one failed
+    played-on : (log_error data_error : Option DevError) → driven.closed.log.failed ≡ log_error → driven.closed.store.failed ≡ data_error
+        → driven.ended ≡ ended.Done → HasMemory driven.closed
+        → ArePlayed by log_entry data_entry stops turns.log_only script played (failures log_error) (failures data_error) log_now data_now
+    played-on log_error data_error log_is data_is done memory =
+        let counted : failed_in driven.closed ≡ failures log_error + failures data_error =
+        ap (λ (e : Option DevError). failures e + failures driven.closed.store.failed) log_is ∙ ap (λ (e : Option DevError). failures log_error + failures e) data_is in
+        record {
+          so_far = came-so-far log_error data_error log_is data_is;
+          driven = driven-so Done done;
+          loses = λ left left_is. subst (λ (n : ℕ). LosesOnlyByFailure n (Some (ran_of played)) left) counted (comes_to.loses left done memory left_is);
+          closed = closes-on (λ disk. disk) (failures log_error + failures data_error) counted done memory owed;
+        }
+
+    some-failed : (log_error data_error : Option DevError) → driven.closed.log.failed ≡ log_error → driven.closed.store.failed ≡ data_error
+        → 0 < failures log_error + failures data_error → HasMemory driven.closed
+    some-failed log_error data_error log_is data_is some lacks =
+        let log_same = ap failures log_is in let data_same = ap failures data_is in omega arith
+
+    none-lacks : driven.closed.log.failed ≡ None → driven.closed.store.failed ≡ None → HasMemory driven.closed
+    none-lacks log_is data_is lacks = ⊎_elim (λ log. let e = sym log_is ∙ log in absurd (cc)) (λ store. let e = sym data_is ∙ store in absurd (cc)) lacks
+
+    -- ALL USERS ENDED, by what a call of each device answered that failed.
+    done-by : (log_error data_error : Option DevError) → driven.closed.log.failed ≡ log_error → driven.closed.store.failed ≡ data_error → driven.ended ≡ ended.Done
+        → ComesTo by log_entry data_entry stops turns script (course_done played (ended_by log_error data_error)) log_now data_now
+    unfolding played-on none-lacks
+    done-by None None log_is data_is done =
+        let memory = none-lacks log_is data_is in
+        let counted : failed_in driven.closed ≡ 0 = let log_same = ap failures log_is in let data_same = ap failures data_is in omega arith in
+        record {
+          are = played-on None None log_is data_is done memory;
+          if_synced = closes-on synced 0 counted done memory (owed_synced log_is data_is);
+        }
+    done-by (Some device.Failed) data_error log_is data_is done = record {
+      data_failed = failures data_error;
+      once = one-failure data_error;
+      are = played-on (Some device.Failed) data_error log_is data_is done (some-failed (Some device.Failed) data_error log_is data_is (omega arith));
+    }
+    done-by None (Some device.Failed) log_is data_is done =
+        played-on None (Some device.Failed) log_is data_is done (some-failed None (Some device.Failed) log_is data_is (omega arith))
+    done-by (Some device.NoMemory) (Some device.Failed) log_is data_is done =
+        played-on (Some device.NoMemory) (Some device.Failed) log_is data_is done (some-failed (Some device.NoMemory) (Some device.Failed) log_is data_is (omega arith))
+    done-by (Some device.NoMemory) None log_is data_is done = inr (inr (record { run = ran_of played; so_far = came-so-far (Some device.NoMemory) (None) log_is data_is; holds = holds-on holds }))
+    done-by (Some device.NoMemory) (Some device.NoMemory) log_is data_is done = inr (inr (record { run = ran_of played; so_far = came-so-far (Some device.NoMemory) (Some device.NoMemory) log_is data_is; holds = holds-on holds }))
+    done-by None (Some device.NoMemory) log_is data_is done = inr (inr (record { run = ran_of played; so_far = came-so-far (None) (Some device.NoMemory) log_is data_is; holds = holds-on holds }))
+
+    ended-by : (how : Ran) → driven.ended ≡ how
+        → ComesTo by log_entry data_entry stops turns script
+        (course_of turns.max how played (ended_by driven.closed.log.failed driven.closed.store.failed)) log_now data_now
+    ended-by ended.Done how = done-by driven.closed.log.failed driven.closed.store.failed refl refl how
+    ended-by (ended.Spent user) how = record {
+      count_is = refl;
+      run = ran_of played;
+      log_failed = failures driven.closed.log.failed;
+      data_failed = failures driven.closed.store.failed;
+      so_far = came-so-far driven.closed.log.failed driven.closed.store.failed refl refl;
+      driven = driven-so (Spent user) how;
+      holds = holds-on holds;
+    }
+
+-- WHAT A RUN COMES TO whose store was opened: no line was run
+pub unplayed-comes : {L D : Type 0} {log_seen : L → Seen} {log_gives : L → Call → L → Type 0} {data_seen : D → Seen} {data_gives : D → Call → D → Type 0}
+    {log_entry data_entry : Seen} {stops : Stops} {log_found data_found : Shown} {log : Fused L} {data_device : Fused D} {store : Opened (Fused L) (Fused D)}
+    (by : Driving) (turns : Turns) (script : List ScriptLine) (c : Course) (log_now : Fused L) (data_now : Fused D)
+    → IsOpenedUnderWay log_seen log_gives data_seen data_gives log_entry data_entry stops log_found data_found log data_device store
+    → AreLeftOpened store turns script c log_now data_now
+    → ComesTo by log_entry data_entry stops turns script c (shown log_seen log_now) (shown data_seen data_now)
+unplayed-comes {L} {D} {log_seen = log_seen} {data_seen = data_seen} {log_entry = log_entry} {data_entry = data_entry} {stops = stops} {store = store} by turns script c log_now data_now is left =
+    let Comes : Course → Fused L → Fused D → Type 0 = λ c one other.
+    ComesTo by log_entry data_entry stops turns script c (shown log_seen one) (shown data_seen other) in
+    subst (λ (one : Fused L). Comes c one data_now) (sym left.log_same) (subst (λ (one : Fused D). Comes c store.log.dev one) (sym left.data_same)
+    (⊎_elim
+    (λ memory. subst (λ (c : Course). Comes c store.log.dev store.store.dev) (sym memory) (inr (inl (unstarted is))))
+    (λ unfit. subst (λ (c : Course). Comes c store.log.dev store.store.dev) (sym unfit.2) (misfitted turns is unfit.1))
+    left.why))
+
+-- or the lines were run
+pub driven-comes : {L D : Type 0} {log_seen : L → Seen} {log_gives : L → Call → L → Type 0} {data_seen : D → Seen} {data_gives : D → Call → D → Type 0}
+    {log_entry data_entry : Seen} {stops : Stops} {log_found data_found : Shown} {log : Fused L} {data_device : Fused D} {store : Opened (Fused L) (Fused D)}
     (turns : Turns) (script : List ScriptLine) (c : Course) (log_now : Fused L) (data_now : Fused D)
     → IsOpenedUnderWay log_seen log_gives data_seen data_gives log_entry data_entry stops log_found data_found log data_device store
-    → Plays (seen_through log_seen) (CallsThrough log_seen log_gives) (seen_through data_seen) (CallsThrough data_seen data_gives) store turns script c log_now data_now
-    → ComesTo log_entry data_entry stops turns script c (guarded log_seen log_now) (guarded data_seen data_now)
-opened-comes {L} {D} {log_seen = log_seen} {data_seen = data_seen} {log_entry = log_entry} {data_entry = data_entry} {stops = stops} {store = store} turns script (course.Ended fault.Memory) log_now data_now is plays =
-    inr (⊎_elim
-    (λ unplayed. inl (subst (λ (one : Fused L). AreUnstarted log_entry data_entry stops (guarded log_seen one) (guarded data_seen data_now)) (sym unplayed.log_same)
-    (subst (λ (one : Fused D). AreUnstarted log_entry data_entry stops (guarded log_seen store.log.dev) (guarded data_seen one)) (sym unplayed.data_same) (unstarted is))))
-    (λ out. inr (run-out is out))
-    plays)
-opened-comes {L} {D} {log_seen = log_seen} {data_seen = data_seen} {log_entry = log_entry} {data_entry = data_entry} {stops = stops} {store = store} turns script (course.Ended (fault.Fit misfit)) log_now data_now is plays =
-    subst (λ (one : Fused L). AreMisfitted log_entry data_entry stops turns.log_only script misfit (guarded log_seen one) (guarded data_seen data_now)) (sym plays.log_same)
-    (subst (λ (one : Fused D). AreMisfitted log_entry data_entry stops turns.log_only script misfit (guarded log_seen store.log.dev) (guarded data_seen one)) (sym plays.data_same)
-    (misfitted turns is plays.first))
-opened-comes turns script (course.Ended (fault.Turns count user)) log_now data_now is plays = spent-on is plays
-opened-comes turns script (course.Ended fault.Words) log_now data_now is plays = absurd plays
-opened-comes turns script (course.Ended (fault.Script n)) log_now data_now is plays = absurd plays
-opened-comes turns script (course.Ended fault.Source) log_now data_now is plays = absurd plays
-opened-comes turns script (course.Ended fault.Sink) log_now data_now is plays = absurd plays
-opened-comes turns script (course.Ended fault.LogDevice) log_now data_now is plays = absurd plays
-opened-comes turns script (course.Ended fault.DataDevice) log_now data_now is plays = absurd plays
-opened-comes turns script (course.Ended (fault.Store cause)) log_now data_now is plays = absurd plays
-opened-comes turns script (course.Stopped f) log_now data_now is plays = absurd plays
-opened-comes turns script (course.Played played None) log_now data_now is plays = played-through is plays
-opened-comes turns script (course.Played played (Some fault.LogDevice)) log_now data_now is plays = record {
-  data_failed = failures plays.data_error;
-  once = one-failure plays.data_error;
-  are = played-on (Some device.Failed) plays.data_error is plays.are;
-}
-opened-comes turns script (course.Played played (Some fault.DataDevice)) log_now data_now is plays = played-on (Some device.NoMemory) (Some device.Failed) is plays
-opened-comes turns script (course.Played played (Some fault.Memory)) log_now data_now is plays = absurd plays
-opened-comes turns script (course.Played played (Some fault.Words)) log_now data_now is plays = absurd plays
-opened-comes turns script (course.Played played (Some (fault.Script n))) log_now data_now is plays = absurd plays
-opened-comes turns script (course.Played played (Some fault.Source)) log_now data_now is plays = absurd plays
-opened-comes turns script (course.Played played (Some fault.Sink)) log_now data_now is plays = absurd plays
-opened-comes turns script (course.Played played (Some (fault.Store cause))) log_now data_now is plays = absurd plays
-opened-comes turns script (course.Played played (Some (fault.Fit misfit))) log_now data_now is plays = absurd plays
-opened-comes turns script (course.Played played (Some (fault.Turns count user))) log_now data_now is plays = absurd plays
+    → AreDriven (seen_through log_seen) (CallsThrough log_seen log_gives) (seen_through data_seen) (CallsThrough data_seen data_gives) store turns script c log_now data_now
+    → ComesTo (ByTurns log_seen log_gives data_seen data_gives turns script) log_entry data_entry stops turns script c (shown log_seen log_now) (shown data_seen data_now)
+driven-comes {L} {D} {log_seen = log_seen} {log_gives = log_gives} {data_seen = data_seen} {data_gives = data_gives} {log_entry = log_entry} {data_entry = data_entry} {stops = stops} turns script c log_now data_now is are =
+    let Comes : Course → Fused L → Fused D → Type 0 = λ c one other.
+    ComesTo (ByTurns log_seen log_gives data_seen data_gives turns script) log_entry data_entry stops turns script c (shown log_seen one) (shown data_seen other) in
+    subst (λ (one : Fused L). Comes c one data_now) (sym are.log_is) (subst (λ (one : Fused D). Comes c are.driven.closed.log.dev one) (sym are.data_is)
+    (subst (λ (c : Course). Comes c are.driven.closed.log.dev are.driven.closed.store.dev) (sym are.course_is)
+    (ended-by turns script are.driven is are.fits are.by_turns are.comes_to are.holds are.owed are.owed_synced are.driven.ended refl)))

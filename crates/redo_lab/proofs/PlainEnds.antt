@@ -1,5 +1,6 @@
 -- What the commands that run no script come to.
-use Rattle.std.proofs.Common.{ℕ, ◌≡◌, ◌≤◌, true, false, List, Option, Result, Ok, Err, IfSome, IfOk, refl, sym, ap, subst, inl, inr, arith}
+use Rattle.std.proofs.lemmas.Bool.{false≢true}
+use Rattle.std.proofs.Common.{ℕ, ◌≡◌, ◌<◌, true, false, List, Result, Ok, Err, IfOk, arith}
 use Rattle.model_base.specs.{HasRisen}
 use Rattle.model_command.specs.declared.asked.Command.{Command}
 use Rattle.model_command.specs.declared.asked.Command.TheVariants.{Recover, Dump, Gen}
@@ -10,213 +11,159 @@ use Rattle.model_store.specs.{IsReading, Refuses}
 use Rattle.model_store.specs.Reading.{Reading}
 use Rattle.model_store.specs.declared.refusal.Refusal.{Refusal}
 use Rattle.model_store.specs.declared.refusal.Refusal.TheVariants as refusal
-use Rattle.redo_disk.specs.Seen.{Seen}
 use Rattle.redo_disk.specs.{failures}
-use Rattle.redo_memdisk.specs.{fresh}
-use Rattle.redo_memdisk.specs.declared.fuse.Fuse.{Fuse}
-use Rattle.redo_recover.specs.{data_error, HasCauseIn, HasLengthCause, log_error, OnContents}
+use Rattle.redo_recover.specs.{data_error, HasCauseIn, log_error, OnContents}
 use Rattle.redo_recover.specs.declared.fault.RecFault.{RecFault}
 use Rattle.redo_recover.specs.declared.fault.RecFault.TheVariants.{SmallLog, NotFormatted, BadFormat, SmallData, NoCheckpoint, BadRecord, PageLost, PageAhead, LogDev, DataDev, NoMemory}
-use Rattle.redo_lab.specs.Answer.{AreUnfailed, IsReadOff}
-use Rattle.redo_lab.specs.Call.{AreKept, AreLeftAlone, Call, Guarded, IsUnread}
-use Rattle.redo_lab.specs.Cause.{LeavesStore}
-use Rattle.redo_lab.specs.Complete.{AreUnfailedFor, CanRead, IsPossible}
-use Rattle.redo_lab.specs.Devices.{HasFailed, IsToldAtMost, IsUnfailed, WhereToldAtEntry}
-use Rattle.redo_lab.specs.Faults.{fault_of}
-use Rattle.redo_lab.specs.Outcome.{EndsCommand, IsDoneOrKeptFrom, IsOutcome, IsSafeOutcome, outcome_of}
-use Rattle.redo_lab.specs.Stages.{IsUnarmed}
-use Rattle.redo_lab.specs.Store.{AreRefused, IsShorter}
 use Rattle.redo_lab.specs.declared.outcome.Outcome.{Outcome}
 use Rattle.redo_lab.specs.declared.outcome.Outcome.TheVariants as outcome
-use Rattle.redo_lab.proofs.Endings.{still-tells, told-fresh}
+use Rattle.redo_lab.proofs.Keeping.{OpenableLaw}
 use Rattle.redo_lab.proofs.Told.{OneAnswer, on-contents}
-
-unfailed-fresh : (fuse : Fuse) → fuse ≡ fresh → IsUnfailed fuse
-unfailed-fresh fuse is = subst IsUnfailed (sym is) (record { early = refl; mid = refl; late = refl })
-
-pub kept-alone : (call : Call) → AreLeftAlone call → AreKept call
-kept-alone call alone = record {
-  log_device = record {
-    tells = ap (λ (seen : Seen). seen.tells) alone.log_device.seen;
-    crashed_from = ap (λ (seen : Seen). seen.crashed_from) alone.log_device.seen;
-  };
-  data_device = record {
-    tells = ap (λ (seen : Seen). seen.tells) alone.data_device.seen;
-    crashed_from = ap (λ (seen : Seen). seen.crashed_from) alone.data_device.seen;
-  };
-}
-
-unfailed-alone : (call : Call) → AreLeftAlone call → AreUnfailed call
-unfailed-alone call alone = record {
-  log_device = unfailed-fresh call.log_device_now.fuse alone.log_device.fuse;
-  data_device = unfailed-fresh call.data_device_now.fuse alone.data_device.fuse;
-}
-
--- what a command says beside its outcome that leaves both devices alone
-alone-end : (call : Call) (command : Command) (out : Outcome) → AreLeftAlone call → IsUnread call → IsOutcome call command out
-    → (IsPossible call command → (HasRisen call.source.faults call.source_now.faults → ⊥) → AreUnfailedFor command call → IsDoneOrKeptFrom command out)
-    → IsSafeOutcome call command out → EndsCommand call command out
-alone-end call command out alone unread means complete safe = record {
-  means = means;
-  unread = λ plain. unread;
-  kept = λ leaves. kept-alone call alone;
-  told = record { log_device = told-fresh _ _ _ alone.log_device.fuse; data_device = told-fresh _ _ _ alone.data_device.fuse };
-  log_tells = still-tells _ _ alone.log_device.seen;
-  data_tells = still-tells _ _ alone.data_device.seen;
-  complete = complete;
-  safe = safe;
-}
+use Rattle.redo_lab.proofs.Unscripted.{AreLeftAlone, leaves-alone, tells-alone, unfailed-alone, unwritten-alone}
+use Rattle.redo_lab.specs.Answer.{IsReadOff}
+use Rattle.redo_lab.specs.Asked.{runs_script}
+use Rattle.redo_lab.specs.Call.{AreUnfailedFor, Call, Each, Guarded, IsUnfailed, IsUnwritten, WhereToldAtEntry}
+use Rattle.redo_lab.specs.Cause.{IsDeviceFault, IsPastSource, IsUnbegun}
+use Rattle.redo_lab.specs.Complete.{CanRead, IsPossible}
+use Rattle.redo_lab.specs.Faults.{fault_of}
+use Rattle.redo_lab.specs.Outcome.{EndsWith, IsDoneOrKeptFrom, IsOutcome, outcome_of}
+use Rattle.redo_lab.specs.Stages.{IsUnarmed, now_of}
+use Rattle.redo_lab.specs.Store.{AreRefused}
 
 -- GEN.
-pub gen-ends : {E : Type 0} (call : Call) (seed users groups max : ℕ) (r : Result (List ℕ) E) → AreLeftAlone call → IsUnread call
-    → IfOk r (λ text. text ≡ generated_text seed users groups) → EndsCommand call (Gen seed users groups false max) (outcome_of r)
-gen-ends call seed users groups max (Ok text) alone unread is =
-    alone-end call (Gen seed users groups false max) (outcome.Text text) alone unread
-    (unfailed-alone call alone, record { unread = unread; alone = alone; text_is = is }) (λ possible source unfailed. tt) tt
-gen-ends call seed users groups max (Err e) alone unread is =
-    alone-end call (Gen seed users groups false max) (outcome.Fault fault.Memory) alone unread (tt, tt) (λ possible source unfailed. tt) tt
-
--- where memory ran out over its script, there is no run
-pub gen-unscripted : (call : Call) (seed users groups max : ℕ) → AreLeftAlone call → IsUnread call → LeavesStore call
-    → EndsCommand call (Gen seed users groups true max) (outcome.Fault fault.Memory)
-gen-unscripted call seed users groups max alone unread left =
-    alone-end call (Gen seed users groups true max) (outcome.Fault fault.Memory) alone unread (tt, inl left) (λ possible source unfailed. tt) tt
-
--- what the stage before the arming says of a fuse
-pub told-unarmed : (entry : Seen) (failed : ℕ) (now : Guarded) (limit pick : Option ℕ) → IsUnarmed entry failed now → IsToldAtMost limit pick now.fuse
-told-unarmed entry failed now limit pick was = record {
-  limit_is = inl was.limit;
-  passed_at_most = subst (λ (found : Option ℕ). IfSome found (λ limit. now.fuse.passed ≤ limit)) (sym was.limit) tt;
-  pick_is = inl was.pick;
+pub gen-ends : {E : Type 0} (call : Call) (seed users groups max : ℕ) (r : Result (List ℕ) E) → AreLeftAlone call → call.source_now ≡ call.source
+    → IfOk r (λ text. text ≡ generated_text seed users groups) → EndsWith call (Gen seed users groups false max) (outcome_of r)
+gen-ends call seed users groups max (Ok text) alone unread is = record {
+  means = (unfailed-alone call alone, is);
+  unread = λ plain. unread;
+  unwritten = λ leaves. unwritten-alone call alone;
+  left = λ runs. absurd (false≢true runs);
+  tells = tells-alone call alone;
+  complete = λ possible source unfailed. tt;
+}
+gen-ends call seed users groups max (Err e) alone unread is = record {
+  means = tt;
+  unread = λ plain. unread;
+  unwritten = λ leaves. unwritten-alone call alone;
+  left = λ runs. absurd (false≢true runs);
+  tells = tells-alone call alone;
+  complete = λ possible source unfailed. tt;
 }
 
-pub unfailed-unarmed : (entry : Seen) (now : Guarded) → IsUnarmed entry 0 now → IsUnfailed now.fuse
-unfailed-unarmed entry now was = record { early = was.early; mid = was.mid; late = was.late }
-
-pub failed-unarmed : (entry : Seen) (now : Guarded) → IsUnarmed entry 1 now → HasRisen entry.faults now.seen.faults × HasFailed now.fuse
-failed-unarmed entry now was = (was.risen (omega arith), omega (arith, was.early))
+-- where memory ran out over its script, there is no run
+pub gen-unscripted : (call : Call) (seed users groups max : ℕ) → AreLeftAlone call → call.source_now ≡ call.source → OpenableLaw
+    → EndsWith call (Gen seed users groups true max) (outcome.Fault fault.Memory)
+gen-unscripted call seed users groups max alone unread law = record {
+  means = tt;
+  unread = λ plain. unread;
+  unwritten = λ leaves. absurd (false≢true leaves);
+  left = λ runs. leaves-alone call law alone;
+  tells = tells-alone call alone;
+  complete = λ possible source unfailed. tt;
+}
 
 -- a store that is read isn't refused
 unrefused : (call : Call) (refusal : Refusal) → OneAnswer → CanRead call → WhereToldAtEntry call (AreRefused refusal) → ⊥
 unrefused call refusal one can refused =
-    one can.log.reads can.data_disk.reads can.reading refusal can.is_read (refused can.log can.data_disk can.log_tells can.data_tells)
+    one can.log.reads can.store.reads can.reading refusal can.is_read (refused can.log can.store can.log_tells can.store_tells)
 
--- The devices of a command that only reads them: as they were, with so many calls failed.
-pub record ReadsDevices (call : Call) (log_failed data_failed : ℕ) : Type 0 where
-  pub unread : IsUnread call
-  pub kept : AreKept call
-  pub log_device : IsUnarmed call.log_device log_failed call.log_device_now
-  pub data_device : IsUnarmed call.data_device data_failed call.data_device_now
+-- a command that reads both devices, and what it says of them
+pub record ReadsOff (call : Call) (command : Command) (text_of : Reading → List ℕ) : Type 0 where
+  pub unread : call.source_now ≡ call.source
+  pub past : IsPastSource call command
+  pub runs : runs_script command ≡ true → ⊥
+  pub answer : (text : List ℕ) → Each IsUnfailed call → IsReadOff call text_of text → IsOutcome call command (outcome.Text text)
+  pub fails : (device : Guarded) → HasRisen device.entry.faults device.now.faults → 0 < device.fuse.early → IsDeviceFault command device
+  pub unbegun : IsUnbegun call command
+  pub refused : (refusal : Refusal) → Each IsUnfailed call → WhereToldAtEntry call (AreRefused refusal) → IsOutcome call command (outcome.Fault (fault.Store refusal))
+  pub unfailed : AreUnfailedFor command call → Each IsUnfailed call
+  pub reads : IsPossible call command → CanRead call
 
--- what a command says beside its outcome that only reads the devices
-reads-end : (call : Call) (command : Command) (out : Outcome) (log_failed data_failed : ℕ) → ReadsDevices call log_failed data_failed → IsOutcome call command out
-    → (IsPossible call command → (HasRisen call.source.faults call.source_now.faults → ⊥) → AreUnfailedFor command call → IsDoneOrKeptFrom command out)
-    → IsSafeOutcome call command out → EndsCommand call command out
-reads-end call command out log_failed data_failed reads means complete safe = record {
-  means = means;
-  unread = λ plain. reads.unread;
-  kept = λ leaves. reads.kept;
-  told = record { log_device = told-unarmed _ _ _ _ _ reads.log_device; data_device = told-unarmed _ _ _ _ _ reads.data_device };
-  log_tells = reads.log_device.same.tells;
-  data_tells = reads.data_device.same.tells;
-  complete = complete;
-  safe = safe;
+pub recovers-off : (call : Call) → call.source_now ≡ call.source → ReadsOff call Recover recover_text
+recovers-off call unread = record {
+  unread = unread;
+  past = λ reads. absurd (false≢true reads);
+  runs = λ runs. false≢true runs;
+  answer = λ text unfailed answer. (unfailed, answer);
+  fails = λ device risen some. (risen, omega (arith, some));
+  unbegun = tt;
+  refused = λ refusal unfailed refused. ((λ reads. absurd (false≢true reads)), unfailed, refused);
+  unfailed = λ none. none;
+  reads = λ possible. possible;
 }
 
-unfailed-reads : (call : Call) → ReadsDevices call 0 0 → AreUnfailed call
-unfailed-reads call reads = record { log_device = unfailed-unarmed _ _ reads.log_device; data_device = unfailed-unarmed _ _ reads.data_device }
+pub dumps-off : (call : Call) → call.source_now ≡ call.source → ReadsOff call Dump dump_text
+dumps-off call unread = record {
+  unread = unread;
+  past = λ reads. absurd (false≢true reads);
+  runs = λ runs. false≢true runs;
+  answer = λ text unfailed answer. (unfailed, answer);
+  fails = λ device risen some. (risen, omega (arith, some));
+  unbegun = tt;
+  refused = λ refusal unfailed refused. ((λ reads. absurd (false≢true reads)), unfailed, refused);
+  unfailed = λ none. none;
+  reads = λ possible. possible;
+}
 
--- the text of a reading
-read-off : (call : Call) (reading : Reading) (text_of : Reading → List ℕ) (text : List ℕ) → ReadsDevices call 0 0
-    → OnContents call.log_device.tells call.data_device.tells (λ log_bytes data_bytes. IsReading log_bytes data_bytes reading)
-    → text ≡ text_of reading → AreUnfailed call × IsReadOff call text_of text
-read-off call reading text_of text reads is_read is = (
-  unfailed-reads call reads,
-  record {
-    unread = reads.unread;
-    kept = reads.kept;
-    reading = reading;
-    is_read = on-contents call.log_device.tells call.data_device.tells (λ log_bytes data_bytes. IsReading log_bytes data_bytes reading) is_read;
-    text_is = is;
-  },
-)
+-- The devices of such a command: as they were, with so many calls failed.
+pub record ReadsDevices (call : Call) (log_failed data_failed : ℕ) : Type 0 where
+  pub unwritten : Each IsUnwritten call
+  pub log_device : IsUnarmed call.log.entry log_failed (now_of call.log)
+  pub data_device : IsUnarmed call.store.entry data_failed (now_of call.store)
 
--- the store is refused for this, by what reads gave at entry
-abbrev pub RefusesAtEntry : Call → Refusal → Type 0
-RefusesAtEntry call refusal = OnContents call.log_device.tells call.data_device.tells (λ log_bytes data_bytes. Refuses log_bytes data_bytes refusal)
+unfailed-reads : (call : Call) → ReadsDevices call 0 0 → Each IsUnfailed call
+unfailed-reads call reads =
+    ((reads.log_device.early, reads.log_device.mid, reads.log_device.late), (reads.data_device.early, reads.data_device.mid, reads.data_device.late))
 
-told-refused : (call : Call) (refusal : Refusal) → RefusesAtEntry call refusal → WhereToldAtEntry call (AreRefused refusal)
-told-refused call refusal refused =
-    on-contents call.log_device.tells call.data_device.tells (λ log_bytes data_bytes. Refuses log_bytes data_bytes refusal) refused
+module _ (call : Call) (command : Command) (text_of : Reading → List ℕ) (off : ReadsOff call command text_of) where
+  reads-end : (o : Outcome) (log_failed data_failed : ℕ) → ReadsDevices call log_failed data_failed → IsOutcome call command o
+      → (CanRead call → Each IsUnfailed call → IsDoneOrKeptFrom command o) → EndsWith call command o
+  reads-end o log_failed data_failed reads means complete = record {
+    means = means;
+    unread = λ plain. off.unread;
+    unwritten = λ leaves. reads.unwritten;
+    left = λ runs. absurd (off.runs runs);
+    tells = (reads.log_device.same.tells, reads.data_device.same.tells);
+    complete = λ possible source unfailed. complete (off.reads possible) (off.unfailed unfailed);
+  }
 
--- RECOVER.
-pub recover-ends : {E : Type 0} (call : Call) (reading : Reading) (r : Result (List ℕ) E) → ReadsDevices call 0 0
-    → OnContents call.log_device.tells call.data_device.tells (λ log_bytes data_bytes. IsReading log_bytes data_bytes reading)
-    → IfOk r (λ text. text ≡ recover_text reading) → EndsCommand call Recover (outcome_of r)
-recover-ends call reading (Ok text) reads is_read is =
-    reads-end call Recover (outcome.Text text) 0 0 reads (read-off call reading recover_text text reads is_read is) (λ possible source unfailed. tt) tt
-recover-ends call reading (Err e) reads is_read is =
-    reads-end call Recover (outcome.Fault fault.Memory) 0 0 reads (tt, tt) (λ possible source unfailed. tt) tt
+  -- THE STORE WAS READ.
+  pub plain-reads : {E : Type 0} (reading : Reading) (r : Result (List ℕ) E) → ReadsDevices call 0 0
+      → OnContents call.log.entry.tells call.store.entry.tells (λ log_bytes data_bytes. IsReading log_bytes data_bytes reading)
+      → IfOk r (λ text. text ≡ text_of reading) → EndsWith call command (outcome_of r)
+  plain-reads reading (Ok text) reads is_read is = reads-end (outcome.Text text) 0 0 reads
+      (off.answer text (unfailed-reads call reads) (record {
+        reading = reading;
+        is_read = on-contents call.log.entry.tells call.store.entry.tells (λ log_bytes data_bytes. IsReading log_bytes data_bytes reading) is_read;
+        text_is = is;
+      }))
+      (λ can unfailed. tt)
+  plain-reads reading (Err e) reads is_read is = reads-end (outcome.Fault fault.Memory) 0 0 reads tt (λ can unfailed. tt)
 
-recover-refused : (call : Call) (refusal : Refusal) → ReadsDevices call 0 0 → RefusesAtEntry call refusal
-    → IsShorter call.log_device.size call.data_device.size refusal → OneAnswer → EndsCommand call Recover (outcome.Fault (fault.Store refusal))
-recover-refused call refusal reads refused short one =
-    let told = told-refused call refusal refused in
-    reads-end call Recover (outcome.Fault (fault.Store refusal)) 0 0 reads ((inr (refl, reads.unread), record { unfailed = unfailed-reads call reads; shorter = short; refused = told }), tt)
-    (λ possible source unfailed. absurd (unrefused call refusal one possible told)) tt
+  -- IT WASN'T.
+  plain-refused : (refusal : Refusal) → ReadsDevices call 0 0
+      → OnContents call.log.entry.tells call.store.entry.tells (λ log_bytes data_bytes. Refuses log_bytes data_bytes refusal)
+      → OneAnswer → EndsWith call command (outcome.Fault (fault.Store refusal))
+  plain-refused refusal reads refused one =
+      let told : WhereToldAtEntry call (AreRefused refusal) =
+      on-contents call.log.entry.tells call.store.entry.tells (λ log_bytes data_bytes. Refuses log_bytes data_bytes refusal) refused in
+      reads-end (outcome.Fault (fault.Store refusal)) 0 0 reads (off.refused refusal (unfailed-reads call reads) told)
+      (λ can unfailed. absurd (unrefused call refusal one can told))
 
-pub recover-fails : (call : Call) (f : RecFault) → ReadsDevices call (failures (log_error f)) (failures (data_error f))
-    → HasCauseIn call.log_device.tells call.data_device.tells f → HasLengthCause call.log_device.size call.data_device.size f → OneAnswer
-    → EndsCommand call Recover (outcome.Fault (fault_of f))
-recover-fails call (SmallLog n) reads refused short one = recover-refused call (refusal.SmallLog n) reads refused short one
-recover-fails call (SmallData n) reads refused short one = recover-refused call (refusal.SmallData n) reads refused short one
-recover-fails call NotFormatted reads refused short one = recover-refused call refusal.NotFormatted reads refused tt one
-recover-fails call (BadFormat n) reads refused short one = recover-refused call (refusal.BadFormat n) reads refused tt one
-recover-fails call NoCheckpoint reads refused short one = recover-refused call refusal.NoCheckpoint reads refused tt one
-recover-fails call (BadRecord lsn) reads refused short one = recover-refused call (refusal.BadRecord lsn) reads refused tt one
-recover-fails call (PageLost p) reads refused short one = recover-refused call (refusal.PageLost p) reads refused tt one
-recover-fails call (PageAhead p lsn) reads refused short one = recover-refused call (refusal.PageAhead p lsn) reads refused tt one
-recover-fails call LogDev reads refused short one =
-    reads-end call Recover (outcome.Fault fault.LogDevice) 1 0 reads ((refl, inr (refl, reads.unread), failed-unarmed _ _ reads.log_device), tt)
-    (λ possible source unfailed. absurd (omega (arith, reads.log_device.early, unfailed.log_device.early))) tt
-recover-fails call DataDev reads refused short one =
-    reads-end call Recover (outcome.Fault fault.DataDevice) 0 1 reads ((refl, inr (refl, reads.unread), unfailed-unarmed _ _ reads.log_device, failed-unarmed _ _ reads.data_device), tt)
-    (λ possible source unfailed. absurd (omega (arith, reads.data_device.early, unfailed.data_device.early))) tt
-recover-fails call NoMemory reads refused short one =
-    reads-end call Recover (outcome.Fault fault.Memory) 0 0 reads (tt, tt) (λ possible source unfailed. tt) tt
-
--- DUMP.
-pub dump-ends : {E : Type 0} (call : Call) (reading : Reading) (r : Result (List ℕ) E) → ReadsDevices call 0 0
-    → OnContents call.log_device.tells call.data_device.tells (λ log_bytes data_bytes. IsReading log_bytes data_bytes reading)
-    → IfOk r (λ text. text ≡ dump_text reading) → EndsCommand call Dump (outcome_of r)
-dump-ends call reading (Ok text) reads is_read is =
-    reads-end call Dump (outcome.Text text) 0 0 reads (read-off call reading dump_text text reads is_read is) (λ possible source unfailed. tt) tt
-dump-ends call reading (Err e) reads is_read is =
-    reads-end call Dump (outcome.Fault fault.Memory) 0 0 reads (tt, tt) (λ possible source unfailed. tt) tt
-
-dump-refused : (call : Call) (refusal : Refusal) → ReadsDevices call 0 0 → RefusesAtEntry call refusal
-    → IsShorter call.log_device.size call.data_device.size refusal → OneAnswer → EndsCommand call Dump (outcome.Fault (fault.Store refusal))
-dump-refused call refusal reads refused short one =
-    let told = told-refused call refusal refused in
-    reads-end call Dump (outcome.Fault (fault.Store refusal)) 0 0 reads ((inr (refl, reads.unread), record { unfailed = unfailed-reads call reads; shorter = short; refused = told }), tt)
-    (λ possible source unfailed. absurd (unrefused call refusal one possible told)) tt
-
-pub dump-fails : (call : Call) (f : RecFault) → ReadsDevices call (failures (log_error f)) (failures (data_error f))
-    → HasCauseIn call.log_device.tells call.data_device.tells f → HasLengthCause call.log_device.size call.data_device.size f → OneAnswer
-    → EndsCommand call Dump (outcome.Fault (fault_of f))
-dump-fails call (SmallLog n) reads refused short one = dump-refused call (refusal.SmallLog n) reads refused short one
-dump-fails call (SmallData n) reads refused short one = dump-refused call (refusal.SmallData n) reads refused short one
-dump-fails call NotFormatted reads refused short one = dump-refused call refusal.NotFormatted reads refused tt one
-dump-fails call (BadFormat n) reads refused short one = dump-refused call (refusal.BadFormat n) reads refused tt one
-dump-fails call NoCheckpoint reads refused short one = dump-refused call refusal.NoCheckpoint reads refused tt one
-dump-fails call (BadRecord lsn) reads refused short one = dump-refused call (refusal.BadRecord lsn) reads refused tt one
-dump-fails call (PageLost p) reads refused short one = dump-refused call (refusal.PageLost p) reads refused tt one
-dump-fails call (PageAhead p lsn) reads refused short one = dump-refused call (refusal.PageAhead p lsn) reads refused tt one
-dump-fails call LogDev reads refused short one =
-    reads-end call Dump (outcome.Fault fault.LogDevice) 1 0 reads ((refl, inr (refl, reads.unread), failed-unarmed _ _ reads.log_device), tt)
-    (λ possible source unfailed. absurd (omega (arith, reads.log_device.early, unfailed.log_device.early))) tt
-dump-fails call DataDev reads refused short one =
-    reads-end call Dump (outcome.Fault fault.DataDevice) 0 1 reads ((refl, inr (refl, reads.unread), unfailed-unarmed _ _ reads.log_device, failed-unarmed _ _ reads.data_device), tt)
-    (λ possible source unfailed. absurd (omega (arith, reads.data_device.early, unfailed.data_device.early))) tt
-dump-fails call NoMemory reads refused short one =
-    reads-end call Dump (outcome.Fault fault.Memory) 0 0 reads (tt, tt) (λ possible source unfailed. tt) tt
+  pub plain-fails : (f : RecFault) → ReadsDevices call (failures (log_error f)) (failures (data_error f))
+      → HasCauseIn call.log.entry.tells call.store.entry.tells f → OneAnswer → EndsWith call command (outcome.Fault (fault_of f))
+  plain-fails (SmallLog n) reads refused one = plain-refused (refusal.SmallLog n) reads refused one
+  plain-fails (SmallData n) reads refused one = plain-refused (refusal.SmallData n) reads refused one
+  plain-fails NotFormatted reads refused one = plain-refused refusal.NotFormatted reads refused one
+  plain-fails (BadFormat n) reads refused one = plain-refused (refusal.BadFormat n) reads refused one
+  plain-fails NoCheckpoint reads refused one = plain-refused refusal.NoCheckpoint reads refused one
+  plain-fails (BadRecord lsn) reads refused one = plain-refused (refusal.BadRecord lsn) reads refused one
+  plain-fails (PageLost p) reads refused one = plain-refused (refusal.PageLost p) reads refused one
+  plain-fails (PageAhead p lsn) reads refused one = plain-refused (refusal.PageAhead p lsn) reads refused one
+  plain-fails LogDev reads refused one = reads-end (outcome.Fault fault.LogDevice) 1 0 reads
+      (off.past, off.fails call.log (reads.log_device.risen (omega arith)) (omega (arith, reads.log_device.early)), off.unbegun)
+      (λ can unfailed. absurd (omega (arith, reads.log_device.early, unfailed.0.0)))
+  plain-fails DataDev reads refused one = reads-end (outcome.Fault fault.DataDevice) 0 1 reads
+      (off.past, off.fails call.store (reads.data_device.risen (omega arith)) (omega (arith, reads.data_device.early)), off.unbegun)
+      (λ can unfailed. absurd (omega (arith, reads.data_device.early, unfailed.1.0)))
+  plain-fails NoMemory reads refused one = reads-end (outcome.Fault fault.Memory) 0 0 reads tt (λ can unfailed. tt)

@@ -15,17 +15,17 @@ use Rattle.model_store.specs.Reading.{Reading}
 use Rattle.model_theorem.specs.{AreUnopened, HeldOlder, IsFresh, IsOpenedBefore, IsWholeScript, Opened, Ran, ReadsPrefix, RunSafe}
 use Rattle.redo_disk.specs.Seen.{Seen}
 use Rattle.redo_open.specs.{HasSameCheckpoint, WhereBothTell}
-use Rattle.redo_lab.specs.Call.{Call, Guarded}
-use Rattle.redo_lab.specs.Course.{ArePlayed, ClosesRun, HoldsRun, KeepsCheckpoint, ran_of}
-use Rattle.redo_lab.specs.Devices.{AreFound, WhereToldAtEntry}
-use Rattle.redo_lab.specs.Prepared.{ArePrepared}
-use Rattle.redo_lab.specs.Script.{IsScriptRead}
 use Rattle.redo_lab.specs.declared.playing.Played.{Played}
 use Rattle.redo_lab.specs.declared.playing.Stops.{Stops}
 use Rattle.redo_lab.proofs.Keeping.{openable-fresh, unused-unread}
 use Rattle.redo_lab.proofs.OpenedFirst.{OpenedLaw, held-older, stopped-before}
 use Rattle.redo_lab.proofs.SomeLeft.{some-left}
 use Rattle.redo_lab.proofs.Told.{OneAnswer, both-told, weaker-both}
+use Rattle.redo_lab.specs.Call.{Call}
+use Rattle.redo_lab.specs.Course.{ArePlayed, ClosesRun, Driving, HoldsRun, KeepsCheckpoint, ran_of}
+use Rattle.redo_lab.specs.Prepared.{ArePrepared}
+use Rattle.redo_lab.specs.Script.{IsScriptRead}
+use Rattle.redo_lab.specs.Stages.{Shown}
 
 -- a store that was just formatted may be opened
 abbrev pub FormattedLaw : Type 0
@@ -62,7 +62,7 @@ default-within = record {
 pub same-disk : (found entry : Option Disk) (armed_from at_entry : Disk) → found ≡ entry → found ≡ Some armed_from → entry ≡ Some at_entry → armed_from ≡ at_entry
 same-disk found entry armed_from at_entry same found_is entry_is = cc
 
-pub unopened-as : (log_entry data_entry : Seen) (log_found data_found : Guarded) (log data_disk log_armed data_armed : Disk) → FormattedLaw
+pub unopened-as : (log_entry data_entry : Seen) (log_found data_found : Shown) (log data_disk log_armed data_armed : Disk) → FormattedLaw
     → ArePrepared log_entry data_entry log_found data_found → log_entry.tells ≡ Some log → data_entry.tells ≡ Some data_disk
     → log_found.seen.tells ≡ Some log_armed → data_found.seen.tells ≡ Some data_armed → AreUnopened log data_disk log_armed data_armed
 unopened-as log_entry data_entry log_found data_found log data_disk log_armed data_armed law prepared log_is data_is log_armed_is data_armed_is = record {
@@ -75,11 +75,11 @@ unopened-as log_entry data_entry log_found data_found log data_disk log_armed da
       prepared.which;
   log_in_use = λ used. ⊎_elim
       (λ formatted. absurd (used (formatted.unused log data_disk log_is data_is)))
-      (λ in_use. same-disk _ _ log_armed log in_use.kept.log_device.tells log_armed_is log_is)
+      (λ in_use. same-disk _ _ log_armed log in_use.kept.log_device log_armed_is log_is)
       prepared.which;
   data_in_use = λ used. ⊎_elim
       (λ formatted. absurd (used (formatted.unused log data_disk log_is data_is)))
-      (λ in_use. same-disk _ _ data_armed data_disk in_use.kept.data_device.tells data_armed_is data_is)
+      (λ in_use. same-disk _ _ data_armed data_disk in_use.kept.data_device data_armed_is data_is)
       prepared.which;
 }
 
@@ -96,7 +96,7 @@ told-still old None disk goes is = absurd (goes (λ none. cc) refl)
 told-still old (Some now) disk goes is = (now, refl)
 
 -- THE STORE WAS FOUND so when the fuses were armed.
-pub record WasFound (log_found data_found : Guarded) (opened : Opened) : Type 0 where
+pub record WasFound (log_found data_found : Shown) (opened : Opened) : Type 0 where
   pub reading : Reading
   pub same : opened ≡ opened_as reading
   pub log : Disk
@@ -105,7 +105,7 @@ pub record WasFound (log_found data_found : Guarded) (opened : Opened) : Type 0 
   pub data_is : data_found.seen.tells ≡ Some data_disk
   pub openable : IsOpenable reading log data_disk
 
-found-formatted : (log_entry data_entry : Seen) (log_found data_found : Guarded) (log data_disk : Disk) (opened : Opened) → FormattedLaw
+found-formatted : (log_entry data_entry : Seen) (log_found data_found : Shown) (log data_disk : Disk) (opened : Opened) → FormattedLaw
     → (prepared : ArePrepared log_entry data_entry log_found data_found)
     → IfSome log_found.seen.tells (λ log. IfSome data_found.seen.tells (λ data_disk. IsFormatted default_shape log data_disk))
     → log_entry.tells ≡ Some log → data_entry.tells ≡ Some data_disk
@@ -124,7 +124,7 @@ found-formatted log_entry data_entry log_found data_found log data_disk opened l
           (both-told log_found.seen.tells data_found.seen.tells (IsFormatted default_shape) formatted log_told.0 data_told.0 log_told.1 data_told.1);
     }
 
-found-in-use : (log_entry data_entry : Seen) (log_found data_found : Guarded) (log data_disk : Disk) (log_faults data_faults : ℕ) (opened : Opened)
+found-in-use : (log_entry data_entry : Seen) (log_found data_found : Shown) (log data_disk : Disk) (log_faults data_faults : ℕ) (opened : Opened)
     → log_found.seen.tells ≡ log_entry.tells → data_found.seen.tells ≡ data_entry.tells
     → log_entry.tells ≡ Some log → data_entry.tells ≡ Some data_disk → IsFresh log log_faults → IsFresh data_disk data_faults
     → OpensOrderly log.reads data_disk.reads opened.shape opened.pages opened.end → WasFound log_found data_found opened
@@ -138,7 +138,7 @@ found-in-use log_entry data_entry log_found data_found log data_disk log_faults 
   openable = openable-fresh log data_disk log_faults data_faults opened log_fresh data_fresh opens;
 }
 
-pub was-found : (log_entry data_entry : Seen) (log_found data_found : Guarded) (log data_disk : Disk) (log_faults data_faults : ℕ) (opened : Opened)
+pub was-found : (log_entry data_entry : Seen) (log_found data_found : Shown) (log data_disk : Disk) (log_faults data_faults : ℕ) (opened : Opened)
     → OneAnswer → FormattedLaw → ArePrepared log_entry data_entry log_found data_found
     → log_entry.tells ≡ Some log → data_entry.tells ≡ Some data_disk → IsFresh log log_faults → IsFresh data_disk data_faults
     → Opens log.reads data_disk.reads opened.shape opened.pages opened.end → WasFound log_found data_found opened
@@ -150,37 +150,9 @@ was-found log_entry data_entry log_found data_found log data_disk log_faults dat
     (λ orderly. ⊎_elim
     (λ formatted. absurd (unused-unread one log.reads data_disk.reads orderly.reading (formatted.unused log data_disk log_is data_is) orderly.orderly.reads))
     (λ in_use. found-in-use log_entry data_entry log_found data_found log data_disk log_faults data_faults opened
-    in_use.kept.log_device.tells in_use.kept.data_device.tells log_is data_is log_fresh data_fresh orderly)
+    in_use.kept.log_device in_use.kept.data_device log_is data_is log_fresh data_fresh orderly)
     prepared.which)
     opens
-
--- WHAT BOTH DEVICES WERE when their fuses were armed
-pub are-found : (call : Call) (log_found data_found : Guarded) → FormattedLaw → ArePrepared call.log_device call.data_device log_found data_found
-    → call.log_device_now.armed_from ≡ log_found.seen.tells → call.data_device_now.armed_from ≡ data_found.seen.tells
-    → WhereToldAtEntry call (AreFound call)
-are-found call log_found data_found law prepared log_armed data_armed log data_disk log_is data_is =
-    let log_told = told-still call.log_device.tells log_found.seen.tells log prepared.log_device.same.tells log_is in
-    let data_told = told-still call.data_device.tells data_found.seen.tells data_disk prepared.data_device.same.tells data_is in
-    record {
-      log_found = log_told.0;
-      data_found = data_told.0;
-      log_is = log_armed ∙ log_told.1;
-      data_is = data_armed ∙ data_told.1;
-      unused = λ unused. ⊎_elim
-          (λ formatted. law default_shape log_told.0 data_told.0 default-within
-          (both-told log_found.seen.tells data_found.seen.tells (IsFormatted default_shape) formatted.formatted
-          log_told.0 data_told.0 log_told.1 data_told.1))
-          (λ in_use. absurd (in_use.used log data_disk log_is data_is unused))
-          prepared.which;
-      log_in_use = λ used. ⊎_elim
-          (λ formatted. absurd (used (formatted.unused log data_disk log_is data_is)))
-          (λ in_use. same-disk _ _ log_told.0 log in_use.kept.log_device.tells log_told.1 log_is)
-          prepared.which;
-      data_in_use = λ used. ⊎_elim
-          (λ formatted. absurd (used (formatted.unused log data_disk log_is data_is)))
-          (λ in_use. same-disk _ _ data_told.0 data_disk in_use.kept.data_device.tells data_told.1 data_is)
-          prepared.which;
-    }
 
 -- A CLOSED RUN, on a store that was found so.
 pub record IsClosedAs (script : List ScriptLine) (opened : Opened) (number : ℕ) (played : Played) (left : List (ℕ × ℕ)) (failed : ℕ) (log_left data_left : Disk) : Type 0 where
@@ -210,7 +182,7 @@ pub held-closed : {script : List ScriptLine} {opened : Opened} {number : ℕ} {p
 held-closed is = record { held = is.closed.holds }
 
 -- what is so of both devices where the store was found so
-found-so : (P : Disk → Disk → Type 0) (log_found data_found : Guarded) (was opened : Opened) (log_now data_now : Guarded) → (found : WasFound log_found data_found opened)
+found-so : (P : Disk → Disk → Type 0) (log_found data_found : Shown) (was opened : Opened) (log_now data_now : Shown) → (found : WasFound log_found data_found opened)
     → WhereBothTell log_found.seen.tells data_found.seen.tells (λ log data_disk. IsOpenable found.reading log data_disk
     → (was ≡ opened_as found.reading) × WhereBothTell log_now.seen.tells data_now.seen.tells P)
     → (log_left data_left : Disk) → log_now.seen.tells ≡ Some log_left → data_now.seen.tells ≡ Some data_left → (was ≡ opened) × P log_left data_left
@@ -221,7 +193,7 @@ found-so P log_found data_found was opened log_now data_now found holds log_left
     (so.0 ∙ sym found.same, both-told log_now.seen.tells data_now.seen.tells P so.1 log_left data_left log_is data_is)
 
 -- with what becomes so of both devices
-pub closed-with : (becomes : Disk → Disk) (log_found data_found : Guarded) (script : List ScriptLine) (played : Played) (failed : ℕ) (was opened : Opened) (log_now data_now : Guarded)
+pub closed-with : (becomes : Disk → Disk) (log_found data_found : Shown) (script : List ScriptLine) (played : Played) (failed : ℕ) (was opened : Opened) (log_now data_now : Shown)
     → ClosesRun becomes log_found data_found was script played failed log_now data_now
     → (found : WasFound log_found data_found opened) → (left : List (ℕ × ℕ)) → IsLeft script played.history left
     → (log_left data_left : Disk) → log_now.seen.tells ≡ Some log_left → data_now.seen.tells ≡ Some data_left
@@ -239,7 +211,7 @@ closed-with becomes log_found data_found script played failed was opened log_now
     let so = found-so Closes log_found data_found was opened log_now data_now found (closes found.reading left left_is) log_left data_left log_is data_is in
     (so.0, record { closed = so.1 })
 
-pub held-with : (log_found data_found : Guarded) (script : List ScriptLine) (run : Ran) (was opened : Opened) (log_now data_now : Guarded)
+pub held-with : (log_found data_found : Shown) (script : List ScriptLine) (run : Ran) (was opened : Opened) (log_now data_now : Shown)
     → HoldsRun log_found data_found script was run log_now data_now → (found : WasFound log_found data_found opened)
     → (log_left data_left : Disk) → log_now.seen.tells ≡ Some log_left → data_now.seen.tells ≡ Some data_left
     → (was ≡ opened) × IsHeldAs script was (found.reading.number + 1) run log_left data_left
@@ -256,7 +228,7 @@ held-with log_found data_found script run was opened log_now data_now holds foun
     (so.0, record { held = so.1 })
 
 -- devices of a run that was closed hold it
-pub holds-closed : (log_found data_found : Guarded) (script : List ScriptLine) (played : Played) (failed : ℕ) (was : Opened) (log_now data_now : Guarded)
+pub holds-closed : (log_found data_found : Shown) (script : List ScriptLine) (played : Played) (failed : ℕ) (was : Opened) (log_now data_now : Shown)
     → ClosesRun (λ disk. disk) log_found data_found was script played failed log_now data_now
     → HoldsRun log_found data_found script was (ran_of played) log_now data_now
 holds-closed log_found data_found script played failed was log_now data_now closes reading =
@@ -268,12 +240,12 @@ holds-closed log_found data_found script played failed was log_now data_now clos
     ))
     (closes reading left.0 left.1)
 
-pub closed-as : (log_entry data_entry : Seen) (stops : Stops) (log_only : Bool) (script : List ScriptLine) (played : Played) (log_failed data_failed : ℕ) (log_now data_now : Guarded)
-    → (was : ArePlayed log_entry data_entry stops log_only script played log_failed data_failed log_now data_now) (opened : Opened)
+pub closed-as : (by : Driving) (log_entry data_entry : Seen) (stops : Stops) (log_only : Bool) (script : List ScriptLine) (played : Played) (log_failed data_failed : ℕ) (log_now data_now : Shown)
+    → (was : ArePlayed by log_entry data_entry stops log_only script played log_failed data_failed log_now data_now) (opened : Opened)
     → (found : WasFound was.way.log_found was.way.data_found opened) → (left : List (ℕ × ℕ)) → IsLeft script played.history left
     → (log_left data_left : Disk) → log_now.seen.tells ≡ Some log_left → data_now.seen.tells ≡ Some data_left
     → (was.opened ≡ opened) × IsClosedAs script was.opened (found.reading.number + 1) played left (log_failed + data_failed) log_left data_left
-closed-as log_entry data_entry stops log_only script played log_failed data_failed log_now data_now was opened found left left_is log_left data_left log_is data_is =
+closed-as by log_entry data_entry stops log_only script played log_failed data_failed log_now data_now was opened found left left_is log_left data_left log_is data_is =
     closed-with (λ disk. disk) was.way.log_found was.way.data_found script played (log_failed + data_failed) was.opened opened log_now data_now was.closed
     found left left_is log_left data_left log_is data_is
 
@@ -296,7 +268,7 @@ safe-as script number played left failed failures found opened log_left data_lef
     subst (λ (o : Opened). Safe failures o) same (subst (λ (n : ℕ). Safe n found) counted (safe failed _ closed.closed))
 
 -- OPENING CAME TO ITS END before a run.
-pub opened-before : (script : List ScriptLine) (run : Ran) (log_found data_found : Guarded) (was opened : Opened) (log_left data_left : Disk)
+pub opened-before : (script : List ScriptLine) (run : Ran) (log_found data_found : Shown) (was opened : Opened) (log_left data_left : Disk)
     → OpenedLaw → was ≡ opened → (found : WasFound log_found data_found opened)
     → IsHeldAs script was (found.reading.number + 1) run log_left data_left → IsOpenedBefore opened.shape found.log log_left (Some run)
 opened-before script run log_found data_found was opened log_left data_left law same found holds =
@@ -307,7 +279,7 @@ opened-before script run log_found data_found was opened log_left data_left law 
     subst (λ (one : Opened). IsOpenedBefore one.shape found.log log_left (Some run)) same on
 
 -- OPENING WAS STOPPED on it.
-pub stopped-on : (log_found data_found log_now : Guarded) (opened : Opened) → (found : WasFound log_found data_found opened)
+pub stopped-on : (log_found data_found log_now : Shown) (opened : Opened) → (found : WasFound log_found data_found opened)
     → KeepsCheckpoint log_found data_found log_now → (disk : Disk) → log_now.seen.tells ≡ Some disk → IsOpenedBefore opened.shape found.log disk None
 stopped-on log_found data_found log_now opened found unmoved disk now_is =
     let Keeps : Disk → Disk → Type 0 = λ log data_disk. IsOpenable found.reading log data_disk → IfSome log_now.seen.tells (HasSameCheckpoint found.reading) in

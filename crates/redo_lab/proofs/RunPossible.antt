@@ -1,5 +1,5 @@
 -- A run that can be done isn't ended but by want of memory, or by its turns.
-use Rattle.std.proofs.Common.{ℕ, ◌≡◌, ◌≤◌, ◌<◌, Bool, true, List, Option, Some, None, IfSome, sym, ap, subst, ◌∙◌, ⊎_elim, arith}
+use Rattle.std.proofs.Common.{ℕ, ◌≡◌, ◌≤◌, Bool, true, List, Option, Some, None, IfSome, sym, ap, subst, ◌∙◌, ⊎_elim, arith}
 use Rattle.model_base.specs.{default_shape}
 use Rattle.model_base.specs.declared.shape.Shape.{Shape}
 use Rattle.model_command.specs.declared.asked.Command.{Command}
@@ -18,17 +18,18 @@ use Rattle.model_store.specs.declared.refusal.Refusal.TheVariants as refusal
 use Rattle.model_theorem.specs.{FitsOpened, Opened, room_of}
 use Rattle.redo_disk.specs.{HasSize}
 use Rattle.redo_machine.specs.declared.drive.Turns.{Turns}
-use Rattle.redo_lab.specs.Asked.{runs_script}
-use Rattle.redo_lab.specs.Call.{Call}
-use Rattle.redo_lab.specs.Complete.{AreLongEnough, CanPlay, CanRun, MayKeepFrom}
-use Rattle.redo_lab.specs.Course.{AreMisfitted, AreRefusedOpened, IsEndedBy}
-use Rattle.redo_lab.specs.Prepared.{AreTooShort}
-use Rattle.redo_lab.specs.Script.{IsScriptRead}
-use Rattle.redo_lab.specs.Store.{HasNoHeader, IsOpenedAs, IsTooShort}
 use Rattle.redo_lab.specs.declared.playing.Stops.{Stops}
 use Rattle.redo_lab.proofs.Keeping.{unused-unread}
 use Rattle.redo_lab.proofs.RunPlayed.{same-opened}
 use Rattle.redo_lab.proofs.Told.{OneAnswer}
+use Rattle.redo_lab.specs.Asked.{runs_script}
+use Rattle.redo_lab.specs.Call.{Call}
+use Rattle.redo_lab.specs.Complete.{AreLongEnough, CanPlay, CanRun, MayKeepFrom}
+use Rattle.redo_lab.specs.Course.{AreMisfitted, AreRefusedOpened, Driving, IsEndedBy}
+use Rattle.redo_lab.specs.Prepared.{AreTooShort}
+use Rattle.redo_lab.specs.Script.{IsScriptRead}
+use Rattle.redo_lab.specs.Stages.{now_of}
+use Rattle.redo_lab.specs.Store.{IsOpenedAs, IsTooShort}
 
 -- a store is read in one way
 abbrev pub OneReading : Type 0
@@ -45,43 +46,39 @@ at-some None P x holds is = cc
 at-some (Some found) P x holds is = let same : found ≡ x = cc in subst P same holds
 
 -- the devices are long enough for what is opened
-no-header-short : (size : ℕ) (cause : Refusal) → HasNoHeader size cause → size < HEADER_BYTES
-no-header-short size (refusal.SmallLog n) none = none.0
-no-header-short size cause none = absurd none
-
 long-not-short : (log_size data_size : ℕ) (cause : Refusal) → AreLongEnough default_shape log_size data_size
     → IsTooShort default_shape log_size data_size cause → ⊥
 long-not-short log_size data_size (refusal.SmallLog n) long short = absurd (omega (arith, long.log_long, short.0))
 long-not-short log_size data_size (refusal.SmallData n) long short = absurd (omega (arith, long.data_long, short.1))
 long-not-short log_size data_size cause long short = absurd short
 
-has-header : (call : Call) (log_only : Bool) (script : List ScriptLine) → CanPlay call log_only script → IfSome call.log_device.tells (HasSize call.log_device.size) → HEADER_BYTES ≤ call.log_device.size
+has-header : (call : Call) (log_only : Bool) (script : List ScriptLine) → CanPlay call log_only script → IfSome call.log.entry.tells (HasSize call.log.entry.size) → HEADER_BYTES ≤ call.log.entry.size
 has-header call log_only script can sized = ⊎_elim
     (λ unused. let long = (can.long unused.unused).log_long in omega (arith, long))
     (λ orderly.
-    let size = at-some call.log_device.tells (HasSize call.log_device.size) can.log sized can.log_fresh.tells in
+    let size = at-some call.log.entry.tells (HasSize call.log.entry.size) can.log sized can.log_tells in
     let header = orderly.orderly.reads.scan.devices.head.long in
     omega (arith, size.reads, header))
     can.opens
 
 possible-not-short : (call : Call) (log_only : Bool) (script : List ScriptLine) (cause : Refusal) → OneAnswer → CanPlay call log_only script
-    → AreTooShort call.log_device call.data_device cause call.log_device_now call.data_device_now → ⊥
+    → AreTooShort call.log.entry call.store.entry cause (now_of call.log) (now_of call.store) → ⊥
 possible-not-short call log_only script cause one can short = ⊎_elim
     (λ none.
-    let no_room = no-header-short call.log_device.size cause none in
+    let no_room = none.0 in
     let room = has-header call log_only script can short.sized in
     absurd (omega (arith, no_room, room)))
     (λ unused.
-    let is_unused = unused.2 can.log can.data_disk can.log_fresh.tells can.data_fresh.tells in
-    long-not-short call.log_device.size call.data_device.size cause (can.long is_unused) unused.1)
+    let is_unused = unused.2 can.log can.store can.log_tells can.store_tells in
+    long-not-short call.log.entry.size call.store.entry.size cause (can.long is_unused) unused.1)
     short.short
 
 possible-not-refused : (call : Call) (log_only : Bool) (script : List ScriptLine) (stops : Stops) (cause : Refusal) → OneAnswer → CanPlay call log_only script
-    → AreRefusedOpened call.log_device call.data_device stops cause call.log_device_now call.data_device_now → ⊥
+    → AreRefusedOpened call.log.entry call.store.entry stops cause (now_of call.log) (now_of call.store) → ⊥
 possible-not-refused call log_only script stops cause one can ended =
-    let refused = ended.refused can.log can.data_disk can.log_fresh.tells can.data_fresh.tells in ⊎_elim
+    let refused = ended.refused can.log can.store can.log_tells can.store_tells in ⊎_elim
     (λ unused. refused.0 unused.unused)
-    (λ orderly. one can.log.reads can.data_disk.reads orderly.reading cause orderly.orderly.reads refused.1)
+    (λ orderly. one can.log.reads can.store.reads orderly.reading cause orderly.orderly.reads refused.1)
     can.opens
 
 -- WHAT IS OPENED is determined.
@@ -115,26 +112,26 @@ can-play call script read log_only can = subst (CanPlay call log_only) (one-scri
 
 possible-no-misfit : (call : Call) (log_only : Bool) (stops : Stops) (script : List ScriptLine) (misfit : Misfit)
     → OneAnswer → OneReading → UnfitLaw → CanPlay call log_only script
-    → AreMisfitted call.log_device call.data_device stops log_only script misfit call.log_device_now call.data_device_now → ⊥
+    → AreMisfitted call.log.entry call.store.entry stops log_only script misfit (now_of call.log) (now_of call.store) → ⊥
 possible-no-misfit call log_only stops script misfit one same unfit can ended =
     let opened : ended.opened ≡ can.opened =
-    one-opened can.log can.data_disk ended.opened can.opened one same (ended.opens can.log can.data_disk can.log_fresh.tells can.data_fresh.tells) can.opens in
+    one-opened can.log can.store ended.opened can.opened one same (ended.opens can.log can.store can.log_tells can.store_tells) can.opens in
     let fits : FitsOpened log_only ended.opened script =
     subst (λ (o : Opened). FitsOpened log_only o script) (sym opened) can.fits in
     let none = sym ended.first ∙ unfit ended.opened.shape (start_after ended.opened.end) (room_of log_only ended.opened) script fits in
     cc
 
 -- SO A RUN THAT CAN BE DONE is ended by want of memory or its turns alone, where no call of a device failed.
-pub ended-kept : (call : Call) (command : Command) (stops : Stops) (turns : Turns) (script : List ScriptLine) (f : Fault) → runs_script command ≡ true
+pub ended-kept : (by : Driving) (call : Call) (command : Command) (stops : Stops) (turns : Turns) (script : List ScriptLine) (f : Fault) → runs_script command ≡ true
     → OneAnswer → OneReading → UnfitLaw → CanPlay call turns.log_only script
-    → call.log_device_now.fuse.early ≡ 0 → call.data_device_now.fuse.early ≡ 0
-    → IsEndedBy call.log_device call.data_device stops turns script f call.log_device_now call.data_device_now → MayKeepFrom command f
-ended-kept call command stops turns script fault.Memory runs one same unfit can log_good data_good ended = tt
-ended-kept call command stops turns script fault.LogDevice runs one same unfit can log_good data_good ended = absurd (omega (arith, ended.log_device.early))
-ended-kept call command stops turns script fault.DataDevice runs one same unfit can log_good data_good ended = absurd (omega (arith, ended.data_device.early))
-ended-kept call command stops turns script (fault.Store cause) runs one same unfit can log_good data_good ended =
+    → call.log.fuse.early ≡ 0 → call.store.fuse.early ≡ 0
+    → IsEndedBy by call.log.entry call.store.entry stops turns script f (now_of call.log) (now_of call.store) → MayKeepFrom command f
+ended-kept by call command stops turns script fault.Memory runs one same unfit can log_good data_good ended = tt
+ended-kept by call command stops turns script fault.LogDevice runs one same unfit can log_good data_good ended = absurd (omega (arith, ended.log_device.early))
+ended-kept by call command stops turns script fault.DataDevice runs one same unfit can log_good data_good ended = absurd (omega (arith, ended.data_device.early))
+ended-kept by call command stops turns script (fault.Store cause) runs one same unfit can log_good data_good ended =
     absurd (⊎_elim (possible-not-short call turns.log_only script cause one can) (possible-not-refused call turns.log_only script stops cause one can) ended)
-ended-kept call command stops turns script (fault.Turns count user) runs one same unfit can log_good data_good ended = runs
-ended-kept call command stops turns script (fault.Fit misfit) runs one same unfit can log_good data_good ended =
+ended-kept by call command stops turns script (fault.Turns count user) runs one same unfit can log_good data_good ended = runs
+ended-kept by call command stops turns script (fault.Fit misfit) runs one same unfit can log_good data_good ended =
     absurd (possible-no-misfit call turns.log_only stops script misfit one same unfit can ended)
-ended-kept call command stops turns script f runs one same unfit can log_good data_good ended = absurd ended
+ended-kept by call command stops turns script f runs one same unfit can log_good data_good ended = absurd ended

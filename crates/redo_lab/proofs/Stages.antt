@@ -16,15 +16,14 @@ use Rattle.redo_memdisk.specs.declared.fuse.Fuse.{Fuse}
 use Rattle.redo_memdisk.specs.declared.fuse.Stage.{Stage}
 use Rattle.redo_memdisk.specs.declared.fuse.Stage.TheVariants.{Before, Stopping, Crashed}
 use Rattle.redo_memdisk.specs.declared.fused.Fused.{Fused}
-use Rattle.redo_lab.specs.Call.{Guarded, guarded}
-use Rattle.redo_lab.specs.Stages.{IsArmed, IsCrashedWith, IsSameBehind, IsUnarmed}
-use Rattle.redo_lab.proofs.Telling.{calls-go_on, told-goes_on}
-use Rattle.redo_lab.proofs.Printed.{risen-later}
 use borrow.Author.Tests.{leb-true}
+use Rattle.redo_lab.proofs.Printed.{risen-later}
+use Rattle.redo_lab.proofs.Telling.{calls-go_on, told-goes_on}
+use Rattle.redo_lab.specs.Stages.{IsArmed, IsCrashedWith, IsSameBehind, IsUnarmed, Shown, shown}
 
 -- a device just put behind a fuse
 pub unarmed-fresh : {D : Type 0} (seen : D → Seen) (device : D) (fused : Fused D) → inner_of fused ≡ device → fuse_of fused ≡ fresh
-    → IsUnarmed (seen device) 0 (guarded seen fused)
+    → IsUnarmed (seen device) 0 (shown seen fused)
 unarmed-fresh seen device fused inner fuse = record {
   same = record {
     size = ap (λ d. (seen d).size) inner;
@@ -51,9 +50,9 @@ passed-before [] fuse = refl
 passed-before (Reads at old answer new ∷ calls) fuse =
     passed-before calls (record fuse { early_calls = next_count fuse.early_calls; early = next_count_if (is_failed answer) fuse.early })
 passed-before (Writes write answer ∷ calls) fuse =
-    passed-before calls (record fuse { early_calls = next_count fuse.early_calls; early = next_count_if (is_failed answer) fuse.early })
+    passed-before calls (record fuse { changes = next_count fuse.changes; early_calls = next_count fuse.early_calls; early = next_count_if (is_failed answer) fuse.early })
 passed-before (Syncs answer ∷ calls) fuse =
-    passed-before calls (record fuse { early_calls = next_count fuse.early_calls; early = next_count_if (is_failed answer) fuse.early })
+    passed-before calls (record fuse { changes = next_count fuse.changes; early_calls = next_count fuse.early_calls; early = next_count_if (is_failed answer) fuse.early })
 
 passed-unarmed : (calls : List Call) (fuse : Fuse) → fuse.stage ≡ Before → (after_calls fuse calls).passed ≡ fuse.passed
 passed-unarmed calls fuse is = ap (λ stage. (after_calls (record fuse { stage = stage }) calls).passed) is ∙ passed-before calls fuse
@@ -69,7 +68,7 @@ unarmed-passes fuse is fails = false≢true (sym (ap (λ stage. has_passed_all s
 
 -- what calls through the fuse leave of the device
 same-behind : {D : Type 0} (seen : D → Seen) (gives : D → Call → D → Type 0) (entry : Seen) (old new : Fused D) (calls : List Call)
-    → IsSameBehind entry (guarded seen old) → Makes (CallsThrough seen gives) old calls new → IsSameBehind entry (guarded seen new)
+    → IsSameBehind entry (shown seen old) → Makes (CallsThrough seen gives) old calls new → IsSameBehind entry (shown seen new)
 same-behind seen gives entry old new calls same made =
     let kept = keeps-behind seen gives old new calls made in
     record {
@@ -112,9 +111,9 @@ passed-behind : (calls : List Call) (fuse : Fuse) → (after_calls (crashed fuse
 passed-behind [] fuse = refl
 passed-behind (Reads at old answer new ∷ calls) fuse = passed-behind calls (record fuse { late = next_count_if (is_failed answer) fuse.late })
 passed-behind (Writes write answer ∷ calls) fuse =
-    passed-behind calls (record fuse { late_changes = next_count fuse.late_changes; late = next_count_if (is_failed answer) fuse.late })
+    passed-behind calls (record fuse { changes = next_count fuse.changes; late_changes = next_count fuse.late_changes; late = next_count_if (is_failed answer) fuse.late })
 passed-behind (Syncs answer ∷ calls) fuse =
-    passed-behind calls (record fuse { late_changes = next_count fuse.late_changes; late = next_count_if (is_failed answer) fuse.late })
+    passed-behind calls (record fuse { changes = next_count fuse.changes; late_changes = next_count fuse.late_changes; late = next_count_if (is_failed answer) fuse.late })
 
 pub after-crashed : {D : Type 0} (seen : D → Seen) (gives : D → Call → D → Type 0) (old new : Fused D) (calls : List Call) → old.fuse.stage ≡ Crashed
     → Makes (CallsThrough seen gives) old calls new → new.fuse.passed ≡ old.fuse.passed
@@ -127,8 +126,8 @@ passed-more limit old new same passed = subst (HasPassedAll limit) (sym same) pa
 
 -- CALLS BEFORE THE FUSE IS ARMED.
 pub unarmed-calls : {D : Type 0} {seen : D → Seen} {gives : D → Call → D → Type 0} {entry : Seen} {old new : Fused D} {error : Option DevError}
-    → IsUnarmed entry 0 (guarded seen old) → MakesCalls (CallsThrough seen gives) old new (MayEndWith error)
-    → IsUnarmed entry (failures error) (guarded seen new)
+    → IsUnarmed entry 0 (shown seen old) → MakesCalls (CallsThrough seen gives) old new (MayEndWith error)
+    → IsUnarmed entry (failures error) (shown seen new)
 unarmed-calls {seen = seen} {gives = gives} {entry = entry} {old = old} {new = new} {error = error} was made =
     let counts = counts-calls seen gives old new made.calls made.made in
     let kept = keeps-behind seen gives old new made.calls made.made in
@@ -153,9 +152,9 @@ unarmed-calls {seen = seen} {gives = gives} {entry = entry} {old = old} {new = n
     }
 
 -- THE ARMING.
-pub armed-now : {D : Type 0} (seen : D → Seen) (entry : Seen) (limit : Option ℕ) (old new : Fused D) → IsUnarmed entry 0 (guarded seen old)
+pub armed-now : {D : Type 0} (seen : D → Seen) (entry : Seen) (limit : Option ℕ) (old new : Fused D) → IsUnarmed entry 0 (shown seen old)
     → inner_of new ≡ inner_of old → fuse_of new ≡ armed limit (fuse_of old) → armed_at new ≡ Some (inner_of old)
-    → IsArmed limit entry (guarded seen old) 0 (guarded seen new)
+    → IsArmed limit entry (shown seen old) 0 (shown seen new)
 armed-now seen entry limit old new was inner fuse found = record {
   same = record {
     size = ap (λ d. (seen d).size) inner ∙ was.same.size;
@@ -176,9 +175,9 @@ armed-now seen entry limit old new was inner fuse found = record {
 }
 
 -- CALLS FROM THEN TO THE CRASH.
-pub armed-calls : {D : Type 0} {seen : D → Seen} {gives : D → Call → D → Type 0} {limit : Option ℕ} {entry : Seen} {found : Guarded} {old new : Fused D} {error : Option DevError}
-    → IsArmed limit entry found 0 (guarded seen old) → MakesCalls (CallsThrough seen gives) old new (MayEndWith error)
-    → IsArmed limit entry found (failures error) (guarded seen new)
+pub armed-calls : {D : Type 0} {seen : D → Seen} {gives : D → Call → D → Type 0} {limit : Option ℕ} {entry : Seen} {found : Shown} {old new : Fused D} {error : Option DevError}
+    → IsArmed limit entry found 0 (shown seen old) → MakesCalls (CallsThrough seen gives) old new (MayEndWith error)
+    → IsArmed limit entry found (failures error) (shown seen new)
 armed-calls {seen = seen} {gives = gives} {limit = limit} {entry = entry} {old = old} {new = new} {error = error} was made =
     let counts = counts-calls seen gives old new made.calls made.made in
     let kept = keeps-behind seen gives old new made.calls made.made in
@@ -204,9 +203,9 @@ armed-calls {seen = seen} {gives = gives} {limit = limit} {entry = entry} {old =
     }
 
 -- THE CRASH.
-pub crashed-now : {D : Type 0} (seen : D → Seen) (gives : D → ℕ → D → Type 0) (limit : Option ℕ) (pick : ℕ) (entry : Seen) (found : Guarded) (failed : ℕ) (old new : Fused D)
-    → IsArmed limit entry found failed (guarded seen old) → CrashesThrough seen gives old pick new
-    → IsCrashedWith limit pick entry found failed 0 (guarded seen new)
+pub crashed-now : {D : Type 0} (seen : D → Seen) (gives : D → ℕ → D → Type 0) (limit : Option ℕ) (pick : ℕ) (entry : Seen) (found : Shown) (failed : ℕ) (old new : Fused D)
+    → IsArmed limit entry found failed (shown seen old) → CrashesThrough seen gives old pick new
+    → IsCrashedWith limit pick entry found failed 0 (shown seen new)
 crashed-now seen gives limit pick entry found failed old new was crash =
     let notes = crash.notes ∙ ap (λ stage. crashed_with pick (record old.fuse { stage = stage })) was.stage in
     record {
@@ -232,10 +231,10 @@ crashed-now seen gives limit pick entry found failed old new was crash =
     }
 
 -- READS AFTER IT.
-pub crashed-reads : {D : Type 0} {seen : D → Seen} {gives : D → Call → D → Type 0} {limit : Option ℕ} {pick : ℕ} {entry : Seen} {found : Guarded} {failed : ℕ} {old new : Fused D} {error : Option DevError}
-    → old.fuse.stage ≡ Crashed → IsCrashedWith limit pick entry found failed 0 (guarded seen old)
+pub crashed-reads : {D : Type 0} {seen : D → Seen} {gives : D → Call → D → Type 0} {limit : Option ℕ} {pick : ℕ} {entry : Seen} {found : Shown} {failed : ℕ} {old new : Fused D} {error : Option DevError}
+    → old.fuse.stage ≡ Crashed → IsCrashedWith limit pick entry found failed 0 (shown seen old)
     → MakesCalls (CallsThrough seen gives) old new (ReadsMayEndWith error)
-    → IsCrashedWith limit pick entry found failed (failures error) (guarded seen new)
+    → IsCrashedWith limit pick entry found failed (failures error) (shown seen new)
 crashed-reads {seen = seen} {gives = gives} {limit = limit} {entry = entry} {old = old} {new = new} {error = error} stage was made =
     let counts = counts-calls seen gives old new made.calls made.made in
     let kept = keeps-behind seen gives old new made.calls made.made in

@@ -1,37 +1,34 @@
 -- A run that no call kept from its end, and behind which both devices were read: its summary.
-use Rattle.std.proofs.Common.{ℕ, ◌≡◌, ◌<◌, ◌+◌, Bool, false, List, Some, refl, sym, subst, arith}
+use Rattle.std.proofs.Common.{ℕ, ◌≡◌, ◌<◌, ◌+◌, Bool, List, Some, refl, sym, subst, arith, Option}
 use Rattle.model_base.specs.declared.shape.Shape.{Shape}
 use Rattle.model_device.specs.{synced}
 use Rattle.model_device.specs.Disk.{Disk}
 use Rattle.model_script.specs.declared.script.ScriptLine.{ScriptLine}
 use Rattle.model_store.specs.{IsFair}
 use Rattle.model_store.specs.declared.refusal.Refusal.{Refusal}
-use Rattle.model_theorem.specs.{IsPrefixRead, Opened, Ran, ReadsPrefix}
+use Rattle.model_theorem.specs.{Opened, Ran, ReadsPrefix}
 use Rattle.redo_disk.specs.Seen.{Seen}
 use Rattle.redo_open.specs.{WhereBothTell}
-use Rattle.redo_lab.specs.Behind.{AreReadBehind, AreReadSince}
-use Rattle.redo_lab.specs.Call.{Call, Guarded, IsUnread}
-use Rattle.redo_lab.specs.Complete.{CanPlay}
-use Rattle.redo_lab.specs.Course.{ArePlayedThrough, AreUnderWay, CameSoFar, ClosesRun, HoldsRun, ran_of}
-use Rattle.redo_lab.specs.Devices.{WhereOpened, WhereToldNow}
-use Rattle.redo_lab.specs.Prepared.{ArePrepared}
-use Rattle.redo_lab.specs.Store.{AreRefused}
-use Rattle.redo_lab.specs.Summary.{IsSummary, IsSummarySafe}
 use Rattle.redo_lab.specs.declared.playing.Played.{Played}
 use Rattle.redo_lab.specs.declared.playing.Stops.{Stops}
 use Rattle.redo_lab.proofs.RunPlayed.{ClosedLaws, FormattedLaw, WasFound, closed-with, safe-as, told-still, was-found}
-use Rattle.redo_lab.proofs.RunPossible.{OneReading}
-use Rattle.redo_lab.proofs.RunTold.{holds-played, played-on, played-told, run-first}
 use Rattle.redo_lab.proofs.SomeLeft.{some-left}
 use Rattle.redo_lab.proofs.Told.{OneAnswer, weaker-both}
 use Rattle.redo_lab.proofs.UnderWay.{same-both}
+use Rattle.redo_lab.specs.Behind.{AreReadSince}
+use Rattle.redo_lab.specs.Call.{Call, Done, WhereToldNow}
+use Rattle.redo_lab.specs.Complete.{CanPlay}
+use Rattle.redo_lab.specs.Course.{ArePlayedThrough, AreUnderWay, CameSoFar, ClosesRun, Driving, HoldsRun, ran_of}
+use Rattle.redo_lab.specs.Prepared.{ArePrepared}
+use Rattle.redo_lab.specs.Stages.{Shown, now_of}
+use Rattle.redo_lab.specs.Store.{AreRefused}
 
 -- what stood on a device at its last good sync is a fair image of it
 abbrev pub FairLaw : Type 0
 FairLaw = (shape : Shape) (disk : Disk) → IsFair shape disk disk.base
 
 -- READS LEAVE a run as it was: both devices are under way, and tell the same.
-abbrev pub read-way : {log_entry data_entry : Seen} {stops : Stops} {log_failed data_failed : ℕ} {log_old data_old log_now data_now : Guarded}
+abbrev pub read-way : {log_entry data_entry : Seen} {stops : Stops} {log_failed data_failed : ℕ} {log_old data_old log_now data_now : Shown}
     → AreUnderWay log_entry data_entry stops 0 0 log_old data_old → AreReadSince log_failed data_failed log_old data_old log_now data_now
     → AreUnderWay log_entry data_entry stops log_failed data_failed log_now data_now
 read-way way since = record {
@@ -47,18 +44,18 @@ read-way way since = record {
     some-counted passed mid passed_now mid_now counted none later = let some = later (omega arith) in omega arith
 
 -- of the run that came so far
-abbrev pub read-run : {log_entry data_entry : Seen} {stops : Stops} {log_only : Bool} {script : List ScriptLine} {run : Ran} {log_failed data_failed : ℕ} {log_old data_old log_now data_now : Guarded}
+abbrev pub read-run : {log_entry data_entry : Seen} {stops : Stops} {log_only : Bool} {script : List ScriptLine} {run : Ran} {log_failed data_failed : ℕ} {log_old data_old log_now data_now : Shown}
     → CameSoFar log_entry data_entry stops log_only script run 0 0 log_old data_old → AreReadSince log_failed data_failed log_old data_old log_now data_now
     → CameSoFar log_entry data_entry stops log_only script run log_failed data_failed log_now data_now
-read-run has since = record { way = read-way has.way since; opened = has.opened; opens = has.opens; limits = has.limits; fits = has.fits; is_run = has.is_run }
+read-run has since = record { way = read-way has.way since; opened = has.opened; opens = has.opens; fits = has.fits; is_run = has.is_run }
 
 -- what is so of the two that tell
-same-told : (R : Disk → Disk → Type 0) (log_old data_old log_now data_now : Guarded) → log_now.seen.tells ≡ log_old.seen.tells → data_now.seen.tells ≡ data_old.seen.tells
+same-told : (R : Disk → Disk → Type 0) (log_old data_old log_now data_now : Shown) → log_now.seen.tells ≡ log_old.seen.tells → data_now.seen.tells ≡ data_old.seen.tells
     → WhereBothTell log_old.seen.tells data_old.seen.tells R → WhereBothTell log_now.seen.tells data_now.seen.tells R
 same-told R log_old data_old log_now data_now log_same data_same =
     same-both R log_now.seen.tells data_now.seen.tells log_old.seen.tells data_old.seen.tells (sym log_same) (sym data_same)
 
-closes-read : (becomes : Disk → Disk) (log_found data_found : Guarded) (opened : Opened) (script : List ScriptLine) (played : Played) (failed : ℕ) (log_old data_old log_now data_now : Guarded)
+closes-read : (becomes : Disk → Disk) (log_found data_found : Shown) (opened : Opened) (script : List ScriptLine) (played : Played) (failed : ℕ) (log_old data_old log_now data_now : Shown)
     → log_now.seen.tells ≡ log_old.seen.tells → data_now.seen.tells ≡ data_old.seen.tells
     → ClosesRun becomes log_found data_found opened script played failed log_old data_old → ClosesRun becomes log_found data_found opened script played failed log_now data_now
 closes-read becomes log_found data_found opened script played failed log_old data_old log_now data_now log_same data_same closes reading left left_is =
@@ -66,7 +63,7 @@ closes-read becomes log_found data_found opened script played failed log_old dat
     (λ log data_disk closed openable. ((closed openable).0, same-told _ log_old data_old log_now data_now log_same data_same (closed openable).1))
     (closes reading left left_is)
 
-pub holds-read : (log_found data_found : Guarded) (opened : Opened) (script : List ScriptLine) (run : Ran) (log_old data_old log_now data_now : Guarded)
+pub holds-read : (log_found data_found : Shown) (opened : Opened) (script : List ScriptLine) (run : Ran) (log_old data_old log_now data_now : Shown)
     → log_now.seen.tells ≡ log_old.seen.tells → data_now.seen.tells ≡ data_old.seen.tells
     → HoldsRun log_found data_found script opened run log_old data_old → HoldsRun log_found data_found script opened run log_now data_now
 holds-read log_found data_found opened script run log_old data_old log_now data_now log_same data_same holds reading =
@@ -74,108 +71,53 @@ holds-read log_found data_found opened script run log_old data_old log_now data_
     (λ log data_disk held openable. ((held openable).0, same-told _ log_old data_old log_now data_now log_same data_same (held openable).1))
     (holds reading)
 
-pub read-played : (log_entry data_entry : Seen) (stops : Stops) (log_only : Bool) (script : List ScriptLine) (played : Played) (log_old data_old log_now data_now : Guarded)
-    → ArePlayedThrough log_entry data_entry stops log_only script played log_old data_old → AreReadSince 0 0 log_old data_old log_now data_now
-    → ArePlayedThrough log_entry data_entry stops log_only script played log_now data_now
-read-played log_entry data_entry stops log_only script played log_old data_old log_now data_now was since =
-    let Closes : (Disk → Disk) → Guarded → Guarded → Type 0 = λ becomes log data_device.
+pub read-played : (by : Driving) (log_entry data_entry : Seen) (stops : Stops) (log_only : Bool) (script : List ScriptLine) (played : Played) (log_old data_old log_now data_now : Shown)
+    → ArePlayedThrough by log_entry data_entry stops log_only script played log_old data_old → AreReadSince 0 0 log_old data_old log_now data_now
+    → ArePlayedThrough by log_entry data_entry stops log_only script played log_now data_now
+read-played by log_entry data_entry stops log_only script played log_old data_old log_now data_now was since =
+    let Closes : (Disk → Disk) → Shown → Shown → Type 0 = λ becomes log data_device.
     ClosesRun becomes was.are.way.log_found was.are.way.data_found was.are.opened script played 0 log data_device in
     let closes : (becomes : Disk → Disk) → Closes becomes log_old data_old → Closes becomes log_now data_now = λ becomes.
     closes-read becomes was.are.way.log_found was.are.way.data_found was.are.opened script played 0 log_old data_old log_now data_now since.log_device.tells since.data_device.tells in
+    let Driven : Option Disk → Option Disk → Type 0 = λ log_met store_met. by was.are.opened (ran_of played) Done log_met store_met in
     record {
-      are = record { so_far = read-run was.are.so_far since; loses = was.are.loses; closed = closes (λ disk. disk) was.are.closed };
+      are = record {
+        so_far = read-run was.are.so_far since;
+        driven = subst (λ (met : Option Disk). Driven log_now.seen.tells met) (sym since.data_device.tells)
+            (subst (λ (met : Option Disk). Driven met data_old.seen.tells) (sym since.log_device.tells) was.are.driven);
+        loses = was.are.loses;
+        closed = closes (λ disk. disk) was.are.closed;
+      };
       if_synced = closes synced was.if_synced;
     }
 
 -- WHAT READS GIVE is a prefix of the run.
-pub reads-prefix : (call : Call) (stops : Stops) (log_only : Bool) (script : List ScriptLine) (played : Played) → ClosedLaws → FairLaw
-    → (was : ArePlayedThrough call.log_device call.data_device stops log_only script played call.log_device_now call.data_device_now)
+pub reads-prefix : (by : Driving) (call : Call) (stops : Stops) (log_only : Bool) (script : List ScriptLine) (played : Played) → ClosedLaws → FairLaw
+    → (was : ArePlayedThrough by call.log.entry call.store.entry stops log_only script played (now_of call.log) (now_of call.store))
     → (opened : Opened) → WasFound was.are.way.log_found was.are.way.data_found opened → (log_left data_left : Disk)
-    → call.log_device_now.seen.tells ≡ Some log_left → call.data_device_now.seen.tells ≡ Some data_left
+    → call.log.now.tells ≡ Some log_left → call.store.now.tells ≡ Some data_left
     → ReadsPrefix script opened (Some (ran_of played)) log_left.reads data_left.reads
-reads-prefix call stops log_only script played laws fair was opened found log_left data_left log_is data_is =
+reads-prefix by call stops log_only script played laws fair was opened found log_left data_left log_is data_is =
     let left = some-left script played.history in
-    let closed = closed-with synced was.are.way.log_found was.are.way.data_found script played 0 was.are.opened opened call.log_device_now call.data_device_now was.if_synced
+    let closed = closed-with synced was.are.way.log_found was.are.way.data_found script played 0 was.are.opened opened (now_of call.log) (now_of call.store) was.if_synced
     found left.0 left.1 log_left data_left log_is data_is in
     let safe = safe-as script (found.reading.number + 1) played left.0 0 0 was.are.opened opened (synced log_left) (synced data_left) laws.safe refl closed.0 closed.1 in
     safe.every_image log_left.reads data_left.reads (fair opened.shape (synced log_left)).possible (fair opened.shape (synced data_left))
 
--- So is what was read behind it, on fresh devices that open a store.
-pub reading-prefix : (call : Call) (stops : Stops) (log_only : Bool) (script : List ScriptLine) (played : Played) (text : List ℕ) (log_old data_old : Guarded)
-    → OneAnswer → OneReading → FormattedLaw → ClosedLaws → FairLaw
-    → ArePlayedThrough call.log_device call.data_device stops log_only script played log_old data_old
-    → (behind : AreReadBehind (ran_of played) text log_old data_old call.log_device_now call.data_device_now)
-    → (opened : Opened) → WhereOpened call opened (IsPrefixRead script opened (Some (ran_of played)) behind.reading)
-reading-prefix call stops log_only script played text log_old data_old one same law laws fair was behind opened log data_disk log_is data_is log_fresh data_fresh opens =
-    let now = read-played call.log_device call.data_device stops log_only script played log_old data_old call.log_device_now call.data_device_now was behind.read_since in
-    let found = was-found call.log_device call.data_device now.are.way.log_found now.are.way.data_found log data_disk call.log_device.faults call.data_device.faults
-    opened one law now.are.way.prepared log_is data_is log_fresh data_fresh opens in
-    let log_left = told-still call.log_device.tells call.log_device_now.seen.tells log now.are.way.log_device.same.tells log_is in
-    let data_left = told-still call.data_device.tells call.data_device_now.seen.tells data_disk now.are.way.data_device.same.tells data_is in
-    let kept = reads-prefix call stops log_only script played laws fair now opened found log_left.0 data_left.0 log_left.1 data_left.1 in
-    let is_read = behind.is_read log_left.0 data_left.0 log_left.1 data_left.1 in
-    subst (IsPrefixRead script opened (Some (ran_of played)))
-    (same log_left.0.reads data_left.0.reads kept.reading behind.reading kept.is_read is_read) kept.prefix
-
--- THE PROMISE OF THE SUMMARY.
-summary-safe : (call : Call) (stops : Stops) (script : List ScriptLine) (played : Played) (text : List ℕ) (log_old data_old : Guarded)
-    → OneAnswer → OneReading → FormattedLaw → ClosedLaws → FairLaw
-    → ArePlayedThrough call.log_device call.data_device stops false script played call.log_device_now call.data_device_now
-    → AreReadBehind (ran_of played) text log_old data_old call.log_device_now call.data_device_now → IsSummarySafe call script text
-summary-safe call stops script played text log_old data_old one same law laws fair was behind log_device data_device is_log is_data opened log_fresh data_fresh opens =
-    let found = was-found call.log_device call.data_device was.are.way.log_found was.are.way.data_found log_device.at_entry data_device.at_entry
-    log_device.faults_at_entry data_device.faults_at_entry opened one law was.are.way.prepared is_log.at_entry is_data.at_entry log_fresh data_fresh opens in
-    let left = some-left script played.history in
-    let on = played-on call stops false script played 0 0 left.0 law laws was.are left.1 log_device data_device opened is_log is_data found in
-    let kept = reads-prefix call stops false script played laws fair was opened found log_device.left data_device.left is_log.left is_data.left in
-    let is_read = behind.is_read log_device.left data_device.left is_log.left is_data.left in (
-      record { run = ran_of played; left = left.0; reading = behind.reading },
-      record {
-        fits = on.fits;
-        prints = behind.text_is;
-        unopened = on.unopened;
-        opened_first = on.opened_first;
-        safe = on.safe;
-        is_read = is_read;
-        prefix = subst (IsPrefixRead script opened (Some (ran_of played)))
-            (same log_device.left.reads data_device.left.reads kept.reading behind.reading kept.is_read is_read) kept.prefix;
-      },
-    )
-
--- THE SUMMARY.
-pub summed-up : (call : Call) (stops : Stops) (script : List ScriptLine) (played : Played) (text : List ℕ) (log_old data_old : Guarded)
-    → IsUnread call → OneAnswer → OneReading → FormattedLaw → ClosedLaws → FairLaw
-    → ArePlayedThrough call.log_device call.data_device stops false script played call.log_device_now call.data_device_now
-    → AreReadBehind (ran_of played) text log_old data_old call.log_device_now call.data_device_now → IsSummary call script text
-summed-up call stops script played text log_old data_old unread one same law laws fair was behind =
-    let left = some-left script played.history in
-    record {
-      unread = unread;
-      opened = was.are.opened;
-      run = ran_of played;
-      left = left.0;
-      reading = behind.reading;
-      told = played-told call stops false script played 0 0 left.0 (omega arith) (omega arith) law was.are left.1;
-      opened_first = run-first call stops false script (ran_of played) 0 0 one law laws.opened was.are.so_far (holds-played was.are);
-      is_read = behind.is_read;
-      text_is = behind.text_is;
-      safe = summary-safe call stops script played text log_old data_old one same law laws fair was behind;
-    }
-
 -- THE STORE OF A RUN THAT CAN BE DONE can be read behind it.
-found-possible : (call : Call) (log_found data_found : Guarded) (log_only : Bool) (script : List ScriptLine) → ArePrepared call.log_device call.data_device log_found data_found
+found-possible : (call : Call) (log_found data_found : Shown) (log_only : Bool) (script : List ScriptLine) → ArePrepared call.log.entry call.store.entry log_found data_found
     → OneAnswer → FormattedLaw → (can : CanPlay call log_only script) → WasFound log_found data_found can.opened
 found-possible call log_found data_found log_only script prepared one law can =
-    was-found call.log_device call.data_device log_found data_found can.log can.data_disk call.log_device.faults call.data_device.faults can.opened one law prepared
-    can.log_fresh.tells can.data_fresh.tells can.log_fresh.fresh can.data_fresh.fresh can.opens
+    was-found call.log.entry call.store.entry log_found data_found can.log can.store call.log.entry.faults call.store.entry.faults can.opened one law prepared
+    can.log_tells can.store_tells can.log_fresh can.store_fresh can.opens
 
-pub possible-read-behind : (call : Call) (stops : Stops) (log_only : Bool) (script : List ScriptLine) (played : Played) (refusal : Refusal)
+pub possible-read-behind : (by : Driving) (call : Call) (stops : Stops) (log_only : Bool) (script : List ScriptLine) (played : Played) (refusal : Refusal)
     → OneAnswer → FormattedLaw → ClosedLaws → FairLaw
-    → ArePlayedThrough call.log_device call.data_device stops log_only script played call.log_device_now call.data_device_now
+    → ArePlayedThrough by call.log.entry call.store.entry stops log_only script played (now_of call.log) (now_of call.store)
     → WhereToldNow call (AreRefused refusal) → CanPlay call log_only script → ⊥
-possible-read-behind call stops log_only script played refusal one law laws fair was refused can =
+possible-read-behind by call stops log_only script played refusal one law laws fair was refused can =
     let found = found-possible call was.are.way.log_found was.are.way.data_found log_only script was.are.way.prepared one law can in
-    let log_left = told-still call.log_device.tells call.log_device_now.seen.tells can.log was.are.way.log_device.same.tells can.log_fresh.tells in
-    let data_left = told-still call.data_device.tells call.data_device_now.seen.tells can.data_disk was.are.way.data_device.same.tells can.data_fresh.tells in
-    let kept = reads-prefix call stops log_only script played laws fair was can.opened found log_left.0 data_left.0 log_left.1 data_left.1 in
+    let log_left = told-still call.log.entry.tells call.log.now.tells can.log was.are.way.log_device.same.tells can.log_tells in
+    let data_left = told-still call.store.entry.tells call.store.now.tells can.store was.are.way.data_device.same.tells can.store_tells in
+    let kept = reads-prefix by call stops log_only script played laws fair was can.opened found log_left.0 data_left.0 log_left.1 data_left.1 in
     one log_left.0.reads data_left.0.reads kept.reading refusal kept.is_read (refused log_left.0 data_left.0 log_left.1 data_left.1)

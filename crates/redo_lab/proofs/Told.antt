@@ -1,17 +1,11 @@
 -- What is so of devices that tell what they mean.
-use Rattle.std.proofs.Common.{ℕ, ◌≡◌, List, Option, Some, None, IfSome, subst, ⊎_elim}
+use Rattle.std.proofs.Common.{ℕ, ◌≡◌, List, Option, Some, None, IfSome, subst}
 use Rattle.model_device.specs.Disk.{Disk}
 use Rattle.model_store.specs.{IsReading, Refuses}
 use Rattle.model_store.specs.Reading.{Reading}
 use Rattle.model_store.specs.declared.refusal.Refusal.{Refusal}
-use Rattle.model_theorem.specs.{Opened}
-use Rattle.redo_disk.specs.Seen.{Seen}
 use Rattle.redo_open.specs.{WhereBothTell}
 use Rattle.redo_recover.specs.{OnContents}
-use Rattle.redo_lab.specs.Call.{Guarded}
-use Rattle.redo_lab.specs.Course.{KeepsRefusedStore}
-use Rattle.redo_lab.specs.Prepared.{WhereTold}
-use Rattle.redo_lab.specs.Store.{IsOpenedAs}
 
 -- a store isn't both read and refused
 abbrev pub OneAnswer : Type 0
@@ -43,11 +37,3 @@ pub weaker-both : {P Q : Disk → Disk → Type 0} (log data_told : Option Disk)
 weaker-both None data_told weaker holds = tt
 weaker-both (Some log) None weaker holds = tt
 weaker-both (Some log) (Some data_told) weaker holds = weaker log data_told holds
-
--- a store that was opened isn't refused
-pub kept-opened : OneAnswer → (log_entry data_entry : Seen) (log_now data_now : Guarded) (opened : Opened)
-    → WhereTold log_entry data_entry (IsOpenedAs opened) → KeepsRefusedStore log_entry data_entry log_now data_now
-kept-opened one log_entry data_entry log_now data_now opened opens refusal log data_disk log_is data_is used refused = absurd (⊎_elim
-    (λ new. used new.unused)
-    (λ in_use. one log.reads data_disk.reads in_use.1.reading refusal in_use.1.is_read refused)
-    (opens log data_disk log_is data_is))

@@ -18,28 +18,26 @@ use Rattle.redo_memdisk.specs.declared.fused.Fused.{Fused}
 use Rattle.redo_memdisk.proofs.Behind.{counts-calls}
 use Rattle.redo_open.specs.{HasFaultCause, HasSameCheckpoint, WhereBothTell}
 use Rattle.redo_recover.specs.{BeginWithHeader, data_error, log_error, OnContents, refusal_of}
-use Rattle.redo_recover.specs.Devices.{IsUnchanged}
 use Rattle.redo_recover.specs.declared.fault.RecFault.{RecFault}
 use Rattle.redo_recover.specs.declared.fault.RecFault.TheVariants.{SmallLog, NotFormatted, BadFormat, SmallData, NoCheckpoint, BadRecord, PageLost, PageAhead, LogDev, DataDev, NoMemory}
 use Rattle.redo_machine.specs.declared.drive.Turns.{Turns}
-use Rattle.redo_lab.specs.Call.{Guarded, guarded, IsKept}
-use Rattle.redo_lab.specs.Course.{AreRefusedOpened, AreStopped, AreUnderWay, AreUnstarted, ComesTo, KeepsCheckpoint, KeepsFound, KeepsRefusedStore}
-use Rattle.redo_lab.specs.Playing.{AreArmed, unopened}
-use Rattle.redo_lab.specs.Prepared.{ArePrepared, WhereTold}
-use Rattle.redo_lab.specs.Stages.{IsArmed}
-use Rattle.redo_lab.specs.Store.{AreRefused, IsShorter}
 use Rattle.redo_lab.specs.declared.playing.Stops.{Stops}
-use Rattle.redo_lab.proofs.Formatting.{FormattedLaw}
+use Rattle.redo_lab.proofs.RunPlayed.{FormattedLaw}
 use Rattle.redo_lab.proofs.Stages.{armed-calls}
 use Rattle.redo_lab.proofs.Told.{OneAnswer, both-told, on-contents, weaker-both}
+use Rattle.redo_lab.specs.Course.{AreRefusedOpened, AreStopped, AreUnderWay, AreUnstarted, ComesTo, Driving, KeepsCheckpoint, KeepsFound}
+use Rattle.redo_lab.specs.Playing.{AreArmed, unopened}
+use Rattle.redo_lab.specs.Prepared.{ArePrepared, WhereTold}
+use Rattle.redo_lab.specs.Stages.{IsArmed, Shown, shown}
+use Rattle.redo_lab.specs.Store.{AreRefused}
 
 -- what is known of the calls since the fuses were armed
-pub record AreCounted (log_entry data_entry : Seen) (stops : Stops) (log_found data_found : Guarded) (log_failed data_failed : ℕ) (log_now data_now : Guarded) : Type 0 where
+pub record AreCounted (log_entry data_entry : Seen) (stops : Stops) (log_found data_found : Shown) (log_failed data_failed : ℕ) (log_now data_now : Shown) : Type 0 where
   pub log_device : IsArmed stops.log log_entry log_found log_failed log_now
   pub data_device : IsArmed stops.store data_entry data_found data_failed data_now
   pub counted : 0 < log_now.fuse.passed + log_now.fuse.mid
 
-abbrev pub way-of : {log_entry data_entry : Seen} {stops : Stops} (log_found data_found : Guarded) {log_failed data_failed : ℕ} {log_now data_now : Guarded}
+abbrev pub way-of : {log_entry data_entry : Seen} {stops : Stops} (log_found data_found : Shown) {log_failed data_failed : ℕ} {log_now data_now : Shown}
     → ArePrepared log_entry data_entry log_found data_found → AreCounted log_entry data_entry stops log_found data_found log_failed data_failed log_now data_now
     → AreUnderWay log_entry data_entry stops log_failed data_failed log_now data_now
 way-of log_found data_found prepared are = record {
@@ -68,11 +66,11 @@ begun (Syncs answer ∷ calls) header = absurd header
 
 -- the calls of opening
 pub counted-opening : {L D : Type 0} {log_seen : L → Seen} {log_gives : L → Call → L → Type 0} {data_seen : D → Seen} {data_gives : D → Call → D → Type 0}
-    {log_entry data_entry : Seen} {stops : Stops} {log_found data_found : Guarded} {log_old log_new : Fused L} {data_old data_new : Fused D} {log_err data_err : Option DevError}
-    → AreArmed log_entry data_entry stops log_found data_found (guarded log_seen log_old) (guarded data_seen data_old)
+    {log_entry data_entry : Seen} {stops : Stops} {log_found data_found : Shown} {log_old log_new : Fused L} {data_old data_new : Fused D} {log_err data_err : Option DevError}
+    → AreArmed log_entry data_entry stops log_found data_found (shown log_seen log_old) (shown data_seen data_old)
     → MakesCalls (CallsThrough log_seen log_gives) log_old log_new (HeaderFirst (log_seen log_old.inner).size log_err)
     → MakesCalls (CallsThrough data_seen data_gives) data_old data_new (MayEndWith data_err)
-    → AreCounted log_entry data_entry stops log_found data_found (failures log_err) (failures data_err) (guarded log_seen log_new) (guarded data_seen data_new)
+    → AreCounted log_entry data_entry stops log_found data_found (failures log_err) (failures data_err) (shown log_seen log_new) (shown data_seen data_new)
 counted-opening {log_seen = log_seen} {log_gives = log_gives} {log_old = log_old} {log_new = log_new} armed log_made data_made =
     let counts = counts-calls log_seen log_gives log_old log_new log_made.calls log_made.made in
     let header : HEADER_BYTES ≤ (log_seen log_old.inner).size = omega (arith, armed.prepared.header, armed.log_device.same.size) in
@@ -85,10 +83,10 @@ counted-opening {log_seen = log_seen} {log_gives = log_gives} {log_old = log_old
 
 -- and those of both devices behind it
 pub counted-more : {L D : Type 0} {log_seen : L → Seen} {log_gives : L → Call → L → Type 0} {data_seen : D → Seen} {data_gives : D → Call → D → Type 0}
-    {log_entry data_entry : Seen} {stops : Stops} {log_found data_found : Guarded} {log_old log_new : Fused L} {data_old data_new : Fused D} {log_error data_error : Option DevError}
-    → AreCounted log_entry data_entry stops log_found data_found 0 0 (guarded log_seen log_old) (guarded data_seen data_old)
+    {log_entry data_entry : Seen} {stops : Stops} {log_found data_found : Shown} {log_old log_new : Fused L} {data_old data_new : Fused D} {log_error data_error : Option DevError}
+    → AreCounted log_entry data_entry stops log_found data_found 0 0 (shown log_seen log_old) (shown data_seen data_old)
     → MakesCalls (CallsThrough log_seen log_gives) log_old log_new (MayEndWith log_error) → MakesCalls (CallsThrough data_seen data_gives) data_old data_new (MayEndWith data_error)
-    → AreCounted log_entry data_entry stops log_found data_found (failures log_error) (failures data_error) (guarded log_seen log_new) (guarded data_seen data_new)
+    → AreCounted log_entry data_entry stops log_found data_found (failures log_error) (failures data_error) (shown log_seen log_new) (shown data_seen data_new)
 counted-more {log_seen = log_seen} {log_gives = log_gives} {log_old = log_old} {log_new = log_new} was log_made data_made =
     let counts = counts-calls log_seen log_gives log_old log_new log_made.calls log_made.made in
     let old : 0 < log_old.fuse.passed = omega (arith, was.counted, was.log_device.mid) in
@@ -105,13 +103,8 @@ pub same-both : (R : Disk → Disk → Type 0) (log data_told log_same data_same
 same-both R log data_told log_same data_same log_is data_is holds =
     subst (λ (o : Option Disk). WhereBothTell log o R) data_is (subst (λ (o : Option Disk). WhereBothTell o data_same R) log_is holds)
 
-pub same-shorter : (cause : Refusal) (log_size data_size log_entry data_entry : ℕ) → log_size ≡ log_entry → data_size ≡ data_entry
-    → IsShorter log_size data_size cause → IsShorter log_entry data_entry cause
-same-shorter cause log_size data_size log_entry data_entry log_same data_same short =
-    subst (λ size. IsShorter log_entry size cause) data_same (subst (λ size. IsShorter size data_size cause) log_same short)
-
 -- a store that could be opened when the fuses were armed
-pub keeps-found : (log_found data_found log_old data_old log_now data_now : Guarded) → log_old.seen ≡ log_found.seen → data_old.seen ≡ data_found.seen
+pub keeps-found : (log_found data_found log_old data_old log_now data_now : Shown) → log_old.seen ≡ log_found.seen → data_old.seen ≡ data_found.seen
     → ((reading : Reading) → WhereBothTell log_old.seen.tells data_old.seen.tells (λ log data_disk. IsOpenable reading log data_disk
     → WhereBothTell log_now.seen.tells data_now.seen.tells (KeepsOpened reading)))
     → KeepsFound log_found data_found log_now data_now
@@ -121,7 +114,7 @@ keeps-found log_found data_found log_old data_old log_now data_now log_same data
     (ap (λ (seen : Seen). seen.tells) log_same) (ap (λ (seen : Seen). seen.tells) data_same) (keeps reading)
 
 -- the checkpoint of such a store
-keeps-checkpoint : (log_found data_found log_old data_old log_now : Guarded) → log_old.seen ≡ log_found.seen → data_old.seen ≡ data_found.seen
+keeps-checkpoint : (log_found data_found log_old data_old log_now : Shown) → log_old.seen ≡ log_found.seen → data_old.seen ≡ data_found.seen
     → ((reading : Reading) → WhereBothTell log_old.seen.tells data_old.seen.tells (λ log data_disk. IsOpenable reading log data_disk
     → IfSome log_now.seen.tells (HasSameCheckpoint reading)))
     → KeepsCheckpoint log_found data_found log_now
@@ -146,7 +139,7 @@ pub told-some : (o : Option Disk) → o ≢ None → (disk : Disk) × (o ≡ Som
 told-some None some = absurd (some refl)
 told-some (Some disk) some = (disk, refl)
 
-pub goes-on : (entry : Seen) (found : Guarded) (disk : Disk) → (entry.tells ≢ None → found.seen.tells ≢ None) → entry.tells ≡ Some disk
+pub goes-on : (entry : Seen) (found : Shown) (disk : Disk) → (entry.tells ≢ None → found.seen.tells ≢ None) → entry.tells ≡ Some disk
     → (now : Disk) × (found.seen.tells ≡ Some now)
 goes-on entry found disk tells is = told-some found.seen.tells (tells (λ none. cc))
 
@@ -164,7 +157,7 @@ pub record ReadingLaws : Type 0 where
   pub formatted : FormattedLaw
 
 -- nothing that was formatted is refused
-unrefused : ReadingLaws → (log_entry data_entry : Seen) (log_found data_found : Guarded) (cause : Refusal) → ArePrepared log_entry data_entry log_found data_found
+unrefused : ReadingLaws → (log_entry data_entry : Seen) (log_found data_found : Shown) (cause : Refusal) → ArePrepared log_entry data_entry log_found data_found
     → IfSome log_found.seen.tells (λ log. IfSome data_found.seen.tells (λ data_disk. IsFormatted default_shape log data_disk))
     → OnContents log_found.seen.tells data_found.seen.tells (λ log_bytes data_bytes. Refuses log_bytes data_bytes cause)
     → (log data_disk : Disk) → log_entry.tells ≡ Some log → data_entry.tells ≡ Some data_disk → ⊥
@@ -175,7 +168,7 @@ unrefused laws log_entry data_entry log_found data_found cause prepared formatte
     (formatted-read laws.formatted log_found.seen.tells data_found.seen.tells log_told.0 data_told.0 formatted log_told.1 data_told.1)
     (on-contents log_found.seen.tells data_found.seen.tells (λ log_bytes data_bytes. Refuses log_bytes data_bytes cause) refused log_told.0 data_told.0 log_told.1 data_told.1)
 
-refused-found : ReadingLaws → (log_entry data_entry : Seen) (log_found data_found : Guarded) (cause : Refusal) → ArePrepared log_entry data_entry log_found data_found
+refused-found : ReadingLaws → (log_entry data_entry : Seen) (log_found data_found : Shown) (cause : Refusal) → ArePrepared log_entry data_entry log_found data_found
     → OnContents log_found.seen.tells data_found.seen.tells (λ log_bytes data_bytes. Refuses log_bytes data_bytes cause)
     → WhereTold log_entry data_entry (λ log data_disk. (IsUnused log.reads → ⊥) × AreRefused cause log data_disk)
 refused-found laws log_entry data_entry log_found data_found cause prepared refused log data_disk log_is data_is = ⊎_elim
@@ -183,16 +176,16 @@ refused-found laws log_entry data_entry log_found data_found cause prepared refu
     (λ both. (
       both.used log data_disk log_is data_is,
       on-contents log_found.seen.tells data_found.seen.tells (λ log_bytes data_bytes. Refuses log_bytes data_bytes cause) refused log data_disk
-          (both.kept.log_device.tells ∙ log_is) (both.kept.data_device.tells ∙ data_is),
+          (both.kept.log_device ∙ log_is) (both.kept.data_device ∙ data_is),
     ))
     prepared.which
 
 -- WHAT A RUN COMES TO whose store wasn't opened, for this fault
 pub record IsUnopened {L D : Type 0} (log_seen : L → Seen) (log_gives : L → Call → L → Type 0) (data_seen : D → Seen) (data_gives : D → Call → D → Type 0)
-    (log_entry data_entry : Seen) (stops : Stops) (log_found data_found : Guarded) (log : Fused L) (data_device : Fused D) (f : RecFault)
+    (log_entry data_entry : Seen) (stops : Stops) (log_found data_found : Shown) (log : Fused L) (data_device : Fused D) (f : RecFault)
     (log_now : Fused L) (data_now : Fused D) : Type 0 where
   pub laws : ReadingLaws
-  pub armed : AreArmed log_entry data_entry stops log_found data_found (guarded log_seen log) (guarded data_seen data_device)
+  pub armed : AreArmed log_entry data_entry stops log_found data_found (shown log_seen log) (shown data_seen data_device)
   pub keeps : (reading : Reading) → WhereBothTell (log_seen log.inner).tells (data_seen data_device.inner).tells (λ log_disk data_disk.
       IsOpenable reading log_disk data_disk → WhereBothTell (log_seen log_now.inner).tells (data_seen data_now.inner).tells (KeepsOpened reading))
   pub unmoved : (reading : Reading) → WhereBothTell (log_seen log.inner).tells (data_seen data_device.inner).tells (λ log_disk data_disk.
@@ -201,44 +194,16 @@ pub record IsUnopened {L D : Type 0} (log_seen : L → Seen) (log_gives : L → 
   pub log_calls : MakesCalls (CallsThrough log_seen log_gives) log log_now (HeaderFirst (log_seen log.inner).size (log_error f))
   pub data_calls : MakesCalls (CallsThrough data_seen data_gives) data_device data_now (MayEndWith (data_error f))
 
--- a store in use that is refused was only read
-still-kept : {entry : Seen} {found old : Guarded} → old.seen ≡ found.seen → IsKept entry found → IsKept entry old
-still-kept same kept = record {
-  tells = ap (λ (seen : Seen). seen.tells) same ∙ kept.tells;
-  crashed_from = ap (λ (seen : Seen). seen.crashed_from) same ∙ kept.crashed_from;
-}
-
-kept-refused : {L D : Type 0} {log_seen : L → Seen} {log_gives : L → Call → L → Type 0} {data_seen : D → Seen} {data_gives : D → Call → D → Type 0}
-    {log_entry data_entry : Seen} {stops : Stops} {log_found data_found : Guarded} {log : Fused L} {data_device : Fused D} {f : RecFault} {log_now : Fused L} {data_now : Fused D}
-    → IsUnopened log_seen log_gives data_seen data_gives log_entry data_entry stops log_found data_found log data_device f log_now data_now
-    → KeepsRefusedStore log_entry data_entry (guarded log_seen log_now) (guarded data_seen data_now)
-kept-refused {log_seen = log_seen} {data_seen = data_seen} {log = log} {data_device = data_device} {log_now = log_now} {data_now = data_now} is refusal log_disk data_disk log_is data_is used refused = ⊎_elim
-    (λ formatted. absurd (used (formatted.unused log_disk data_disk log_is data_is)))
-    (λ in_use.
-    let log_kept = still-kept {old = guarded log_seen log} is.armed.log_same in_use.kept.log_device in
-    let data_kept = still-kept {old = guarded data_seen data_device} is.armed.data_same in_use.kept.data_device in
-    let AreRead : Type 0 = IsUnchanged (seen_through log_seen log) (seen_through log_seen log_now)
-    × IsUnchanged (seen_through data_seen data_device) (seen_through data_seen data_now) in
-    let unchanged = on-contents (log_seen log.inner).tells (data_seen data_device.inner).tells
-    (λ log_bytes data_bytes. Refuses log_bytes data_bytes refusal → AreRead)
-    (is.cause.kept refusal) log_disk data_disk (log_kept.tells ∙ log_is) (data_kept.tells ∙ data_is) refused in
-    record {
-      log_device = record { tells = unchanged.0.tells ∙ log_kept.tells; crashed_from = unchanged.0.crashed_from ∙ log_kept.crashed_from };
-      data_device = record { tells = unchanged.1.tells ∙ data_kept.tells; crashed_from = unchanged.1.crashed_from ∙ data_kept.crashed_from };
-    })
-    is.armed.prepared.which
-
 -- a device failed
 stopped : {L D : Type 0} {log_seen : L → Seen} {log_gives : L → Call → L → Type 0} {data_seen : D → Seen} {data_gives : D → Call → D → Type 0}
-    {log_entry data_entry : Seen} {stops : Stops} {log_found data_found : Guarded} {log : Fused L} {data_device : Fused D} {f : RecFault} {log_now : Fused L} {data_now : Fused D}
+    {log_entry data_entry : Seen} {stops : Stops} {log_found data_found : Shown} {log : Fused L} {data_device : Fused D} {f : RecFault} {log_now : Fused L} {data_now : Fused D}
     → IsUnopened log_seen log_gives data_seen data_gives log_entry data_entry stops log_found data_found log data_device f log_now data_now
-    → f ≢ NoMemory → AreStopped log_entry data_entry stops (failures (log_error f)) (failures (data_error f)) (guarded log_seen log_now) (guarded data_seen data_now)
+    → f ≢ NoMemory → AreStopped log_entry data_entry stops (failures (log_error f)) (failures (data_error f)) (shown log_seen log_now) (shown data_seen data_now)
 stopped {log_seen = log_seen} {data_seen = data_seen} {log_found = log_found} {data_found = data_found} {log = log} {data_device = data_device} {log_now = log_now} {data_now = data_now} is failed = record {
   way = way-of log_found data_found is.armed.prepared (counted-opening is.armed is.log_calls is.data_calls);
-  keeps = keeps-found log_found data_found (guarded log_seen log) (guarded data_seen data_device) (guarded log_seen log_now) (guarded data_seen data_now)
+  keeps = keeps-found log_found data_found (shown log_seen log) (shown data_seen data_device) (shown log_seen log_now) (shown data_seen data_now)
       is.armed.log_same is.armed.data_same is.keeps;
-  kept = kept-refused is;
-  unmoved = keeps-checkpoint log_found data_found (guarded log_seen log) (guarded data_seen data_device) (guarded log_seen log_now)
+  unmoved = keeps-checkpoint log_found data_found (shown log_seen log) (shown data_seen data_device) (shown log_seen log_now)
       is.armed.log_same is.armed.data_same
       (λ reading. weaker-both {Q = λ log_disk data_disk. IsOpenable reading log_disk data_disk → IfSome (log_seen log_now.inner).tells (HasSameCheckpoint reading)} _ _
       (λ log_disk data_disk unmoved openable. unmoved openable failed) (is.unmoved reading));
@@ -246,14 +211,13 @@ stopped {log_seen = log_seen} {data_seen = data_seen} {log_found = log_found} {d
 
 -- memory ran out
 out-of-memory : {L D : Type 0} {log_seen : L → Seen} {log_gives : L → Call → L → Type 0} {data_seen : D → Seen} {data_gives : D → Call → D → Type 0}
-    {log_entry data_entry : Seen} {stops : Stops} {log_found data_found : Guarded} {log : Fused L} {data_device : Fused D} {log_now : Fused L} {data_now : Fused D}
+    {log_entry data_entry : Seen} {stops : Stops} {log_found data_found : Shown} {log : Fused L} {data_device : Fused D} {log_now : Fused L} {data_now : Fused D}
     → IsUnopened log_seen log_gives data_seen data_gives log_entry data_entry stops log_found data_found log data_device NoMemory log_now data_now
-    → AreUnstarted log_entry data_entry stops (guarded log_seen log_now) (guarded data_seen data_now)
+    → AreUnstarted log_entry data_entry stops (shown log_seen log_now) (shown data_seen data_now)
 out-of-memory {log_seen = log_seen} {data_seen = data_seen} {log_found = log_found} {data_found = data_found} {log = log} {data_device = data_device} {log_now = log_now} {data_now = data_now} is = record {
   way = way-of log_found data_found is.armed.prepared (counted-opening is.armed is.log_calls is.data_calls);
-  keeps = keeps-found log_found data_found (guarded log_seen log) (guarded data_seen data_device) (guarded log_seen log_now) (guarded data_seen data_now)
+  keeps = keeps-found log_found data_found (shown log_seen log) (shown data_seen data_device) (shown log_seen log_now) (shown data_seen data_now)
       is.armed.log_same is.armed.data_same is.keeps;
-  kept = kept-refused is;
 }
 
 -- the store was refused
@@ -264,11 +228,11 @@ refuses-cause f cause log data_told is holds =
     subst (λ (o : Option Refusal). IfSome o (λ cause. OnContents log data_told (λ log_bytes data_bytes. Refuses log_bytes data_bytes cause))) is holds
 
 refused-opened : {L D : Type 0} {log_seen : L → Seen} {log_gives : L → Call → L → Type 0} {data_seen : D → Seen} {data_gives : D → Call → D → Type 0}
-    {log_entry data_entry : Seen} {stops : Stops} {log_found data_found : Guarded} {log : Fused L} {data_device : Fused D} {f : RecFault} {log_now : Fused L} {data_now : Fused D}
-    (cause : Refusal) → refusal_of f ≡ Some cause → log_error f ≡ None → data_error f ≡ None → IsShorter (log_seen log.inner).size (data_seen data_device.inner).size cause
+    {log_entry data_entry : Seen} {stops : Stops} {log_found data_found : Shown} {log : Fused L} {data_device : Fused D} {f : RecFault} {log_now : Fused L} {data_now : Fused D}
+    (cause : Refusal) → refusal_of f ≡ Some cause → log_error f ≡ None → data_error f ≡ None
     → IsUnopened log_seen log_gives data_seen data_gives log_entry data_entry stops log_found data_found log data_device f log_now data_now
-    → AreRefusedOpened log_entry data_entry stops cause (guarded log_seen log_now) (guarded data_seen data_now)
-refused-opened {log_seen = log_seen} {data_seen = data_seen} {log_entry = log_entry} {data_entry = data_entry} {stops = stops} {log_found = log_found} {data_found = data_found} {log = log} {data_device = data_device} {f = f} {log_now = log_now} {data_now = data_now} cause is_cause log_none data_none short is =
+    → AreRefusedOpened log_entry data_entry stops cause (shown log_seen log_now) (shown data_seen data_now)
+refused-opened {log_seen = log_seen} {data_seen = data_seen} {log_entry = log_entry} {data_entry = data_entry} {stops = stops} {log_found = log_found} {data_found = data_found} {log = log} {data_device = data_device} {f = f} {log_now = log_now} {data_now = data_now} cause is_cause log_none data_none is =
     let log_tells : (log_seen log.inner).tells ≡ log_found.seen.tells = ap (λ (seen : Seen). seen.tells) is.armed.log_same in
     let data_tells : (data_seen data_device.inner).tells ≡ data_found.seen.tells = ap (λ (seen : Seen). seen.tells) is.armed.data_same in
     let refused : OnContents log_found.seen.tells data_found.seen.tells (λ log_bytes data_bytes. Refuses log_bytes data_bytes cause) =
@@ -276,32 +240,30 @@ refused-opened {log_seen = log_seen} {data_seen = data_seen} {log_entry = log_en
     (log_seen log.inner).tells (data_seen data_device.inner).tells log_tells data_tells
     (refuses-cause f cause (log_seen log.inner).tells (data_seen data_device.inner).tells is_cause is.cause.refused) in
     let counted = counted-opening is.armed is.log_calls is.data_calls in
-    let unfailed : AreCounted log_entry data_entry stops log_found data_found 0 0 (guarded log_seen log_now) (guarded data_seen data_now) =
-    subst (λ n. AreCounted log_entry data_entry stops log_found data_found 0 n (guarded log_seen log_now) (guarded data_seen data_now)) (ap failures data_none)
-    (subst (λ n. AreCounted log_entry data_entry stops log_found data_found n (failures (data_error f)) (guarded log_seen log_now) (guarded data_seen data_now)) (ap failures log_none) counted) in
+    let unfailed : AreCounted log_entry data_entry stops log_found data_found 0 0 (shown log_seen log_now) (shown data_seen data_now) =
+    subst (λ n. AreCounted log_entry data_entry stops log_found data_found 0 n (shown log_seen log_now) (shown data_seen data_now)) (ap failures data_none)
+    (subst (λ n. AreCounted log_entry data_entry stops log_found data_found n (failures (data_error f)) (shown log_seen log_now) (shown data_seen data_now)) (ap failures log_none) counted) in
     record {
       way = way-of log_found data_found is.armed.prepared unfailed;
-      keeps = keeps-found log_found data_found (guarded log_seen log) (guarded data_seen data_device) (guarded log_seen log_now) (guarded data_seen data_now)
+      keeps = keeps-found log_found data_found (shown log_seen log) (shown data_seen data_device) (shown log_seen log_now) (shown data_seen data_now)
           is.armed.log_same is.armed.data_same is.keeps;
-      short = same-shorter cause _ _ _ _ is.armed.log_device.same.size is.armed.data_device.same.size short;
       refused = refused-found is.laws log_entry data_entry log_found data_found cause is.armed.prepared refused;
-      kept = kept-refused is;
     }
 
 pub unopened-comes : {L D : Type 0} {log_seen : L → Seen} {log_gives : L → Call → L → Type 0} {data_seen : D → Seen} {data_gives : D → Call → D → Type 0}
-    {log_entry data_entry : Seen} {stops : Stops} {log_found data_found : Guarded} {log : Fused L} {data_device : Fused D}
-    (turns : Turns) (script : List ScriptLine) (f : RecFault) (log_now : Fused L) (data_now : Fused D)
+    {log_entry data_entry : Seen} {stops : Stops} {log_found data_found : Shown} {log : Fused L} {data_device : Fused D}
+    (by : Driving) (turns : Turns) (script : List ScriptLine) (f : RecFault) (log_now : Fused L) (data_now : Fused D)
     → IsUnopened log_seen log_gives data_seen data_gives log_entry data_entry stops log_found data_found log data_device f log_now data_now
-    → ComesTo log_entry data_entry stops turns script (unopened f) (guarded log_seen log_now) (guarded data_seen data_now)
-unopened-comes turns script LogDev log_now data_now is = stopped is (λ same. cc)
-unopened-comes turns script DataDev log_now data_now is = stopped is (λ same. cc)
-unopened-comes turns script NoMemory log_now data_now is =
+    → ComesTo by log_entry data_entry stops turns script (unopened f) (shown log_seen log_now) (shown data_seen data_now)
+unopened-comes by turns script LogDev log_now data_now is = stopped is (λ same. cc)
+unopened-comes by turns script DataDev log_now data_now is = stopped is (λ same. cc)
+unopened-comes by turns script NoMemory log_now data_now is =
     inr (inl (out-of-memory is))
-unopened-comes turns script (SmallLog n) log_now data_now is = inr (refused-opened (refusal.SmallLog n) refl refl refl is.cause.lengths is)
-unopened-comes turns script NotFormatted log_now data_now is = inr (refused-opened refusal.NotFormatted refl refl refl tt is)
-unopened-comes turns script (BadFormat n) log_now data_now is = inr (refused-opened (refusal.BadFormat n) refl refl refl tt is)
-unopened-comes turns script (SmallData n) log_now data_now is = inr (refused-opened (refusal.SmallData n) refl refl refl is.cause.lengths is)
-unopened-comes turns script NoCheckpoint log_now data_now is = inr (refused-opened refusal.NoCheckpoint refl refl refl tt is)
-unopened-comes turns script (BadRecord lsn) log_now data_now is = inr (refused-opened (refusal.BadRecord lsn) refl refl refl tt is)
-unopened-comes turns script (PageLost p) log_now data_now is = inr (refused-opened (refusal.PageLost p) refl refl refl tt is)
-unopened-comes turns script (PageAhead p lsn) log_now data_now is = inr (refused-opened (refusal.PageAhead p lsn) refl refl refl tt is)
+unopened-comes by turns script (SmallLog n) log_now data_now is = inr (refused-opened (refusal.SmallLog n) refl refl refl is)
+unopened-comes by turns script NotFormatted log_now data_now is = inr (refused-opened refusal.NotFormatted refl refl refl is)
+unopened-comes by turns script (BadFormat n) log_now data_now is = inr (refused-opened (refusal.BadFormat n) refl refl refl is)
+unopened-comes by turns script (SmallData n) log_now data_now is = inr (refused-opened (refusal.SmallData n) refl refl refl is)
+unopened-comes by turns script NoCheckpoint log_now data_now is = inr (refused-opened refusal.NoCheckpoint refl refl refl is)
+unopened-comes by turns script (BadRecord lsn) log_now data_now is = inr (refused-opened (refusal.BadRecord lsn) refl refl refl is)
+unopened-comes by turns script (PageLost p) log_now data_now is = inr (refused-opened (refusal.PageLost p) refl refl refl is)
+unopened-comes by turns script (PageAhead p lsn) log_now data_now is = inr (refused-opened (refusal.PageAhead p lsn) refl refl refl is)

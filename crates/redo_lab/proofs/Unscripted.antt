@@ -1,5 +1,10 @@
--- A command whose script wasn't read.
-use Rattle.std.proofs.Common.{ℕ, ◌≡◌, ◌<◌, Bool, List, length, Option, Some, None, IfSome, refl, sym, ap, subst, ◌∙◌, inl, arith}
+-- A command whose script wasn't read: it called no device.
+use Rattle.model_base.specs.{HasRisen}
+use Rattle.model_command.specs.declared.asked.Command.{Command}
+use Rattle.redo_memdisk.specs.declared.fuse.Fuse.{Fuse}
+use Rattle.redo_memdisk.specs.{fresh}
+use Rattle.redo_disk.specs.Seen.{Seen}
+use Rattle.std.proofs.Common.{ℕ, ◌≡◌, ◌<◌, Bool, List, length, Option, Some, None, IfSome, refl, sym, ap, subst, ◌∙◌, inl, arith, ◌≢◌, true}
 use Rattle.std.proofs.lemmas.Bool.{false≢true}
 use Rattle.model_base.specs.declared.limits.TheConstants.{MAX_SCRIPT}
 use Rattle.model_command.specs.declared.asked.Command.TheVariants.{Run, Crash}
@@ -8,14 +13,18 @@ use Rattle.model_report.specs.declared.fault.Fault.{Fault}
 use Rattle.model_report.specs.declared.fault.Fault.TheVariants as fault
 use Rattle.model_script.specs.{script_of}
 use Rattle.model_script.specs.declared.misfit.Misfit.{Misfit}
-use Rattle.redo_lab.specs.Call.{AreLeftAlone, Call}
-use Rattle.redo_lab.specs.Complete.{CanRun}
-use Rattle.redo_lab.specs.Outcome.{EndsCommand}
-use Rattle.redo_lab.specs.Script.{IsBadLine, IsLongScript, IsScriptFault}
 use Rattle.redo_lab.specs.declared.outcome.Outcome.TheVariants as outcome
-use Rattle.redo_lab.proofs.Endings.{still-tells, told-fresh}
-use Rattle.redo_lab.proofs.Found.{leaves-alone}
 use Rattle.redo_lab.proofs.Keeping.{OpenableLaw}
+use Rattle.redo_lab.proofs.Leaving.{leaves-kept}
+use Rattle.redo_lab.proofs.Running.{AreTelling}
+use Rattle.redo_lab.specs.Asked.{leaves_devices, reads_script}
+use Rattle.redo_lab.specs.Call.{Call, Each, Guarded, IsUnfailed, IsUnwritten}
+use Rattle.redo_lab.specs.Cause.{IsCauseOf}
+use Rattle.redo_lab.specs.Complete.{CanRun, IsPossible, MayKeepFrom}
+use Rattle.redo_lab.specs.Left.{LeavesStore}
+use Rattle.redo_lab.specs.Outcome.{EndsWith}
+use Rattle.redo_lab.specs.Script.{IsBadLine, IsLongScript, IsScriptFault}
+use Rattle.redo_lab.specs.Stages.{IsLeftAlone, now_of}
 
 -- what a source has left is this
 if-left : (o : Option (List ℕ)) (P : List ℕ → Type 0) (text : List ℕ) → IfSome o P → o ≡ Some text → P text
@@ -34,100 +43,65 @@ no-long-script call log_only misfit can long =
     let more = if-left call.source.left (λ left. MAX_SCRIPT < length left) can.text long.long can.source in
     omega (arith, can.short)
 
+-- both devices are as they were, behind fuses that saw no call
+pub record AreLeftAlone (call : Call) : Type 0 where
+  pub log_device : IsLeftAlone call.log.entry (now_of call.log)
+  pub data_device : IsLeftAlone call.store.entry (now_of call.store)
+
+still-tells : (old new : Seen) → new ≡ old → old.tells ≢ None → new.tells ≢ None
+still-tells old new same tells none = tells (ap (λ (seen : Seen). seen.tells) (sym same) ∙ none)
+
+pub tells-alone : (call : Call) → AreLeftAlone call → AreTelling call
+tells-alone call alone = (still-tells _ _ alone.log_device.seen, still-tells _ _ alone.data_device.seen)
+
+pub unfailed-alone : (call : Call) → AreLeftAlone call → Each IsUnfailed call
+unfailed-alone call alone = (unfailed-fresh call.log alone.log_device.fuse, unfailed-fresh call.store alone.data_device.fuse)
+  where
+    unfailed-fresh : (device : Guarded) → device.fuse ≡ fresh → IsUnfailed device
+    unfailed-fresh device is =
+        (ap (λ (fuse : Fuse). fuse.early) is, ap (λ (fuse : Fuse). fuse.mid) is, ap (λ (fuse : Fuse). fuse.late) is)
+
+pub unwritten-alone : (call : Call) → AreLeftAlone call → Each IsUnwritten call
+unwritten-alone call alone = (
+  (ap (λ (seen : Seen). seen.tells) alone.log_device.seen, ap (λ (fuse : Fuse). fuse.changes) alone.log_device.fuse),
+  (ap (λ (seen : Seen). seen.tells) alone.data_device.seen, ap (λ (fuse : Fuse). fuse.changes) alone.data_device.fuse),
+)
+
+pub leaves-alone : (call : Call) → OpenableLaw → AreLeftAlone call → LeavesStore call
+leaves-alone call law alone = leaves-kept call law (ap (λ (seen : Seen). seen.tells) alone.log_device.seen) (ap (λ (seen : Seen). seen.tells) alone.data_device.seen)
+    (ap (λ (fuse : Fuse). fuse.stage) alone.log_device.fuse)
+
+-- a command that reads a script and runs it
+unscripted : (call : Call) (command : Command) (log_only : Bool) (f : Fault) → AreLeftAlone call → OpenableLaw → reads_script command ≡ true
+    → (leaves_devices command ≡ true → ⊥) → (IsPossible call command → CanRun call log_only)
+    → IsCauseOf call command f → (CanRun call log_only → (HasRisen call.source.faults call.source_now.faults → ⊥) → MayKeepFrom command f)
+    → EndsWith call command (outcome.Fault f)
+unscripted call command log_only f alone law reads writes can cause kept = record {
+  means = cause;
+  unread = λ plain. absurd (false≢true (sym plain ∙ reads));
+  unwritten = λ leaves. absurd (writes leaves);
+  left = λ runs. leaves-alone call law alone;
+  tells = tells-alone call alone;
+  complete = λ possible source unfailed. kept (can possible) source;
+}
+
+module _ (call : Call) (command : Command) (log_only : Bool) (alone : AreLeftAlone call) (law : OpenableLaw) (reads : reads_script command ≡ true)
+    (writes : leaves_devices command ≡ true → ⊥) (can : IsPossible call command → CanRun call log_only) where
+  script-fails : (f : Fault) → IsScriptFault call.source call.source_now f → EndsWith call command (outcome.Fault f)
+  script-fails fault.Memory cause = unscripted call command log_only fault.Memory alone law reads writes can tt (λ can source. tt)
+  script-fails (fault.Script n) cause = unscripted call command log_only (fault.Script n) alone law reads writes can (reads, cause)
+      (λ can source. absurd (no-bad-line call log_only n can cause))
+  script-fails fault.Source cause = unscripted call command log_only fault.Source alone law reads writes can (reads, cause) (λ can source. absurd (source cause))
+  script-fails (fault.Fit misfit) cause = unscripted call command log_only (fault.Fit misfit) alone law reads writes can (inl (reads, cause))
+      (λ can source. absurd (no-long-script call log_only misfit can cause))
+  script-fails f cause = absurd cause
+
 pub run-unscripted : (call : Call) (drive : Drive) (f : Fault) → AreLeftAlone call → IsScriptFault call.source call.source_now f → OpenableLaw
-    → EndsCommand call (Run drive) (outcome.Fault f)
-run-unscripted call drive fault.Memory alone cause law = record {
-  means = (tt, inl (leaves-alone call law alone));
-  unread = λ plain. absurd (false≢true (sym plain));
-  kept = λ leaves. absurd (false≢true leaves);
-  told = record { log_device = told-fresh _ _ _ alone.log_device.fuse; data_device = told-fresh _ _ _ alone.data_device.fuse };
-  log_tells = still-tells _ _ alone.log_device.seen;
-  data_tells = still-tells _ _ alone.data_device.seen;
-  complete = λ possible source unfailed. tt;
-  safe = tt;
-}
-run-unscripted call drive (fault.Script n) alone cause law = record {
-  means = ((refl, cause, alone), leaves-alone call law alone);
-  unread = λ plain. absurd (false≢true (sym plain));
-  kept = λ leaves. absurd (false≢true leaves);
-  told = record { log_device = told-fresh _ _ _ alone.log_device.fuse; data_device = told-fresh _ _ _ alone.data_device.fuse };
-  log_tells = still-tells _ _ alone.log_device.seen;
-  data_tells = still-tells _ _ alone.data_device.seen;
-  complete = λ possible source unfailed. absurd (no-bad-line call drive.log_only n possible cause);
-  safe = tt;
-}
-run-unscripted call drive fault.Source alone cause law = record {
-  means = ((refl, cause, alone), leaves-alone call law alone);
-  unread = λ plain. absurd (false≢true (sym plain));
-  kept = λ leaves. absurd (false≢true leaves);
-  told = record { log_device = told-fresh _ _ _ alone.log_device.fuse; data_device = told-fresh _ _ _ alone.data_device.fuse };
-  log_tells = still-tells _ _ alone.log_device.seen;
-  data_tells = still-tells _ _ alone.data_device.seen;
-  complete = λ possible source unfailed. absurd (source cause);
-  safe = tt;
-}
-run-unscripted call drive (fault.Fit misfit) alone cause law = record {
-  means = (inl (refl, cause, alone), leaves-alone call law alone);
-  unread = λ plain. absurd (false≢true (sym plain));
-  kept = λ leaves. absurd (false≢true leaves);
-  told = record { log_device = told-fresh _ _ _ alone.log_device.fuse; data_device = told-fresh _ _ _ alone.data_device.fuse };
-  log_tells = still-tells _ _ alone.log_device.seen;
-  data_tells = still-tells _ _ alone.data_device.seen;
-  complete = λ possible source unfailed. absurd (no-long-script call drive.log_only misfit possible cause);
-  safe = tt;
-}
-run-unscripted call drive fault.Words alone cause law = absurd cause
-run-unscripted call drive fault.Sink alone cause law = absurd cause
-run-unscripted call drive fault.LogDevice alone cause law = absurd cause
-run-unscripted call drive fault.DataDevice alone cause law = absurd cause
-run-unscripted call drive (fault.Store refusal) alone cause law = absurd cause
-run-unscripted call drive (fault.Turns turns user) alone cause law = absurd cause
+    → EndsWith call (Run drive) (outcome.Fault f)
+run-unscripted call drive f alone cause law =
+    script-fails call (Run drive) drive.log_only alone law refl (λ leaves. false≢true leaves) (λ possible. possible) f cause
 
 pub crash-unscripted : (call : Call) (drive : Drive) (stop_log stop_data : Option ℕ) (pick : ℕ) (f : Fault) → AreLeftAlone call → IsScriptFault call.source call.source_now f → OpenableLaw
-    → EndsCommand call (Crash drive stop_log stop_data pick) (outcome.Fault f)
-crash-unscripted call drive stop_log stop_data pick fault.Memory alone cause law = record {
-  means = (tt, inl (leaves-alone call law alone));
-  unread = λ plain. absurd (false≢true (sym plain));
-  kept = λ leaves. absurd (false≢true leaves);
-  told = record { log_device = told-fresh _ _ _ alone.log_device.fuse; data_device = told-fresh _ _ _ alone.data_device.fuse };
-  log_tells = still-tells _ _ alone.log_device.seen;
-  data_tells = still-tells _ _ alone.data_device.seen;
-  complete = λ possible source unfailed. tt;
-  safe = tt;
-}
-crash-unscripted call drive stop_log stop_data pick (fault.Script n) alone cause law = record {
-  means = ((refl, cause, alone), inl (leaves-alone call law alone));
-  unread = λ plain. absurd (false≢true (sym plain));
-  kept = λ leaves. absurd (false≢true leaves);
-  told = record { log_device = told-fresh _ _ _ alone.log_device.fuse; data_device = told-fresh _ _ _ alone.data_device.fuse };
-  log_tells = still-tells _ _ alone.log_device.seen;
-  data_tells = still-tells _ _ alone.data_device.seen;
-  complete = λ possible source unfailed. absurd (no-bad-line call drive.log_only n possible.can cause);
-  safe = tt;
-}
-crash-unscripted call drive stop_log stop_data pick fault.Source alone cause law = record {
-  means = ((refl, cause, alone), inl (leaves-alone call law alone));
-  unread = λ plain. absurd (false≢true (sym plain));
-  kept = λ leaves. absurd (false≢true leaves);
-  told = record { log_device = told-fresh _ _ _ alone.log_device.fuse; data_device = told-fresh _ _ _ alone.data_device.fuse };
-  log_tells = still-tells _ _ alone.log_device.seen;
-  data_tells = still-tells _ _ alone.data_device.seen;
-  complete = λ possible source unfailed. absurd (source cause);
-  safe = tt;
-}
-crash-unscripted call drive stop_log stop_data pick (fault.Fit misfit) alone cause law = record {
-  means = (inl (refl, cause, alone), inl (leaves-alone call law alone));
-  unread = λ plain. absurd (false≢true (sym plain));
-  kept = λ leaves. absurd (false≢true leaves);
-  told = record { log_device = told-fresh _ _ _ alone.log_device.fuse; data_device = told-fresh _ _ _ alone.data_device.fuse };
-  log_tells = still-tells _ _ alone.log_device.seen;
-  data_tells = still-tells _ _ alone.data_device.seen;
-  complete = λ possible source unfailed. absurd (no-long-script call drive.log_only misfit possible.can cause);
-  safe = tt;
-}
-crash-unscripted call drive stop_log stop_data pick fault.Words alone cause law = absurd cause
-crash-unscripted call drive stop_log stop_data pick fault.Sink alone cause law = absurd cause
-crash-unscripted call drive stop_log stop_data pick fault.LogDevice alone cause law = absurd cause
-crash-unscripted call drive stop_log stop_data pick fault.DataDevice alone cause law = absurd cause
-crash-unscripted call drive stop_log stop_data pick (fault.Store refusal) alone cause law = absurd cause
-crash-unscripted call drive stop_log stop_data pick (fault.Turns turns user) alone cause law = absurd cause
+    → EndsWith call (Crash drive stop_log stop_data pick) (outcome.Fault f)
+crash-unscripted call drive stop_log stop_data pick f alone cause law =
+    script-fails call (Crash drive stop_log stop_data pick) drive.log_only alone law refl (λ leaves. false≢true leaves) (λ possible. possible) f cause

@@ -1,86 +1,91 @@
 -- A call of `lab`, as it is seen from outside.
-use Rattle.std.specs.Prelude.{ℕ, ◌≡◌, List, Option}
+use Rattle.std.specs.Prelude.{ℕ, ◌≡◌, ◌+◌, List, Option, Some}
+use Rattle.model_command.specs.declared.asked.Command.{Command}
+use Rattle.model_command.specs.declared.asked.Command.TheVariants.{Crash}
+use Rattle.model_command.specs.declared.asked.Drive.{Drive}
 use Rattle.model_device.specs.Disk.{Disk}
+use Rattle.model_script.specs.declared.script.ScriptLine.{ScriptLine}
+use Rattle.model_store.specs.{IsFair, Opens}
+use Rattle.model_theorem.specs.{IsFresh, Opened, Ran}
 use Rattle.redo_disk.specs.Seen.{Seen}
 use Rattle.redo_io.specs.{SinkSeen, SourceSeen}
-use Rattle.redo_memdisk.specs.{armed_from, fresh, fuse_of, inner_of}
+use Rattle.redo_memdisk.specs.{armed_from, fuse_of, inner_of}
 use Rattle.redo_memdisk.specs.declared.fuse.Fuse.{Fuse}
 use Rattle.redo_memdisk.specs.declared.fused.Fused.{Fused}
-use Rattle.redo_lab.specs.declared.ended.Ended.{Ended}
 
--- a device and the fuse in front of it
+-- One device of a call: as it was handed in, and as it is now behind its fuse; and what it meant when the fuse was armed, where it
+-- told.
 pub record Guarded : Type 0 where
-  pub seen : Seen
+  pub entry : Seen
+  pub now : Seen
   pub fuse : Fuse
-  -- what the device meant when its fuse was armed, where it told
   pub armed_from : Option Disk
 
--- What a call was handed, and what has become of it: the words; the source at entry and now; each device as it was
--- handed in, and now behind its fuse.
-pub record Call : Type 0 where
+-- the device that was handed in, and is given back behind its fuse, as both are seen from outside
+abbrev pub guarded : {D : Type 0} → (D → Seen) → D → Fused D → Guarded
+guarded seen device fused = record { entry = seen device; now = seen (inner_of fused); fuse = fuse_of fused; armed_from = armed_from seen fused }
+
+-- how a run ends: each user has ended, or the turns are spent and this is the least user that hasn't
+pub data RunEnd : Type 0 where
+  Done : RunEnd
+  Spent : ℕ → RunEnd
+
+-- What a call was handed, and what has become of it. `drives` says that the run of this script on this opened store is the one to
+-- which the drive leads, that it ended so, and what both devices meant then: the one place that knows of drives.
+pub record Call : Type 1 where
   pub words : List (List ℕ)
   pub source : SourceSeen
   pub source_now : SourceSeen
-  pub log_device : Seen
-  pub log_device_now : Guarded
-  pub data_device : Seen
-  pub data_device_now : Guarded
+  pub log : Guarded
+  pub store : Guarded
+  pub drives : Drive → Opened → List ScriptLine → Ran → RunEnd → Option Disk → Option Disk → Type 0
 
 -- a whole call: the same, with the sink at entry and now, and the status
-pub record LabCall : Type 0 where
+pub record LabCall : Type 1 where
   pub call : Call
   pub sink : SinkSeen
   pub sink_now : SinkSeen
   pub status : ℕ
 
--- the device means what it meant, also just before its last crash
-pub record IsKept (old : Seen) (new : Guarded) : Type 0 where
-  pub tells : new.seen.tells ≡ old.tells
-  pub crashed_from : new.seen.crashed_from ≡ old.crashed_from
+-- where both devices told what they mean when they were handed in, this holds of the two
+abbrev pub WhereToldAtEntry : Call → (Disk → Disk → Type 0) → Type 0
+WhereToldAtEntry call P = (log store : Disk) → call.log.entry.tells ≡ Some log → call.store.entry.tells ≡ Some store → P log store
 
--- so do both
-pub record AreKept (call : Call) : Type 0 where
-  pub log_device : IsKept call.log_device call.log_device_now
-  pub data_device : IsKept call.data_device call.data_device_now
+-- and where they tell what they mean now
+abbrev pub WhereToldNow : Call → (Disk → Disk → Type 0) → Type 0
+WhereToldNow call P = (log store : Disk) → call.log.now.tells ≡ Some log → call.store.now.tells ≡ Some store → P log store
 
--- it is seen as it was, behind a fuse that saw no call
-pub record IsLeftAlone (old : Seen) (new : Guarded) : Type 0 where
-  pub seen : new.seen ≡ old
-  pub fuse : new.fuse ≡ fresh
+-- both told at entry, were fresh, and open this store, which is new or in order
+abbrev pub WhereOpened : Call → Opened → Type 0 → Type 0
+WhereOpened call opened P = WhereToldAtEntry call (λ log store.
+    IsFresh log call.log.entry.faults → IsFresh store call.store.entry.faults
+    → Opens log.reads store.reads opened.shape opened.pages opened.end → P)
 
--- nor of the other
-pub record AreLeftAlone (call : Call) : Type 0 where
-  pub log_device : IsLeftAlone call.log_device call.log_device_now
-  pub data_device : IsLeftAlone call.data_device call.data_device_now
+-- what a crash in the call left of the data device is fair
+abbrev pub IsLeftFair : Call → Opened → Type 0
+IsLeftFair call opened = (pick : ℕ) (from left : Disk) → call.store.fuse.pick ≡ Some pick → call.store.now.crashed_from ≡ Some from
+    → call.store.now.tells ≡ Some left → IsFair opened.shape from left.reads
 
--- the source was left alone
-abbrev pub IsUnread : Call → Type 0
-IsUnread call = call.source_now ≡ call.source
+-- this is so of both devices
+abbrev pub Each : (Guarded → Type 0) → Call → Type 0
+Each P call = P call.log × P call.store
 
--- a device behind its fuse, as it is seen from outside; what is seen of the device doesn't have in it what the fuse did
-abbrev pub guarded : {D : Type 0} → (D → Seen) → Fused D → Guarded
-guarded seen fused = record { seen = seen (inner_of fused); fuse = fuse_of fused; armed_from = armed_from seen fused }
+-- no call answered that the device failed; none but from the arming to the crash
+abbrev pub IsUnfailed : Guarded → Type 0
+IsUnfailed device = (device.fuse.early ≡ 0) × (device.fuse.mid ≡ 0) × (device.fuse.late ≡ 0)
 
--- these two, which were seen so, were left alone
-pub record AreUncalled {L D : Type 0} (log_seen : L → Seen) (data_seen : D → Seen) (log_entry data_entry : Seen) (log_now : Fused L) (data_now : Fused D)
-    : Type 0 where
-  pub log_device : IsLeftAlone log_entry (guarded log_seen log_now)
-  pub data_device : IsLeftAlone data_entry (guarded data_seen data_now)
+abbrev pub IsUnfailedAside : Guarded → Type 0
+IsUnfailedAside device = (device.fuse.early ≡ 0) × (device.fuse.late ≡ 0)
 
--- the call that was handed these words, this source, sink and devices, and ended so
-abbrev pub lab_call_of : {L D : Type 0} → (L → Seen) → (D → Seen) → (words : List (List ℕ)) → (source source_now : SourceSeen)
-    → (sink sink_now : SinkSeen) → (log : L) → (store : D) → Ended L D → LabCall
-lab_call_of log_seen data_seen words source source_now sink sink_now log store ended = record {
-  call = record {
-    words = words;
-    source = source;
-    source_now = source_now;
-    log_device = log_seen log;
-    log_device_now = guarded log_seen ended.log;
-    data_device = data_seen store;
-    data_device_now = guarded data_seen ended.store;
-  };
-  sink = sink;
-  sink_now = sink_now;
-  status = ended.status;
-}
+-- In a crash a failure from the arming to the crash is no reason not to be done.
+abbrev pub AreUnfailedFor : Command → Call → Type 0
+AreUnfailedFor (Crash drive stop_log stop_data pick) call = Each IsUnfailedAside call
+AreUnfailedFor command call = Each IsUnfailed call
+
+-- how many calls failed from the arming to the crash
+abbrev pub mids : Call → ℕ
+mids call = call.log.fuse.mid + call.store.fuse.mid
+
+-- the device means what it meant, and nothing was written or synced
+abbrev pub IsUnwritten : Guarded → Type 0
+IsUnwritten device = (device.now.tells ≡ device.entry.tells) × (device.fuse.changes ≡ 0)

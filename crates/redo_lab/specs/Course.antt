@@ -1,9 +1,7 @@
 -- How far a run came, and what it leaves of the two devices.
-use Rattle.std.specs.Prelude.{ℕ, ◌≡◌, ◌≢◌, ◌≤◌, ◌<◌, ◌+◌, ◌⊎◌, Bool, List, Option, Some, None, IfSome}
-use Rattle.model_base.specs.{IsWithinLimits}
+use Rattle.std.specs.Prelude.{ℕ, ◌≡◌, ◌≤◌, ◌<◌, ◌+◌, ◌⊎◌, Bool, List, Option, Some, None, IfSome}
 use Rattle.model_device.specs.{synced}
 use Rattle.model_device.specs.Disk.{Disk}
-use Rattle.model_finish.specs.{LeavesOpen}
 use Rattle.model_history.specs.{IsLeft}
 use Rattle.model_log.specs.{start_after}
 use Rattle.model_opening.specs.{IsOpenable, KeepsOpened}
@@ -16,79 +14,71 @@ use Rattle.model_script.specs.declared.script.ScriptLine.{ScriptLine}
 use Rattle.model_store.specs.Reading.{Reading}
 use Rattle.model_store.specs.declared.refusal.Refusal.{Refusal}
 use Rattle.model_theorem.specs.{FitsOpened, IsRun, LosesOnlyByFailure, Opened, Ran, room_of}
-use Rattle.redo_disk.specs.{failures}
+use Rattle.redo_disk.specs.{Call}
 use Rattle.redo_disk.specs.Seen.{Seen}
-use Rattle.redo_disk.specs.declared.error.DevError.{DevError}
+use Rattle.redo_memdisk.specs.{CallsThrough, seen_through}
 use Rattle.redo_machine.specs.declared.drive.Turns.{Turns}
 use Rattle.redo_open.specs.{HasSameCheckpoint, WhereBothTell}
-use Rattle.redo_lab.specs.Call.{Guarded}
-use Rattle.redo_lab.specs.Prepared.{ArePrepared, AreTooShort, BothKept, EndUnprepared, WhereTold}
-use Rattle.redo_lab.specs.Stages.{IsArmed}
-use Rattle.redo_lab.specs.Store.{AreRefused, IsOpenedAs, IsShorter}
 use Rattle.model_store.specs.{IsUnused}
 use Rattle.redo_lab.specs.declared.playing.Course.{Course}
 use Rattle.redo_lab.specs.declared.playing.Course.TheVariants as course
 use Rattle.redo_lab.specs.declared.playing.Played.{Played}
 use Rattle.redo_lab.specs.declared.playing.Stops.{Stops}
+use Rattle.redo_lab.specs.Call.{Done, RunEnd, Spent}
+use Rattle.redo_lab.specs.Drives.{IsByTurns}
+use Rattle.redo_lab.specs.Prepared.{ArePrepared, AreTooShort, EndUnprepared, WhereTold}
+use Rattle.redo_lab.specs.Stages.{IsArmed, Shown}
+use Rattle.redo_lab.specs.Store.{AreRefused, IsOpenedAs}
 
 -- Both devices were prepared, their fuses were armed, and opening was begun; since then so many calls failed.
-pub record AreUnderWay (log_entry data_entry : Seen) (stops : Stops) (log_failed data_failed : ℕ) (log_now data_now : Guarded) : Type 0 where
-  pub log_found : Guarded
-  pub data_found : Guarded
+pub record AreUnderWay (log_entry data_entry : Seen) (stops : Stops) (log_failed data_failed : ℕ) (log_now data_now : Shown) : Type 0 where
+  pub log_found : Shown
+  pub data_found : Shown
   pub prepared : ArePrepared log_entry data_entry log_found data_found
   pub log_device : IsArmed stops.log log_entry log_found log_failed log_now
   pub data_device : IsArmed stops.store data_entry data_found data_failed data_now
   pub counted : 0 < log_now.fuse.passed + log_now.fuse.mid
 
 -- a store that could be opened when the fuses were armed is still read with its pages, whatever a crash leaves
-abbrev pub KeepsFound : (log_found data_found log_now data_now : Guarded) → Type 0
+abbrev pub KeepsFound : (log_found data_found log_now data_now : Shown) → Type 0
 KeepsFound log_found data_found log_now data_now =
     (reading : Reading) → WhereBothTell log_found.seen.tells data_found.seen.tells (λ log data_disk. IsOpenable reading log data_disk
     → WhereBothTell log_now.seen.tells data_now.seen.tells (KeepsOpened reading))
 
 -- and at its last good sync the newest checkpoint of the log device was still the one that was found
-abbrev pub KeepsCheckpoint : (log_found data_found log_now : Guarded) → Type 0
+abbrev pub KeepsCheckpoint : (log_found data_found log_now : Shown) → Type 0
 KeepsCheckpoint log_found data_found log_now =
     (reading : Reading) → WhereBothTell log_found.seen.tells data_found.seen.tells (λ log data_disk. IsOpenable reading log data_disk
     → IfSome log_now.seen.tells (HasSameCheckpoint reading))
 
--- a store that was in use and is refused is as it was, where both devices told
-abbrev pub KeepsRefusedStore : (log_entry data_entry : Seen) → (log_now data_now : Guarded) → Type 0
-KeepsRefusedStore log_entry data_entry log_now data_now = (refusal : Refusal) → WhereTold log_entry data_entry (λ log data_disk.
-    (IsUnused log.reads → ⊥) → AreRefused refusal log data_disk → BothKept log_entry data_entry log_now data_now)
-
 -- OPENING WAS STOPPED by a device.
-pub record AreStopped (log_entry data_entry : Seen) (stops : Stops) (log_failed data_failed : ℕ) (log_now data_now : Guarded) : Type 0 where
+pub record AreStopped (log_entry data_entry : Seen) (stops : Stops) (log_failed data_failed : ℕ) (log_now data_now : Shown) : Type 0 where
   pub way : AreUnderWay log_entry data_entry stops log_failed data_failed log_now data_now
   pub keeps : KeepsFound way.log_found way.data_found log_now data_now
-  pub kept : KeepsRefusedStore log_entry data_entry log_now data_now
   pub unmoved : KeepsCheckpoint way.log_found way.data_found log_now
 
-abbrev pub IsStoppedBy : Seen → Seen → Stops → Fault → Guarded → Guarded → Type 0
+abbrev pub IsStoppedBy : Seen → Seen → Stops → Fault → Shown → Shown → Type 0
 IsStoppedBy log_entry data_entry stops fault.LogDevice log_now data_now = AreStopped log_entry data_entry stops 1 0 log_now data_now
 IsStoppedBy log_entry data_entry stops fault.DataDevice log_now data_now = AreStopped log_entry data_entry stops 0 1 log_now data_now
 IsStoppedBy log_entry data_entry stops _ log_now data_now = ⊥
 
 -- THE STORE WAS REFUSED, which was in use.
-pub record AreRefusedOpened (log_entry data_entry : Seen) (stops : Stops) (cause : Refusal) (log_now data_now : Guarded) : Type 0 where
+pub record AreRefusedOpened (log_entry data_entry : Seen) (stops : Stops) (cause : Refusal) (log_now data_now : Shown) : Type 0 where
   pub way : AreUnderWay log_entry data_entry stops 0 0 log_now data_now
   pub keeps : KeepsFound way.log_found way.data_found log_now data_now
-  pub short : IsShorter log_entry.size data_entry.size cause
   pub refused : WhereTold log_entry data_entry (λ log data_disk. (IsUnused log.reads → ⊥) × AreRefused cause log data_disk)
-  pub kept : KeepsRefusedStore log_entry data_entry log_now data_now
 
 -- THE SCRIPT DOESN'T FIT the store that was opened.
 pub record AreMisfitted (log_entry data_entry : Seen) (stops : Stops) (log_only : Bool) (script : List ScriptLine) (misfit : Misfit)
-    (log_now data_now : Guarded) : Type 0 where
+    (log_now data_now : Shown) : Type 0 where
   pub way : AreUnderWay log_entry data_entry stops 0 0 log_now data_now
   pub keeps : KeepsFound way.log_found way.data_found log_now data_now
   pub opened : Opened
   pub opens : WhereTold log_entry data_entry (IsOpenedAs opened)
-  pub limits : IsWithinLimits opened.shape
   pub first : first_misfit opened.shape (start_after opened.end) (room_of log_only opened) script ≡ Some misfit
 
 -- on a store that could be opened when the fuses were armed, both devices hold the run
-abbrev pub HoldsRun : (log_found data_found : Guarded) → List ScriptLine → Opened → Ran → (log_now data_now : Guarded) → Type 0
+abbrev pub HoldsRun : (log_found data_found : Shown) → List ScriptLine → Opened → Ran → (log_now data_now : Shown) → Type 0
 HoldsRun log_found data_found script opened run log_now data_now =
     (reading : Reading) → WhereBothTell log_found.seen.tells data_found.seen.tells (λ log data_disk. IsOpenable reading log data_disk
     → (opened ≡ opened_as reading) × WhereBothTell log_now.seen.tells data_now.seen.tells (λ log_disk data_disk.
@@ -103,61 +93,68 @@ HoldsRun log_found data_found script opened run log_now data_now =
 
 -- A RUN CAME SO FAR, of the script on the opened store, and so many calls of the two devices failed.
 pub record CameSoFar (log_entry data_entry : Seen) (stops : Stops) (log_only : Bool) (script : List ScriptLine) (run : Ran)
-    (log_failed data_failed : ℕ) (log_now data_now : Guarded) : Type 0 where
+    (log_failed data_failed : ℕ) (log_now data_now : Shown) : Type 0 where
   pub way : AreUnderWay log_entry data_entry stops log_failed data_failed log_now data_now
   pub opened : Opened
   pub opens : WhereTold log_entry data_entry (IsOpenedAs opened)
-  pub limits : IsWithinLimits opened.shape
   pub fits : FitsOpened log_only opened script
   pub is_run : IsRun script opened run
 
--- THE TURNS WERE SPENT: a run of the script leaves this user with a line that isn't answered. A call of each device may have
--- answered an error.
-pub record AreSpent (log_entry data_entry : Seen) (stops : Stops) (turns : Turns) (script : List ScriptLine) (count user : ℕ)
-    (log_now data_now : Guarded) : Type 0 where
+-- what is told of a run by its drive: this run on this store ended so, and then both devices meant this
+abbrev pub Driving : Type 1
+Driving = Opened → Ran → RunEnd → Option Disk → Option Disk → Type 0
+
+-- by the turns of the drive, on devices behind their fuses
+abbrev pub ByTurns : {L D : Type 0} → (L → Seen) → (L → Call → L → Type 0) → (D → Seen) → (D → Call → D → Type 0) → Turns → List ScriptLine → Driving
+ByTurns log_seen log_gives data_seen data_gives turns script = λ opened run end log_met store_met.
+    IsByTurns (seen_through log_seen) (CallsThrough log_seen log_gives) (seen_through data_seen) (CallsThrough data_seen data_gives)
+    turns opened script run end log_met store_met
+
+-- THE TURNS WERE SPENT, and this is the least user that hasn't ended.
+pub record AreSpent (by : Driving) (log_entry data_entry : Seen) (stops : Stops) (turns : Turns) (script : List ScriptLine) (count user : ℕ)
+    (log_now data_now : Shown) : Type 0 where
   pub count_is : count ≡ turns.max
   pub run : Ran
-  pub log_error : Option DevError
-  pub data_error : Option DevError
-  pub so_far : CameSoFar log_entry data_entry stops turns.log_only script run (failures log_error) (failures data_error) log_now data_now
+  pub log_failed : ℕ
+  pub data_failed : ℕ
+  pub so_far : CameSoFar log_entry data_entry stops turns.log_only script run log_failed data_failed log_now data_now
+  pub driven : by so_far.opened run (Spent user) log_now.seen.tells data_now.seen.tells
   pub holds : HoldsRun so_far.way.log_found so_far.way.data_found script so_far.opened run log_now data_now
-  pub leaves : LeavesOpen script run.entries ((log_error ≢ None) ⊎ (data_error ≢ None)) user
 
 -- MEMORY RAN OUT before the first line, once opening was begun.
-pub record AreUnstarted (log_entry data_entry : Seen) (stops : Stops) (log_now data_now : Guarded) : Type 0 where
+pub record AreUnstarted (log_entry data_entry : Seen) (stops : Stops) (log_now data_now : Shown) : Type 0 where
   pub way : AreUnderWay log_entry data_entry stops 0 0 log_now data_now
   pub keeps : KeepsFound way.log_found way.data_found log_now data_now
-  pub kept : KeepsRefusedStore log_entry data_entry log_now data_now
 
 -- MEMORY RAN OUT over a run, and no call failed.
 pub record HasRunOut (log_entry data_entry : Seen) (stops : Stops) (log_only : Bool) (script : List ScriptLine)
-    (log_now data_now : Guarded) : Type 0 where
+    (log_now data_now : Shown) : Type 0 where
   pub run : Ran
   pub so_far : CameSoFar log_entry data_entry stops log_only script run 0 0 log_now data_now
   pub holds : HoldsRun so_far.way.log_found so_far.way.data_found script so_far.opened run log_now data_now
 
 -- memory ran out, where no call of a device had failed
-abbrev pub AreWithoutMemory : Seen → Seen → Stops → Bool → List ScriptLine → Guarded → Guarded → Type 0
+abbrev pub AreWithoutMemory : Seen → Seen → Stops → Bool → List ScriptLine → Shown → Shown → Type 0
 AreWithoutMemory log_entry data_entry stops log_only script log_now data_now =
     EndUnprepared log_entry data_entry 0 0 log_now data_now
     ⊎ AreUnstarted log_entry data_entry stops log_now data_now
     ⊎ HasRunOut log_entry data_entry stops log_only script log_now data_now
 
 -- THE RUN ENDED before its first line, or its turns were spent, or a device had no memory.
-abbrev pub IsEndedBy : Seen → Seen → Stops → Turns → List ScriptLine → Fault → Guarded → Guarded → Type 0
-IsEndedBy log_entry data_entry stops turns script fault.Memory log_now data_now =
+abbrev pub IsEndedBy : Driving → Seen → Seen → Stops → Turns → List ScriptLine → Fault → Shown → Shown → Type 0
+IsEndedBy by log_entry data_entry stops turns script fault.Memory log_now data_now =
     AreWithoutMemory log_entry data_entry stops turns.log_only script log_now data_now
-IsEndedBy log_entry data_entry stops turns script fault.LogDevice log_now data_now =
+IsEndedBy by log_entry data_entry stops turns script fault.LogDevice log_now data_now =
     EndUnprepared log_entry data_entry 1 0 log_now data_now
-IsEndedBy log_entry data_entry stops turns script fault.DataDevice log_now data_now =
+IsEndedBy by log_entry data_entry stops turns script fault.DataDevice log_now data_now =
     EndUnprepared log_entry data_entry 0 1 log_now data_now
-IsEndedBy log_entry data_entry stops turns script (fault.Store cause) log_now data_now =
+IsEndedBy by log_entry data_entry stops turns script (fault.Store cause) log_now data_now =
     AreTooShort log_entry data_entry cause log_now data_now ⊎ AreRefusedOpened log_entry data_entry stops cause log_now data_now
-IsEndedBy log_entry data_entry stops turns script (fault.Turns count user) log_now data_now =
-    AreSpent log_entry data_entry stops turns script count user log_now data_now
-IsEndedBy log_entry data_entry stops turns script (fault.Fit misfit) log_now data_now =
+IsEndedBy by log_entry data_entry stops turns script (fault.Turns count user) log_now data_now =
+    AreSpent by log_entry data_entry stops turns script count user log_now data_now
+IsEndedBy by log_entry data_entry stops turns script (fault.Fit misfit) log_now data_now =
     AreMisfitted log_entry data_entry stops turns.log_only script misfit log_now data_now
-IsEndedBy log_entry data_entry stops turns script _ log_now data_now = ⊥
+IsEndedBy by log_entry data_entry stops turns script _ log_now data_now = ⊥
 
 -- the run, as the theorem has it
 abbrev pub ran_of : Played → Ran
@@ -165,8 +162,8 @@ ran_of played = record { start = played.start; entries = played.history; marks =
 
 -- On a store that could be opened when the fuses were armed the run is a closed one, in which so many calls failed: with what
 -- becomes so of both devices.
-abbrev pub ClosesRun : (Disk → Disk) → (log_found data_found : Guarded) → Opened → List ScriptLine → Played → (failed : ℕ)
-    → (log_now data_now : Guarded) → Type 0
+abbrev pub ClosesRun : (Disk → Disk) → (log_found data_found : Shown) → Opened → List ScriptLine → Played → (failed : ℕ)
+    → (log_now data_now : Shown) → Type 0
 ClosesRun becomes log_found data_found opened script played failed log_now data_now =
     (reading : Reading) (left : List (ℕ × ℕ)) → IsLeft script played.history left
     → WhereBothTell log_found.seen.tells data_found.seen.tells (λ log data_disk. IsOpenable reading log data_disk
@@ -182,42 +179,43 @@ ClosesRun becomes log_found data_found opened script played failed log_now data_
     })))
 
 -- THE LINES WERE RUN, and so many calls of the two devices failed.
-pub record ArePlayed (log_entry data_entry : Seen) (stops : Stops) (log_only : Bool) (script : List ScriptLine) (played : Played)
-    (log_failed data_failed : ℕ) (log_now data_now : Guarded) : Type 0 where
+pub record ArePlayed (by : Driving) (log_entry data_entry : Seen) (stops : Stops) (log_only : Bool) (script : List ScriptLine) (played : Played)
+    (log_failed data_failed : ℕ) (log_now data_now : Shown) : Type 0 where
   pub so_far : CameSoFar log_entry data_entry stops log_only script (ran_of played) log_failed data_failed log_now data_now
   pub open so_far use *
+  pub driven : by opened (ran_of played) Done log_now.seen.tells data_now.seen.tells
   pub loses : (left : List (ℕ × ℕ)) → IsLeft script played.history left
       → LosesOnlyByFailure (log_failed + data_failed) (Some (ran_of played)) left
   pub closed : ClosesRun (λ disk. disk) way.log_found way.data_found opened script played (log_failed + data_failed) log_now data_now
 
 -- No call answered an error: a sync of both devices would leave a closed run too, whose images are what reads give.
-pub record ArePlayedThrough (log_entry data_entry : Seen) (stops : Stops) (log_only : Bool) (script : List ScriptLine)
-    (played : Played) (log_now data_now : Guarded) : Type 0 where
-  pub are : ArePlayed log_entry data_entry stops log_only script played 0 0 log_now data_now
+pub record ArePlayedThrough (by : Driving) (log_entry data_entry : Seen) (stops : Stops) (log_only : Bool) (script : List ScriptLine)
+    (played : Played) (log_now data_now : Shown) : Type 0 where
+  pub are : ArePlayed by log_entry data_entry stops log_only script played 0 0 log_now data_now
   pub if_synced : ClosesRun synced are.way.log_found are.way.data_found are.opened script played 0 log_now data_now
 
 -- The log device failed, and the data device may have failed too.
-pub record ArePlayedToFault (log_entry data_entry : Seen) (stops : Stops) (log_only : Bool) (script : List ScriptLine)
-    (played : Played) (log_now data_now : Guarded) : Type 0 where
+pub record ArePlayedToFault (by : Driving) (log_entry data_entry : Seen) (stops : Stops) (log_only : Bool) (script : List ScriptLine)
+    (played : Played) (log_now data_now : Shown) : Type 0 where
   pub data_failed : ℕ
   pub once : data_failed ≤ 1
-  pub are : ArePlayed log_entry data_entry stops log_only script played 1 data_failed log_now data_now
+  pub are : ArePlayed by log_entry data_entry stops log_only script played 1 data_failed log_now data_now
 
 -- the lines were run, and this fault ended the run, if one did: that of the log device where both failed
-abbrev pub IsPlayedBy : Seen → Seen → Stops → Bool → List ScriptLine → Played → Option Fault → Guarded → Guarded → Type 0
-IsPlayedBy log_entry data_entry stops log_only script played None log_now data_now =
-    ArePlayedThrough log_entry data_entry stops log_only script played log_now data_now
-IsPlayedBy log_entry data_entry stops log_only script played (Some fault.LogDevice) log_now data_now =
-    ArePlayedToFault log_entry data_entry stops log_only script played log_now data_now
-IsPlayedBy log_entry data_entry stops log_only script played (Some fault.DataDevice) log_now data_now =
-    ArePlayed log_entry data_entry stops log_only script played 0 1 log_now data_now
-IsPlayedBy log_entry data_entry stops log_only script played (Some _) log_now data_now = ⊥
+abbrev pub IsPlayedBy : Driving → Seen → Seen → Stops → Bool → List ScriptLine → Played → Option Fault → Shown → Shown → Type 0
+IsPlayedBy by log_entry data_entry stops log_only script played None log_now data_now =
+    ArePlayedThrough by log_entry data_entry stops log_only script played log_now data_now
+IsPlayedBy by log_entry data_entry stops log_only script played (Some fault.LogDevice) log_now data_now =
+    ArePlayedToFault by log_entry data_entry stops log_only script played log_now data_now
+IsPlayedBy by log_entry data_entry stops log_only script played (Some fault.DataDevice) log_now data_now =
+    ArePlayed by log_entry data_entry stops log_only script played 0 1 log_now data_now
+IsPlayedBy by log_entry data_entry stops log_only script played (Some _) log_now data_now = ⊥
 
 -- WHAT A RUN COMES TO, of a script with these stops by these turns, on these two devices.
-abbrev pub ComesTo : Seen → Seen → Stops → Turns → List ScriptLine → Course → Guarded → Guarded → Type 0
-ComesTo log_entry data_entry stops turns script (course.Ended fault) log_now data_now =
-    IsEndedBy log_entry data_entry stops turns script fault log_now data_now
-ComesTo log_entry data_entry stops turns script (course.Stopped fault) log_now data_now =
+abbrev pub ComesTo : Driving → Seen → Seen → Stops → Turns → List ScriptLine → Course → Shown → Shown → Type 0
+ComesTo by log_entry data_entry stops turns script (course.Ended fault) log_now data_now =
+    IsEndedBy by log_entry data_entry stops turns script fault log_now data_now
+ComesTo by log_entry data_entry stops turns script (course.Stopped fault) log_now data_now =
     IsStoppedBy log_entry data_entry stops fault log_now data_now
-ComesTo log_entry data_entry stops turns script (course.Played played fault) log_now data_now =
-    IsPlayedBy log_entry data_entry stops turns.log_only script played fault log_now data_now
+ComesTo by log_entry data_entry stops turns script (course.Played played fault) log_now data_now =
+    IsPlayedBy by log_entry data_entry stops turns.log_only script played fault log_now data_now

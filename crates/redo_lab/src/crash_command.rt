@@ -1,17 +1,18 @@
 // The command `crash`.
-ghost use Rattle.std.specs.Prelude.{ℕ, ◌≤◌, List, Some, IfOk, length};
+ghost use Rattle.std.specs.Prelude.{ℕ, ◌≡◌, ◌≤◌, true, List, Some, IfOk, length};
 ghost use Rattle.std.specs.List.{AllByRecursion};
 ghost use Rattle.model_base.specs.declared.limits.TheConstants.{MAX_PAGES};
 ghost use Rattle.model_command.specs.declared.asked.Command.TheVariants.{Crash};
 ghost use Rattle.model_script.specs.{IsScriptLine};
 ghost use Rattle.redo_io.specs.{SourceSeen};
-ghost use Rattle.redo_lab.specs.Call.{guarded};
+ghost use Rattle.redo_memdisk.specs.{entry_of};
+ghost use Rattle.redo_lab.specs.Asked.{is_by_turns};
 ghost use Rattle.redo_lab.specs.Crashed.{ReadsBack};
-ghost use Rattle.redo_lab.specs.Led.{IsLedFrom};
-ghost use Rattle.redo_lab.specs.Outcome.{EndsCommand, call_of};
+ghost use Rattle.redo_lab.specs.Handed.{AreOf};
+ghost use Rattle.redo_lab.specs.Outcome.{EndsWith, call_of};
 ghost use Rattle.redo_lab.specs.Reported.{IsReportOf, run_of};
+ghost use Rattle.redo_lab.specs.Stages.{shown};
 ghost use Rattle.redo_lab.specs.Script.{IsScriptRead};
-ghost use Rattle.redo_lab.specs.Turned.{AreLedByCrash, TellsByTurns};
 
 use crate::asked::turns_of;
 use crate::faults::fault_of;
@@ -60,8 +61,8 @@ fn crash_and_read<L: Sectors, D: Sectors>(
     store: &mut Fused<D>,
 ) -> Outcome
     ensures reads { ReadsBack pick script.now (run_of played.entry) result
-        (guarded L.seen log.old) (guarded D.seen store.old) (guarded L.seen log.new) (guarded D.seen store.new) }
-    ensures led { AreLedByCrash L.seen L.gives L.crash_gives D.seen D.gives D.crash_gives pick result log.old log.new store.old store.new }
+        (shown L.seen log.old) (shown D.seen store.old) (shown L.seen log.new) (shown D.seen store.new) }
+    ensures entered { AreOf (entry_of log.old) (entry_of store.old) log.new store.new }
 {
     log.crash(pick);
     store.crash(pick);
@@ -82,13 +83,11 @@ pub(crate) fn crash_command<L: Sectors, D: Sectors>(
     log: L,
     store: D,
 ) -> Done<L, D>
-    requires { AllByRecursion IsScriptLine script.now }
+    requires lines { AllByRecursion IsScriptLine script.now }
+    requires by_turns { is_by_turns drive.now ≡ true }
     ensures ends { (words : List (List ℕ)) (source source_now : SourceSeen) → IsScriptRead source source_now script.now
-        → EndsCommand (call_of L.seen D.seen words source source_now log store result) (Crash drive.now stops.log stops.store pick) result.outcome }
-    ensures turns { (source source_now : SourceSeen) → IsScriptRead source source_now script.now
-        → TellsByTurns L.seen L.gives L.crash_gives D.seen D.gives D.crash_gives source source_now (L.seen log) (D.seen store) (Crash drive.now stops.log stops.store pick) result.outcome result.log result.store }
-    ensures log_device { IsLedFrom L.seen L.gives L.crash_gives log result.log }
-    ensures data_device { IsLedFrom D.seen D.gives D.crash_gives store result.store }
+        → EndsWith (call_of L.seen L.gives D.seen D.gives words source source_now log store result) (Crash drive.now stops.log stops.store pick) result.outcome }
+    ensures entered { AreOf log store result.log result.store }
 {
     one_answer();
     one_reading();

@@ -6,16 +6,15 @@ ghost use Rattle.model_command.specs.declared.asked.Command.TheVariants.{Gen};
 ghost use Rattle.model_script.specs.{generated_lines, IsScriptLine};
 ghost use Rattle.model_script.specs.declared.misfit.TheConstants.{MAX_USERS};
 ghost use Rattle.redo_io.specs.{SourceSeen};
+ghost use Rattle.redo_memdisk.specs.{entry_of};
 ghost use Rattle.redo_recover.specs.{reading_of};
 ghost use Rattle.redo_lab.specs.Asked.{drive_of_seed, turns_of};
 ghost use Rattle.redo_lab.specs.Behind.{ReadsBehind};
-ghost use Rattle.redo_lab.specs.Call.{AreUncalled, guarded};
 ghost use Rattle.redo_lab.specs.Course.{ran_of};
-ghost use Rattle.redo_lab.specs.Led.{IsLedFrom};
-ghost use Rattle.redo_lab.specs.Outcome.{EndsCommand, call_of};
-ghost use Rattle.redo_lab.specs.Reread.{AreReadFor};
-ghost use Rattle.redo_lab.specs.Summary.{summary_of};
-ghost use Rattle.redo_lab.specs.Turned.{TellsByTurns};
+ghost use Rattle.redo_lab.specs.Handed.{AreOf};
+ghost use Rattle.redo_lab.specs.Outcome.{EndsWith, call_of};
+ghost use Rattle.redo_lab.specs.Reported.{summary_of};
+ghost use Rattle.redo_lab.specs.Stages.{shown};
 
 use crate::faults::fault_of;
 use crate::outcome::{Done, Outcome, unasked};
@@ -49,10 +48,8 @@ fn print_script<L: Sectors, D: Sectors>(
     requires some_users { 1 ≤ users }
     requires few_users { users ≤ MAX_USERS }
     ensures ends { (words : List (List ℕ)) (source : SourceSeen)
-        → EndsCommand (call_of L.seen D.seen words source source log store result) (Gen seed users groups false max) result.outcome }
-    ensures calls { AreUncalled L.seen D.seen (L.seen log) (D.seen store) result.log result.store }
-    ensures log_device { IsLedFrom L.seen L.gives L.crash_gives log result.log }
-    ensures data_device { IsLedFrom D.seen D.gives D.crash_gives store result.store }
+        → EndsWith (call_of L.seen L.gives D.seen D.gives words source source log store result) (Gen seed users groups false max) result.outcome }
+    ensures entered { AreOf log store result.log result.store }
 {
     Done {
         outcome: Outcome::of_text(generate(alloc, seed, users, groups)),
@@ -83,9 +80,9 @@ fn read_behind<L: Sectors, D: Sectors>(
     log: &mut Fused<L>,
     store: &mut Fused<D>,
 ) -> Outcome
-    ensures reads { ReadsBehind (ran_of played.now) result (guarded L.seen log.old) (guarded D.seen store.old)
-        (guarded L.seen log.new) (guarded D.seen store.new) }
-    ensures calls { AreReadFor L.seen L.gives D.seen D.gives result log.old log.new store.old store.new }
+    ensures reads { ReadsBehind (ran_of played.now) result (shown L.seen log.old) (shown D.seen store.old)
+        (shown L.seen log.new) (shown D.seen store.new) }
+    ensures entered { AreOf (entry_of log.old) (entry_of store.old) log.new store.new }
 {
     match recover(alloc, log, store) {
         Ok(recovered) => Outcome::of_text(summarize(alloc, played, &recovered)),
@@ -115,11 +112,8 @@ fn run_script<L: Sectors, D: Sectors>(
 ) -> Done<L, D>
     requires { AllByRecursion IsScriptLine script.now }
     ensures ends { (words : List (List ℕ)) (source : SourceSeen) (users groups : ℕ) → script.now ≡ generated_lines seed users groups
-        → EndsCommand (call_of L.seen D.seen words source source log store result) (Gen seed users groups true max) result.outcome }
-    ensures turns { (source : SourceSeen) (users groups : ℕ) → script.now ≡ generated_lines seed users groups
-        → TellsByTurns L.seen L.gives L.crash_gives D.seen D.gives D.crash_gives source source (L.seen log) (D.seen store) (Gen seed users groups true max) result.outcome result.log result.store }
-    ensures log_device { IsLedFrom L.seen L.gives L.crash_gives log result.log }
-    ensures data_device { IsLedFrom D.seen D.gives D.crash_gives store result.store }
+        → EndsWith (call_of L.seen L.gives D.seen D.gives words source source log store result) (Gen seed users groups true max) result.outcome }
+    ensures entered { AreOf log store result.log result.store }
 {
     one_answer();
     one_reading();
@@ -166,11 +160,8 @@ fn run_seed<L: Sectors, D: Sectors>(
     requires some_users { 1 ≤ users }
     requires few_users { users ≤ MAX_USERS }
     ensures ends { (words : List (List ℕ)) (source : SourceSeen)
-        → EndsCommand (call_of L.seen D.seen words source source log store result) (Gen seed users groups true max) result.outcome }
-    ensures turns { (source : SourceSeen)
-        → TellsByTurns L.seen L.gives L.crash_gives D.seen D.gives D.crash_gives source source (L.seen log) (D.seen store) (Gen seed users groups true max) result.outcome result.log result.store }
-    ensures log_device { IsLedFrom L.seen L.gives L.crash_gives log result.log }
-    ensures data_device { IsLedFrom D.seen D.gives D.crash_gives store result.store }
+        → EndsWith (call_of L.seen L.gives D.seen D.gives words source source log store result) (Gen seed users groups true max) result.outcome }
+    ensures entered { AreOf log store result.log result.store }
 {
     openable_reads();
     generated_lines_are_ranged();
@@ -194,11 +185,8 @@ pub(crate) fn gen_command<L: Sectors, D: Sectors>(
     requires some_users { 1 ≤ users }
     requires few_users { users ≤ MAX_USERS }
     ensures ends { (words : List (List ℕ)) (source : SourceSeen)
-        → EndsCommand (call_of L.seen D.seen words source source log store result) (Gen seed users groups run max) result.outcome }
-    ensures turns { (source : SourceSeen)
-        → TellsByTurns L.seen L.gives L.crash_gives D.seen D.gives D.crash_gives source source (L.seen log) (D.seen store) (Gen seed users groups run max) result.outcome result.log result.store }
-    ensures log_device { IsLedFrom L.seen L.gives L.crash_gives log result.log }
-    ensures data_device { IsLedFrom D.seen D.gives D.crash_gives store result.store }
+        → EndsWith (call_of L.seen L.gives D.seen D.gives words source source log store result) (Gen seed users groups run max) result.outcome }
+    ensures entered { AreOf log store result.log result.store }
 {
     if run {
         run_seed(alloc, seed, users, groups, max, log, store)

@@ -1,8 +1,9 @@
 //! The top call: it does one of the six commands on a source, a sink and two devices. `lab`'s contract says what each ending
-//! means, carries the crash theorem, and says that a run that is told is the run by the turns of its drive.
+//! means, carries the crash theorem, of a run that is the drive's, and says that whatever the status what is left is accepted.
 #![tactic(auto)]
 
 mod asked;
+mod commands;
 mod crash_command;
 mod ended;
 mod faults;

@@ -1,20 +1,18 @@
 // The run of a script on two devices: they are prepared and opened, the script is judged, and its lines are run.
-ghost use Rattle.std.specs.Prelude.{◌≡◌, ◌≤◌, ◌<◌, ◌^◌, Bool, Ok};
+ghost use Rattle.std.specs.Prelude.{◌≡◌, ◌≤◌, ◌<◌, ◌^◌, ◌⊎◌};
 ghost use Rattle.std.specs.List.{AllByRecursion};
 ghost use Rattle.model_base.specs.{IsWithinLimits};
 ghost use Rattle.model_log.specs.declared.layout.TheConstants.{BLOCK_HEADER};
 ghost use Rattle.model_script.specs.{IsScriptLine};
 ghost use Rattle.redo_disk.specs.Seen.{Seen};
-ghost use Rattle.redo_memdisk.specs.{CallsThrough, seen_through};
+ghost use Rattle.redo_memdisk.specs.{CallsThrough, entry_of, seen_through};
 ghost use Rattle.redo_machine.specs.{room_from};
 ghost use Rattle.redo_pageactors.specs.{IsRunnable};
-ghost use Rattle.redo_lab.specs.Call.{Guarded, guarded};
-ghost use Rattle.redo_lab.specs.Course.{ComesTo};
-ghost use Rattle.redo_lab.specs.Led.{IsArmedAsFound, IsCalled, IsRunFrom};
-ghost use Rattle.redo_lab.specs.Prepared.{PreparesData, PreparesLog};
+ghost use Rattle.redo_lab.specs.Course.{ByTurns, ComesTo};
+ghost use Rattle.redo_lab.specs.Handed.{AreOf};
+ghost use Rattle.redo_lab.specs.Stages.{Shown, shown};
 ghost use Rattle.redo_lab.specs.declared.playing.Stops.{Stops};
-ghost use Rattle.redo_lab.specs.Turned.{ComesByTurnsTo, IsDrivenTo};
-ghost use Rattle.redo_lab.specs.Playing.{AreArmed, Plays, course_done, course_of, ended_by, fault_of_unfit, played_of, unopened};
+ghost use Rattle.redo_lab.specs.Playing.{AreArmed, AreDriven, AreLeftOpened, course_done, course_of, ended_by, fault_of_unfit, played_of, unopened};
 
 use crate::faults::fault_of;
 use crate::prepare::prepare;
@@ -154,9 +152,8 @@ fn play<L: Sectors, D: Sectors>(
 ) -> Ran<L, D>
     requires runnable { IsRunnable opened }
     requires lines { AllByRecursion IsScriptLine script.now }
-    ensures plays { Plays (seen_through L.seen) (CallsThrough L.seen L.gives) (seen_through D.seen) (CallsThrough D.seen D.gives) opened turns.now script.now
-        result.course result.log result.store }
-    ensures turns { IsDrivenTo (seen_through L.seen) (CallsThrough L.seen L.gives) (seen_through D.seen) (CallsThrough D.seen D.gives) opened turns.now script.now
+    ensures plays { AreLeftOpened opened turns.now script.now result.course result.log result.store
+        ⊎ AreDriven (seen_through L.seen) (CallsThrough L.seen L.gives) (seen_through D.seen) (CallsThrough D.seen D.gives) opened turns.now script.now
         result.course result.log result.store }
 {
     fitting_script();
@@ -201,16 +198,10 @@ fn open_and_play<L: Sectors, D: Sectors>(
     store: Fused<D>,
 ) -> Ran<L, D>
     requires { AllByRecursion IsScriptLine script.now }
-    ensures comes_to { (log_entry data_entry : Seen) (stops : Stops) (log_found data_found : Guarded)
-        → AreArmed log_entry data_entry stops log_found data_found (guarded L.seen log) (guarded D.seen store)
-        → ComesTo log_entry data_entry stops turns.now script.now result.course (guarded L.seen result.log) (guarded D.seen result.store) }
-    ensures turns { (log_entry data_entry : Seen) (stops : Stops) (log_found data_found : Guarded)
-        → AreArmed log_entry data_entry stops log_found data_found (guarded L.seen log) (guarded D.seen store)
-        → (formats : Bool) → IsArmedAsFound L.seen L.gives stops.log log_entry log_found (PreparesLog log_entry.size formats (Ok tt)) log
-        → IsArmedAsFound D.seen D.gives stops.store data_entry data_found (PreparesData formats (Ok tt)) store
-        → ComesByTurnsTo L.seen L.gives D.seen D.gives log_entry data_entry stops turns.now script.now result.course result.log result.store }
-    ensures log_called { IsCalled L.seen L.gives log result.log }
-    ensures data_called { IsCalled D.seen D.gives store result.store }
+    ensures comes_to { (log_entry data_entry : Seen) (stops : Stops) (log_found data_found : Shown)
+        → AreArmed log_entry data_entry stops log_found data_found (shown L.seen log) (shown D.seen store)
+        → ComesTo (ByTurns L.seen L.gives D.seen D.gives turns.now script.now) log_entry data_entry stops turns.now script.now result.course (shown L.seen result.log) (shown D.seen result.store) }
+    ensures entered { AreOf (entry_of log) (entry_of store) result.log result.store }
 {
     one_reading();
     one_answer();
@@ -235,10 +226,8 @@ pub(crate) fn run_lines<L: Sectors, D: Sectors>(
     store: D,
 ) -> Ran<L, D>
     requires { AllByRecursion IsScriptLine script.now }
-    ensures comes_to { ComesTo (L.seen log) (D.seen store) stops turns.now script.now result.course (guarded L.seen result.log) (guarded D.seen result.store) }
-    ensures turns { ComesByTurnsTo L.seen L.gives D.seen D.gives (L.seen log) (D.seen store) stops turns.now script.now result.course result.log result.store }
-    ensures log_run { IsRunFrom L.seen L.gives log result.log }
-    ensures data_run { IsRunFrom D.seen D.gives store result.store }
+    ensures comes_to { ComesTo (ByTurns L.seen L.gives D.seen D.gives turns.now script.now) (L.seen log) (D.seen store) stops turns.now script.now result.course (shown L.seen result.log) (shown D.seen result.store) }
+    ensures entered { AreOf log store result.log result.store }
 {
     let mut log = Fused::plain(log);
     let mut store = Fused::plain(store);

@@ -3,10 +3,11 @@ ghost use Rattle.std.specs.Prelude.{◌≡◌, ◌≤◌, ◌↔◌, IsTrue, IfO
 ghost use Rattle.model_base.specs.declared.limits.TheConstants.{BLOCK_SIZE};
 ghost use Rattle.model_log.specs.declared.layout.TheConstants.{HEADER_BYTES};
 ghost use Rattle.model_store.specs.{IsUnused};
-ghost use Rattle.redo_disk.specs.{MakesCalls, ReadStep};
-ghost use Rattle.redo_lab.specs.Call.{guarded};
-ghost use Rattle.redo_lab.specs.Prepared.{ArePreparedBy, Prepares, ReadsBlock};
-ghost use Rattle.redo_memdisk.specs.{CallsThrough, fresh, fuse_of, inner_of};
+ghost use Rattle.redo_disk.specs.{MakesCalls, error_of};
+ghost use Rattle.redo_lab.specs.Handed.{AreOf};
+ghost use Rattle.redo_lab.specs.Prepared.{IsFirstRead, Prepares};
+ghost use Rattle.redo_lab.specs.Stages.{shown};
+ghost use Rattle.redo_memdisk.specs.{entry_of, fresh, fuse_of, inner_of};
 ghost use Rattle.redo_recover.specs.{log_fault_of};
 
 use crate::shapes::default_shape;
@@ -27,7 +28,7 @@ fn is_blank(block: &[u8; 512]) -> bool
 fn is_unused<L: Sectors>(log: &mut L) -> Result<bool, DevError>
     requires { HEADER_BYTES ≤ (L.seen log.old).size }
     ensures unused { IfOk result (λ unused. IfSome (L.seen log.old).tells (λ disk. IsTrue unused ↔ IsUnused disk.reads)) }
-    ensures calls { MakesCalls L.gives log.old log.new (ReadsBlock result) }
+    ensures calls { MakesCalls L.gives log.old log.new (IsFirstRead (error_of result)) }
 {
     let mut block = [0; 512];
     match log.read(0, &mut block) {
@@ -54,9 +55,8 @@ pub(crate) fn prepare<L: Sectors, D: Sectors>(
     requires log_fresh { fuse_of log.old ≡ fresh }
     requires data_fresh { fuse_of store.old ≡ fresh }
     ensures prepares { Prepares (L.seen (inner_of log.old)) (D.seen (inner_of store.old)) result
-        (guarded L.seen log.new) (guarded D.seen store.new) }
-    ensures calls { ArePreparedBy (CallsThrough L.seen L.gives) (CallsThrough D.seen D.gives) (L.seen (inner_of log.old)).size result
-        log.old log.new store.old store.new }
+        (shown L.seen log.new) (shown D.seen store.new) }
+    ensures entered { AreOf (entry_of log.old) (entry_of store.old) log.new store.new }
 {
     if log.len() < HEADER_BYTES {
         return Err(RecFault::SmallLog(HEADER_BYTES));

@@ -1,7 +1,9 @@
 // Printing what a call leaves to be printed.
 ghost use Rattle.std.specs.Prelude.{◌≡◌, ◌≤◌, []};
 ghost use Rattle.redo_lab.specs.Ending.{IsFaultPrinted, IsTextPrinted};
+ghost use Rattle.redo_lab.specs.Outcome.{IsOutcomePrinted};
 
+use crate::outcome::Outcome;
 use model_report::Fault;
 use redo_io::{Sink, put_all};
 use redo_report::{FAULT_ROOM, fault_text, status_of};
@@ -20,7 +22,7 @@ pub fn print_fault<O: Sink>(out: &mut O, fault: Fault) -> u8
 }
 
 /// Prints a report, and behind it the line of the fault that ended the run.
-pub(crate) fn print_report<O: Sink>(out: &mut O, text: &[u8], fault: Fault) -> u8
+fn print_report<O: Sink>(out: &mut O, text: &[u8], fault: Fault) -> u8
     ensures { IsFaultPrinted text.now fault result (O.seen out.old) (O.seen out.new) }
 {
     match put_all(out, text) {
@@ -30,11 +32,22 @@ pub(crate) fn print_report<O: Sink>(out: &mut O, text: &[u8], fault: Fault) -> u
 }
 
 /// Prints a text, and says the status.
-pub(crate) fn print_text<O: Sink>(out: &mut O, text: &[u8]) -> u8
+fn print_text<O: Sink>(out: &mut O, text: &[u8]) -> u8
     ensures { IsTextPrinted text.now result (O.seen out.old) (O.seen out.new) }
 {
     match put_all(out, text) {
         Ok(()) => 0,
         Err(_) => status_of(Fault::Sink),
+    }
+}
+
+/// Prints what there is to print, and says the status.
+pub(crate) fn print_outcome<O: Sink>(out: &mut O, outcome: &Outcome) -> u8
+    ensures { IsOutcomePrinted outcome.now result (O.seen out.old) (O.seen out.new) }
+{
+    match outcome {
+        Outcome::Text(text) => print_text(out, text.as_slice()),
+        Outcome::Report(text, fault) => print_report(out, text.as_slice(), *fault),
+        Outcome::Fault(fault) => print_fault(out, *fault),
     }
 }

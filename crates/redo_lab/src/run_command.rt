@@ -1,15 +1,15 @@
 // The command `run`.
-ghost use Rattle.std.specs.Prelude.{ℕ, List};
+ghost use Rattle.std.specs.Prelude.{ℕ, ◌≡◌, true, List};
 ghost use Rattle.std.specs.List.{AllByRecursion};
 ghost use Rattle.model_command.specs.declared.asked.Command.TheVariants.{Run};
 ghost use Rattle.model_script.specs.{IsScriptLine};
 ghost use Rattle.redo_io.specs.{SourceSeen};
+ghost use Rattle.redo_lab.specs.Asked.{is_by_turns};
 ghost use Rattle.redo_lab.specs.Course.{ran_of};
-ghost use Rattle.redo_lab.specs.Led.{IsLedFrom};
-ghost use Rattle.redo_lab.specs.Outcome.{EndsCommand, call_of};
+ghost use Rattle.redo_lab.specs.Handed.{AreOf};
+ghost use Rattle.redo_lab.specs.Outcome.{EndsWith, call_of};
 ghost use Rattle.redo_lab.specs.Reported.{IsRunPrinted};
 ghost use Rattle.redo_lab.specs.Script.{IsScriptRead};
-ghost use Rattle.redo_lab.specs.Turned.{TellsByTurns};
 
 use crate::asked::turns_of;
 use crate::outcome::{Done, Outcome};
@@ -43,13 +43,11 @@ pub(crate) fn run_command<L: Sectors, D: Sectors>(
     log: L,
     store: D,
 ) -> Done<L, D>
-    requires { AllByRecursion IsScriptLine script.now }
+    requires lines { AllByRecursion IsScriptLine script.now }
+    requires by_turns { is_by_turns drive.now ≡ true }
     ensures ends { (words : List (List ℕ)) (source source_now : SourceSeen) → IsScriptRead source source_now script.now
-        → EndsCommand (call_of L.seen D.seen words source source_now log store result) (Run drive.now) result.outcome }
-    ensures turns { (source source_now : SourceSeen) → IsScriptRead source source_now script.now
-        → TellsByTurns L.seen L.gives L.crash_gives D.seen D.gives D.crash_gives source source_now (L.seen log) (D.seen store) (Run drive.now) result.outcome result.log result.store }
-    ensures log_device { IsLedFrom L.seen L.gives L.crash_gives log result.log }
-    ensures data_device { IsLedFrom D.seen D.gives D.crash_gives store result.store }
+        → EndsWith (call_of L.seen L.gives D.seen D.gives words source source_now log store result) (Run drive.now) result.outcome }
+    ensures entered { AreOf log store result.log result.store }
 {
     one_answer();
     one_reading();

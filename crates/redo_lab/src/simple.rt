@@ -4,9 +4,8 @@ ghost use Rattle.model_base.specs.{IsWithinLimits};
 ghost use Rattle.model_command.specs.declared.asked.Command.TheVariants.{Format, Recover, Dump};
 ghost use Rattle.redo_io.specs.{SourceSeen};
 ghost use Rattle.redo_lab.specs.Answer.{shape_of};
-ghost use Rattle.redo_lab.specs.Led.{IsLedFrom};
-ghost use Rattle.redo_lab.specs.Outcome.{EndsCommand, call_of};
-ghost use Rattle.redo_lab.specs.Plain.{TellsFormat, TellsReading};
+ghost use Rattle.redo_lab.specs.Handed.{AreOf};
+ghost use Rattle.redo_lab.specs.Outcome.{EndsWith, call_of};
 
 use crate::faults::fault_of;
 use crate::outcome::{Done, Outcome};
@@ -32,10 +31,8 @@ pub(crate) fn format_devices<L: Sectors, D: Sectors>(
 ) -> Done<L, D>
     requires { IsWithinLimits (shape_of pages space log_blocks) }
     ensures ends { (words : List (List ℕ)) (source : SourceSeen)
-        → EndsCommand (call_of L.seen D.seen words source source log store result) (Format pages space log_blocks) result.outcome }
-    ensures calls { TellsFormat L.seen L.gives D.seen D.gives (L.seen log) (D.seen store) result.outcome result.log result.store }
-    ensures log_device { IsLedFrom L.seen L.gives L.crash_gives log result.log }
-    ensures data_device { IsLedFrom D.seen D.gives D.crash_gives store result.store }
+        → EndsWith (call_of L.seen L.gives D.seen D.gives words source source log store result) (Format pages space log_blocks) result.outcome }
+    ensures entered { AreOf log store result.log result.store }
 {
     formatted_is_openable();
     let mut log = Fused::plain(log);
@@ -54,10 +51,8 @@ pub(crate) fn format_devices<L: Sectors, D: Sectors>(
 /// Reads the store, and prints its pages.
 pub(crate) fn print_pages<L: Sectors, D: Sectors>(alloc: Global, log: L, store: D) -> Done<L, D>
     ensures ends { (words : List (List ℕ)) (source : SourceSeen)
-        → EndsCommand (call_of L.seen D.seen words source source log store result) (Recover) result.outcome }
-    ensures calls { TellsReading L.seen L.gives D.seen D.gives (L.seen log) (D.seen store) result.outcome result.log result.store }
-    ensures log_device { IsLedFrom L.seen L.gives L.crash_gives log result.log }
-    ensures data_device { IsLedFrom D.seen D.gives D.crash_gives store result.store }
+        → EndsWith (call_of L.seen L.gives D.seen D.gives words source source log store result) (Recover) result.outcome }
+    ensures entered { AreOf log store result.log result.store }
 {
     one_answer();
     let mut log = Fused::plain(log);
@@ -76,10 +71,8 @@ pub(crate) fn print_pages<L: Sectors, D: Sectors>(alloc: Global, log: L, store: 
 /// Reads the store, and lists what stands on its devices.
 pub(crate) fn print_store<L: Sectors, D: Sectors>(alloc: Global, log: L, store: D) -> Done<L, D>
     ensures ends { (words : List (List ℕ)) (source : SourceSeen)
-        → EndsCommand (call_of L.seen D.seen words source source log store result) (Dump) result.outcome }
-    ensures calls { TellsReading L.seen L.gives D.seen D.gives (L.seen log) (D.seen store) result.outcome result.log result.store }
-    ensures log_device { IsLedFrom L.seen L.gives L.crash_gives log result.log }
-    ensures data_device { IsLedFrom D.seen D.gives D.crash_gives store result.store }
+        → EndsWith (call_of L.seen L.gives D.seen D.gives words source source log store result) (Dump) result.outcome }
+    ensures entered { AreOf log store result.log result.store }
 {
     one_answer();
     let mut log = Fused::plain(log);

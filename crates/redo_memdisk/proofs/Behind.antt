@@ -34,12 +34,14 @@ read-behind : {D : Type 0} (seen : D → Seen) (gives : D → Call → D → Typ
 read-behind seen gives old new at before after answer true is through = record {
   size = ap (λ device. (seen device).size) (through.same_inner is);
   armed = through.same_armed;
+  entry = through.same_entry;
   later = omega (arith, ap (λ device. (seen device).faults) (through.same_inner is));
   cause = λ some. inr ((counts-one seen gives old new (Reads at before answer after) through).stays is);
 }
 read-behind seen gives old new at before after answer false is through = record {
   size = (through.passed_step is).size;
   armed = through.same_armed;
+  entry = through.same_entry;
   later = (through.passed_step is).cause.later;
   cause = λ some. inl ((through.passed_step is).cause.failed (answer-failed answer some));
 }
@@ -52,6 +54,7 @@ write-behind seen gives old new write answer true is through = record {
       (λ first. (through.first is (omega arith)).2.size)
       (cases_lt 0 old.fuse.own);
   armed = through.same_armed;
+  entry = through.same_entry;
   later = ⊎_elim
       (λ later. omega (arith, ap (λ device. (seen device).faults) (through.later is later)))
       (λ first. (through.first is (omega arith)).2.cause.later)
@@ -61,6 +64,7 @@ write-behind seen gives old new write answer true is through = record {
 write-behind seen gives old new write answer false is through = record {
   size = (through.passed_step is).size;
   armed = through.same_armed;
+  entry = through.same_entry;
   later = (through.passed_step is).cause.later;
   cause = λ some. inl ((through.passed_step is).cause.failed (answer-failed answer some));
 }
@@ -70,12 +74,14 @@ sync-behind : {D : Type 0} (seen : D → Seen) (gives : D → Call → D → Typ
 sync-behind seen gives old new answer true is through = record {
   size = ap (λ device. (seen device).size) (through.same_inner is);
   armed = through.same_armed;
+  entry = through.same_entry;
   later = omega (arith, ap (λ device. (seen device).faults) (through.same_inner is));
   cause = λ some. inr ((counts-one seen gives old new (Syncs answer) through).stays is);
 }
 sync-behind seen gives old new answer false is through = record {
   size = (through.passed_step is).size;
   armed = through.same_armed;
+  entry = through.same_entry;
   later = (through.passed_step is).cause.later;
   cause = λ some. inl ((through.passed_step is).cause.failed (answer-failed answer some));
 }
@@ -100,6 +106,7 @@ KeepsBehind-then seen old middle new n failed failed' changing first counts seco
     record {
       size = second.size ∙ first.size;
       armed = second.armed ∙ first.armed;
+      entry = second.entry ∙ first.entry;
       later = omega arith;
       cause = λ some.
           ⊎_elim
@@ -115,7 +122,7 @@ KeepsBehind-then seen old middle new n failed failed' changing first counts seco
     }
 
 KeepsBehind-none : {D : Type 0} (seen : D → Seen) (old : Fused D) → KeepsBehind seen old 0 old
-KeepsBehind-none seen old = record { size = refl; armed = refl; later = omega arith; cause = λ some. absurd (omega arith) }
+KeepsBehind-none seen old = record { size = refl; armed = refl; entry = refl; later = omega arith; cause = λ some. absurd (omega arith) }
 
 pub counts-calls : {D : Type 0} (seen : D → Seen) (gives : D → Call → D → Type 0) (old new : Fused D) (calls : List Call) → Makes (CallsThrough seen gives) old calls new
     → CountsCalls old.fuse (length calls) (failed_calls calls) (changing_calls calls) new.fuse

@@ -35,7 +35,8 @@ at_stage stage fuse = record fuse { stage = stage }
 
 -- the fuse after so many changes are noted
 abbrev noted : Stage → ℕ → Fuse → Fuse
-noted stage changing fuse = record fuse { late_changes = counted (after_crash stage changing) fuse.late_changes }
+noted stage changing fuse =
+    record fuse { late_changes = counted (after_crash stage changing) fuse.late_changes; changes = counted changing fuse.changes }
 
 keeps-within : (limit : Option ℕ) (passed : ℕ) → IfSome limit (λ most. passed ≤ most → passed ≤ most)
 keeps-within None passed = tt
@@ -47,17 +48,17 @@ passes-within (Some most) passed passes = λ within. let below : passed < most =
 
 passed-counts : (stage : Stage) (fuse : Fuse) (failed : Bool) (changing : ℕ) → fails_next (at_stage stage fuse) ≡ false
     → CountsCalls (at_stage stage fuse) 1 (one_if failed) changing (after_passed stage (noted stage changing (at_stage stage fuse)) failed)
-passed-counts Before fuse true changing passes = record { stage = refl; limit = refl; pick = refl; early_calls = refl; early = refl; mid = refl; late = refl; late_changes = refl; within = keeps-within fuse.limit fuse.passed; passed = λ some. some; stays = λ fails. fails; own = λ none. refl; some = λ some. absurd (omega arith) }
-passed-counts Before fuse false changing passes = record { stage = refl; limit = refl; pick = refl; early_calls = refl; early = refl; mid = refl; late = refl; late_changes = refl; within = keeps-within fuse.limit fuse.passed; passed = λ some. some; stays = λ fails. fails; own = λ none. refl; some = λ some. absurd (omega arith) }
-passed-counts Stopping fuse true changing passes = record { stage = refl; limit = refl; pick = refl; early_calls = refl; early = refl; mid = refl; late = refl; late_changes = refl; within = passes-within fuse.limit fuse.passed passes; passed = λ some. omega arith; stays = λ fails. absurd (false≢true (sym passes ∙ fails)); own = λ none. refl; some = λ some. omega arith }
-passed-counts Stopping fuse false changing passes = record { stage = refl; limit = refl; pick = refl; early_calls = refl; early = refl; mid = refl; late = refl; late_changes = refl; within = passes-within fuse.limit fuse.passed passes; passed = λ some. omega arith; stays = λ fails. absurd (false≢true (sym passes ∙ fails)); own = λ none. refl; some = λ some. omega arith }
-passed-counts Crashed fuse true changing passes = record { stage = refl; limit = refl; pick = refl; early_calls = refl; early = refl; mid = refl; late = refl; late_changes = refl; within = keeps-within fuse.limit fuse.passed; passed = λ some. some; stays = λ fails. fails; own = λ none. refl; some = λ some. absurd (omega arith) }
-passed-counts Crashed fuse false changing passes = record { stage = refl; limit = refl; pick = refl; early_calls = refl; early = refl; mid = refl; late = refl; late_changes = refl; within = keeps-within fuse.limit fuse.passed; passed = λ some. some; stays = λ fails. fails; own = λ none. refl; some = λ some. absurd (omega arith) }
+passed-counts Before fuse true changing passes = record { stage = refl; limit = refl; pick = refl; early_calls = refl; early = refl; mid = refl; late = refl; late_changes = refl; changes = refl; within = keeps-within fuse.limit fuse.passed; passed = λ some. some; stays = λ fails. fails; own = λ none. refl; some = λ some. absurd (omega arith) }
+passed-counts Before fuse false changing passes = record { stage = refl; limit = refl; pick = refl; early_calls = refl; early = refl; mid = refl; late = refl; late_changes = refl; changes = refl; within = keeps-within fuse.limit fuse.passed; passed = λ some. some; stays = λ fails. fails; own = λ none. refl; some = λ some. absurd (omega arith) }
+passed-counts Stopping fuse true changing passes = record { stage = refl; limit = refl; pick = refl; early_calls = refl; early = refl; mid = refl; late = refl; late_changes = refl; changes = refl; within = passes-within fuse.limit fuse.passed passes; passed = λ some. omega arith; stays = λ fails. absurd (false≢true (sym passes ∙ fails)); own = λ none. refl; some = λ some. omega arith }
+passed-counts Stopping fuse false changing passes = record { stage = refl; limit = refl; pick = refl; early_calls = refl; early = refl; mid = refl; late = refl; late_changes = refl; changes = refl; within = passes-within fuse.limit fuse.passed passes; passed = λ some. omega arith; stays = λ fails. absurd (false≢true (sym passes ∙ fails)); own = λ none. refl; some = λ some. omega arith }
+passed-counts Crashed fuse true changing passes = record { stage = refl; limit = refl; pick = refl; early_calls = refl; early = refl; mid = refl; late = refl; late_changes = refl; changes = refl; within = keeps-within fuse.limit fuse.passed; passed = λ some. some; stays = λ fails. fails; own = λ none. refl; some = λ some. absurd (omega arith) }
+passed-counts Crashed fuse false changing passes = record { stage = refl; limit = refl; pick = refl; early_calls = refl; early = refl; mid = refl; late = refl; late_changes = refl; changes = refl; within = keeps-within fuse.limit fuse.passed; passed = λ some. some; stays = λ fails. fails; own = λ none. refl; some = λ some. absurd (omega arith) }
 
 own-counts : (stage : Stage) (fuse : Fuse) (changing : ℕ) → fails_next (at_stage stage fuse) ≡ true
     → CountsCalls (at_stage stage fuse) 1 1 changing (after_own (noted stage changing (at_stage stage fuse)))
 own-counts Before fuse changing fails = absurd (false≢true fails)
-own-counts Stopping fuse changing fails = record { stage = refl; limit = refl; pick = refl; early_calls = refl; early = refl; mid = refl; late = refl; late_changes = refl; within = keeps-within fuse.limit fuse.passed; passed = λ some. some; stays = λ fails. fails; own = λ none. absurd (none fails); some = λ some. omega arith }
+own-counts Stopping fuse changing fails = record { stage = refl; limit = refl; pick = refl; early_calls = refl; early = refl; mid = refl; late = refl; late_changes = refl; changes = refl; within = keeps-within fuse.limit fuse.passed; passed = λ some. some; stays = λ fails. fails; own = λ none. absurd (none fails); some = λ some. omega arith }
 own-counts Crashed fuse changing fails = absurd (false≢true fails)
 
 call-by : (stage : Stage) (fuse : Fuse) (failed : Bool) (changing : ℕ) (fails : Bool) → fails_next (at_stage stage fuse) ≡ fails → (fails ≡ true → failed ≡ true)
@@ -95,9 +96,9 @@ CountsCalls-change fuse new answer failing is =
     rw (is, failures-answer answer) (subst (λ f. CountsCalls fuse 1 (one_if (is_failed answer)) 1 (after_call f (is_failed answer))) (noted-one fuse.stage fuse) counts)
 
 none-at : (stage : Stage) (fuse : Fuse) → CountsCalls (at_stage stage fuse) 0 0 0 (at_stage stage fuse)
-none-at Before fuse = record { stage = refl; limit = refl; pick = refl; early_calls = refl; early = refl; mid = refl; late = refl; late_changes = refl; within = keeps-within fuse.limit fuse.passed; passed = λ some. some; stays = λ fails. fails; own = λ none. refl; some = λ some. absurd (omega arith) }
-none-at Stopping fuse = record { stage = refl; limit = refl; pick = refl; early_calls = refl; early = refl; mid = refl; late = refl; late_changes = refl; within = keeps-within fuse.limit fuse.passed; passed = λ some. some; stays = λ fails. fails; own = λ none. refl; some = λ some. absurd (omega arith) }
-none-at Crashed fuse = record { stage = refl; limit = refl; pick = refl; early_calls = refl; early = refl; mid = refl; late = refl; late_changes = refl; within = keeps-within fuse.limit fuse.passed; passed = λ some. some; stays = λ fails. fails; own = λ none. refl; some = λ some. absurd (omega arith) }
+none-at Before fuse = record { stage = refl; limit = refl; pick = refl; early_calls = refl; early = refl; mid = refl; late = refl; late_changes = refl; changes = refl; within = keeps-within fuse.limit fuse.passed; passed = λ some. some; stays = λ fails. fails; own = λ none. refl; some = λ some. absurd (omega arith) }
+none-at Stopping fuse = record { stage = refl; limit = refl; pick = refl; early_calls = refl; early = refl; mid = refl; late = refl; late_changes = refl; changes = refl; within = keeps-within fuse.limit fuse.passed; passed = λ some. some; stays = λ fails. fails; own = λ none. refl; some = λ some. absurd (omega arith) }
+none-at Crashed fuse = record { stage = refl; limit = refl; pick = refl; early_calls = refl; early = refl; mid = refl; late = refl; late_changes = refl; changes = refl; within = keeps-within fuse.limit fuse.passed; passed = λ some. some; stays = λ fails. fails; own = λ none. refl; some = λ some. absurd (omega arith) }
 
 -- no call
 pub CountsCalls-none : (fuse : Fuse) → CountsCalls fuse 0 0 0 fuse
@@ -150,6 +151,7 @@ CountsCalls-then old middle new m n failed failed' changing changing' first seco
   mid = goes-on while_stopping while_stopping-sum _ _ failed failed' _ _ _ first.stage first.mid second.mid;
   late = goes-on after_crash after_crash-sum _ _ failed failed' _ _ _ first.stage first.late second.late;
   late_changes = goes-on after_crash after_crash-sum _ _ changing changing' _ _ _ first.stage first.late_changes second.late_changes;
+  changes = second.changes ∙ ap (counted changing') first.changes ∙ sym (counted-more changing changing' old.changes);
   within = within-then old.limit old.passed middle.passed new.passed first.within (subst (λ o. IfSome o (λ most. middle.passed ≤ most → new.passed ≤ most)) first.limit second.within);
   passed = λ some. second.passed (first.passed some);
   stays = λ fails. second.stays (first.stays fails);

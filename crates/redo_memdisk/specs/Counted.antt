@@ -5,7 +5,7 @@ use Rattle.redo_io.specs.{next_count}
 use Rattle.redo_disk.specs.{Call, changing_calls, failed_calls, Reads, Syncs, Writes}
 use Rattle.redo_disk.specs.Seen.{Seen}
 use Rattle.redo_memdisk.specs.Fuse.{after_call, after_change, fails_next, is_failed}
-use Rattle.redo_memdisk.specs.Fused.{armed_at}
+use Rattle.redo_memdisk.specs.Fused.{armed_at, entry_of}
 use Rattle.redo_memdisk.specs.declared.fuse.Fuse.{Fuse}
 use Rattle.redo_memdisk.specs.declared.fuse.Stage.{Stage}
 use Rattle.redo_memdisk.specs.declared.fuse.Stage.TheVariants.{Before, Stopping, Crashed}
@@ -56,6 +56,7 @@ pub record CountsCalls (old : Fuse) (calls failed changing : ℕ) (new : Fuse) :
   pub mid : new.mid ≡ counted (while_stopping old.stage failed) old.mid
   pub late : new.late ≡ counted (after_crash old.stage failed) old.late
   pub late_changes : new.late_changes ≡ counted (after_crash old.stage changing) old.late_changes
+  pub changes : new.changes ≡ counted changing old.changes
   -- it passes on no more calls than its limit says
   pub within : IfSome old.limit (λ limit. old.passed ≤ limit → new.passed ≤ limit)
   -- what it has passed on stays so
@@ -67,11 +68,12 @@ pub record CountsCalls (old : Fuse) (calls failed changing : ℕ) (new : Fuse) :
   -- from the arming to the crash each call is passed on, or it fails
   pub some : 0 < while_stopping old.stage calls → 0 < new.passed + new.mid
 
--- What calls through a fuse leave of the device behind it: the size and what it was at the arming are the same. Its
+-- What calls through a fuse leave of the device behind it: the size, and what it was at first and at the arming, are the same. Its
 -- count of faults never falls, and it has risen where a call failed, or the fuse has passed on all that it was to.
 pub record KeepsBehind {D : Type 0} (seen : D → Seen) (old : Fused D) (failed : ℕ) (new : Fused D) : Type 0 where
   pub size : (seen new.inner).size ≡ (seen old.inner).size
   pub armed : armed_at new ≡ armed_at old
+  pub entry : entry_of new ≡ entry_of old
   pub later : (seen old.inner).faults ≤ (seen new.inner).faults
   pub cause : 0 < failed → HasRisen (seen old.inner).faults (seen new.inner).faults ⊎ IsTrue (fails_next new.fuse)
 

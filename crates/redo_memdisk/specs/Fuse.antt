@@ -26,6 +26,7 @@ fresh = record {
   mid = 0;
   late = 0;
   late_changes = 0;
+  changes = 0;
 }
 
 -- the fuse as it begins the stop
@@ -57,11 +58,11 @@ after_passed Crashed fuse failed = record fuse { late = next_count_if failed fus
 abbrev pub after_call : Fuse → Bool → Fuse
 after_call fuse failed = if fails_next fuse then after_own fuse else after_passed fuse.stage fuse failed
 
--- a write, a sync or a further crash is counted where it comes after the crash
+-- a write, a sync or a crash is counted, also by itself where it comes after the crash
 abbrev pub with_change : Stage → Fuse → Fuse
-with_change Before fuse = fuse
-with_change Stopping fuse = fuse
-with_change Crashed fuse = record fuse { late_changes = next_count fuse.late_changes }
+with_change Before fuse = record fuse { changes = next_count fuse.changes }
+with_change Stopping fuse = record fuse { changes = next_count fuse.changes }
+with_change Crashed fuse = record fuse { late_changes = next_count fuse.late_changes; changes = next_count fuse.changes }
 
 -- the fuse after a write or a sync, by whether it answered Failed
 abbrev pub after_change : Fuse → Bool → Fuse

@@ -21,6 +21,10 @@ inner_of fused = fused.inner
 abbrev pub fuse_of : {D : Type 0} → Fused D → Fuse
 fuse_of fused = fused.fuse
 
+-- the device that was handed in
+abbrev pub entry_of : {D : Type 0} → Fused D → D
+entry_of fused = fused.entry.value
+
 -- the device without the fuse as it was when the fuse was armed
 abbrev pub armed_at : {D : Type 0} → Fused D → Option D
 armed_at fused = option_map (λ found. found.value) fused.armed_at
@@ -47,6 +51,7 @@ pub record ReadsThrough {D : Type 0} (seen : D → Seen) (gives : D → Call →
   pub same_out : IsTrue (fails_next old.fuse) → out ≡ before
   pub same_inner : IsTrue (fails_next old.fuse) → new.inner ≡ old.inner
   pub same_armed : armed_at new ≡ armed_at old
+  pub same_entry : entry_of new ≡ entry_of old
   pub counts : new.fuse ≡ after_call old.fuse (is_failed result)
 
 -- A write through the fuse. The first call that the fuse fails still reaches the device if it is a write, and nobody
@@ -60,6 +65,7 @@ pub record WritesThrough {D : Type 0} (seen : D → Seen) (gives : D → Call �
       (unheard : Result (Unit {0}) DevError) × MakesCall gives old.inner (Writes write unheard) new.inner × WriteStep write (seen old.inner) unheard (seen new.inner)
   pub later : IsTrue (fails_next old.fuse) → 0 < old.fuse.own → new.inner ≡ old.inner
   pub same_armed : armed_at new ≡ armed_at old
+  pub same_entry : entry_of new ≡ entry_of old
   pub counts : new.fuse ≡ after_change old.fuse (is_failed result)
 
 -- a sync through the fuse
@@ -70,6 +76,7 @@ pub record SyncsThrough {D : Type 0} (seen : D → Seen) (gives : D → Call →
   pub failed : IsTrue (fails_next old.fuse) → result ≡ Err Failed
   pub same_inner : IsTrue (fails_next old.fuse) → new.inner ≡ old.inner
   pub same_armed : armed_at new ≡ armed_at old
+  pub same_entry : entry_of new ≡ entry_of old
   pub counts : new.fuse ≡ after_change old.fuse (is_failed result)
 
 -- a call through the fuse
@@ -83,4 +90,5 @@ pub record CrashesThrough {D : Type 0} (seen : D → Seen) (gives : D → ℕ �
   pub passed : gives old.inner pick new.inner
   pub passed_step : CrashStep (seen old.inner) (seen new.inner)
   pub same_armed : armed_at new ≡ armed_at old
+  pub same_entry : entry_of new ≡ entry_of old
   pub notes : new.fuse ≡ crashed_with pick old.fuse

@@ -40,6 +40,8 @@ pub struct Fuse {
     /// How many writes, syncs and further crashes came after the crash. Where it is 0, what the device means is what the
     /// one crash left.
     pub late_changes: u64,
+    /// How many writes, syncs and crashes came at any time. Where it is 0, what the device means is what it meant at first.
+    pub changes: u64,
 }
 
 /// Whether a call answered that the device failed.
@@ -76,6 +78,7 @@ impl Fuse {
             mid: 0,
             late: 0,
             late_changes: 0,
+            changes: 0,
         }
     }
 
@@ -121,10 +124,11 @@ impl Fuse {
         }
     }
 
-    /// Counts what changes a device after its crash.
-    fn note_late_change(&mut self)
+    /// Counts what changes a device, also by itself where it comes after the crash.
+    fn note_one_change(&mut self)
         ensures { self.new ≡ with_change self.old.stage self.old }
     {
+        self.changes = self.changes.saturating_add(1);
         if self.stage == Stage::Crashed {
             self.late_changes = self.late_changes.saturating_add(1);
         }
@@ -135,7 +139,7 @@ impl Fuse {
         ensures after { self.new ≡ after_change self.old failed }
         ensures later { self.old.own ≤ self.new.own }
     {
-        self.note_late_change();
+        self.note_one_change();
         self.note_call(failed);
     }
 
@@ -143,7 +147,7 @@ impl Fuse {
     pub(crate) fn note_crash(&mut self, pick: u64)
         ensures { self.new ≡ crashed_with pick self.old }
     {
-        self.note_late_change();
+        self.note_one_change();
         self.stage = Stage::Crashed;
         self.pick = Some(pick);
     }

@@ -2,7 +2,7 @@
 ghost use Rattle.std.specs.Prelude.{◌≡◌, Option, Some, None};
 ghost use Rattle.redo_memdisk.specs.Fuse.{armed, fresh};
 ghost use Rattle.redo_memdisk.specs.declared.fuse.Stage.{Stage};
-ghost use Rattle.redo_memdisk.specs.Fused.{CallsThrough, CrashesThrough, armed_at, fuse_of, inner_of, seen_through};
+ghost use Rattle.redo_memdisk.specs.Fused.{CallsThrough, CrashesThrough, armed_at, entry_of, fuse_of, inner_of, seen_through};
 
 use crate::Fuse;
 use crate::cut::cut_write;
@@ -16,6 +16,8 @@ use std::snapshot::Snapshot;
 pub struct Fused<D> {
     inner: D,
     fuse: Fuse,
+    /// The device that was handed in, which only clauses read.
+    entry: Snapshot<D>,
     /// The device as the arming found it, which only clauses read.
     armed_at: Option<Snapshot<D>>,
 }
@@ -26,10 +28,13 @@ impl<D> Fused<D> {
         ensures inner { inner_of result ≡ inner }
         ensures fuse { fuse_of result ≡ fresh }
         ensures armed { armed_at result ≡ None }
+        ensures entry { entry_of result ≡ inner }
     {
+        let entry = Snapshot::of(&inner);
         Fused {
             inner,
             fuse: Fuse::new(),
+            entry,
             armed_at: None,
         }
     }
@@ -39,6 +44,7 @@ impl<D> Fused<D> {
         ensures inner { inner_of result ≡ inner }
         ensures fuse { fuse_of result ≡ armed limit fresh }
         ensures armed { armed_at result ≡ Some inner }
+        ensures entry { entry_of result ≡ inner }
     {
         let mut fused = Fused::plain(inner);
         fused.arm(limit);
@@ -51,6 +57,7 @@ impl<D> Fused<D> {
         ensures inner { inner_of self.new ≡ inner_of self.old }
         ensures fuse { fuse_of self.new ≡ armed limit (fuse_of self.old) }
         ensures armed { armed_at self.new ≡ Some (inner_of self.old) }
+        ensures entry { entry_of self.new ≡ entry_of self.old }
     {
         self.armed_at = Some(Snapshot::of(&self.inner));
         self.fuse.arm(limit);

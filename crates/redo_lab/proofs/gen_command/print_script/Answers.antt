@@ -1,6 +1,5 @@
-use Rattle.std.proofs.Common.{inl, refl}
+use Rattle.std.proofs.Common.{refl}
 use Rattle.redo_lab.proofs.Behind.{alone-behind}
-use Rattle.redo_lab.proofs.Led.{alone-from}
 use Rattle.redo_lab.proofs.PlainEnds.{gen-ends}
 use Rattle.redo_lab.proofs.gen_command.print_script.Goals as goal
 
@@ -12,14 +11,5 @@ returns-clause-ends g c = λ words source. rw c.of_text.ensures (gen-ends _ c.ar
     })
     refl c.generate.ensures)
 
-pub returns-clause-calls : goal.returns-clause-calls
-returns-clause-calls g c = record {
-  log_device = alone-behind g.L.Sectors.seen c.args.log c.plain.result c.plain.result c.plain.ensures.inner c.plain.ensures.fuse refl;
-  data_device = alone-behind g.D.Sectors.seen c.args.store c.plain-2.result c.plain-2.result c.plain-2.ensures.inner c.plain-2.ensures.fuse refl;
-}
-
-pub returns-clause-log_device : goal.returns-clause-log_device
-returns-clause-log_device g c = inl (alone-from g.L.Sectors.seen g.L.Sectors.gives c.args.log c.plain.result c.plain.ensures.inner c.plain.ensures.fuse c.plain.ensures.armed)
-
-pub returns-clause-data_device : goal.returns-clause-data_device
-returns-clause-data_device g c = inl (alone-from g.D.Sectors.seen g.D.Sectors.gives c.args.store c.plain-2.result c.plain-2.ensures.inner c.plain-2.ensures.fuse c.plain-2.ensures.armed)
+pub returns-clause-entered : goal.returns-clause-entered
+returns-clause-entered g c = record { log_device = c.plain.ensures.entry; data_device = c.plain-2.ensures.entry }

@@ -1,4 +1,4 @@
-use Rattle.redo_lab.proofs.Once.{is-text}
+use Rattle.redo_lab.proofs.FirstRead.{is-text}
 use Rattle.redo_lab.proofs.prepare.is_blank.Goals as goal
 
 pub returns : goal.returns

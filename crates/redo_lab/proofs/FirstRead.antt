@@ -8,23 +8,21 @@ use Rattle.model_device.specs.Disk.{Disk}
 use Rattle.model_store.specs.{IsUnused}
 use Rattle.redo_disk.specs.{Answer, Call, error_of, MakesCall, MakesCalls, part, Reads, ReadsEndWith}
 use Rattle.redo_disk.specs.declared.error.DevError.{DevError}
-use Rattle.redo_lab.specs.Prepared.{ReadsBlock, ReadsFirst}
+use Rattle.redo_lab.specs.Prepared.{IsFirstRead}
 
 one-read : (at : ℕ) (before after : List ℕ) (answer : Answer) → ReadsEndWith (error_of answer) (Reads at before answer after ∷ [])
 one-read at before after (Ok done) = record { reads = (tt, tt); ends = record { stop = (tt, tt); first = refl } }
 one-read at before after (Err error) = record { reads = (tt, tt); ends = record { stop = (refl, tt); first = refl } }
 
 pub read-block : {D : Type 0} {gives : D → Call → D → Type 0} {old new : D} {at : ℕ} {before after : List ℕ} {answer : Answer} (result : Result Bool DevError)
-    → MakesCall gives old (Reads at before answer after) new → error_of answer ≡ error_of result → ReadsFirst result (Reads at before answer after)
-    → MakesCalls gives old new (ReadsBlock result)
-read-block {new = new} {at = at} {before = before} {after = after} {answer = answer} result call same first = record {
+    → MakesCall gives old (Reads at before answer after) new → error_of answer ≡ error_of result
+    → MakesCalls gives old new (IsFirstRead (error_of result))
+read-block {new = new} {at = at} {before = before} {after = after} {answer = answer} result call same = record {
   calls = Reads at before answer after ∷ [];
   made = (new, call, refl);
   are = record {
     reads = subst (λ (error : Option DevError). ReadsEndWith error (Reads at before answer after ∷ [])) same (one-read at before after answer);
-    first = Reads at before answer after;
     one = refl;
-    is_first = first;
   };
 }
 

@@ -1,0 +1,50 @@
+use Rattle.redo_lab.proofs.Called.{all-left}
+use Rattle.redo_lab.proofs.commands.done.Goals as goal
+
+pub returns-in-Format-clause-ends : goal.returns-in-Format-clause-ends
+returns-in-Format-clause-ends g c = λ words. rw c.in-Format.is (c.format_devices.ensures.ends words _)
+
+pub returns-in-Run-clause-ends : goal.returns-in-Run-clause-ends
+returns-in-Run-clause-ends g c = λ words. rw c.in-Run.is (c.run_source.ensures.ends words)
+
+pub returns-in-Crash-clause-ends : goal.returns-in-Crash-clause-ends
+returns-in-Crash-clause-ends g c = λ words. rw c.in-Crash.is (c.crash_source.ensures.ends words)
+
+pub returns-in-Recover-clause-ends : goal.returns-in-Recover-clause-ends
+returns-in-Recover-clause-ends g c = λ words. rw c.in-Recover.is (c.print_pages.ensures.ends words _)
+
+pub returns-in-Dump-clause-ends : goal.returns-in-Dump-clause-ends
+returns-in-Dump-clause-ends g c = λ words. rw c.in-Dump.is (c.print_store.ensures.ends words _)
+
+pub returns-in-Gen-clause-ends : goal.returns-in-Gen-clause-ends
+returns-in-Gen-clause-ends g c = λ words. rw c.in-Gen.is (c.gen_command.ensures.ends words _)
+
+pub returns-in-Format-clause-entered : goal.returns-in-Format-clause-entered
+returns-in-Format-clause-entered g c = c.format_devices.ensures.entered
+
+pub returns-in-Run-clause-entered : goal.returns-in-Run-clause-entered
+returns-in-Run-clause-entered g c = c.run_source.ensures.entered
+
+pub returns-in-Crash-clause-entered : goal.returns-in-Crash-clause-entered
+returns-in-Crash-clause-entered g c = c.crash_source.ensures.entered
+
+pub returns-in-Recover-clause-entered : goal.returns-in-Recover-clause-entered
+returns-in-Recover-clause-entered g c = c.print_pages.ensures.entered
+
+pub returns-in-Dump-clause-entered : goal.returns-in-Dump-clause-entered
+returns-in-Dump-clause-entered g c = c.print_store.ensures.entered
+
+pub returns-in-Gen-clause-entered : goal.returns-in-Gen-clause-entered
+returns-in-Gen-clause-entered g c = c.gen_command.ensures.entered
+
+pub returns-in-Format-clause-taken : goal.returns-in-Format-clause-taken
+returns-in-Format-clause-taken g c = all-left (g.S.Source.seen c.args.src.now).left
+
+pub returns-in-Recover-clause-taken : goal.returns-in-Recover-clause-taken
+returns-in-Recover-clause-taken g c = all-left (g.S.Source.seen c.args.src.now).left
+
+pub returns-in-Dump-clause-taken : goal.returns-in-Dump-clause-taken
+returns-in-Dump-clause-taken g c = all-left (g.S.Source.seen c.args.src.now).left
+
+pub returns-in-Gen-clause-taken : goal.returns-in-Gen-clause-taken
+returns-in-Gen-clause-taken g c = all-left (g.S.Source.seen c.args.src.now).left

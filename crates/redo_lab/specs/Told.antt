@@ -1,0 +1,59 @@
+-- WHAT IS TOLD OF A RUN, by a report, a summary or spent turns: always of one run, which is the drive's.
+use Rattle.std.specs.Prelude.{ℕ, ◌≡◌, List, length, Option, Some, None, IfSome}
+use Rattle.model_command.specs.declared.asked.Command.{Command}
+use Rattle.model_command.specs.declared.asked.Drive.{Drive}
+use Rattle.model_device.specs.Disk.{Disk}
+use Rattle.model_history.specs.{IsLeft}
+use Rattle.model_report.specs.{report_text, summary_text}
+use Rattle.model_script.specs.declared.script.ScriptLine.{ScriptLine}
+use Rattle.model_store.specs.{IsReading}
+use Rattle.model_store.specs.Reading.{Reading}
+use Rattle.model_theorem.specs.{entries_of, FitsOpened, IsOpenedBefore, IsRun, LosesOnlyByFailure, Opened, Ran}
+use Rattle.redo_lab.specs.Call.{Call, Done, RunEnd, WhereOpened, WhereToldAtEntry, WhereToldNow, mids}
+use Rattle.redo_lab.specs.Script.{IsScriptFor}
+use Rattle.redo_lab.specs.Store.{AreReadAsPrefix, IsOpenedAs}
+
+-- The run took place: of the whole script, which fits the store that was opened; a legal history; and it is the drive's.
+pub record IsRunOf (call : Call) (command : Command) (drive : Drive) (opened : Opened) (script : List ScriptLine) (run : Ran) (end : RunEnd)
+    (log_met store_met : Option Disk) : Type 0 where
+  pub is_script : IsScriptFor command call.source call.source_now script
+  pub opens : WhereToldAtEntry call (IsOpenedAs opened)
+  pub fits : FitsOpened drive.log_only opened script
+  pub in_lsn_order : IsRun script opened run
+  pub driven : call.drives drive opened script run end log_met store_met
+
+-- Opening came to its end just where a run is told: the log device shows it, where both told and open a store.
+abbrev pub IsOpenedFirst : Call → Option Disk → Option Ran → Type 0
+IsOpenedFirst call log_met run = (store : Opened) → WhereOpened call store
+    ((armed_from disk : Disk) → call.log.armed_from ≡ Some armed_from → log_met ≡ Some disk → IsOpenedBefore store.shape armed_from disk run)
+
+-- The run, if opening wasn't stopped, and what is left of the script. Something is lost only where a device failed since its fuse
+-- was armed.
+pub record IsAccount (call : Call) (command : Command) (drive : Drive) (opened : Opened) (script : List ScriptLine) (run : Option Ran)
+    (left : List (ℕ × ℕ)) (log_met store_met : Option Disk) : Type 0 where
+  pub is_script : IsScriptFor command call.source call.source_now script
+  pub ran : IfSome run (λ run. IsRunOf call command drive opened script run Done log_met store_met)
+  pub left_is : IsLeft script (entries_of run) left
+  pub loses : LosesOnlyByFailure (mids call) run left
+  pub opened_first : IsOpenedFirst call log_met run
+
+-- A run whose devices aren't crashed: they are as it left them, and every image of them is read as a prefix of it.
+pub record IsRunText (call : Call) (command : Command) (drive : Drive) (IsTextOf : List ScriptLine → Ran → List (ℕ × ℕ) → List ℕ → Type 0)
+    (text : List ℕ) : Type 0 where
+  pub opened : Opened
+  pub script : List ScriptLine
+  pub run : Ran
+  pub left : List (ℕ × ℕ)
+  pub account : IsAccount call command drive opened script (Some run) left call.log.now.tells call.store.now.tells
+  pub reads : (store : Opened) → WhereOpened call store (WhereToldNow call (AreReadAsPrefix script store run))
+  pub text_is : IsTextOf script run left text
+
+-- the report of it
+abbrev pub IsReportText : List ScriptLine → Ran → List (ℕ × ℕ) → List ℕ → Type 0
+IsReportText script run left text = text ≡ report_text (Some run.start) run.entries left (Some run.marks) None
+
+-- the summary of it, and of what the devices are read as
+abbrev pub IsSummaryText : Call → List ScriptLine → Ran → List (ℕ × ℕ) → List ℕ → Type 0
+IsSummaryText call script run left text =
+    (reading : Reading) × WhereToldNow call (λ log store. IsReading log.reads store.reads reading)
+    × (text ≡ summary_text (length run.entries) run.marks.flushed run.marks.ckpt reading.pages)
