@@ -72,7 +72,7 @@ impl Cleaner {
             Step::TakeLatch => Op::Swap(latch(self.page), 0, 1),
             Step::LoadNewest => Op::Load(newest(self.page)),
             Step::ReleaseSkipped => Op::Store(latch(self.page), 0),
-            Step::LoadFrame => Op::Load(frame(self.page, self.kept.len())),
+            Step::LoadFrame => Op::Load(frame(self.page, self.kept.len() / 8)),
             Step::WriteBatch => Op::WriteBatch,
             Step::RemoveFromList => Op::TakeRemove(self.first()),
             Step::ClearOldest => Op::Store(oldest(self.first()), 0),
@@ -137,8 +137,8 @@ impl Cleaner {
         self.goes_on(Step::LoadFrame)
     }
 
-    fn loaded_byte(&mut self, byte: u8) -> Turn {
-        self.kept.push(byte);
+    fn loaded_word(&mut self, word: u64) -> Turn {
+        self.kept.extend_from_slice(&word.to_le_bytes());
         if self.kept.len() < PAGE_SIZE {
             return Turn::Moved;
         }
@@ -160,7 +160,7 @@ impl Cleaner {
             Step::TakeLatch if n == 0 => self.goes_on(Step::LoadNewest),
             Step::TakeLatch | Step::ReleaseSkipped => self.next_in_round(),
             Step::LoadNewest => self.loaded_newest(n),
-            Step::LoadFrame => self.loaded_byte(n as u8),
+            Step::LoadFrame => self.loaded_word(n),
             Step::WriteBatch => match answer {
                 Answer::Failed(code) => {
                     self.code = code;

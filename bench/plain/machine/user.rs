@@ -26,6 +26,7 @@ enum Step {
     LoadWtail,
     StoreLink,
     LoadCtail,
+    LoadFrame,
     StoreFrame,
     StoreNewest,
     LoadOldest,
@@ -49,6 +50,7 @@ pub struct User {
     copied: usize,
     page: usize,
     cell: usize,
+    word: u64,
     ckpt: u64,
     code: u32,
     checks: bool,
@@ -67,6 +69,7 @@ impl User {
             copied: 0,
             page: 0,
             cell: 0,
+            word: 0,
             ckpt: 0,
             code: 0,
             checks: true,
@@ -84,6 +87,23 @@ impl User {
 
     fn end_sn(&self) -> u64 {
         self.start + self.line().bytes.len() as u64
+    }
+
+    fn next_count(&self) -> usize {
+        let lsn = lsn_of(self.start + self.copied as u64);
+        (left_in_word(lsn) as usize).min(self.line().bytes.len() - self.copied)
+    }
+
+    /// The changed cells of the word that it is at.
+    fn frame_cells(&self) -> &[(u16, u8)] {
+        let cells = &self.line().pages[self.page].cells[self.cell..];
+        let word = cells[0].0 / 8;
+        let count = cells.iter().take(8).take_while(|cell| cell.0 / 8 == word).count();
+        &cells[..count]
+    }
+
+    fn frame_word(&self) -> usize {
+        usize::from(self.line().pages[self.page].cells[self.cell].0) / 8
     }
 
     fn end(&self) -> u64 {
@@ -106,20 +126,24 @@ impl User {
             Step::Reserve => Op::Add(SN, self.line().bytes.len() as u64),
             Step::LoadWrite => Op::Load(WRITE),
             Step::StoreCell => {
-                let byte = self.line().bytes[self.copied];
-                Op::Store(
-                    cell(lsn_of(self.start + self.copied as u64)),
-                    u64::from(byte),
-                )
+                let lsn = lsn_of(self.start + self.copied as u64);
+                let lane = (lsn % 8) as usize;
+                let bytes = &self.line().bytes[self.copied..self.copied + self.next_count()];
+                let mut lanes = [0; 8];
+                lanes[lane..lane + bytes.len()].copy_from_slice(bytes);
+                Op::Add(cell(lsn), u64::from_le_bytes(lanes))
             }
             Step::StoreFirst => Op::Store(first(self.end()), self.end() % BLOCK_SIZE as u64),
             Step::LoadWtail => Op::Load(WTAIL),
             Step::StoreLink => Op::Store(written_link(start), self.end() - start),
             Step::LoadCtail => Op::Load(CTAIL),
+            Step::LoadFrame => Op::Load(frame(self.page_number(), self.frame_word())),
             Step::StoreFrame => {
-                let changed = &self.line().pages[self.page];
-                let (at, value) = changed.cells[self.cell];
-                Op::Store(frame(changed.page, usize::from(at)), u64::from(value))
+                let mut lanes = self.word.to_le_bytes();
+                for &(at, value) in self.frame_cells() {
+                    lanes[usize::from(at) % 8] = value;
+                }
+                Op::Store(frame(self.page_number(), self.frame_word()), u64::from_le_bytes(lanes))
             }
             Step::StoreNewest => Op::Store(newest(self.page_number()), self.end()),
             Step::LoadOldest => Op::Load(oldest(self.page_number())),
@@ -175,8 +199,11 @@ impl User {
     fn to_cells(&mut self) -> Turn {
         if self.line().pages[self.page].cells.len() == self.cell {
             self.goes_on(Step::StoreNewest)
-        } else {
+        } else if self.frame_cells().len() == 8 {
+            self.word = 0;
             self.goes_on(Step::StoreFrame)
+        } else {
+            self.goes_on(Step::LoadFrame)
         }
     }
 
@@ -222,7 +249,7 @@ impl User {
     }
 
     fn copied(&mut self) -> Turn {
-        self.copied += 1;
+        self.copied += self.next_count();
         let blocks = BLOCK_DATA as u64;
         if self.copied < self.line().bytes.len() {
             Turn::Moved
@@ -263,8 +290,12 @@ impl User {
             Step::StoreLink if self.line().pages.is_empty() => self.linked(),
             Step::StoreLink => self.goes_on(Step::LoadCtail),
             Step::LoadCtail if lsn_of(self.start) < n + CLOSED_LINKS => self.to_cells(),
+            Step::LoadFrame => {
+                self.word = n;
+                self.goes_on(Step::StoreFrame)
+            }
             Step::StoreFrame => {
-                self.cell += 1;
+                self.cell += self.frame_cells().len();
                 self.to_cells()
             }
             Step::StoreNewest => self.goes_on(Step::LoadOldest),

@@ -20,9 +20,9 @@ const LIST: usize = 8;
 const WLINK: usize = LIST + LISTS;
 const CLINK: usize = WLINK + WRITTEN_LINKS as usize;
 const CELL: usize = CLINK + CLOSED_LINKS as usize;
-const FIRST: usize = CELL + LOG_BUFFER as usize;
+const FIRST: usize = CELL + LOG_BUFFER as usize / 8;
 const PAGE: usize = FIRST + BUFFER_BLOCKS as usize;
-const STRIDE: usize = 3 + PAGE_SIZE;
+const STRIDE: usize = 3 + PAGE_SIZE / 8;
 
 /// How many words a store of so many pages has.
 pub fn count(pages: usize) -> usize {
@@ -46,7 +46,12 @@ pub fn closed_link(lsn: u64) -> usize {
 }
 
 pub fn cell(lsn: u64) -> usize {
-    CELL + (lsn % LOG_BUFFER) as usize
+    CELL + (lsn % LOG_BUFFER / 8) as usize
+}
+
+/// How many bytes of the stream stand in the word of an lsn from it on.
+pub fn left_in_word(lsn: u64) -> u64 {
+    (8 - lsn % 8).min(508 - lsn % 512)
 }
 
 /// The first offset of the block of an lsn.

@@ -13,6 +13,7 @@ enum Step {
     LoadFirst,
     ClearFirst,
     LoadCell,
+    ClearCell,
     TakeDevice,
     GiveBroken,
     WriteTo,
@@ -32,6 +33,7 @@ pub struct Writer {
     pub firsts: Vec<u16>,
     link: u64,
     first: u16,
+    word: u64,
     code: u32,
     checks: bool,
     step: Step,
@@ -48,6 +50,7 @@ impl Writer {
             firsts: Vec::with_capacity(BUFFER_BLOCKS as usize),
             link: 0,
             first: 0,
+            word: 0,
             code: 0,
             checks: false,
             step: Step::LoadLink,
@@ -70,6 +73,7 @@ impl Writer {
             Step::LoadFirst => Op::Load(first(self.place())),
             Step::ClearFirst => Op::Store(first(self.place()), 0),
             Step::LoadCell => Op::Load(cell(self.place())),
+            Step::ClearCell => Op::Store(cell(self.place()), 0),
             Step::TakeDevice => Op::TakeDevice,
             Step::GiveBroken | Step::GiveDevice | Step::GiveFailed => Op::Store(DEVICE, 0),
             Step::WriteTo => Op::WriteTo(self.tail),
@@ -162,7 +166,18 @@ impl Writer {
                 self.goes_on(Step::LoadCell)
             }
             Step::LoadCell => {
-                self.kept.push(n as u8);
+                let (left, below) = (left_in_word(self.place()), self.tail.saturating_sub(self.place()));
+                if left <= below {
+                    self.word = n;
+                    return self.goes_on(Step::ClearCell);
+                }
+                let lane = (self.place() % 8) as usize;
+                self.kept.extend_from_slice(&n.to_le_bytes()[lane..lane + below as usize]);
+                self.goes_on(Step::TakeDevice)
+            }
+            Step::ClearCell => {
+                let (lane, left) = ((self.place() % 8) as usize, left_in_word(self.place()) as usize);
+                self.kept.extend_from_slice(&self.word.to_le_bytes()[lane..lane + left]);
                 if self.place() == self.tail {
                     self.goes_on(Step::TakeDevice)
                 } else {

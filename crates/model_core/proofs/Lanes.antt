@@ -135,8 +135,8 @@ module _ (w k : ℕ) (bytes : List ℕ) (wide : w < 2 ^ 64) (few : k + length by
   add_else j l out = let z = lane_sum w (replicate k 0 ++ bytes) wide fits j l in ⊎_elim
       (λ q. let p = packed_before k bytes j q in omega arith)
       (λ q. let i : ℕ = j - k in let is : k + i ≡ j = omega arith in
-          let here : slice_index (replicate k 0 ++ bytes) j ≡ slice_index bytes i = subst (λ (y : ℕ). slice_index (replicate k 0 ++ bytes) y ≡ slice_index bytes i) is (packed_at k bytes i) in
-          let p = beyond i (omega arith) in omega arith)
+      let here : slice_index (replicate k 0 ++ bytes) j ≡ slice_index bytes i = subst (λ (y : ℕ). slice_index (replicate k 0 ++ bytes) y ≡ slice_index bytes i) is (packed_at k bytes i) in
+      let p = beyond i (omega arith) in omega arith)
       out
 
 -- so many lanes, read

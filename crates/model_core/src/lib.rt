@@ -12,8 +12,8 @@ pub use laws::{
     a_wait_changes_no_word, a_wait_leads_to_a_check, an_ended_actor_rests, words_are_numbered,
 };
 pub use limits::{
-    BATCH_PAGES, BUFFER_BLOCKS, BUFFER_WORDS, CLOSED_LINKS, FLUSH_LISTS, FRAME_CELLS, FRAME_WORDS, FREE_MARGIN,
-    LOG_BUFFER, WORD_LANES, WRITTEN_LINKS,
+    BATCH_PAGES, BUFFER_BLOCKS, BUFFER_WORDS, CLOSED_LINKS, FLUSH_LISTS, FRAME_CELLS, FRAME_WORDS,
+    FREE_MARGIN, LOG_BUFFER, WORD_LANES, WRITTEN_LINKS,
 };
 pub use ops::{Answer, Op, Step};
 pub use steps::{CheckpointerStep, CleanerStep, CloserStep, FlusherStep, UserStep, WriterStep};

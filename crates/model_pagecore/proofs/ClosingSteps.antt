@@ -100,7 +100,9 @@ module _ (E : DataSide) (c : Setup) (seat_of : ℕ → ℕ) (m : SharedWords) (l
             (record {
               there = F.there;
               apart = F.apart;
-              within = F.within; ascending = F.ascending; are_bytes = F.are_bytes;
+              within = F.within;
+              ascending = F.ascending;
+              are_bytes = F.are_bytes;
               loaded = F.loaded;
               step = (
                 (λ k _ l. let a = done k l in record { there = a.there; latched = a.latched; mine = a.mine; page = record { frame = a.page.frame; newest = a.page.newest; listing = a.page.listing.0 } }),

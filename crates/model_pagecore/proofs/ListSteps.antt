@@ -98,7 +98,9 @@ module _ (E : DataSide) (c : Setup) (seat_of : ℕ → ℕ) (m : SharedWords) (l
             (record {
               there = F.there;
               apart = F.apart;
-              within = F.within; ascending = F.ascending; are_bytes = F.are_bytes;
+              within = F.within;
+              ascending = F.ascending;
+              are_bytes = F.are_bytes;
               loaded = F.loaded;
               step = (
                 work_here E c seat_of m log stable h ls d actors seat before mates (list_mem E c seat_of m log stable h ls d actors seat before mates i 1 turns ls' long (omega arith) (inl free) same_turn) h' ls' d (entry u.user u.k u.start (line u)) u.page (F.apart u.k) pl All All Last Last Unlisted InListOnly work work.not_closed

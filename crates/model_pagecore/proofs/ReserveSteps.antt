@@ -98,7 +98,9 @@ module _ (E : DataSide) (c : Setup) (seat_of : ℕ → ℕ) (m : SharedWords) (l
       (record {
         there = F.there;
         apart = F.apart;
-        within = F.within; ascending = F.ascending; are_bytes = F.are_bytes;
+        within = F.within;
+        ascending = F.ascending;
+        are_bytes = F.are_bytes;
         loaded = F.loaded;
         step = (
           record {

@@ -120,7 +120,8 @@ module _ (E : DataSide) (c : Setup) (seat_of : ℕ → ℕ) (m : SharedWords) (l
               there = own.there;
               apart = own.apart;
               within = own.within;
-              ascending = own.ascending; are_bytes = own.are_bytes;
+              ascending = own.ascending;
+              are_bytes = own.are_bytes;
               loaded = omega arith;
               step = framed m h ls x (subst (λ (k : ℕ). HasPagesInHand E c m log h ls d seat x (Cells k) Before AgreeBelow) (sym z) o.0.0) (ltb-true (lsn u.start) (m.ctail + CLOSED_LINKS) e, (omega arith)) (omega arith) (eqb u.cell (length (cells_of u))) refl;
             })
@@ -179,7 +180,8 @@ module _ (E : DataSide) (c : Setup) (seat_of : ℕ → ℕ) (m : SharedWords) (l
           there = own.there;
           apart = own.apart;
           within = own.within;
-          ascending = own.ascending; are_bytes = own.are_bytes;
+          ascending = own.ascending;
+          are_bytes = own.are_bytes;
           loaded = own.loaded;
           step = framed (with_page_words m p w') h ls x
               (own_leaf long near.1 (Cells u.cell) Before AgreeBelow work w' a.latched old_ok (λ z. z) (Cells (u.cell + n)) Before AgreeBelow (record { frame = new; newest = a.page.newest; listing = a.page.listing }))
@@ -232,7 +234,8 @@ module _ (E : DataSide) (c : Setup) (seat_of : ℕ → ℕ) (m : SharedWords) (l
           there = own.there;
           apart = own.apart;
           within = own.within;
-          ascending = own.ascending; are_bytes = own.are_bytes;
+          ascending = own.ascending;
+          are_bytes = own.are_bytes;
           loaded = own.loaded;
           step = (own_leaf long near.1 (Cells (length (cells_of u))) Before AgreeBelow work w' a.latched old_ok (λ z. z) All Last AgreeBelow (record { frame = all; newest = sym (last_after p log work.at g 0 work.is k.1 later); listing = a.page.listing }), near);
         })
@@ -248,7 +251,8 @@ module _ (E : DataSide) (c : Setup) (seat_of : ℕ → ℕ) (m : SharedWords) (l
               there = own.there;
               apart = own.apart;
               within = own.within;
-              ascending = own.ascending; are_bytes = own.are_bytes;
+              ascending = own.ascending;
+              are_bytes = own.are_bytes;
               loaded = own.loaded;
               step = (
                 record { at = o.0.at; is = o.0.is; not_closed = o.0.not_closed; last = o.0.last; before = o.0.before; here = λ l. record { there = a.there; latched = a.latched; mine = a.mine; page = record { frame = a.page.frame; newest = a.page.newest; listing = (z, (omega arith)) } }; after = o.0.after },
@@ -261,7 +265,8 @@ module _ (E : DataSide) (c : Setup) (seat_of : ℕ → ℕ) (m : SharedWords) (l
               there = own.there;
               apart = own.apart;
               within = own.within;
-              ascending = own.ascending; are_bytes = own.are_bytes;
+              ascending = own.ascending;
+              are_bytes = own.are_bytes;
               loaded = own.loaded;
               step = turned_fits m h ls
                   (record { at = o.0.at; is = o.0.is; not_closed = o.0.not_closed; last = o.0.last; before = o.0.before; here = λ l. record { there = a.there; latched = a.latched; mine = a.mine; page = record { frame = a.page.frame; newest = a.page.newest; listing = (s0, (omega arith), (omega arith)) } }; after = o.0.after })
@@ -283,7 +288,8 @@ module _ (E : DataSide) (c : Setup) (seat_of : ℕ → ℕ) (m : SharedWords) (l
           there = own.there;
           apart = own.apart;
           within = own.within;
-          ascending = own.ascending; are_bytes = own.are_bytes;
+          ascending = own.ascending;
+          are_bytes = own.are_bytes;
           loaded = own.loaded;
           step = (own_leaf long near.1 All Last InListOnly work w' a.latched old_ok (λ _. pos) All Last IsListed (record { frame = a.page.frame; newest = a.page.newest; listing = (sym st, (omega arith), (omega arith)) }), near, o.2);
         })
@@ -300,7 +306,8 @@ module _ (E : DataSide) (c : Setup) (seat_of : ℕ → ℕ) (m : SharedWords) (l
           there = own.there;
           apart = own.apart;
           within = own.within;
-          ascending = own.ascending; are_bytes = own.are_bytes;
+          ascending = own.ascending;
+          are_bytes = own.are_bytes;
           loaded = own.loaded;
           step = turned_fits m' h ls
               (record { at = work.at; is = work.is; not_closed = work.not_closed; last = work.last; before = λ k a b. same _ _ All Last IsListed refl (work.before k a b); here = λ l. same _ _ All Last IsListed refl (work.here l); after = λ k a b. same _ _ (Cells 0) Before AgreeBelow refl (work.after k a b) })
@@ -362,7 +369,8 @@ module _ (E : DataSide) (c : Setup) (seat_of : ℕ → ℕ) (m : SharedWords) (l
               there = own.there;
               apart = own.apart;
               within = own.within;
-              ascending = own.ascending; are_bytes = own.are_bytes;
+              ascending = own.ascending;
+              are_bytes = own.are_bytes;
               loaded = own.loaded;
               step = (
                 (λ k lo hi. at_else E c seat_of m log stable h ls d actors seat before mates p (record w { latch = 0 }) h.holder a.there long (inr a.mine) (λ _ _. refl) ((change_at (changes u) k).page) none_in_hand All Last Agree (λ y. own.apart u.k u.page k (omega arith) hi (sym y)) (o.0 k (omega arith) hi)),

@@ -33,7 +33,10 @@ impl Cleaner {
             CleanerStep::TakeLatch => Op::Swap(Word::Latch(self.page), 0, 1),
             CleanerStep::LoadNewest => Op::Load(Word::Newest(self.page)),
             CleanerStep::ReleaseSkipped => Op::Store(Word::Latch(self.page), 0),
-            CleanerStep::LoadFrame => Op::Load(Word::Frame(self.page, self.kept.len() as u32 / WORD_LANES as u32)),
+            CleanerStep::LoadFrame => Op::Load(Word::Frame(
+                self.page,
+                self.kept.len() as u32 / WORD_LANES as u32,
+            )),
             CleanerStep::WriteBatch => Op::WriteBatch,
             CleanerStep::RemoveFromList => Op::TakeRemove(self.first_page()),
             CleanerStep::ClearOldest => Op::Store(Word::Oldest(self.first_page()), 0),

@@ -8,4 +8,6 @@ pub mod RecordBytes
 pub mod Skipped
 pub mod Texts
 pub mod UserSteps
+pub mod WayToLink
 pub mod WordCells
+pub mod WordsSpanned

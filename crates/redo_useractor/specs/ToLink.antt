@@ -1,10 +1,10 @@
 -- How many Ops a user has to go up to the store of its group's link, where none of them waits.
-use Rattle.std.specs.Prelude.{cond, nat_lt, ℕ, ◌%◌, ◌*◌, ◌+◌, ◌-◌, ◌/◌}
-use Rattle.model_core.specs.{copy_place, group_end, UserState}
+use Rattle.std.specs.Prelude.{cond, length, nat_lt, suc, zero, ℕ, ◌%◌, ◌*◌, ◌+◌, ◌-◌, ◌/◌, ◌==◌}
+use Rattle.model_core.specs.{copy_place, group_bytes, group_end, lsn, UserState}
+use Rattle.model_core.specs.declared.limits.TheConstants.{WORD_LANES}
 use Rattle.model_core.specs.declared.steps.UserStep.{UserStep}
 use Rattle.model_core.specs.declared.steps.UserStep.TheVariants as user_step
 use Rattle.model_log.specs.declared.layout.TheConstants.{BLOCK_DATA, BLOCK_HEADER}
-use Rattle.model_core.specs.declared.limits.TheConstants.{WORD_LANES}
 
 -- 1 where the group ends in another block than it starts in: its first offset is stored
 abbrev pub first_stores : UserState → ℕ
@@ -15,9 +15,14 @@ first_stores u = cond (nat_lt (u.start / BLOCK_DATA) (group_end u / BLOCK_DATA))
 abbrev pub data_word : ℕ → ℕ
 data_word x = x / BLOCK_DATA * 63 + (x % BLOCK_DATA + BLOCK_HEADER % WORD_LANES) / WORD_LANES
 
--- how many words its bytes fill that aren't copied
+-- in how many words of the log buffer a byte of the stream and so many behind it stand: so many different lsns / 8 they have
+unfoldable pub words_spanned : ℕ → ℕ → ℕ
+words_spanned x zero = 1
+words_spanned x (suc n) = words_spanned x n + cond (lsn (x + n) / WORD_LANES == lsn (x + n + 1) / WORD_LANES) 0 1
+
+-- how many words those of its bytes fill that aren't copied
 abbrev pub words_left : UserState → ℕ
-words_left u = data_word (group_end u - 1) + 1 - data_word (copy_place u)
+words_left u = words_spanned (copy_place u) (length (group_bytes u) - u.copied - 1)
 
 abbrev pub to_link_at : UserState → UserStep → ℕ
 to_link_at u user_step.LoadWrite = words_left u + first_stores u + 3
@@ -29,3 +34,8 @@ to_link_at u _ = 0
 
 abbrev pub to_link : UserState → ℕ
 to_link u = to_link_at u u.step
+
+-- how many Ops a group takes from its reservation to its link: four, one for each word that its bytes fill, and one where
+-- its first offset is stored
+abbrev pub linking_steps : UserState → ℕ
+linking_steps u = words_spanned u.start (length (group_bytes u) - 1) + 4 + first_stores u

@@ -196,7 +196,7 @@ impl UserActor {
         if self.crosses() { 1 } else { 0 }
     }
 
-    /// How many words of the log buffer the bytes of its group fill that aren't copied.
+    /// How many words of the log buffer those bytes of its group fill that aren't copied.
     fn words_left(&self) -> u64
         requires line { self.now.k < length self.now.lines }
         requires small { group_end self.now < end_limit }

@@ -1,9 +1,10 @@
 // What a user makes of the answers.
-ghost use Rattle.std.specs.Prelude.{◌≡◌, ◌<◌, ◌+◌, ◌^◌, ◌==◌, if◌then◌else◌, length, true};
+ghost use Rattle.std.specs.Prelude.{◌≡◌, ◌≢◌, ◌<◌, ◌+◌, ◌^◌, ◌==◌, false, if◌then◌else◌, length, true};
 ghost use Rattle.model_core.specs.Actors as actor;
 ghost use Rattle.model_core.specs.AnswerFits.{AnswerFits};
 ghost use Rattle.model_core.specs.{after_link, answer_limit, answered, group_bytes, group_end, has_space, step_of, took, user_checked, user_ending, user_took};
 ghost use Rattle.redo_useractor.specs.Ending.{step_end};
+ghost use Rattle.redo_useractor.specs.ToLink.{linking_steps, to_link};
 ghost use Rattle.redo_useractor.specs.UserView.{end_limit};
 
 use crate::actor::UserActor;
@@ -221,16 +222,14 @@ impl UserActor {
         }
     }
 
-    /// Takes the answer to the Op that it asked for.
+    /// The Op of its own step was answered, and not a check of FAILED.
     #[tactic(auto, using(crate::proofs::Heard::heard_at_most))]
-    pub fn took(&mut self, answer: Answer) -> Step
-        requires { AnswerFits (actor.User self.old) answer }
+    fn goes_on(&mut self, answer: Answer) -> Step
+        requires own { self.old.checks ≡ false }
+        requires fits { AnswerFits (actor.User self.old) answer }
         ensures state { actor.User self.new ≡ took (actor.User self.old) answer }
         ensures step { result ≡ step_of (actor.User self.old) answer }
     {
-        if self.checks {
-            return self.checked(old_of(answer));
-        }
         let n = heard(answer);
         match self.step {
             UserStep::LoadCheckpoint => {
@@ -264,5 +263,20 @@ impl UserActor {
             }
         }
         Step::Moved
+    }
+
+    /// Takes the answer to the Op that it asked for. On the way from a reservation to the link each one that doesn't wait brings
+    /// it one Op nearer.
+    pub fn took(&mut self, answer: Answer) -> Step
+        requires { AnswerFits (actor.User self.old) answer }
+        ensures state { actor.User self.new ≡ took (actor.User self.old) answer }
+        ensures step { result ≡ step_of (actor.User self.old) answer }
+        ensures reserves { self.old.checks ≡ false → self.old.step ≡ UserStep.Reserve → linking_steps self.new ≡ to_link self.new + 1 }
+        ensures nearer { self.old.checks ≡ false → 0 < to_link self.old → result ≢ Step.Idle → to_link self.old ≡ to_link self.new + 1 }
+    {
+        if self.checks {
+            return self.checked(old_of(answer));
+        }
+        self.goes_on(answer)
     }
 }

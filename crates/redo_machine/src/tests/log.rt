@@ -19,12 +19,36 @@ const THREE_USERS: &[u8] = b"1 f b1 3 100 7\n1 f b1 3 100 8\n2 w b1 4 100 8\n3 f
 #[test]
 fn written_is_not_flushed(rt: HostRuntime) -> Result<(), Fail> {
     let (user, writer) = (0, 1);
-    let turns = [(user, 23, Moved), (writer, 16, Moved), (user, 1, Ended)];
+    let turns = [(user, 20, Moved), (writer, 13, Moved), (user, 1, Ended)];
     let outcome = outcome_of(&rt, rt.alloc(), &Run::by_hand(ONE_LINE, &turns))?;
     assert_eq!(rt; (outcome.ended, outcome.code), (Ran::Done, 0));
     let history = [(1, 0, 8204, 8210, Written)];
     see_left(&rt, &outcome, &history, marks(8210, 8210, 8204, 8192));
     assert_eq!(rt; outcome.read, (0, 8204));
+    Ok(())
+}
+
+/// From the reservation to the link a group takes four steps, one for each word that its bytes fill, and one where it stores a
+/// first offset. Six bytes at 8,204 fill two words. 1,200 fill 153: 63 in each of two blocks, and 27 in a third. A user reserves
+/// by its fifth turn; the writer waits until the link stands.
+#[test]
+fn a_link_comes_behind_its_words(rt: HostRuntime) -> Result<(), Fail> {
+    let mut long = b"1 n s 3 38 ".to_vec(rt.alloc())?;
+    for _ in 0..1193 {
+        long.extend_from_slice(b"5a")?;
+    }
+    long.push(b'\n')?;
+    let (user, writer) = (0, 1);
+    for (text, steps) in [(ONE_LINE, 6), (long.as_slice(), 158)] {
+        let turns = [
+            (user, 3 + steps, Moved),
+            (writer, 1, Idle),
+            (user, 1, Moved),
+            (writer, 2, Moved),
+        ];
+        let outcome = outcome_of(&rt, rt.alloc(), &Run::by_hand(text, &turns))?;
+        assert_eq!(rt; outcome.history.0.len(), 1);
+    }
     Ok(())
 }
 
@@ -35,12 +59,12 @@ fn second_links_first(rt: HostRuntime) -> Result<(), Fail> {
     let (first, second, writer) = (0, 1, 2);
     let turns = [
         (first, 5, Moved),
-        (second, 14, Moved),
+        (second, 9, Moved),
         (writer, 1, Idle),
-        (first, 9, Moved),
-        (writer, 26, Moved),
-        (first, 10, Ended),
-        (second, 10, Ended),
+        (first, 5, Moved),
+        (writer, 18, Moved),
+        (first, 11, Ended),
+        (second, 11, Ended),
     ];
     let outcome = outcome_of(&rt, rt.alloc(), &Run::by_hand(TWO_USERS, &turns[..3]))?;
     let history = [(1, 0, 8204, 8210, Lost), (2, 0, 8210, 8216, Lost)];
@@ -58,9 +82,9 @@ fn second_links_first(rt: HostRuntime) -> Result<(), Fail> {
 fn a_failed_sync_ends_each_user(rt: HostRuntime) -> Result<(), Fail> {
     let (first, second, third, writer, flusher) = (0, 1, 2, 3, 4);
     let turns = [
-        (first, 24, Idle),
-        (second, 23, Moved),
-        (writer, 25, Moved),
+        (first, 21, Idle),
+        (second, 19, Moved),
+        (writer, 17, Moved),
         (second, 1, Ended),
         (flusher, 5, Failed(1)),
         (first, 1, Failed(1)),

@@ -26,15 +26,15 @@ fn two_users_on_one_page(rt: HostRuntime) -> Result<(), Fail> {
     let turns = [
         (first, 4, Moved),
         (second, 4, Idle),
-        (first, 18, Moved),
+        (first, 15, Moved),
         (second, 2, Idle),
         (first, 1, Moved),
-        (second, 18, Moved),
-        (writer, 25, Moved),
+        (second, 14, Moved),
+        (writer, 17, Moved),
         (first, 1, Ended),
         (second, 1, Ended),
         (flusher, 5, Moved),
-        (cleaner, 4112, Moved),
+        (cleaner, 528, Moved),
     ];
     let mut outcome = outcome_of(&rt, rt.alloc(), &Run::by_hand(ONE_PAGE, &turns))?;
     assert_eq!(rt; (outcome.ended, outcome.code), (Ran::Done, 0));
@@ -51,14 +51,14 @@ fn two_users_on_one_page(rt: HostRuntime) -> Result<(), Fail> {
 fn a_held_latch_is_left(rt: HostRuntime) -> Result<(), Fail> {
     let (first, second, writer, flusher, cleaner) = (0, 1, 2, 3, 5);
     let turns = [
-        (first, 23, Moved),
-        (second, 23, Ended),
-        (writer, 25, Moved),
+        (first, 20, Moved),
+        (second, 19, Ended),
+        (writer, 17, Moved),
         (flusher, 5, Moved),
         (first, 4, Moved),
-        (cleaner, 4113, Moved),
+        (cleaner, 529, Moved),
         (cleaner, 10, Idle),
-        (first, 16, Ended),
+        (first, 12, Ended),
     ];
     let mut outcome = outcome_of(&rt, rt.alloc(), &Run::by_hand(THREE_LINES, &turns))?;
     assert_eq!(rt; (outcome.ended, outcome.code), (Ran::Done, 0));
@@ -77,20 +77,20 @@ fn a_checkpoint_waits_for_old_pages(rt: HostRuntime) -> Result<(), Fail> {
     let (first, second, writer, flusher) = (0, 1, 2, 3);
     let (closer, cleaner, checkpointer) = (4, 5, 6);
     let turns = [
-        (first, 12_259, Ended),
-        (writer, 8235, Moved),
+        (first, 1566, Ended),
+        (writer, 2124, Moved),
         (flusher, 5, Moved),
-        (second, 12_259, Ended),
+        (second, 1567, Ended),
         (closer, 6, Moved),
         (checkpointer, 10, Idle),
         // page 4 is ahead of what the cleaner knows to be flushed
         (cleaner, 2, Moved),
-        (writer, 8235, Moved),
+        (writer, 2126, Moved),
         (flusher, 5, Moved),
         (checkpointer, 11, Idle),
-        (cleaner, 4113, Moved),
+        (cleaner, 529, Moved),
         (checkpointer, 11, Idle),
-        (cleaner, 4112, Moved),
+        (cleaner, 528, Moved),
         (checkpointer, 15, Moved),
     ];
     let outcome = outcome_of(&rt, rt.alloc(), &Run::by_hand(text.as_slice(), &turns))?;
@@ -117,11 +117,11 @@ fn a_checkpoint_waits_for_old_pages(rt: HostRuntime) -> Result<(), Fail> {
 fn a_batch_is_stopped(rt: HostRuntime) -> Result<(), Fail> {
     let (user, writer, flusher, cleaner) = (0, 1, 2, 4);
     let turns = [
-        (user, 38, Moved),
-        (writer, 24, Moved),
+        (user, 30, Moved),
+        (writer, 16, Moved),
         (flusher, 5, Moved),
         (user, 1, Ended),
-        (cleaner, 8207, Failed(2)),
+        (cleaner, 1039, Failed(2)),
     ];
     for calls in 0..5 {
         for pick in [0, 0x5555_5555_5555_5555, u64::MAX] {

@@ -12,10 +12,10 @@ fn words_stand_kind_after_kind(rt: HostRuntime) {
     assert_eq!(rt; number_of(Word::Wlink(32_767)), 32_779);
     assert_eq!(rt; number_of(Word::Clink(0)), 32_780);
     assert_eq!(rt; number_of(Word::Cell(0)), 49_164);
-    assert_eq!(rt; number_of(Word::First(0)), 114_700);
-    assert_eq!(rt; number_of(Word::First(127)), 114_827);
-    assert_eq!(rt; number_of(Word::Latch(0)), 114_828);
-    assert_eq!(rt; number_of(Word::Frame(0, 4095)), 118_926);
-    assert_eq!(rt; number_of(Word::Latch(1)), 118_927);
-    assert_eq!(rt; count_of(Layout { pages: 2 }), 123_026);
+    assert_eq!(rt; number_of(Word::First(0)), 57_356);
+    assert_eq!(rt; number_of(Word::First(127)), 57_483);
+    assert_eq!(rt; number_of(Word::Latch(0)), 57_484);
+    assert_eq!(rt; number_of(Word::Frame(0, 511)), 57_998);
+    assert_eq!(rt; number_of(Word::Latch(1)), 57_999);
+    assert_eq!(rt; count_of(Layout { pages: 2 }), 58_514);
 }

@@ -6,11 +6,11 @@ use std::test::Fail;
 #[test]
 fn each_op_answers_what_stood_there(rt: HostRuntime) -> Result<(), Fail> {
     let mut words = PlainWords::new(rt.alloc(), 2)?;
-    let stored = words.play(Op::Store(Word::Frame(1, 4095), 7));
+    let stored = words.play(Op::Store(Word::Frame(1, 511), 7));
     assert_eq!(rt; stored, Answer::Old(0));
-    let loaded = words.play(Op::Load(Word::Frame(1, 4095)));
+    let loaded = words.play(Op::Load(Word::Frame(1, 511)));
     assert_eq!(rt; loaded, Answer::Old(7));
-    let below = words.play(Op::Load(Word::Frame(1, 4094)));
+    let below = words.play(Op::Load(Word::Frame(1, 510)));
     assert_eq!(rt; below, Answer::Old(0));
     let latch = words.play(Op::Load(Word::Latch(1)));
     assert_eq!(rt; latch, Answer::Old(0));

@@ -5,7 +5,7 @@ use Rattle.redo_words.proofs.LaneLists.{pushed_long, pushed_next, pushed_none}
 use Rattle.redo_words.proofs.lanes.push_lanes.Goals as goal
 
 pub loop-i-init : goal.loop-i-init
-loop-i-init c = record { items = pushed_none c.args.bytes.now.items c.args.lane c.args.word; room = λ _. vec_capacity c.args.bytes.now; }
+loop-i-init c = record { items = pushed_none c.args.bytes.now.items c.args.lane c.args.word; room = λ _. vec_capacity c.args.bytes.now }
 
 pub push_reserved-requires : goal.push_reserved-requires
 push_reserved-requires c = let long = pushed_long c.args.bytes.now.items c.loop-i.bytes.items c.args.lane c.loop-i.i c.args.word c.loop-i.invariant.items in omega (arith, c.requires.room, c.loop-i.invariant.room, c.loop-i-test.true)
