@@ -1,8 +1,6 @@
-use Rattle.std.proofs.Common.{List, ℕ, ap, arith, refl, subst, sym, ◌∙◌}
-use Rattle.std.specs.Prelude.{not}
+use Rattle.std.proofs.Common.{List, ℕ, arith, refl, subst, sym, ◌∙◌}
 use Rattle.model_running.specs.{HaveEnded}
 use Rattle.redo_machine.proofs.CallsOn.{both_then, none_called}
-use Rattle.redo_machine.proofs.Ended.{none_open, one_open}
 use Rattle.redo_machine.proofs.Runs.{InRun, ends_done, ends_spent, goes_on, starts_run}
 use Rattle.redo_machine.specs.OpenUsers.{IsFirstOpen}
 use Rattle.redo_machine.specs.Views.{views_of}
@@ -37,18 +35,18 @@ returns-in-None-clause-ends g c =
 pub returns-in-None-clause-runs : goal.returns-in-None-clause-runs
 returns-in-None-clause-runs g c = λ run R. (c.loop-turn.invariant.run.goes run R).runs
 
-pub returns-in-None-2-clause-ends : goal.returns-in-None-2-clause-ends
-returns-in-None-2-clause-ends g c =
+pub returns-in-None-open_user-clause-ends : goal.returns-in-None-open_user-clause-ends
+returns-in-None-open_user-clause-ends g c =
     ends_done g.L.Sectors.seen g.L.Sectors.gives g.D.Sectors.seen g.D.Sectors.gives c.args.seed c.args.max c.loop-turn.turn c.loop-turn.draws c.seats-seats.result c.args.self.now c.loop-turn.self c.loop-turn.invariant.run (omega arith)
-    (subst (λ (actors : List Actor). HaveEnded (views_of actors)) c.as_slice-2.ensures.value c.in-None-2.ensures)
+    (subst (λ (actors : List Actor). HaveEnded (views_of actors)) c.as_slice-2.ensures.value c.in-None-open_user.ensures)
 
-pub returns-in-None-2-clause-runs : goal.returns-in-None-2-clause-runs
-returns-in-None-2-clause-runs g c = λ run R. (c.loop-turn.invariant.run.goes run R).runs
+pub returns-in-None-open_user-clause-runs : goal.returns-in-None-open_user-clause-runs
+returns-in-None-open_user-clause-runs g c = λ run R. (c.loop-turn.invariant.run.goes run R).runs
 
-pub returns-in-Some-clause-ends : goal.returns-in-Some-clause-ends
-returns-in-Some-clause-ends g c =
-    ends_spent g.L.Sectors.seen g.L.Sectors.gives g.D.Sectors.seen g.D.Sectors.gives c.args.seed c.args.max c.loop-turn.turn c.loop-turn.draws c.seats-seats.result c.in-Some.user c.args.self.now c.loop-turn.self c.loop-turn.invariant.run (omega arith)
-    (subst (λ (actors : List Actor). IsFirstOpen (views_of actors) c.in-Some.user) c.as_slice-2.ensures.value c.in-Some.ensures)
+pub returns-in-Some-open_user-clause-ends : goal.returns-in-Some-open_user-clause-ends
+returns-in-Some-open_user-clause-ends g c =
+    ends_spent g.L.Sectors.seen g.L.Sectors.gives g.D.Sectors.seen g.D.Sectors.gives c.args.seed c.args.max c.loop-turn.turn c.loop-turn.draws c.seats-seats.result c.in-Some-open_user.user c.args.self.now c.loop-turn.self c.loop-turn.invariant.run (omega arith)
+    (subst (λ (actors : List Actor). IsFirstOpen (views_of actors) c.in-Some-open_user.user) c.as_slice-2.ensures.value c.in-Some-open_user.ensures)
 
-pub returns-in-Some-clause-runs : goal.returns-in-Some-clause-runs
-returns-in-Some-clause-runs g c = λ run R. (c.loop-turn.invariant.run.goes run R).runs
+pub returns-in-Some-open_user-clause-runs : goal.returns-in-Some-open_user-clause-runs
+returns-in-Some-open_user-clause-runs g c = λ run R. (c.loop-turn.invariant.run.goes run R).runs
