@@ -61,15 +61,10 @@ pub first_open : (actors : List Actor) (seat : ℕ) (d : Actor) (user : ℕ) →
 first_open actors seat d user l before is = let o = opened (view_of (get_or actors seat d)) user is in
     record { seat = seat; state = o.0; is = view_at actors seat d l ∙ ap some o.1; open_user = o.2; before = before }
 
--- what the search for it answers
-pub none_open : (answer : Option ℕ) (seen actors : List Actor) → ◌≡◌ {A = List Actor} seen actors → is_some answer ≡ false
-    → MatchOption answer (HaveEnded (views_of seen)) (IsFirstOpen (views_of seen)) → HaveEnded (views_of actors)
-none_open None seen actors same is found = subst (λ (l : List Actor). HaveEnded (views_of l)) same found
-none_open (Some user) seen actors same is found = absurd (cc)
+-- a user that hasn't ended is one of those that would have
+pub not_all : (actors : List Actor) (seat : ℕ) (d : Actor) (user : ℕ) → seat < length actors → IsOpen (view_of (get_or actors seat d)) user → HaveEnded (views_of actors) → ⊥
+not_all actors seat d user l is ended = let o = opened (view_of (get_or actors seat d)) user is in
+    o.2.not_ended (ended seat o.0 (view_at actors seat d l ∙ ap some o.1))
 
-pub one_open : (answer : Option ℕ) (seen actors : List Actor) → ◌≡◌ {A = List Actor} seen actors → is_some answer ≡ true
-    → MatchOption answer (HaveEnded (views_of seen)) (IsFirstOpen (views_of seen)) → HaveEnded (views_of actors) → ⊥
-one_open None seen actors same is found = absurd (cc)
-one_open (Some user) seen actors same is found =
-    let first = subst (λ (l : List Actor). IsFirstOpen (views_of l) user) same found in
-    λ ended. first.open_user.not_ended (ended first.seat first.state first.is)
+pub not_all_first : (actors : List model.Actor) (user : ℕ) → IsFirstOpen actors user → HaveEnded actors → ⊥
+not_all_first actors user first ended = first.open_user.not_ended (ended first.seat first.state first.is)

@@ -33,15 +33,32 @@ fn open_number(actor: &Actor) -> Option<u32>
     }
 }
 
-/// The first user that hasn't ended, by the seats.
-pub fn open_user(actors: &[Actor]) -> Option<u32>
-    ensures { MatchOption result (HaveEnded (views_of actors.now)) (IsFirstOpen (views_of actors.now)) }
+/// The first user that hasn't ended, by the seats, with its seat.
+pub fn open_user(actors: &[Actor]) -> Option<(usize, u32)>
+    ensures { MatchOption result (HaveEnded (views_of actors.now)) (λ found. IsFirstOpen (views_of actors.now) found.1) }
 {
-    for actor in actors {
+    for (seat, actor) in actors.iter().enumerate() {
         match open_number(actor) {
-            Some(user) => return Some(user),
+            Some(user) => return Some((seat, user)),
             None => {}
         }
     }
     None
+}
+
+/// A seat whose user hasn't ended: this one as long as its user hasn't, else the first. So a run looks over all seats only once
+/// for each user that ends.
+pub fn open_seat(actors: &[Actor], seat: usize) -> Option<usize>
+    ensures { MatchOption result (HaveEnded (views_of actors.now)) (λ _. HaveEnded (views_of actors.now) → ⊥) }
+{
+    if seat < actors.len() {
+        match open_number(&actors[seat]) {
+            Some(_) => return Some(seat),
+            None => {}
+        }
+    }
+    match open_user(actors) {
+        Some((first, _)) => Some(first),
+        None => None,
+    }
 }

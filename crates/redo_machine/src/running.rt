@@ -7,7 +7,7 @@ ghost use Rattle.redo_machine.specs.Running.{IsOnRun, RunsOn};
 ghost use Rattle.redo_machine.specs.Turns.{EndsAsking, IsDrawn};
 
 use crate::machine::Machine;
-use crate::open_users::open_user;
+use crate::open_users::{open_seat, open_user};
 use redo_disk::Sectors;
 use redo_script::Draws;
 
@@ -47,16 +47,18 @@ impl<L: Sectors, D: Sectors> Machine<L, D> {
     {
         let seats = self.seats() as u64;
         let mut draws = Draws::new(seed);
+        let mut open = 0;
         for turn in 0..max {
-            if open_user(self.actors.as_slice()).is_none() {
-                return Ran::Done;
+            match open_seat(self.actors.as_slice(), open) {
+                None => return Ran::Done,
+                Some(found) => open = found,
             }
             let seat = seat_of(&mut draws, turn, max, seats);
             let _ = self.turn(seat as usize);
         }
         match open_user(self.actors.as_slice()) {
             None => Ran::Done,
-            Some(user) => Ran::Spent(user),
+            Some((_, user)) => Ran::Spent(user),
         }
     }
 }

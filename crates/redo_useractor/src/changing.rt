@@ -13,7 +13,7 @@ use redo_words::Step;
 
 impl UserActor {
     /// It goes on at this place of a page, behind so many of the changed cells there.
-    fn goes_on(&mut self, page: usize, cell: usize, at: Place)
+    fn comes_to(&mut self, page: usize, cell: usize, at: Place)
         requires line { self.old.k < length self.old.lines }
         requires one { length self.old.starts ≡ self.old.k + 1 }
         requires small { group_end self.old < end_limit }
@@ -37,7 +37,7 @@ impl UserActor {
         ensures { self.new ≡ record self.old { page = page; cell = cell; step = cells_step (change_at (changes self.old) page).cells cell } }
     {
         let at = self.line().first_place(page);
-        self.goes_on(page, cell, at);
+        self.comes_to(page, cell, at);
     }
 
     /// CTAIL was loaded: whether the recent-closed buffer has the place of its link.
@@ -77,7 +77,7 @@ impl UserActor {
         let next = self.cell + self.at.count;
         let at = self.line().place_behind(page, self.at);
         self.word = 0;
-        self.goes_on(page, next, at);
+        self.comes_to(page, next, at);
         Step::Moved
     }
 

@@ -2,5 +2,5 @@
 use Rattle.redo_machine.proofs.Ended.{EndedBelow}
 use Rattle.redo_machine.proofs.open_users.open_user.Given as goal
 
-abbrev pub invariant-loop-actor : goal.invariant-loop-actor
-invariant-loop-actor l = EndedBelow l.actor-index l.actors
+abbrev pub invariant-loop-seat : goal.invariant-loop-seat
+invariant-loop-seat l = EndedBelow l.seat l.actors

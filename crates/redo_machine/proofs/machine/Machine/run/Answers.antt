@@ -1,8 +1,6 @@
-use Rattle.std.proofs.Common.{List, ℕ, ap, arith, refl, subst, sym, ◌∙◌}
-use Rattle.std.specs.Prelude.{not}
+use Rattle.std.proofs.Common.{List, ℕ, arith, refl, subst, sym, ◌∙◌}
 use Rattle.model_running.specs.{HaveEnded}
 use Rattle.redo_machine.proofs.CallsOn.{both_then, none_called}
-use Rattle.redo_machine.proofs.Ended.{none_open, one_open}
 use Rattle.redo_machine.proofs.Runs.{InRun, ends_done, ends_spent, goes_on, starts_run}
 use Rattle.redo_machine.specs.OpenUsers.{IsFirstOpen}
 use Rattle.redo_machine.specs.Views.{views_of}
@@ -20,37 +18,35 @@ loop-turn-init g c = record {
 pub loop-turn-preserved : goal.loop-turn-preserved
 loop-turn-preserved g c =
     let I = c.loop-turn.invariant in
-    let some = c.is_none.ensures ∙ ap not c.if-is_none.false in
     record {
       run = goes_on g.L.Sectors.seen g.L.Sectors.gives g.D.Sectors.seen g.D.Sectors.gives c.args.seed c.args.max c.loop-turn.turn c.loop-turn.draws c.seat_of-seat.new.draws c.seats-seats.result c.seat_of-seat.result c.turn.result c.args.self.now c.loop-turn.self c.turn.new.self I.run
-          (one_open c.open_user.result c.as_slice.result.now c.loop-turn.self.actors.items c.as_slice.ensures.value some c.open_user.ensures)
+          (subst (λ (actors : List Actor). HaveEnded (views_of actors) → ⊥) c.as_slice.ensures.value c.in-Some.ensures)
           (c.seat_of-seat.ensures.seat c.args.seed I.run.drawn) (c.seat_of-seat.ensures.drawn c.args.seed I.run.drawn)
           c.turn.ensures.turn c.turn.ensures.runs c.turn.ensures.seats c.turn.ensures.asked;
       calls = both_then g.L.Sectors.gives g.D.Sectors.gives c.args.self.now.parts c.loop-turn.self.parts c.turn.new.self.parts I.calls c.turn.ensures.calls;
       entries = c.turn.ensures.entries ∙ I.entries;
     }
 
-pub returns-then-is_none-clause-ends : goal.returns-then-is_none-clause-ends
-returns-then-is_none-clause-ends g c =
-    let none = c.is_none.ensures ∙ ap not c.if-is_none.true in
-    ends_done g.L.Sectors.seen g.L.Sectors.gives g.D.Sectors.seen g.D.Sectors.gives c.args.seed c.args.max c.loop-turn.turn c.loop-turn.draws c.seats-seats.result c.args.self.now c.loop-turn.self c.loop-turn.invariant.run (omega arith)
-    (none_open c.open_user.result c.as_slice.result.now c.loop-turn.self.actors.items c.as_slice.ensures.value none c.open_user.ensures)
-
-pub returns-then-is_none-clause-runs : goal.returns-then-is_none-clause-runs
-returns-then-is_none-clause-runs g c = λ run R. (c.loop-turn.invariant.run.goes run R).runs
-
 pub returns-in-None-clause-ends : goal.returns-in-None-clause-ends
 returns-in-None-clause-ends g c =
     ends_done g.L.Sectors.seen g.L.Sectors.gives g.D.Sectors.seen g.D.Sectors.gives c.args.seed c.args.max c.loop-turn.turn c.loop-turn.draws c.seats-seats.result c.args.self.now c.loop-turn.self c.loop-turn.invariant.run (omega arith)
-    (subst (λ (actors : List Actor). HaveEnded (views_of actors)) c.as_slice-2.ensures.value c.in-None.ensures)
+    (subst (λ (actors : List Actor). HaveEnded (views_of actors)) c.as_slice.ensures.value c.in-None.ensures)
 
 pub returns-in-None-clause-runs : goal.returns-in-None-clause-runs
 returns-in-None-clause-runs g c = λ run R. (c.loop-turn.invariant.run.goes run R).runs
 
-pub returns-in-Some-clause-ends : goal.returns-in-Some-clause-ends
-returns-in-Some-clause-ends g c =
-    ends_spent g.L.Sectors.seen g.L.Sectors.gives g.D.Sectors.seen g.D.Sectors.gives c.args.seed c.args.max c.loop-turn.turn c.loop-turn.draws c.seats-seats.result c.in-Some.user c.args.self.now c.loop-turn.self c.loop-turn.invariant.run (omega arith)
-    (subst (λ (actors : List Actor). IsFirstOpen (views_of actors) c.in-Some.user) c.as_slice-2.ensures.value c.in-Some.ensures)
+pub returns-in-None-open_user-clause-ends : goal.returns-in-None-open_user-clause-ends
+returns-in-None-open_user-clause-ends g c =
+    ends_done g.L.Sectors.seen g.L.Sectors.gives g.D.Sectors.seen g.D.Sectors.gives c.args.seed c.args.max c.loop-turn.turn c.loop-turn.draws c.seats-seats.result c.args.self.now c.loop-turn.self c.loop-turn.invariant.run (omega arith)
+    (subst (λ (actors : List Actor). HaveEnded (views_of actors)) c.as_slice-2.ensures.value c.in-None-open_user.ensures)
 
-pub returns-in-Some-clause-runs : goal.returns-in-Some-clause-runs
-returns-in-Some-clause-runs g c = λ run R. (c.loop-turn.invariant.run.goes run R).runs
+pub returns-in-None-open_user-clause-runs : goal.returns-in-None-open_user-clause-runs
+returns-in-None-open_user-clause-runs g c = λ run R. (c.loop-turn.invariant.run.goes run R).runs
+
+pub returns-in-Some-open_user-clause-ends : goal.returns-in-Some-open_user-clause-ends
+returns-in-Some-open_user-clause-ends g c =
+    ends_spent g.L.Sectors.seen g.L.Sectors.gives g.D.Sectors.seen g.D.Sectors.gives c.args.seed c.args.max c.loop-turn.turn c.loop-turn.draws c.seats-seats.result c.in-Some-open_user.user c.args.self.now c.loop-turn.self c.loop-turn.invariant.run (omega arith)
+    (subst (λ (actors : List Actor). IsFirstOpen (views_of actors) c.in-Some-open_user.user) c.as_slice-2.ensures.value c.in-Some-open_user.ensures)
+
+pub returns-in-Some-open_user-clause-runs : goal.returns-in-Some-open_user-clause-runs
+returns-in-Some-open_user-clause-runs g c = λ run R. (c.loop-turn.invariant.run.goes run R).runs

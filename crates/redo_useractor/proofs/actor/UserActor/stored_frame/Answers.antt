@@ -10,8 +10,8 @@ overflow_add-next c =
     let here = subst (IsAt c.self.inside) (ap (λ (s : UserState). s.step) c.self.view_is ∙ c.requires.step) c.self.invariant.step in
     omega (arith, here.2.0.few here.2.1)
 
-pub goes_on-requires-clause-place : goal.goes_on-requires-clause-place
-goes_on-requires-clause-place c =
+pub comes_to-requires-clause-place : goal.comes_to-requires-clause-place
+comes_to-requires-clause-place c =
     let u = c.self.inside in
     let here = subst (IsAt u) (ap (λ (s : UserState). s.step) c.self.view_is ∙ c.requires.step) c.self.invariant.step in
     let same : c.line.result.now ≡ line (user_view u) = c.line.ensures ∙ sym (ap line c.self.view_is) in

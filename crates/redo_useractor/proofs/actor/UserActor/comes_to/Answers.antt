@@ -4,7 +4,7 @@ use Rattle.redo_useractor.proofs.UserSteps.{at_step}
 use Rattle.redo_useractor.specs.Places.{IsPlace}
 use Rattle.redo_useractor.specs.UserView.{end_limit, HasGroup, IsAt, IsAtPage, user_view}
 use Rattle.redo_useractor.specs.declared.actor.UserActor.TheInside.{Inside}
-use Rattle.redo_useractor.proofs.actor.UserActor.goes_on.Goals as goal
+use Rattle.redo_useractor.proofs.actor.UserActor.comes_to.Goals as goal
 
 pub invariant_of-self : goal.invariant_of-self
 invariant_of-self c =
