@@ -79,6 +79,23 @@ pub fn small_groups(length: usize) -> Vec<u8> {
     stream
 }
 
+/// Groups of two strings of 4,000 bytes, at most so many bytes of them.
+pub fn large_groups(length: usize) -> Vec<u8> {
+    let mut draws = Draws(4);
+    let mut stream = Vec::new();
+    while stream.len() + 8_192 <= length {
+        for _ in 0..2 {
+            put_page(&mut stream, STRING, &mut draws);
+            stream.extend((FIRST_OFFSET as u16).to_be_bytes());
+            stream.extend(4_000u16.to_be_bytes());
+            let byte = draws.draw() as u8;
+            stream.extend([byte; 4_000]);
+        }
+        stream.push(END_MARK);
+    }
+    stream
+}
+
 fn put_number(stream: &mut Vec<u8>, flag: u8, width: u8, draws: &mut Draws) {
     put_spot(stream, flag | width, draws);
     match width {

@@ -37,6 +37,12 @@ fn write() -> io::Result<()> {
     fs::write(SCRIPT_FILE, scripts::long())
 }
 
+fn write_logs() -> io::Result<()> {
+    fs::write("small.bin", store::log_of_small())?;
+    fs::write("large.bin", store::log_of_large())?;
+    fs::write(DATA_FILE, store::data_bytes())
+}
+
 fn time() -> io::Result<()> {
     let noise = fs::read(NOISE_FILE)?;
     let (best, checksum) = fastest(|| checksum::crc32c(black_box(&noise)));
@@ -118,9 +124,10 @@ fn report(name: &str, length: usize, best: Duration, outcome: &str) {
 fn main() -> io::Result<()> {
     match env::args().nth(1).as_deref() {
         Some("write") => write(),
+        Some("logs") => write_logs(),
         Some("time") => time(),
         _ => {
-            eprintln!("usage: plain write|time");
+            eprintln!("usage: plain write|logs|time");
             process::exit(2)
         }
     }

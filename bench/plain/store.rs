@@ -1,8 +1,9 @@
 //! The bytes of the two devices of the store that is recovered: a log of 256 MiB, full of small groups but for its last
-//! block, and 64 pages, of which every other one has an lsn in the middle of the log.
+//! block, and 64 pages, of which every other one has an lsn in the middle of the log; and two logs of 512 MiB, full of small
+//! groups and of large ones, for recovery by several workers.
 
 use crate::checksum::crc32c;
-use crate::generator::small_groups;
+use crate::generator::{large_groups, small_groups};
 use crate::log::{BLOCK_DATA, BLOCK_HEADER, BLOCK_SIZE, HEADER_BYTES, START_LSN, fill};
 
 pub const LOG_BLOCKS: usize = 524_288;
@@ -11,16 +12,28 @@ pub const PAGE_SIZE: usize = 4096;
 pub const SLOTS: usize = 8;
 pub const SPACE: u32 = 1;
 
-/// Whole groups, which end in the log's last block.
-fn stream() -> Vec<u8> {
-    small_groups(BLOCK_DATA * (LOG_BLOCKS - 1))
+/// The blocks of the longest log.
+const MOST_BLOCKS: usize = 1_048_576;
+
+/// The log device. Its groups end in its last block.
+pub fn log_bytes() -> Vec<u8> {
+    log_of(LOG_BLOCKS, &small_groups(BLOCK_DATA * (LOG_BLOCKS - 1)))
 }
 
-/// The log device.
-pub fn log_bytes() -> Vec<u8> {
-    let stream = stream();
-    let mut log = vec![0; HEADER_BYTES + BLOCK_SIZE * LOG_BLOCKS];
-    head(&mut log[..BLOCK_SIZE]);
+/// The longest log, of small groups.
+pub fn log_of_small() -> Vec<u8> {
+    log_of(MOST_BLOCKS, &small_groups(BLOCK_DATA * (MOST_BLOCKS - 1)))
+}
+
+/// The longest log, of large groups.
+pub fn log_of_large() -> Vec<u8> {
+    log_of(MOST_BLOCKS, &large_groups(BLOCK_DATA * MOST_BLOCKS))
+}
+
+/// A log device of so many blocks with these groups.
+fn log_of(log_blocks: usize, stream: &[u8]) -> Vec<u8> {
+    let mut log = vec![0; HEADER_BYTES + BLOCK_SIZE * log_blocks];
+    head(&mut log[..BLOCK_SIZE], log_blocks);
     checkpoint(&mut log[BLOCK_SIZE..2 * BLOCK_SIZE], 0, START_LSN, HEADER_BYTES as u64);
     let blocks = log[HEADER_BYTES..].chunks_exact_mut(BLOCK_SIZE);
     for (i, (block, data)) in blocks.zip(stream.chunks(BLOCK_DATA)).enumerate() {
@@ -38,10 +51,10 @@ fn seal(block: &mut [u8], fields: &[&[u8]]) {
 }
 
 /// The file header.
-fn head(block: &mut [u8]) {
+fn head(block: &mut [u8], log_blocks: usize) {
     let mut creator = [0; 32];
     creator[..9].copy_from_slice(b"redolab 1");
-    let sizes = [PAGE_SIZE as u32, PAGES as u32, SPACE, LOG_BLOCKS as u32, SLOTS as u32];
+    let sizes = [PAGE_SIZE as u32, PAGES as u32, SPACE, log_blocks as u32, SLOTS as u32];
     let sizes = sizes.map(u32::to_be_bytes).concat();
     seal(block, &[&1u32.to_be_bytes(), &[0; 4], &START_LSN.to_be_bytes(), &creator, &sizes]);
 }
