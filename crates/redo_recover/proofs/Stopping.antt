@@ -1,13 +1,12 @@
 -- Where and why no further block is read.
-use Rattle.std.proofs.Common.{◌≡◌, ℕ, ◌+◌, ◌*◌, ◌<◌, ◌∙◌, true, false, cond, ltb, List, [], ◌∷◌, ◌++◌, length, Bool, arith, sym, ap, subst}
-use Rattle.std.specs.List.{slice_get}
-use Rattle.std.specs.Prelude.{Option, Some, None}
+use Rattle.std.proofs.Common.{◌≡◌, ℕ, ◌+◌, ◌*◌, ◌<◌, ◌∙◌, true, false, cond, ltb, List, [], ◌∷◌, ◌++◌, Bool, arith, sym, ap, subst}
+use Rattle.std.specs.Prelude.{Option}
 use Rattle.std.proofs.lemmas.List.{length_push}
 use Rattle.model_base.specs.declared.limits.TheConstants.{BLOCK_SIZE, LSN_LIMIT}
 use Rattle.model_base.specs.declared.shape.Shape.{Shape}
 use Rattle.model_log.specs.{is_full, log_block}
 use Rattle.model_log.specs.declared.block.BlockView.{BlockView}
-use Rattle.model_stop.specs.{AreFull, IsStop, cause_at, fit_of}
+use Rattle.model_stop.specs.{IsStop, cause_at, fit_of}
 use Rattle.model_stop.specs.Stop.{IsUnread}
 use Rattle.model_stop.specs.declared.cause.Cause.{Cause}
 use Rattle.model_stop.specs.declared.cause.Cause.TheVariants.{Partial, Round, End, Misfit}
