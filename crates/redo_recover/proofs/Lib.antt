@@ -14,6 +14,7 @@ mod Parsing
 mod Placing
 mod Rising
 mod Scanning
+mod Stopping
 mod Setting
 mod Making
 mod Once

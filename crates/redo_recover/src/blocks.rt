@@ -4,6 +4,7 @@ ghost use Rattle.model_base.specs.{HasRisen, IsWithinLimits};
 ghost use Rattle.model_base.specs.declared.limits.TheConstants.{MAX_LOG_BLOCKS, START_LSN};
 ghost use Rattle.model_log.specs.{is_full, log_device_length, offset_of, read_block};
 ghost use Rattle.model_log.specs.declared.layout.TheConstants.{BLOCK_HEADER};
+ghost use Rattle.model_stop.specs.{IsStop, cause_at};
 ghost use Rattle.model_store.specs.{groups_start};
 ghost use Rattle.redo_disk.specs.{error_of, MakesCalls};
 ghost use Rattle.redo_disk.specs.declared.error.DevError.{DevError};
@@ -15,7 +16,8 @@ ghost use Rattle.redo_recover.specs.Reach.{BeginsBlock, IsOfScan};
 use crate::piece::Piece;
 use model_base::{BLOCK_SIZE, LSN_LIMIT, Shape};
 use model_log::{BlockView, HEADER_BYTES};
-use redo_block::{block_data, read};
+use model_stop::Cause;
+use redo_block::{block_data, read, why};
 use redo_disk::{DevError, Sectors};
 use redo_lsn::offset_of;
 use std::alloc::Global;
@@ -27,6 +29,8 @@ pub(crate) struct Blocks {
     pub(crate) views: Vec<BlockView>,
     /// Their data, joined.
     pub(crate) joined: Vec<u8>,
+    /// Where no further one is read, and why.
+    pub(crate) stop: (u64, Cause),
 }
 
 /// Whether the block's data is all in use.
@@ -69,6 +73,7 @@ pub(crate) fn read_blocks<L: Sectors>(
     ensures blocks { IfOk result (λ blocks. OnContent (L.seen log.old).tells (AreBlocksOf shape.now ckpt blocks.views.items blocks.joined.items)) }
     ensures few { IfOk result (λ blocks. AreFew shape.now blocks.views.items blocks.joined.items) }
     ensures firsts { IfOk result (λ blocks. HaveFirsts blocks.views.items) }
+    ensures stop { IfOk result (λ blocks. OnContent (L.seen log.old).tells (IsStop shape.now ckpt blocks.views.items blocks.stop)) }
     ensures unchanged { IsUnchanged (L.seen log.old) (L.seen log.new) }
     ensures failed { IsErrOf result DevError.Failed → HasRisen (L.seen log.old).faults (L.seen log.new).faults }
     ensures calls { MakesCalls L.gives log.old log.new (ReadsFrom (BeginsBlock shape.now ckpt (L.seen log.old).tells)
@@ -87,15 +92,30 @@ pub(crate) fn read_blocks<L: Sectors>(
         piece = piece.with_sector(alloc, log, at, end)?;
         let block = piece.sector(at);
         let Some(view) = taken(block, lsn) else {
-            return Ok(Blocks { views, joined });
+            let stop = (lsn, untaken(block, lsn));
+            return Ok(Blocks {
+                views,
+                joined,
+                stop,
+            });
         };
         views.push(view)?;
         joined.extend_from_slice(block_data(view, block))?;
         if !is_full(view) {
-            return Ok(Blocks { views, joined });
+            let stop = (lsn, Cause::Partial);
+            return Ok(Blocks {
+                views,
+                joined,
+                stop,
+            });
         }
     }
-    Ok(Blocks { views, joined })
+    let next = ckpt + BLOCK_SIZE * u64::from(shape.log_blocks);
+    Ok(Blocks {
+        views,
+        joined,
+        stop: (next, Cause::Round),
+    })
 }
 
 /// The block that the scan takes at the lsn off its 512 bytes; none at the lsn limit or above.
@@ -108,6 +128,17 @@ fn taken(block: &[u8; 512], lsn: u64) -> Option<BlockView>
         read(block, lsn)
     } else {
         None
+    }
+}
+
+/// Why the scan takes no block at the lsn off its 512 bytes, where it doesn't.
+fn untaken(block: &[u8; 512], lsn: u64) -> Cause
+    ensures { result ≡ cause_at lsn block.now }
+{
+    if lsn < LSN_LIMIT {
+        Cause::Misfit(why(block, lsn))
+    } else {
+        Cause::End
     }
 }
 

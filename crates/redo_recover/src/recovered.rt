@@ -3,6 +3,7 @@ use crate::places::Places;
 use model_base::Shape;
 use model_log::BlockView;
 use model_record::Whole;
+use model_stop::Cause;
 use redo_apply::Pages;
 
 /// What is read off the two devices of a store.
@@ -20,6 +21,8 @@ pub struct Recovered {
     pub groups: Vec<Whole>,
     /// The lsn at which the log ends.
     pub end: u64,
+    /// The lsn at which no further block was read, and why.
+    pub stop: (u64, Cause),
     /// The pages, with the scanned groups applied.
     pub pages: Pages,
     /// The slots, and where each page was found, before groups were applied.

@@ -1,6 +1,7 @@
 // Recovery.
 ghost use Rattle.std.specs.Prelude.{◌≡◌, ◌≤◌, IfOk, IfErr, IfSome, IsErrOf};
 ghost use Rattle.model_base.specs.{HasRisen};
+ghost use Rattle.model_stop.specs.{IsStop};
 ghost use Rattle.model_store.specs.{IsReading};
 ghost use Rattle.redo_disk.specs.{HasSize, MakesCalls};
 ghost use Rattle.redo_papply.specs.declared.apply.TheConstants.{MAX_WORKERS};
@@ -31,6 +32,8 @@ fn recover_by<L: Sectors, D: Sectors, P: Replay>(
         (λ log_bytes data_bytes. IsReading log_bytes data_bytes (reading_of recovered))) }
     ensures found { IfOk result (λ recovered. OnContent (D.seen data_device.old).tells
         (AreFoundOn recovered.shape recovered.places recovered.pages)) }
+    ensures stop { IfOk result (λ recovered. OnContent (L.seen log.old).tells
+        (IsStop recovered.shape recovered.ckpt recovered.views.items recovered.stop)) }
     ensures sized { IfOk result (λ _. IfSome (D.seen data_device.old).tells (HasSize (D.seen data_device.old).size)) }
     ensures of_devices { IfOk result (IsOfDevices (L.seen log.old).size (D.seen data_device.old).size) }
     ensures lengths { IfErr result (HasLengthCause (L.seen log.old).size (D.seen data_device.old).size) }
@@ -49,7 +52,12 @@ fn recover_by<L: Sectors, D: Sectors, P: Replay>(
         number,
         ckpt,
     } = read_start(log, data_device)?;
-    let Scanned { views, groups, end } = scan_log(alloc, log, &shape, ckpt)?;
+    let Scanned {
+        views,
+        groups,
+        end,
+        stop,
+    } = scan_log(alloc, log, &shape, ckpt)?;
     let Placed { pages, places } = read_pages(
         alloc,
         data_device,
@@ -65,6 +73,7 @@ fn recover_by<L: Sectors, D: Sectors, P: Replay>(
         views,
         groups,
         end,
+        stop,
         pages,
         places,
     })
@@ -85,6 +94,8 @@ pub fn recover<L: Sectors, D: Sectors>(
         (λ log_bytes data_bytes. IsReading log_bytes data_bytes (reading_of recovered))) }
     ensures found { IfOk result (λ recovered. OnContent (D.seen data_device.old).tells
         (AreFoundOn recovered.shape recovered.places recovered.pages)) }
+    ensures stop { IfOk result (λ recovered. OnContent (L.seen log.old).tells
+        (IsStop recovered.shape recovered.ckpt recovered.views.items recovered.stop)) }
     ensures sized { IfOk result (λ _. IfSome (D.seen data_device.old).tells (HasSize (D.seen data_device.old).size)) }
     ensures of_devices { IfOk result (IsOfDevices (L.seen log.old).size (D.seen data_device.old).size) }
     ensures lengths { IfErr result (HasLengthCause (L.seen log.old).size (D.seen data_device.old).size) }
@@ -114,6 +125,8 @@ pub fn recover_with<R: Threads + Sync, L: Sectors, D: Sectors>(
         (λ log_bytes data_bytes. IsReading log_bytes data_bytes (reading_of recovered))) }
     ensures found { IfOk result (λ recovered. OnContent (D.seen data_device.old).tells
         (AreFoundOn recovered.shape recovered.places recovered.pages)) }
+    ensures stop { IfOk result (λ recovered. OnContent (L.seen log.old).tells
+        (IsStop recovered.shape recovered.ckpt recovered.views.items recovered.stop)) }
     ensures sized { IfOk result (λ _. IfSome (D.seen data_device.old).tells (HasSize (D.seen data_device.old).size)) }
     ensures of_devices { IfOk result (IsOfDevices (L.seen log.old).size (D.seen data_device.old).size) }
     ensures lengths { IfErr result (HasLengthCause (L.seen log.old).size (D.seen data_device.old).size) }

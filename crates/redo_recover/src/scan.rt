@@ -4,6 +4,7 @@ ghost use Rattle.model_base.specs.{HasRisen, IsWithinLimits};
 ghost use Rattle.model_base.specs.declared.limits.TheConstants.{BLOCK_SIZE, LSN_LIMIT, START_LSN};
 ghost use Rattle.model_log.specs.{log_device_length};
 ghost use Rattle.model_record.specs.{GroupFits};
+ghost use Rattle.model_stop.specs.{IsStop};
 ghost use Rattle.model_store.specs.{IsScan};
 ghost use Rattle.redo_disk.specs.{MakesCalls};
 ghost use Rattle.redo_recover.specs.Calls.{ReadsFrom, log_error_of};
@@ -20,15 +21,18 @@ use crate::groups::parse;
 use model_base::Shape;
 use model_log::BlockView;
 use model_record::Whole;
+use model_stop::Cause;
 use redo_disk::Sectors;
 use std::alloc::Global;
 
-/// What is scanned of a log: the blocks, the groups in them, and the lsn at which the log ends.
+/// What is scanned of a log: the blocks, the groups in them, the lsn at which the log ends, and where and why no further block
+/// is read.
 #[derive(Debug, Drop)]
 pub(crate) struct Scanned {
     pub(crate) views: Vec<BlockView>,
     pub(crate) groups: Vec<Whole>,
     pub(crate) end: u64,
+    pub(crate) stop: (u64, Cause),
 }
 
 /// Scans a log from the checkpoint at this lsn on, up to its end.
@@ -45,6 +49,7 @@ pub(crate) fn scan_log<L: Sectors>(
     requires small { ckpt < LSN_LIMIT }
     ensures scan { IfOk result (λ scanned. OnContent (L.seen log.old).tells
         (λ content. IsScan shape.now content ckpt scanned.views.items scanned.groups.items scanned.end)) }
+    ensures stop { IfOk result (λ scanned. OnContent (L.seen log.old).tells (IsStop shape.now ckpt scanned.views.items scanned.stop)) }
     ensures few { IfOk result (λ scanned. length scanned.views.items ≤ shape.now.log_blocks) }
     ensures end { IfOk result (λ scanned. IsEndOf shape.now ckpt scanned.groups.items scanned.end) }
     ensures fit { IfOk result (λ scanned. All (λ whole. GroupFits shape.now whole.group) scanned.groups.items) }
@@ -64,6 +69,11 @@ pub(crate) fn scan_log<L: Sectors>(
         Err(error) => return Err(log_fault(error)),
     };
     let (groups, end) = parse(alloc, &blocks, shape, ckpt)?;
-    let Blocks { views, .. } = blocks;
-    Ok(Scanned { views, groups, end })
+    let Blocks { views, stop, .. } = blocks;
+    Ok(Scanned {
+        views,
+        groups,
+        end,
+        stop,
+    })
 }

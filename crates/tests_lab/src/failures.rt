@@ -1,6 +1,6 @@
 // Sources, sinks and devices that fail.
-use crate::calls::{Called, LINE, call, call_with, calls_of_opening, source_of, words_of};
-use crate::devices::blank;
+use crate::calls::{Called, LINE, call, call_on, call_with, calls_of_opening, source_of, words_of};
+use crate::devices::{blank, new_devices};
 use crate::tables::{expect, play, play_at};
 use redo_io::{MemSink, MemSource};
 use std::alloc::{AllocError, Global};
@@ -84,15 +84,39 @@ fn call_by(
     Ok(call_with(alloc, &words, source, sink, blank(alloc)?))
 }
 
-/// The pieces are `1 f b1 3 1` and then `00 7`.
+/// The script comes, and the report goes, in pieces of one byte.
 #[test]
-fn reads_its_script_in_pieces(rt: HostRuntime) -> Result<(), Fail> {
+fn reads_and_prints_in_pieces(rt: HostRuntime) -> Result<(), Fail> {
     let alloc = rt.alloc();
-    let source = MemSource::short(LINE.as_bytes().to_vec(alloc)?, 10);
-    let called = call_by(alloc, "crash", source, MemSink::new(alloc))?;
+    let source = MemSource::short(LINE.as_bytes().to_vec(alloc)?, 1);
+    let called = call_by(alloc, "crash", source, MemSink::short(alloc, 1))?;
     let outcome =
         "0 | open 8204 / g 8204 8210 1 0 flushed / marks 8210 8210 8210 8192 / recovered 1 8210 / p 3 8210 (00*62)07";
     expect(&rt, "crash", called.status, called.sink.bytes(), outcome)
+}
+
+/// The status of a run of the line on new devices of which this one fails this call.
+fn status_failing(alloc: Global, device: &str, call: u64) -> Result<u8, Fail> {
+    let name = format!(in alloc; "{device} fails {call}")?;
+    Ok(call_on(alloc, "run", LINE, new_devices(alloc, &name)?)?.status)
+}
+
+/// Each call of a run that fails alone is told, up to the last one that the run makes.
+#[test]
+fn tells_of_each_call_that_failed(rt: HostRuntime) -> Result<(), Fail> {
+    for (device, status) in [("log", 6), ("data", 7)] {
+        let mut failed = 0u64;
+        while failed < 200 && status_failing(rt.alloc(), device, failed)? == status {
+            failed += 1;
+        }
+        // formatting and opening make more calls than these
+        assert!(rt; failed > 3, "{device} {failed}");
+        for later in [failed, failed.saturating_add(1)] {
+            let found = status_failing(rt.alloc(), device, later)?;
+            assert_eq!(rt; found, 0, "{device} {later}");
+        }
+    }
+    Ok(())
 }
 
 #[test]

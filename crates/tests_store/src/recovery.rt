@@ -18,7 +18,7 @@ const GROUP: [u8; 6] = [0x81, 1, 3, 0, 100, 7];
 /// How a group begins that puts 489 bytes at offset 38 of page 3.
 const TEXT: [u8; 7] = [0x9e, 1, 3, 0, 38, 1, 0xe9];
 
-// A row has up to two changes of the sound store, and what comes of recovering it: how many groups, up to which lsn, and the
+// A row has up to three changes of the sound store, and what comes of recovering it: how many groups, up to which lsn, and the
 // lsn of page 5; or the fault. The changes are:
 //     log AT BYTE            a byte of the log device, without its sector's checksum
 //     sealed AT BYTE BYTE    two bytes of the log device, and its sector's checksum
@@ -47,8 +47,11 @@ const HEADER: &str = "\
     sealed 61 16 8      | NotFormatted
     sealed 66 0 7       | NotFormatted
     sealed 300 1 1      | 1 8722 8600
+    sealed 2 0 9        | BadFormat(9)
     log_sectors 3       | SmallLog(2048)
+    log_sectors 8       | SmallLog(1050624)
     log_sectors 2051    | SmallLog(1050624)
+    data_sectors 120    | SmallData(65536)
     data_sectors 127    | SmallData(65536)";
 
 /// Changes of the checkpoints and of the log's blocks.
@@ -74,7 +77,23 @@ const BLOCKS: &str = "\
     sealed 2570 0 9     | 1 8722 8600
     sealed 2572 9 1     | BadRecord(8716)
     sealed 2573 1 8     | BadRecord(8716)
-    sealed 2564 2 0, sealed 2566 0 0 | 0 9228 8600";
+    sealed 2564 2 0, sealed 2566 0 0 | 0 9228 8600
+    sealed 1550 64 0, sealed 1558 40 0 | 0 16396 8600
+    sealed 2566 0 13    | 0 8717 8600
+    sealed 2564 0 13, sealed 2572 31 1 | BadRecord(8716)
+    sealed 2564 0 19, sealed 2576 100 129, sealed 2578 0 0 | BadRecord(8716)";
+
+/// Where no further block is read of the same stores, and why.
+const STOPS: &str = "\
+                        | (8704, Partial)
+    sealed 2562 0 19    | (8704, Misfit(Number))
+    sealed 2564 2 1     | (8704, Misfit(Length))
+    sealed 2564 0 11    | (8704, Misfit(Length))
+    sealed 2566 0 11    | (8704, Misfit(First))
+    log 2600 1          | (8704, Misfit(Checksum))
+    log 2562 1          | (8704, Misfit(Number))
+    sealed 2564 2 0, sealed 2566 0 0   | (9216, Misfit(Number))
+    sealed 1550 64 0, sealed 1558 40 0 | (16384, Misfit(Number))";
 
 /// Changes of the place and of the copies of page 5.
 const PAGES: &str = "\
@@ -89,7 +108,9 @@ const PAGES: &str = "\
     data 13 99 1, page 6 5 8550   | 1 8722 8550
     page 13 5 8723                | PageAhead(5, 8723)
     data 13 99 1, page 1 5 9000   | PageAhead(5, 9000)
-    page 13 5 9000, data 14 0 1   | PageLost(6)";
+    page 13 5 9000, data 14 0 1   | PageLost(6)
+    page 10 5 8600                | PageLost(2)
+    page 9 1 9000, data 10 0 1    | PageLost(2)";
 
 /// A sound store of the default shape. The checkpoint 0 is at 8,192 and 1 at 8,704, with a full block at the first and a group
 /// of 6 bytes at the second. Page 5 has the lsn 8,600 in its place and 8,500 in slot 1; the other pages were never written.
@@ -159,13 +180,19 @@ fn outcome(alloc: Global, store: &Store) -> Result<String, Fail> {
     }
 }
 
-/// Sees that of the sound store with the changes of a row comes what the row says.
-fn see_row(rt: &(impl Abort + AllocGlobal), row: &str) -> Result<(), Fail> {
-    let (changes, want) = row.split_once('|').ok_or("no outcome")?;
-    let mut store = sound_store(rt.alloc())?;
+/// The sound store with these changes.
+fn changed_store(alloc: Global, changes: &str) -> Result<Store, Fail> {
+    let mut store = sound_store(alloc)?;
     for one in changes.split(',') {
         change(&mut store, one)?;
     }
+    Ok(store)
+}
+
+/// Sees that of the sound store with the changes of a row comes what the row says.
+fn see_row(rt: &(impl Abort + AllocGlobal), row: &str) -> Result<(), Fail> {
+    let (changes, want) = row.split_once('|').ok_or("no outcome")?;
+    let store = changed_store(rt.alloc(), changes)?;
     let found = outcome(rt.alloc(), &store)?;
     assert_eq!(rt; found.as_str(), want.trim(), "{row}");
     Ok(())
@@ -187,6 +214,26 @@ fn judges_the_header(rt: HostRuntime) -> Result<(), Fail> {
 #[test]
 fn scans_from_the_newest_checkpoint(rt: HostRuntime) -> Result<(), Fail> {
     see_rows(&rt, BLOCKS)
+}
+
+/// Where no further block is read of a store, and why.
+fn stop(alloc: Global, store: &Store) -> Result<String, Fail> {
+    let (mut log, mut data) = store.devices(alloc)?;
+    match read(alloc, &mut log, &mut data) {
+        Ok(read) => Ok(format!(in alloc; "{:?}", read.stop)?),
+        Err(_) => Err(Fail::from("the store is refused")),
+    }
+}
+
+#[test]
+fn tells_why_the_scan_ends(rt: HostRuntime) -> Result<(), Fail> {
+    for row in STOPS.lines() {
+        let (changes, want) = row.split_once('|').ok_or("no outcome")?;
+        let store = changed_store(rt.alloc(), changes)?;
+        let found = stop(rt.alloc(), &store)?;
+        assert_eq!(rt; found.as_str(), want.trim(), "{row}");
+    }
+    Ok(())
 }
 
 #[test]

@@ -1,7 +1,10 @@
-use Rattle.std.proofs.Common.{◌≡◌, ◌≤◌, ◌+◌, ◌∙◌, ℕ, List, Some, None, length, length-append, sym, ap, arith}
+use Rattle.std.proofs.Common.{◌≡◌, ◌≤◌, ◌+◌, ◌*◌, ◌∙◌, ℕ, List, Some, None, length, length-append, sym, ap, arith}
 use Rattle.std.proofs.lemmas.List.{length_push}
 use Rattle.std.proofs.lemmas.Result.{err_from_is_err_and}
+use Rattle.model_base.specs.declared.limits.TheConstants.{BLOCK_SIZE}
 use Rattle.model_log.specs.declared.layout.TheConstants.{BLOCK_DATA}
+use Rattle.model_stop.specs.declared.cause.Cause.TheVariants.{Partial, Round}
+use Rattle.model_stop.specs.{IsStop}
 use Rattle.redo_disk.specs.{MakesCalls}
 use Rattle.redo_disk.specs.declared.error.DevError.TheVariants.{NoMemory}
 use Rattle.redo_recover.specs.Blocks.{AreBlocksOf}
@@ -14,6 +17,7 @@ use Rattle.redo_recover.proofs.Bounds.{firsts-push}
 use Rattle.redo_recover.proofs.Contents.{content-both, content-weaker}
 use Rattle.redo_recover.proofs.OneRound.{IsReadable, reads-end, reads-end_at, reads-next}
 use Rattle.redo_recover.proofs.Scanning.{AreBlocksSoFar, IsTakenAt, taken-at, so_far-next, read-stopped, read-last, read-all, length-data_of, so_far-reached}
+use Rattle.redo_recover.proofs.Stopping.{stopped-part, stopped-round, stopped-unread}
 use Rattle.redo_recover.proofs.Unchanged.{IsUnchanged-then, content-before, content-after}
 use Rattle.redo_recover.proofs.blocks.read_blocks.Given.{Over}
 use Rattle.redo_recover.proofs.blocks.read_blocks.Goals.{After-readable_end-end, In_ok-piece}
@@ -114,6 +118,47 @@ loop-i-preserved g c =
           (sym c.if-not-is_full.ensures) c.in_ok-push.ensures.items c.in_ok-extend_from_slice.ensures.items c.block_data.ensures)
           c.loop-i.invariant.so_far here;
     }
+
+pub returns-in_default-clause-stop : goal.returns-in_default-clause-stop
+returns-in_default-clause-stop g c =
+    let old = g.L.Sectors.seen c.args.log.now in
+    let middle = g.L.Sectors.seen c.loop-i.log in
+    let shape = c.args.shape.now in
+    let piece = c.in_ok-piece.piece in
+    let of = content-before old middle (IsPieceOf piece) c.loop-i.invariant.unchanged
+    (c.in_ok-piece.ensures.content (content-after old middle (IsPieceOf c.loop-i.piece) c.loop-i.invariant.unchanged c.loop-i.invariant.piece)) in
+    let here = content-weaker old.tells (IsPieceOf piece) (IsTakenAt shape c.args.ckpt c.loop-i.i c.taken.result c.sector-block.result.now)
+    (λ image is. taken-at shape c.args.ckpt c.loop-i.i c.from.result piece c.offset_of-at.result c.sector-block.result.now c.taken.result image c.from.ensures
+    c.in_ok-piece.ensures.has c.offset_of-at.ensures c.sector-block.ensures c.taken.ensures.view is) of in
+    let so_far : List ℕ → Type 0 = AreBlocksSoFar shape c.args.ckpt c.loop-i.views.items c.loop-i.joined.items c.loop-i.i in
+    let lsn = c.args.ckpt + BLOCK_SIZE * c.from.result in
+    content-both old.tells so_far (IsTakenAt shape c.args.ckpt c.loop-i.i c.taken.result c.sector-block.result.now)
+    (IsStop shape c.args.ckpt c.loop-i.views.items (lsn, c.untaken.result))
+    (λ image a t. stopped-unread shape c.args.ckpt c.loop-i.views.items c.loop-i.joined.items c.loop-i.i lsn c.untaken.result c.taken.result
+    c.sector-block.result.now image a (omega arith) t (ap (λ n. c.args.ckpt + BLOCK_SIZE * n) c.from.ensures) c.untaken.ensures)
+    c.loop-i.invariant.so_far here
+
+pub returns-then-not-is_full-clause-stop : goal.returns-then-not-is_full-clause-stop
+returns-then-not-is_full-clause-stop g c =
+    let old = g.L.Sectors.seen c.args.log.now in
+    let shape = c.args.shape.now in
+    let lsn = c.args.ckpt + BLOCK_SIZE * c.from.result in
+    content-weaker old.tells (AreBlocksSoFar shape c.args.ckpt c.loop-i.views.items c.loop-i.joined.items c.loop-i.i)
+    (IsStop shape c.args.ckpt c.push.new.self.items (lsn, Partial))
+    (λ image a. stopped-part shape c.args.ckpt c.loop-i.views.items c.loop-i.joined.items c.loop-i.i lsn c.in-Some.view c.push.new.self.items image a
+    (ap (λ n. c.args.ckpt + BLOCK_SIZE * n) c.from.ensures) (sym c.if-not-is_full.ensures) c.in_ok-push.ensures.items)
+    c.loop-i.invariant.so_far
+
+pub returns-clause-stop : goal.returns-clause-stop
+returns-clause-stop g c =
+    let old = g.L.Sectors.seen c.args.log.now in
+    let shape = c.args.shape.now in
+    let lsn = c.args.ckpt + BLOCK_SIZE * c.from-2.result in
+    content-weaker old.tells (AreBlocksSoFar shape c.args.ckpt c.loop-i.views.items c.loop-i.joined.items c.loop-i.i)
+    (IsStop shape c.args.ckpt c.loop-i.views.items (lsn, Round))
+    (λ image a. stopped-round shape c.args.ckpt c.loop-i.views.items c.loop-i.joined.items c.loop-i.i lsn image a (omega arith)
+    (ap (λ n. c.args.ckpt + BLOCK_SIZE * n) c.from-2.ensures))
+    c.loop-i.invariant.so_far
 
 pub returns-in_default-clause-firsts : goal.returns-in_default-clause-firsts
 returns-in_default-clause-firsts g c = c.loop-i.invariant.firsts

@@ -88,6 +88,7 @@ recovered g c = record {
   views = c.in_ok-views.field-0.views;
   groups = c.in_ok-views.field-0.groups;
   end = c.in_ok-views.field-0.end;
+  stop = c.in_ok-views.field-0.stop;
   pages = c.in_ok-pages.field-0.pages;
   places = c.in_ok-pages.field-0.places;
 }
