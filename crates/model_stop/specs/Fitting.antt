@@ -9,8 +9,8 @@ abbrev pub fit_of : ℕ → List ℕ → Fit
 fit_of lsn bytes =
     if fits_number lsn bytes
     then (if is_length (view_of bytes).length
-      then (if is_first (view_of bytes).length (view_of bytes).first
-        then (if fits_checksum bytes then Whole else Checksum)
-        else First)
-      else Length)
+    then (if is_first (view_of bytes).length (view_of bytes).first
+    then (if fits_checksum bytes then Whole else Checksum)
+    else First)
+    else Length)
     else Number

@@ -421,7 +421,7 @@ pub unplayed-comes : {L D : Type 0} {log_seen : L → Seen} {log_gives : L → C
     → IsOpenedUnderWay log_seen log_gives data_seen data_gives log_entry data_entry stops log_found data_found log data_device store
     → AreLeftOpened store turns script c log_now data_now
     → ComesTo by log_entry data_entry stops turns script c (shown log_seen log_now) (shown data_seen data_now)
-unplayed-comes {L} {D} {log_seen = log_seen} {data_seen = data_seen} {log_entry = log_entry} {data_entry = data_entry} {stops = stops} {store = store} by turns script c log_now data_now is left =
+unplayed-comes {L} {D} {log_seen = log_seen} {data_seen = data_seen} {log_entry = log_entry} {data_entry = data_entry} {stops = stops} {store = store} by turns script c _ data_now is left =
     let Comes : Course → Fused L → Fused D → Type 0 = λ c one other.
     ComesTo by log_entry data_entry stops turns script c (shown log_seen one) (shown data_seen other) in
     subst (λ (one : Fused L). Comes c one data_now) (sym left.log_same) (subst (λ (one : Fused D). Comes c store.log.dev one) (sym left.data_same)
@@ -437,7 +437,7 @@ pub driven-comes : {L D : Type 0} {log_seen : L → Seen} {log_gives : L → Cal
     → IsOpenedUnderWay log_seen log_gives data_seen data_gives log_entry data_entry stops log_found data_found log data_device store
     → AreDriven (seen_through log_seen) (CallsThrough log_seen log_gives) (seen_through data_seen) (CallsThrough data_seen data_gives) store turns script c log_now data_now
     → ComesTo (ByTurns log_seen log_gives data_seen data_gives turns script) log_entry data_entry stops turns script c (shown log_seen log_now) (shown data_seen data_now)
-driven-comes {L} {D} {log_seen = log_seen} {log_gives = log_gives} {data_seen = data_seen} {data_gives = data_gives} {log_entry = log_entry} {data_entry = data_entry} {stops = stops} turns script c log_now data_now is are =
+driven-comes {L} {D} {log_seen = log_seen} {log_gives = log_gives} {data_seen = data_seen} {data_gives = data_gives} {log_entry = log_entry} {data_entry = data_entry} {stops = stops} turns script c _ data_now is are =
     let Comes : Course → Fused L → Fused D → Type 0 = λ c one other.
     ComesTo (ByTurns log_seen log_gives data_seen data_gives turns script) log_entry data_entry stops turns script c (shown log_seen one) (shown data_seen other) in
     subst (λ (one : Fused L). Comes c one data_now) (sym are.log_is) (subst (λ (one : Fused D). Comes c are.driven.closed.log.dev one) (sym are.data_is)

@@ -3,8 +3,8 @@ ghost use Rattle.std.specs.Prelude.{◌≡◌, length, IfSome, OnOk};
 ghost use Rattle.redo_disk.specs.{HasCause};
 ghost use Rattle.redo_memdisk.specs.File.{CountsFailure, FileCrash, FileGives, file_faults, file_seen, filled};
 
-use redo_disk::{DevError, Sectors};
 use crate::lock::LockFiles;
+use redo_disk::{DevError, Sectors};
 use std::fs::{File, OpenFile, OpenOptions};
 use std::io;
 use std::io::{ErrorKind, Read, Seek, SeekFrom, Write};
@@ -69,9 +69,7 @@ impl<R: LockFiles> FileDisk<R> {
         options.read(true).write(true);
         match options.open(&self.files, self.path.as_str()) {
             Err(error) if error.kind() == ErrorKind::NotFound => {
-                let file = options
-                    .create(true)
-                    .open(&self.files, self.path.as_str())?;
+                let file = options.create(true).open(&self.files, self.path.as_str())?;
                 File::open(&self.files, folder_of(&self.path))?.sync_all()?;
                 Ok(file)
             }

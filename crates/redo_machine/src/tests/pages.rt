@@ -155,8 +155,20 @@ fn records_write_over_one_another(rt: HostRuntime) -> Result<(), Fail> {
     let mut outcome = outcome_of(&rt, rt.alloc(), &run)?;
     assert_eq!(rt; (outcome.ended, outcome.code), (Ran::Done, 0));
     assert_eq!(rt; outcome.read, (1, 8233));
-    for (offset, byte) in [(38, 0), (40, 0), (41, 10), (42, 0), (43, 7), (47, 0), (4087, 0)] {
-        assert_eq!(rt; byte_in_place(&rt, &mut outcome, 3, offset)?, byte, "offset {offset}");
+    for (offset, byte) in [
+        (38, 0),
+        (40, 0),
+        (41, 10),
+        (42, 0),
+        (43, 7),
+        (47, 0),
+        (4087, 0),
+    ] {
+        assert_eq!(rt;
+            byte_in_place(&rt, &mut outcome, 3, offset)?,
+            byte,
+            "offset {offset}"
+        );
     }
     Ok(())
 }
