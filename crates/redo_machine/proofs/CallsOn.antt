@@ -7,13 +7,13 @@ use Rattle.redo_machine.specs.Calls.{CallOnBoth, CallsOn}
 use Rattle.redo_machine.specs.declared.parts.Parts.{Parts}
 
 module _ {D : Type 0} (gives : D → Call → D → Type 0) where
-  not_called : (device : D) (failed : Option DevError) → CallsOn gives device failed device failed
+  pub not_called : (device : D) (failed : Option DevError) → CallsOn gives device failed device failed
   not_called device failed = record {
     live = λ none. subst (λ (e : Option DevError). MakesCalls gives device device (EndWith e)) (sym none) (none_ends gives device);
     over = λ some. (refl, refl);
   }
 
-  calls_then : (old middle new : D) (f g h : Option DevError) → CallsOn gives old f middle g → CallsOn gives middle g new h → CallsOn gives old f new h
+  pub calls_then : (old middle new : D) (f g h : Option DevError) → CallsOn gives old f middle g → CallsOn gives middle g new h → CallsOn gives old f new h
   calls_then old middle new f g h front back = record {
     live = λ none. by g (front.live none) back.live back.over;
     over = λ some.

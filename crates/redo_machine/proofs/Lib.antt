@@ -5,6 +5,7 @@ pub mod Ended
 pub mod FailedTurns
 pub mod FailureCode
 pub mod InOrder
+pub mod LeftRun
 pub mod ListGrows
 pub mod Listings
 pub mod LogCount

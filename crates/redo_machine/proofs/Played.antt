@@ -17,12 +17,12 @@ use Rattle.redo_machine.specs.declared.parts.Parts.{Parts}
 use Rattle.redo_words.specs.Plain.{Plain}
 
 -- the Op is no writing of a batch
-abbrev IsNoBatch : Op → Type 0
+abbrev pub IsNoBatch : Op → Type 0
 IsNoBatch op.WriteBatch = ⊥
 IsNoBatch _ = Unit {0}
 
 -- such an Op leaves the data part
-untouched : (E : DataSide) (d e : E.Part) (l : model.Lent) (o : Op) (code : ℕ) → IsNoBatch o → ◌≡◌ {A = E.Part} e d → DataServed E d l o code e
+pub untouched : (E : DataSide) (d e : E.Part) (l : model.Lent) (o : Op) (code : ℕ) → IsNoBatch o → ◌≡◌ {A = E.Part} e d → DataServed E d l o code e
 untouched E d e model.Nothing o code other same = same
 untouched E d e (model.Blocks kept offsets) o code other same = same
 untouched E d e (model.Batch batch) op.WriteBatch code other same = absurd other

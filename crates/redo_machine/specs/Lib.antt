@@ -3,6 +3,7 @@ pub mod Beginning
 pub mod Calls
 pub mod Drive
 pub mod History
+pub mod Leaving
 pub mod Lists
 pub mod Making
 pub mod OpenUsers

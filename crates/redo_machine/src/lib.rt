@@ -23,8 +23,13 @@ mod start_words;
 mod tests;
 mod turning;
 
+pub use actor::Actor;
+pub use calling::{call_batch, call_write, called};
 pub use drive::{Driven, Turns, run_by_turns};
+pub use history::history_of;
 pub use laws::{running_machine_has_watermarks, turn_keeps_failed};
+pub use lists::FlushLists;
 pub use machine::Machine;
+pub use parts::Parts;
 pub use redo_words::Step as Turned;
 pub use running::Ran;

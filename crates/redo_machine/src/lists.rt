@@ -76,4 +76,12 @@ impl FlushLists {
     {
         let _ = &self.pages;
     }
+
+    /// The lists, in their order.
+    pub fn into_lists(self) -> Vec<FlushList>
+        ensures { result.items ≡ self.lists }
+    {
+        let FlushLists { pages: _, lists } = self;
+        lists
+    }
 }

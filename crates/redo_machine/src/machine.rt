@@ -1,4 +1,6 @@
 // A running store.
+ghost use Rattle.std.specs.Prelude.{◌≡◌};
+
 use crate::actor::Actor;
 use crate::parts::Parts;
 use model_history::Entry;
@@ -12,4 +14,20 @@ pub struct Machine<L: Sectors, D: Sectors> {
     pub(crate) actors: Vec<Actor>,
     // room for an entry of each line
     pub(crate) entries: Vec<Entry>,
+}
+
+impl<L: Sectors, D: Sectors> Machine<L, D> {
+    /// What the actors share, the actors, and the room for the history.
+    pub fn into_parts(self) -> (Parts<L, D>, Vec<Actor>, Vec<Entry>)
+        ensures parts { result.0 ≡ self.parts }
+        ensures actors { result.1 ≡ self.actors }
+        ensures entries { result.2 ≡ self.entries }
+    {
+        let Machine {
+            parts,
+            actors,
+            entries,
+        } = self;
+        (parts, actors, entries)
+    }
 }

@@ -43,6 +43,14 @@ impl PlainWords {
         Ok(PlainWords { pages, words })
     }
 
+    /// The words, in their order.
+    pub fn as_slice(&self) -> &[u64]
+        ensures words { result.now ≡ self.now.words }
+        ensures count { length result.now ≡ word_count self.now.pages }
+    {
+        self.words.as_slice()
+    }
+
     /// Plays an Op on a word, and answers what stood there.
     #[inline(always)]
     pub fn play(&mut self, op: Op) -> Answer

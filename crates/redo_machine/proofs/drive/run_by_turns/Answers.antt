@@ -37,16 +37,19 @@ returns-clause-turns g c =
 pub returns-clause-comes_to : goal.returns-clause-comes_to
 unfolding returns-clause-turns
 returns-clause-comes_to g c =
-    comes_to_run g.L.Sectors.seen g.L.Sectors.gives g.D.Sectors.seen g.D.Sectors.gives c.args.opened c.args.script.now c.args.turns.now _ (returns-clause-turns g c) c.requires c.run-ended.ensures.calls
+    comes_to_run g.L.Sectors.seen g.L.Sectors.gives g.D.Sectors.seen g.D.Sectors.gives c.args.opened c.args.script.now c.args.turns.now _ (returns-clause-turns g c) c.run-ended.ensures.calls c.requires
 
 pub returns-clause-holds : goal.returns-clause-holds
+unfolding returns-clause-turns
 returns-clause-holds g c =
-    holds_run g.L.Sectors.seen g.L.Sectors.gives g.D.Sectors.seen g.D.Sectors.gives c.args.opened c.args.script.now c.args.turns.now _ (returns-clause-turns g c) c.requires
+    holds_run g.L.Sectors.seen g.L.Sectors.gives g.D.Sectors.seen g.D.Sectors.gives c.args.opened c.args.script.now c.args.turns.now _ (returns-clause-turns g c) c.run-ended.ensures.calls c.requires
 
 pub returns-clause-owed : goal.returns-clause-owed
+unfolding returns-clause-turns
 returns-clause-owed g c =
-    is_owed g.L.Sectors.seen g.L.Sectors.gives g.D.Sectors.seen g.D.Sectors.gives c.args.opened c.args.script.now c.args.turns.now _ (returns-clause-turns g c) c.requires
+    is_owed g.L.Sectors.seen g.L.Sectors.gives g.D.Sectors.seen g.D.Sectors.gives c.args.opened c.args.script.now c.args.turns.now _ (returns-clause-turns g c) c.run-ended.ensures.calls c.requires
 
 pub returns-clause-owed_synced : goal.returns-clause-owed_synced
+unfolding returns-clause-turns
 returns-clause-owed_synced g c =
-    is_owed_synced g.L.Sectors.seen g.L.Sectors.gives g.D.Sectors.seen g.D.Sectors.gives c.args.opened c.args.script.now c.args.turns.now _ (returns-clause-turns g c) c.requires
+    is_owed_synced g.L.Sectors.seen g.L.Sectors.gives g.D.Sectors.seen g.D.Sectors.gives c.args.opened c.args.script.now c.args.turns.now _ (returns-clause-turns g c) c.run-ended.ensures.calls c.requires
