@@ -1,13 +1,12 @@
-//! The words of a call of the program: which of the six commands they are, with its options, or that they are none. The
-//! words are read here and not by `clap`; what that would take is taken (`--max=5`, `--`).
+//! The words of a call of the program, read by `clap`: which of the six commands they are, with its options, or that they
+//! are none.
 #![tactic(auto)]
 
-mod arguments;
-mod commands;
+mod app;
 mod fault;
-mod options;
-mod word;
+mod found;
+mod words;
 
-pub use commands::read_words;
 pub use fault::WordsFault;
 pub use model_command::{Asked, Command, Drive};
+pub use words::read_words;
