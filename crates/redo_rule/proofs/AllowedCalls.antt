@@ -1,0 +1,225 @@
+-- The step that ends a device call keeps the rule: by it the seat's view takes what became of the part.
+use Rattle.std.proofs.Common.{Bool, List, None, Option, Some, [], ap, arith, cond, false, get_or, length, length-set, refl, subst, suc, sym, true, zero, ⊎_elim, ℕ, ◌+◌, ◌<◌, ◌==◌, ◌∙◌, ◌∷◌, ◌≡◌, ◌≢◌, inr}
+use Rattle.std.proofs.lemmas.List.{set-get_or}
+use Rattle.std.specs.Prelude.{slice_index, slice_set}
+use lib.ListN.{get_elem?}
+use mathlib.Core.Option as maybe
+use Rattle.atomic_table.specs.Table.{Allows, gives, keeps, Me, put_back, rest, State, takes}
+use Rattle.atomic_table.proofs.Lists.{set_here}
+use Rattle.model_core.proofs.Lists.{at_set, set_else}
+use Rattle.model_core.specs.{DataServed, lent, LogServed, lsn, next, took}
+use Rattle.model_core.specs.Actors as model
+use Rattle.model_core.specs.declared.ops.Answer.{Answer}
+use Rattle.model_core.specs.declared.ops.Answer.TheVariants as answer
+use Rattle.model_core.specs.declared.ops.Op.{Op}
+use Rattle.model_core.specs.declared.ops.Op.TheVariants as op
+use Rattle.redo_disk.specs.{Call, EndWith, MakesCalls}
+use Rattle.redo_disk.specs.Seen.{Seen}
+use Rattle.redo_logdev.specs.Part as log
+use Rattle.redo_logside.proofs.ShapeStays.{served_shape}
+use Rattle.redo_logside.specs.LogPartSide as log_part
+use Rattle.redo_machine.proofs.CallsOn.{calls_then}
+use Rattle.redo_machine.proofs.Played as played
+use Rattle.redo_machine.specs.Calls.{CallsOn}
+use Rattle.redo_machine.specs.Lists.{listing_at, Listings, lists_of}
+use Rattle.redo_machine.specs.Playing.{data_of, HasSamePages, IsPlayed, log_of, RunOf}
+use Rattle.redo_machine.specs.Views.{view_of, views_of}
+use Rattle.redo_machine.specs.declared.parts.Parts.{Parts}
+use Rattle.redo_rule.proofs.Allowed as allowed
+use Rattle.redo_rule.proofs.Hands.{handles}
+use Rattle.redo_rule.proofs.Holders as holders
+use Rattle.redo_rule.proofs.Kept as kept
+use Rattle.redo_rule.proofs.Retook.{one_head}
+use Rattle.redo_rule.specs.Hands.{hand, Handles, IsFreeToCheck}
+use Rattle.redo_rule.specs.Plays.{batched, behind, called, called_by, data_code, log_code, reached, Stepped, told_by}
+use Rattle.redo_rule.specs.Ruled.{content_at, Knows, Ruled}
+use Rattle.redo_rule.specs.declared.law.About.{About}
+use Rattle.redo_rule.specs.declared.law.Keeping.{Keeping}
+use Rattle.redo_rule.specs.declared.law.Numbered.{Numbered}
+use Rattle.redo_rule.specs.declared.law.Slot.{Slot}
+use Rattle.redo_rule.specs.declared.law.Slot.TheVariants as slot
+use Rattle.redo_rule.specs.declared.law.View.{View}
+use Rattle.redo_store.specs.Part as store
+
+-- the Op calls the log part
+abbrev pub CallsLog : Op → Type 0
+CallsLog (op.WriteTo t) = Unit {0}
+CallsLog op.Sync = Unit {0}
+CallsLog (op.Checkpoint x) = Unit {0}
+CallsLog _ = ⊥
+
+holds_log : (o : Op) → CallsLog o → (before : Option ℕ) (behind : Answer → Option ℕ) → Handles o before behind → (before ≡ Some 0) × ((n : ℕ) → behind (answer.Called n) ≡ Some 0) × ((c : ℕ) → behind (answer.Failed c) ≡ Some 0)
+holds_log (op.WriteTo t) log before behind h = h
+holds_log op.Sync log before behind h = h
+holds_log (op.Checkpoint x) log before behind h = h
+holds_log _ log before behind h = absurd log
+
+held_behind : (b : Bool) (f : Answer → Option ℕ) (n c : ℕ) → ((n : ℕ) → f (answer.Called n) ≡ Some 0) → ((c : ℕ) → f (answer.Failed c) ≡ Some 0) → f (cond b (answer.Called n) (answer.Failed c)) ≡ Some 0
+held_behind true f n c called failed = called n
+held_behind false f n c called failed = failed c
+
+-- what is in a list of one slot
+one_slot : {L D : Type 0} (k : ℕ) (x y : Slot L D) (l : List (ℕ × Slot L D)) → l ≡ (k, x) ∷ [] → l ≡ (k, y) ∷ [] → ◌≡◌ {A = Slot L D} x y
+one_slot {L} {D} k x y l e f = ap (λ (z : List (ℕ × Slot L D)). (get_or z 0 (k, x)).1) (sym e ∙ f)
+
+-- what is known of the data part
+abbrev part_or : {D : Type 0} → store.Part D → Option (Keeping D) → store.Part D
+part_or d None = d
+part_or d (Some k) = k.part
+
+abbrev is_out : {D : Type 0} → Option (Keeping D) → Bool
+is_out None = false
+is_out (Some k) = k.out
+
+module _ {L D : Type 0} (log_seen : L → Seen) (log_gives : L → Call → L → Type 0) (data_seen : D → Seen) (data_gives : D → Call → D → Type 0) (about : About L D) (slots id : ℕ) (me : Me (Slot L D) (View L D)) (x : Numbered) (one : me.0.seats ≡ x ∷ []) where
+  abbrev Law : State (Slot L D) (View L D) → Type 0
+  Law = Ruled log_seen log_gives data_seen data_gives about
+
+  abbrev a : model.Actor
+  a = view_of x.actor
+
+  log_played : (run : RunOf L D) (o : Op) → CallsLog o → (old new : Parts L D) → new.words.words ≡ old.words.words → new.store ≡ old.store → new.lists ≡ old.lists → LogServed (log_of log_seen data_seen run) old.log (lent a) o (log_code new.log.failed) new.log
+      → IsPlayed log_seen data_seen run o (lent a) old (called_by (log_code new.log.failed) (told_by o new.log.marks.stable)) new
+  log_played run (op.WriteTo t) calls old new words store_same lists_same served = record { code = log_code new.log.failed; log_served = served; data_served = played.untouched (data_of log_seen data_seen run) old.store new.store (lent a) (op.WriteTo t) (log_code new.log.failed) tt store_same; words = words; lists = ap lists_of lists_same; answered = refl }
+  log_played run op.Sync calls old new words store_same lists_same served = record { code = log_code new.log.failed; log_served = served; data_served = played.untouched (data_of log_seen data_seen run) old.store new.store (lent a) op.Sync (log_code new.log.failed) tt store_same; words = words; lists = ap lists_of lists_same; answered = refl }
+  log_played run (op.Checkpoint y) calls old new words store_same lists_same served = record { code = log_code new.log.failed; log_served = served; data_served = played.untouched (data_of log_seen data_seen run) old.store new.store (lent a) (op.Checkpoint y) (log_code new.log.failed) tt store_same; words = words; lists = ap lists_of lists_same; answered = refl }
+  log_played run _ calls old new words store_same lists_same served = absurd calls
+
+  pub allows_called : (i : ℕ) (o : Op) (p q : log.Part L) → next a ≡ o → CallsLog o → IsFreeToCheck a → me.0.held ≡ Some (slot.Log p) → me.1 ≡ (0, slot.Log q) ∷ []
+      → ((run : RunOf L D) → LogServed (log_of log_seen data_seen run) p (lent a) o (log_code q.failed) q) → MakesCalls log_gives p.dev q.dev (EndWith q.failed) → p.failed ≡ None
+      → Allows Law slots id me i (λ n. n) (called log_seen data_seen me)
+  allows_called i o p q is calls_log free held carried served calls live s R wide at small =
+      let goes : Handles o (hand a) (λ (z : Answer). hand (took a z)) = subst (λ (j : Op). Handles j (hand a) (λ (z : Answer). hand (took a z))) is (handles a free) in
+      let mine = holds_log o calls_log (hand a) (λ (z : Answer). hand (took a z)) goes in
+      let known : Knows R.parts R.actors R.seat_of R.keeper R.out id me.0 = kept.known log_seen log_gives data_seen data_gives about s R id me.0 x one at in
+      let was : ◌≡◌ {A = log.Part L} p R.parts.log = kept.same_log p R.parts.log (kept.same_slot (slot.Log p) (slot.Log R.parts.log) (sym held ∙ kept.holds_content log_seen log_gives data_seen data_gives about s R id me.0 x one at 0 mine.0)) in
+      let e : slice_set s.words i (slice_index s.words i) ≡ s.words = set-get_or s.words i 0 in
+      let new : Parts L D = record { words = record { pages = R.parts.words.pages; words = slice_set s.words i (slice_index s.words i) }; log = q; store = R.parts.store; lists = R.parts.lists } in
+      let r : Answer = called_by (log_code q.failed) (told_by o q.marks.stable) in
+      let same : HasSamePages R.parts new = record { words = refl; lists = refl } in
+      let done_o : IsPlayed log_seen data_seen R.run o (lent a) R.parts r new = log_played R.run o calls_log R.parts new (e ∙ sym R.words_are) refl refl (subst (λ (z : log.Part L). LogServed (log_of log_seen data_seen R.run) z (lent a) o (log_code q.failed) q) was (served R.run)) in
+      let done : IsPlayed log_seen data_seen R.run (next a) (lent a) R.parts r new = subst (λ (j : Op). IsPlayed log_seen data_seen R.run j (lent a) R.parts r new) (sym is) done_o in
+      let own : (k : ℕ) → hand (took a r) ≡ Some k → Some (slot.Log q) ≡ Some (content_at new k) = λ k h.
+      ap (λ (j : ℕ). Some (content_at new j)) (holders.same_number 0 k (sym (held_behind (log_code q.failed == 0) (λ (z : Answer). hand (took a z)) (told_by o q.marks.stable) (log_code q.failed) mine.1 mine.2) ∙ h)) in
+      let holder = holders.holding log_seen data_seen R.run R.parts R.actors R.runs x.number a (kept.there log_seen log_gives data_seen data_gives about s R id me.0 x one at) 0 mine.0 in
+      let others : (n : ℕ) (c : model.Actor) (k : ℕ) → n ≢ x.number → get_elem? (views_of R.actors) n ≡ maybe.some c → hand c ≡ Some k → ◌≡◌ {A = Slot L D} (content_at R.parts k) (content_at new k) = λ n c k ne there hold. by_slot R.parts new refl k
+      (λ z. ne (holders.one_holder log_seen data_seen R.run R.parts R.actors R.runs n x.number c a 0 there (kept.there log_seen log_gives data_seen data_gives about s R id me.0 x one at) (hold ∙ ap (λ (j : ℕ). Some j) z) mine.0)) in (
+        record { pages = me.0.pages; seats = behind x r ∷ []; held = Some (slot.Log q); data_part = me.0.data_part },
+        keeps,
+        tt,
+        kept.kept log_seen log_gives data_seen data_gives about s R id me.0 x one at r new same done (record { pages = me.0.pages; seats = behind x r ∷ []; held = Some (slot.Log q); data_part = me.0.data_part }) R.out refl refl own (λ d h. known.data_part d h)
+            others (λ j u d ne h stored. (R.knows j u h).data_part d stored) s.homes R.lists_are
+            (calls_then log_gives about.opened.value.log.dev R.parts.log.dev q.dev about.opened.value.log.failed R.parts.log.failed q.failed R.log_calls
+            (subst (λ (z : log.Part L). CallsOn log_gives z.dev z.failed q.dev q.failed) was (record { live = λ none. calls; over = λ some. absurd (some live) })))
+            R.data_calls
+            (served_shape log_seen (log_seen R.run.first_log.dev).faults R.run.first_log.marks.number (log_part.HasBegun log_seen (lsn R.run.setup.base) R.run.first_log) p q (log_code q.failed) (lent a) o (served R.run) ∙ ap (λ (z : log.Part L). z.shape) was)
+            R.slots
+            (λ k l z. home_of s R new refl k l holder.word_is (sym (ap (λ (y : List ℕ). slice_index y (7 + k)) e) ∙ z))
+            R.data_home
+            (λ k l z. inr ((λ u. z (ap (λ (y : List ℕ). slice_index y (7 + k)) e ∙ u)), λ u. held_behind (log_code q.failed == 0) (λ (j : Answer). hand (took a j)) (told_by o q.marks.stable) (log_code q.failed) mine.1 mine.2 ∙ sym mine.0 ∙ u)),
+        λ y z one_y carries. subst (λ (j : log.Part L). Stepped log_seen data_seen y (called_by (log_code j.failed) (told_by (next (view_of y.actor)) j.marks.stable)) (Some (slot.Log j)) me.0.data_part me.1 me (record { pages = me.0.pages; seats = behind x r ∷ []; held = Some (slot.Log q); data_part = me.0.data_part }, me.1))
+            (kept.same_log q z (one_slot 0 (slot.Log q) (slot.Log z) me.1 carried carries))
+            (subst (λ (j : Numbered). Stepped log_seen data_seen j (called_by (log_code q.failed) (told_by (next (view_of j.actor)) q.marks.stable)) (Some (slot.Log q)) me.0.data_part me.1 me (record { pages = me.0.pages; seats = behind x r ∷ []; held = Some (slot.Log q); data_part = me.0.data_part }, me.1))
+            (one_head me.0.seats x y one one_y)
+            (subst (λ (j : Op). Stepped log_seen data_seen x (called_by (log_code q.failed) (told_by j q.marks.stable)) (Some (slot.Log q)) me.0.data_part me.1 me (record { pages = me.0.pages; seats = behind x r ∷ []; held = Some (slot.Log q); data_part = me.0.data_part }, me.1)) (sym is)
+            (kept.steps log_seen log_gives data_seen data_gives about s R id me.0 x one at r new same done me.1 (Some (slot.Log q)) me.0.data_part me.1 own (λ d h. (known.data_part d h).1)))),
+      )
+    where
+      by_slot : (old new : Parts L D) → new.lists ≡ old.lists → (k : ℕ) → (k ≡ 0 → ⊥) → ◌≡◌ {A = Slot L D} (content_at old k) (content_at new k)
+      by_slot old new same zero ne = absurd (ne refl)
+      by_slot old new same (suc j) ne = ap (λ (z : Listings). slot.Pages (listing_at z.lists j)) (sym same)
+
+      home_of : (s : State (Slot L D) (View L D)) (R : Law s) (new : Parts L D) → new.lists ≡ R.parts.lists → (k : ℕ) → k < 5 → slice_index R.parts.words.words (7 + 0) ≡ 1 → slice_index s.words (7 + k) ≡ 0 → get_elem? s.homes k ≡ maybe.some (maybe.some (content_at new k))
+      home_of s R new same zero l taken z = let t : slice_index s.words 7 ≡ 1 = sym (ap (λ (y : List ℕ). slice_index y 7) R.words_are) ∙ taken in absurd (omega arith)
+      home_of s R new same (suc j) l taken z = R.home (suc j) l z ∙ ap (λ (y : Slot L D). maybe.some (maybe.some y)) (by_slot R.parts new same (suc j) (λ e. omega arith))
+
+  -- WriteBatch: the data part is taken out of its slot
+  pub allows_reach : (i : ℕ) (d : store.Part D) → me.0.data_part ≡ Some (record { part = d; out = false }) → Allows Law slots id me i (λ n. n) (reached me)
+  allows_reach i d has s R wide at small =
+      let e : slice_set s.words i (slice_index s.words i) ≡ s.words = set-get_or s.words i 0 in
+      let K : Knows R.parts R.actors R.seat_of R.keeper R.out id me.0 = kept.known log_seen log_gives data_seen data_gives about s R id me.0 x one at in
+      let mine = K.data_part (record { part = d; out = false }) has in
+      let w : View L D = record { pages = me.0.pages; seats = me.0.seats; held = me.0.held; data_part = Some (record { part = d; out = true }) } in
+      let out_is : (f : Keeping D) → Some (record { part = d; out = true }) ≡ Some f → (◌≡◌ {A = store.Part D} d f.part) × (true ≡ f.out) = λ f h.
+      (ap (λ (o : Option (Keeping D)). part_or d o) h, ap (λ (o : Option (Keeping D)). is_out o) h) in
+      let here : Knows R.parts R.actors R.seat_of R.keeper true id w = record {
+        pages = K.pages;
+        mine = K.mine;
+        free = K.free;
+        held = K.held;
+        data_part = λ f h. (mine.0, sym (out_is f h).0 ∙ mine.1, (out_is f h).1);
+      } in
+      let others : (j : ℕ) (u : View L D) → j ≢ id → get_elem? s.views j ≡ maybe.some u → Knows R.parts R.actors R.seat_of R.keeper true j u = λ j u ne h. let N = R.knows j u h in record {
+        pages = N.pages;
+        mine = N.mine;
+        free = N.free;
+        held = N.held;
+        data_part = λ f g. absurd (ne (sym (N.data_part f g).0 ∙ mine.0));
+      } in
+      let new : Law (record { words = s.words; homes = slice_set s.homes 5 maybe.none; views = slice_set s.views id w }) = record {
+        run = R.run;
+        is_about = R.is_about;
+        parts = R.parts;
+        actors = R.actors;
+        words_are = R.words_are;
+        lists_are = R.lists_are;
+        runs = R.runs;
+        count = R.count;
+        log_calls = R.log_calls;
+        data_calls = R.data_calls;
+        log_shape = R.log_shape;
+        slots = length-set s.homes 5 maybe.none ∙ R.slots;
+        home = λ k l z. set_else s.homes 5 k maybe.none (λ f. omega arith) ∙ R.home k l z;
+        seat_of = R.seat_of;
+        keeper = R.keeper;
+        out = true;
+        data_home = λ z. absurd (cc);
+        taken = R.taken;
+        knows = λ j u h. ⊎_elim (λ t. subst (λ (z : View L D). Knows R.parts R.actors R.seat_of R.keeper true j z) t.1 (subst (λ (n : ℕ). Knows R.parts R.actors R.seat_of R.keeper true n w) (sym t.0) here)) (λ t. others j u t.0 t.1) (at_set s.views id j w u h);
+      } in (
+        w,
+        takes 5 (slot.Data d),
+        R.data_home mine.2 ∙ ap (λ (z : store.Part D). maybe.some (maybe.some (slot.Data z))) (sym mine.1),
+        subst (λ (ws : List ℕ). Law (record { words = ws; homes = slice_set s.homes 5 maybe.none; views = slice_set s.views id w })) (sym e) new,
+        λ f g. ap (λ (z : store.Part D). let m : Me (Slot L D) (View L D) = (record { pages = me.0.pages; seats = me.0.seats; held = me.0.held; data_part = Some (record { part = z; out = true }) }, (5, slot.Data z) ∷ me.1) in m) (ap (λ (o : Option (Keeping D)). part_or d o) (sym has ∙ g)),
+      )
+
+  -- and behind its call it is back
+  pub allows_batched : (i : ℕ) (d e : store.Part D) → next a ≡ op.WriteBatch → IsFreeToCheck a → me.0.data_part ≡ Some (record { part = d; out = true }) → me.1 ≡ (5, slot.Data e) ∷ []
+      → ((run : RunOf L D) → DataServed (data_of log_seen data_seen run) d (lent a) op.WriteBatch (data_code e.failed) e) → MakesCalls data_gives d.dev e.dev (EndWith e.failed) → d.failed ≡ None
+      → Allows Law slots id me i (λ n. n) (batched log_seen data_seen me)
+  allows_batched i d e is free has carried served calls live s R wide at small =
+      let goes : Handles op.WriteBatch (hand a) (λ (z : Answer). hand (took a z)) = subst (λ (j : Op). Handles j (hand a) (λ (z : Answer). hand (took a z))) is (handles a free) in
+      let known : Knows R.parts R.actors R.seat_of R.keeper R.out id me.0 = kept.known log_seen log_gives data_seen data_gives about s R id me.0 x one at in
+      let mine = known.data_part (record { part = d; out = true }) has in
+      let was : ◌≡◌ {A = store.Part D} d R.parts.store = mine.1 in
+      let q : slice_set s.words i (slice_index s.words i) ≡ s.words = set-get_or s.words i 0 in
+      let new : Parts L D = record { words = record { pages = R.parts.words.pages; words = slice_set s.words i (slice_index s.words i) }; log = R.parts.log; store = e; lists = R.parts.lists } in
+      let r : Answer = called_by (data_code e.failed) 0 in
+      let same : HasSamePages R.parts new = record { words = refl; lists = refl } in
+      let done : IsPlayed log_seen data_seen R.run (next a) (lent a) R.parts r new = subst (λ (j : Op). IsPlayed log_seen data_seen R.run j (lent a) R.parts r new) (sym is)
+      (record { code = data_code e.failed; log_served = refl; data_served = subst (λ (z : store.Part D). DataServed (data_of log_seen data_seen R.run) z (lent a) op.WriteBatch (data_code e.failed) e) was (served R.run); words = q ∙ sym R.words_are; lists = refl; answered = refl }) in
+      let kept_now : Option (Keeping D) = Some (record { part = e; out = false }) in
+      let w : View L D = record { pages = me.0.pages; seats = behind x r ∷ []; held = me.0.held; data_part = kept_now } in
+      let own : (k : ℕ) → hand (took a r) ≡ Some k → me.0.held ≡ Some (content_at new k) = λ k h. let n = goes.1 r in absurd (cc) in
+      let left : (z : Keeping D) → kept_now ≡ Some z → (◌≡◌ {A = store.Part D} z.part e) × (false ≡ z.out) = λ z h.
+      (sym (ap (λ (o : Option (Keeping D)). part_or e o) h), ap (λ (o : Option (Keeping D)). is_out o) h) in
+      let back : put_back s.homes me.1 ≡ slice_set s.homes 5 (maybe.some (slot.Data e)) = ap (put_back s.homes) carried in (
+        w,
+        gives,
+        tt,
+        kept.kept log_seen log_gives data_seen data_gives about s R id me.0 x one at r new same done w false refl refl own (λ z h. (mine.0, (left z h).0, (left z h).1))
+            (λ n c k ne h hold. allowed.same_content R.parts new refl refl k) (λ j u z ne h stored. absurd (ne (sym ((R.knows j u h).data_part z stored).0 ∙ mine.0))) (put_back s.homes me.1) R.lists_are
+            R.log_calls
+            (calls_then data_gives about.opened.value.store.dev R.parts.store.dev e.dev about.opened.value.store.failed R.parts.store.failed e.failed R.data_calls
+            (subst (λ (z : store.Part D). CallsOn data_gives z.dev z.failed e.dev e.failed) was (record { live = λ none. calls; over = λ some. absurd (some live) })))
+            refl (ap length back ∙ length-set s.homes 5 (maybe.some (slot.Data e)) ∙ R.slots)
+            (λ k l z. ap (λ (y : List (maybe.Option (Slot L D))). get_elem? y k) back ∙ set_else s.homes 5 k (maybe.some (slot.Data e)) (λ f. omega arith)
+            ∙ R.home k l (sym (ap (λ (y : List ℕ). slice_index y (7 + k)) q) ∙ z) ∙ ap (λ (y : Slot L D). maybe.some (maybe.some y)) (allowed.same_content R.parts new refl refl k))
+            (λ z. ap (λ (y : List (maybe.Option (Slot L D))). get_elem? y 5) back ∙ set_here s.homes 5 (maybe.some (slot.Data e)) (let n = R.slots in omega arith))
+            (λ k l z. inr ((λ u. z (ap (λ (y : List ℕ). slice_index y (7 + k)) q ∙ u)), λ u. let n = goes.0 in absurd (cc))),
+        λ y f one_y carries. subst (λ (j : store.Part D). Stepped log_seen data_seen y (called_by (data_code j.failed) 0) me.0.held (Some (record { part = j; out = false })) (rest me.1) me (w, rest me.1))
+            (kept.same_data e f (one_slot 5 (slot.Data e) (slot.Data f) me.1 carried carries))
+            (subst (λ (j : Numbered). Stepped log_seen data_seen j r me.0.held kept_now (rest me.1) me (record { pages = me.0.pages; seats = behind x r ∷ []; held = me.0.held; data_part = kept_now }, rest me.1)) (one_head me.0.seats x y one one_y)
+            (kept.steps log_seen log_gives data_seen data_gives about s R id me.0 x one at r new same done me.1 me.0.held kept_now (rest me.1) own (λ z h. (left z h).0))),
+      )

@@ -1,0 +1,193 @@
+-- What a table leaves is what a run leaves, and so what every drive owes.
+use Rattle.std.proofs.Common.{Bool, List, get_or, ap, arith, drop, false, get_or-set_other, length, refl, subst, suc, sym, true, zero, ℕ, ◌<◌, ◌^◌, ◌∙◌, ◌∷◌, ◌≡◌, ◌≢◌, ◌≤◌, []}
+use Rattle.std.specs.Prelude.{slice_index, slice_set}
+use lib.ListN.{get_elem?}
+use mathlib.Core.Option as maybe
+use Rattle.atomic_table.specs.Seated.{TableId}
+use Rattle.atomic_table.specs.Table.{Final, Seen as SeenBy}
+use Rattle.atomic_table.specs.declared.shared.Seat.{Seat}
+use Rattle.model_core.specs.{index}
+use Rattle.model_core.specs.declared.words.Word.TheVariants as word
+use Rattle.model_finish.proofs.Finished.{marks_same}
+use Rattle.model_finish.specs.{history_of, marks_in, word_marks}
+use Rattle.model_history.specs.declared.entry.Entry.{Entry}
+use Rattle.model_history.specs.declared.entry.Marks.{Marks}
+use Rattle.redo_disk.specs.{Call}
+use Rattle.redo_disk.specs.Seen.{Seen}
+use Rattle.redo_machine.proofs.FailureCode.{small_code}
+use Rattle.redo_machine.proofs.LeftRun as left_run
+use Rattle.redo_machine.proofs.LogCount.{log_within_script}
+use Rattle.redo_machine.proofs.Told.{as_many, have_groups, history_is}
+use Rattle.redo_machine.specs.Beginning.{MayBegin}
+use Rattle.redo_machine.specs.History.{HasGroups, ListsInOrder, all_listed}
+use Rattle.redo_machine.specs.Lists.{listing_at}
+use Rattle.redo_machine.specs.Leaving.{LeavesRun}
+use Rattle.redo_machine.specs.Views.{view_of}
+use Rattle.redo_machine.specs.declared.actor.Actor.{Actor}
+use Rattle.redo_pageactors.specs.declared.closed.Closed.{Closed}
+use Rattle.redo_rule.proofs.Ends.{ends_ok}
+use Rattle.redo_rule.proofs.Kept as kept
+use Rattle.redo_rule.specs.Closing.{done_with, IsOwedRun, LeavesParts, MayClose}
+use Rattle.redo_rule.specs.Ending.{EndsWith}
+use Rattle.redo_rule.specs.Ruled.{Ruled}
+use Rattle.redo_rule.specs.Slots.{IsData, IsLog, IsPages}
+use Rattle.redo_rule.specs.declared.closing.Left.{Left}
+use Rattle.redo_rule.specs.declared.law.About.{About}
+use Rattle.redo_rule.specs.declared.law.Slot.{Slot}
+use Rattle.redo_rule.specs.declared.law.Slot.TheVariants as slot
+use Rattle.redo_rule.specs.declared.law.View.{View}
+
+-- what stands in a place of a list
+pub read_at : (l : List ℕ) (i x : ℕ) → get_elem? l i ≡ maybe.some x → x ≡ slice_index l i
+read_at [] i x e = absurd (maybe.some-ne-none x (sym e))
+read_at (y ∷ ys) zero x e = sym (maybe.some-injective y x e)
+read_at (y ∷ ys) (suc i) x e = read_at ys i x e
+
+-- a slot that was taken is empty, and the others are as they were
+still_full : (l : List Bool) (i k : ℕ) → k ≢ i → get_or l k false ≡ true → get_or (slice_set l i false) k false ≡ true
+still_full l i k ne e = get_or-set_other l i k false false ne ∙ e
+
+pub still_there : (a b : List Bool) (i k : ℕ) → b ≡ slice_set a i false → k ≢ i → get_or a k false ≡ true → get_or b k false ≡ true
+still_there a b i k is ne e = ap (λ (z : List Bool). get_or z k false) is ∙ still_full a i k ne e
+
+emptied : (l : List Bool) (i : ℕ) → get_or (slice_set l i false) i false ≡ false
+emptied [] i = refl
+emptied (x ∷ xs) zero = refl
+emptied (x ∷ xs) (suc i) = emptied xs i
+
+still_empty : (l : List Bool) (i k : ℕ) → get_or l k false ≡ false → get_or (slice_set l i false) k false ≡ false
+still_empty [] i k e = e
+still_empty (x ∷ xs) zero zero e = refl
+still_empty (x ∷ xs) zero (suc k) e = e
+still_empty (x ∷ xs) (suc i) zero e = e
+still_empty (x ∷ xs) (suc i) (suc k) e = still_empty xs i k e
+
+-- all six were taken
+pub all_empty : (a b c d e f g : List Bool) → b ≡ slice_set a 0 false → c ≡ slice_set b 1 false → d ≡ slice_set c 2 false → e ≡ slice_set d 3 false → f ≡ slice_set e 4 false → g ≡ slice_set f 5 false
+    → (k : ℕ) → k < 6 → get_or g k false ≡ false
+all_empty a b c d e f g p q r s t u k l = ap (λ (z : List Bool). get_or z k false) u ∙ by k l
+  where
+    at_b : (i : ℕ) → get_or b 0 false ≡ false
+    at_b i = ap (λ (z : List Bool). get_or z 0 false) p ∙ emptied a 0
+
+    at_c : (i : ℕ) → get_or c i false ≡ false → get_or d i false ≡ false
+    at_c i e' = ap (λ (z : List Bool). get_or z i false) r ∙ still_empty c 2 i e'
+
+    at_d : (i : ℕ) → get_or d i false ≡ false → get_or e i false ≡ false
+    at_d i e' = ap (λ (z : List Bool). get_or z i false) s ∙ still_empty d 3 i e'
+
+    at_e : (i : ℕ) → get_or e i false ≡ false → get_or f i false ≡ false
+    at_e i e' = ap (λ (z : List Bool). get_or z i false) t ∙ still_empty e 4 i e'
+
+    first : get_or c 0 false ≡ false
+    first = ap (λ (z : List Bool). get_or z 0 false) q ∙ still_empty b 1 0 (at_b 0)
+
+    second : get_or c 1 false ≡ false
+    second = ap (λ (z : List Bool). get_or z 1 false) q ∙ emptied b 1
+
+    by : (k : ℕ) → k < 6 → get_or (slice_set f 5 false) k false ≡ false
+    by zero l = still_empty f 5 0 (at_e 0 (at_d 0 (at_c 0 first)))
+    by (suc zero) l = still_empty f 5 1 (at_e 1 (at_d 1 (at_c 1 second)))
+    by (suc (suc zero)) l = still_empty f 5 2 (at_e 2 (at_d 2 (ap (λ (z : List Bool). get_or z 2 false) r ∙ emptied c 2)))
+    by (suc (suc (suc zero))) l = still_empty f 5 3 (at_e 3 (ap (λ (z : List Bool). get_or z 3 false) s ∙ emptied d 3))
+    by (suc (suc (suc (suc zero)))) l = still_empty f 5 4 (ap (λ (z : List Bool). get_or z 4 false) t ∙ emptied e 4)
+    by (suc (suc (suc (suc (suc zero))))) l = emptied f 5
+    by (suc (suc (suc (suc (suc (suc k)))))) l = absurd (omega arith)
+
+pub nothing_left : {A : Type 0} (l : List A) → drop (length l) l ≡ []
+nothing_left [] = refl
+nothing_left (x ∷ xs) = nothing_left xs
+
+module _ {L D : Type 0} (log_seen : L → Seen) (log_gives : L → Call → L → Type 0) (data_seen : D → Seen) (data_gives : D → Call → D → Type 0) (about : About L D) where
+  -- what is left where the table is closed
+  pub ends_with : (table : TableId) (actors : List Actor) (first : Seat (Slot L D) (View L D)) → MayClose about table actors first → (ws : List ℕ) (xs : List (Slot L D))
+      → Final (SeenBy (Ruled log_seen log_gives data_seen data_gives about) first.id first.me.0) ws xs → EndsWith log_seen log_gives data_seen data_gives about actors ws xs
+  ends_with table actors first may ws xs final = ends_ok log_seen log_gives data_seen data_gives about first.id first.me.0 ws xs actors final may.all may.count may.rest may.cleaner may.alone
+
+  module _ (actors : List Actor) (ws : List ℕ) (xs : List (Slot L D)) (E : EndsWith log_seen log_gives data_seen data_gives about actors ws xs) where
+    pub small : slice_index ws (index word.Failed) < 2 ^ 32
+    small = subst (λ (z : List ℕ). slice_index z (index word.Failed) < 2 ^ 32) E.words_are (small_code log_seen data_seen E.run E.parts actors E.runs)
+
+    marks_are : (a b c d : ℕ) → a ≡ slice_index ws (index word.Wtail) → b ≡ slice_index ws (index word.Write) → c ≡ slice_index ws (index word.Flushed) → d ≡ slice_index ws (index word.Ckpt)
+        → ◌≡◌ {A = Marks} (record { wtail = a; write = b; flushed = c; ckpt = d }) (marks_in E.parts.words.words)
+    marks_are a b c d p q r t =
+        ap (λ (z : ℕ). record { wtail = z; write = b; flushed = c; ckpt = d }) p ∙ ap (λ (z : ℕ). record { wtail = slice_index ws (index word.Wtail); write = z; flushed = c; ckpt = d }) q
+        ∙ ap (λ (z : ℕ). record { wtail = slice_index ws (index word.Wtail); write = slice_index ws (index word.Write); flushed = z; ckpt = d }) r
+        ∙ ap (λ (z : ℕ). record { wtail = slice_index ws (index word.Wtail); write = slice_index ws (index word.Write); flushed = slice_index ws (index word.Flushed); ckpt = z }) t
+        ∙ ap marks_in (sym E.words_are)
+
+    in_slot : (k : ℕ) (x y : Slot L D) → get_elem? xs k ≡ maybe.some x → get_elem? xs k ≡ maybe.some y → ◌≡◌ {A = Slot L D} x y
+    in_slot k x y e f = maybe.some-injective x y (sym e ∙ f)
+
+    -- what lies in each slot
+    pub log_there : (x : Slot L D) → get_elem? xs 0 ≡ maybe.some x → IsLog x (λ p. Unit {0})
+    log_there x e = (E.parts.log, in_slot 0 x (slot.Log E.parts.log) e E.log, tt)
+
+    pub list_there : (i : ℕ) (x : Slot L D) → i < 4 → get_elem? xs (suc i) ≡ maybe.some x → IsPages x (λ l. Unit {0})
+    list_there i x l e = (listing_at E.parts.lists.lists i, in_slot (suc i) x (slot.Pages (listing_at E.parts.lists.lists i)) e (E.lists i l), tt)
+
+    pub data_there : (x : Slot L D) → get_elem? xs 5 ≡ maybe.some x → IsData x (λ d. Unit {0})
+    data_there x e = (E.parts.store, in_slot 5 x (slot.Data E.parts.store) e E.data_part, tt)
+
+    pub parts_left : (left : Left L D) (x y : Slot L D) → get_elem? xs 0 ≡ maybe.some x → x ≡ slot.Log left.log → get_elem? xs 5 ≡ maybe.some y → y ≡ slot.Data left.store
+        → left.marks.wtail ≡ slice_index ws (index word.Wtail) → left.marks.write ≡ slice_index ws (index word.Write) → left.marks.flushed ≡ slice_index ws (index word.Flushed) → left.marks.ckpt ≡ slice_index ws (index word.Ckpt)
+        → left.code ≡ slice_index ws (index word.Failed) → LeavesParts log_seen log_gives data_seen data_gives about actors left
+    parts_left left x y at_log log_is at_data store_is wtail write flushed ckpt code = record {
+      run = E.run;
+      is_about = E.is_about;
+      last = E.parts;
+      runs = E.runs;
+      log_calls = E.log_calls;
+      data_calls = E.data_calls;
+      log_shape = E.log_shape;
+      log = kept.same_log left.log E.parts.log (sym log_is ∙ in_slot 0 x (slot.Log E.parts.log) at_log E.log);
+      data_part = kept.same_data left.store E.parts.store (sym store_is ∙ in_slot 5 y (slot.Data E.parts.store) at_data E.data_part);
+      marks = marks_are left.marks.wtail left.marks.write left.marks.flushed left.marks.ckpt wtail write flushed ckpt;
+      code = code ∙ ap (λ (z : List ℕ). slice_index z (index word.Failed)) (sym E.words_are);
+    }
+
+  module _ (actors : List Actor) (left : Left L D) (P : LeavesParts log_seen log_gives data_seen data_gives about actors left) where
+    its_marks : ◌≡◌ {A = Marks} left.marks (word_marks P.runs.running.shared)
+    its_marks = P.marks ∙ marks_same P.last.words.words P.runs.running.shared P.runs.running.flat_is
+
+    pub groups : (seat : ℕ) (actor : Actor) → seat < length actors → HasGroups (view_of (get_or actors seat actor))
+    groups = have_groups log_seen data_seen P.run P.last actors P.runs
+
+    -- there is room for the history
+    pub has_room : (room : ℕ) → length about.script.value ≤ room → length (all_listed left.marks actors) ≤ room
+    has_room room enough =
+        let R = P.runs in
+        let many = as_many log_seen data_seen P.run P.last actors R in
+        let same : length (all_listed left.marks actors) ≡ length (all_listed (word_marks R.running.shared) actors) = ap (λ (z : Marks). length (all_listed z actors)) its_marks in
+        let within = log_within_script P.run.setup about.script.value about.opened.value.shape.space R.running.shared.sn R.running.log_ghost.log R.running.log_ghost.place R.running.both.logged.global.tiled P.is_about.is_run.of_script in
+        omega arith
+
+    pub its_history : (history : List Entry) → ListsInOrder left.marks actors history → ◌≡◌ {A = List Entry} history (history_of P.runs.running.log_ghost.answered (word_marks P.runs.running.shared) P.runs.running.log_ghost.log)
+    its_history history l = history_is log_seen data_seen P.run P.last actors P.runs history (subst (λ (z : Marks). ListsInOrder z actors history) its_marks l)
+
+    pub leaves : (closed : Closed L D) → closed.log ≡ left.log → closed.store ≡ left.store → ◌≡◌ {A = Marks} closed.marks left.marks → closed.code ≡ left.code → ListsInOrder left.marks actors closed.history
+        → LeavesRun log_seen log_gives data_seen data_gives about.opened.value about.script.value about.log_only actors closed
+    leaves closed log_is store_is marks_is code_is listed = record {
+      run = P.run;
+      is_run = P.is_about.is_run;
+      begun = P.is_about.begun;
+      last = P.last;
+      runs = P.runs;
+      log_calls = P.log_calls;
+      data_calls = P.data_calls;
+      log_shape = P.log_shape;
+      log = log_is ∙ P.log;
+      data_part = store_is ∙ P.data_part;
+      marks = marks_is ∙ P.marks;
+      code = code_is ∙ P.code;
+      history = its_history closed.history listed;
+    }
+
+    pub is_owed : MayBegin about.opened.value about.script.value about.log_only → (closed : Closed L D) → LeavesRun log_seen log_gives data_seen data_gives about.opened.value about.script.value about.log_only actors closed
+        → IsOwedRun log_seen log_gives data_seen data_gives about.opened.value about.script.value actors closed
+    is_owed may closed by = record {
+      holds = left_run.holds_run log_seen log_gives data_seen data_gives about.opened.value about.script.value about.log_only actors (done_with closed) by may;
+      comes_to = λ ended. left_run.comes_to_run log_seen log_gives data_seen data_gives about.opened.value about.script.value about.log_only actors (done_with closed) by may (λ e. ended) (λ user e. absurd (cc));
+      owed = λ ended. left_run.is_owed log_seen log_gives data_seen data_gives about.opened.value about.script.value about.log_only actors (done_with closed) by may (λ e. ended);
+      owed_synced = λ ended. left_run.is_owed_synced log_seen log_gives data_seen data_gives about.opened.value about.script.value about.log_only actors (done_with closed) by may (λ e. ended);
+    }

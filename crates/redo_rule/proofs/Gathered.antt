@@ -1,0 +1,256 @@
+-- A seat more is cut off the first one, and the last seat is taken in.
+use Rattle.std.proofs.Common.{Bool, List, None, Option, Some, [], ap, arith, cond, drop, false, inl, inr, length, length-append, refl, subst, suc, sym, true, zero, ℕ, ⊎_elim, ◌++◌, ◌+◌, ◌<◌, ◌∙◌, ◌∷◌, ◌≡◌, ◌≤◌, ◌⊎◌}
+use lib.ListN.{get_elem?}
+use mathlib.Core.Option as maybe
+use native.Mathlib.Decide.{ℕ_discrete}
+use Rattle.atomic_table.proofs.Lists.{at_last, at_longer, drop_at}
+use Rattle.atomic_table.specs.Seated.{TableId}
+use Rattle.atomic_table.specs.declared.shared.Seat.{Seat}
+use Rattle.model_core.specs.{word_count}
+use Rattle.model_core.specs.Actors as model
+use Rattle.redo_machine.specs.Views.{view_of}
+use Rattle.redo_machine.specs.declared.actor.Actor.{Actor}
+use Rattle.redo_machine.specs.declared.actor.Actor.TheVariants as own
+use Rattle.redo_rule.proofs.Opens.{numbered_at}
+use Rattle.redo_rule.proofs.Seated.{at_end}
+use Rattle.redo_rule.specs.Cutting.{HoldNothing, IsFirst, MayCut, MayTakeIn}
+use Rattle.redo_rule.specs.Gathering.{AreApart, HasOneCleaner, PartIsKept}
+use Rattle.redo_rule.specs.Hands.{hand}
+use Rattle.redo_rule.specs.Mine.{Mine, number_in, number_of}
+use Rattle.redo_rule.specs.Plays.{Carries}
+use Rattle.redo_rule.specs.Ruled.{numbered}
+use Rattle.redo_rule.specs.Seating.{HasPart, IsCleaner, IsSeatOf}
+use Rattle.redo_rule.specs.Seats.{cut_left, cut_right, first_some, head_of, heads_cleaner, is_cleaner, tail_of, taken_in}
+use Rattle.redo_rule.specs.declared.law.Keeping.{Keeping}
+use Rattle.redo_rule.specs.declared.law.Numbered.{Numbered}
+use Rattle.redo_rule.specs.declared.law.Slot.{Slot}
+use Rattle.redo_rule.specs.declared.law.View.{View}
+
+-- an actor is known by its view
+abbrev own_of : Actor → model.Actor → Actor
+own_of d (model.User u) = own.User u
+own_of d (model.Writer s) = own.Writer s
+own_of d (model.Flusher t) = own.Flusher t
+own_of d (model.Closer t) = own.Closer t
+own_of d (model.Cleaner v) = own.Cleaner v
+own_of d (model.Checkpointer t) = own.Checkpointer t
+own_of d (model.Joined es) = d
+
+own_back : (d a : Actor) → ◌≡◌ {A = Actor} (own_of d (view_of a)) a
+own_back d (own.User u) = refl
+own_back d (own.Writer s) = refl
+own_back d (own.Flusher t) = refl
+own_back d (own.Closer t) = refl
+own_back d (own.Cleaner v) = refl
+own_back d (own.Checkpointer t) = refl
+
+same_actor : (a b : Actor) → ◌≡◌ {A = model.Actor} (view_of a) (view_of b) → ◌≡◌ {A = Actor} a b
+same_actor a b e = sym (own_back a a) ∙ ap (own_of a) e ∙ own_back a b
+
+-- whether it is the cleaner
+told_cleaner : (a : Actor) → (IsCleaner (view_of a) × (is_cleaner a ≡ true)) ⊎ (is_cleaner a ≡ false)
+told_cleaner (own.User u) = inr refl
+told_cleaner (own.Writer s) = inr refl
+told_cleaner (own.Flusher t) = inr refl
+told_cleaner (own.Closer t) = inr refl
+told_cleaner (own.Cleaner v) = inl (tt, refl)
+told_cleaner (own.Checkpointer t) = inr refl
+
+cleaner_true : (a : Actor) → IsCleaner (view_of a) → is_cleaner a ≡ true
+cleaner_true (own.User u) is = absurd is
+cleaner_true (own.Writer s) is = absurd is
+cleaner_true (own.Flusher t) is = absurd is
+cleaner_true (own.Closer t) is = absurd is
+cleaner_true (own.Cleaner v) is = refl
+cleaner_true (own.Checkpointer t) is = absurd is
+
+cut_part_is : {D : Type 0} (b : Bool) (o : Option (Keeping D)) (d : Keeping D) → cond b o None ≡ Some d → o ≡ Some d
+cut_part_is true o d e = e
+cut_part_is false o d e = absurd (cc)
+
+pub there : {A : Type 0} (l : List A) (n : ℕ) → n < length l → (a : A) × (get_elem? l n ≡ maybe.some a)
+there [] n less = absurd (omega arith)
+there (x ∷ xs) zero less = (x, refl)
+there (x ∷ xs) (suc n) less = there xs n (omega arith)
+
+pub none_beyond : {A : Type 0} (l : List A) (i : ℕ) (a : A) → length l ≤ i → get_elem? l i ≡ maybe.some a → ⊥
+none_beyond [] i a le e = maybe.some-ne-none a (sym e)
+none_beyond (x ∷ xs) zero a le e = absurd (omega arith)
+none_beyond (x ∷ xs) (suc i) a le e = none_beyond xs i a (omega arith) e
+
+module _ {L D : Type 0} (table : TableId) (actors : List Actor) (first : Seat (Slot L D) (View L D)) (seats : List (Seat (Slot L D) (View L D))) (A : AreApart table actors first seats) where
+  module _ (less : length seats < length actors) where
+    abbrev next_actor : Actor
+    next_actor = (there actors (length seats) less).0
+
+    next_at : get_elem? actors (length seats) ≡ maybe.some next_actor
+    next_at = (there actors (length seats) less).1
+
+    abbrev head : Numbered
+    head = record { number = length seats; actor = next_actor }
+
+    abbrev others : List Numbered
+    others = numbered (length seats + 1) (drop (suc (length seats)) actors)
+
+    are : first.me.0.seats ≡ head ∷ others
+    are = A.others ∙ ap (numbered (length seats)) (drop_at actors (length seats) next_actor next_at)
+
+    pub may_cut : MayCut first.me.0
+    may_cut = record {
+      head = head;
+      others = others;
+      are = are;
+      apart = λ i y e z. let n = (numbered_at (length seats + 1) (drop (suc (length seats)) actors) i y e).0 in omega arith;
+    }
+
+    module _ (after token : Seat (Slot L D) (View L D)) (is_first : IsFirst table after) (left : after.me.0 ≡ cut_left first.me.0) (right : token.me.0 ≡ cut_right first.me.0)
+        (mine : (x : Numbered) → token.me.0.seats ≡ x ∷ [] → Mine table token (view_of x.actor)) (one : HasOneCleaner actors) (part : PartIsKept (length seats) actors first) where
+      token_seats : token.me.0.seats ≡ head ∷ []
+      token_seats = ap (λ (v : View L D). v.seats) right ∙ ap head_of are
+
+      heads : heads_cleaner first.me.0.seats ≡ is_cleaner next_actor
+      heads = ap heads_cleaner are
+
+      keeps_part : IsCleaner (view_of next_actor) → HasPart token.me.0
+      keeps_part is = ⊎_elim
+          (λ p. (p.0, ap (λ (v : View L D). v.data_part) right ∙ ap (λ (b : Bool). cond b first.me.0.data_part None) (heads ∙ cleaner_true next_actor is) ∙ p.1))
+          (λ t. let same : t.0 ≡ length seats = one t.0 (length seats) t.1 next_actor t.3 next_at t.4 is in let l = t.2 in absurd (omega arith)) part
+
+      cut_seat : IsSeatOf table token (view_of next_actor)
+      cut_seat = record {
+        mine = mine head token_seats;
+        home = λ d has. A.is_first.home d (cut_part_is (heads_cleaner first.me.0.seats) first.me.0.data_part d (sym (ap (λ (v : View L D). v.data_part) right) ∙ has));
+        cleaner = keeps_part;
+      }
+
+      long : length (seats ++ token ∷ []) ≡ length seats + 1
+      long = length-append seats (token ∷ [])
+
+      longer : suc (length seats) ≡ length (seats ++ token ∷ [])
+      longer = let n = long in omega arith
+
+      pub cut_next : AreApart table actors after (seats ++ token ∷ [])
+      cut_next = record {
+        is_first = is_first;
+        few = (let n = long in omega arith);
+        others = ap (λ (v : View L D). v.seats) left ∙ ap tail_of are ∙ ap (λ (n : ℕ). numbered n (drop (suc (length seats)) actors)) (sym long) ∙ ap (λ (n : ℕ). numbered (length (seats ++ token ∷ [])) (drop n actors)) longer;
+        each = λ i seat a e at. ⊎_elim
+            (λ t. A.each i seat a t.1 at)
+            (λ t. let same : ◌≡◌ {A = Actor} next_actor a = maybe.some-injective next_actor a (sym next_at ∙ ap (get_elem? actors) (sym t.0) ∙ at) in
+            subst (λ (s : Seat (Slot L D) (View L D)). IsSeatOf table s (view_of a) × (number_of s.me.0 ≡ i)) t.1
+            (subst (λ (b : Actor). IsSeatOf table token (view_of b)) same cut_seat, ap number_in token_seats ∙ sym t.0))
+            (at_end seats token seat i e);
+      }
+
+      pub cut_part : PartIsKept (length (seats ++ token ∷ [])) actors after
+      cut_part = ⊎_elim
+          (λ c. inr (length seats, next_actor, (let n = long in omega arith), next_at, c.0))
+          (λ none. ⊎_elim
+          (λ p. inl (p.0, ap (λ (v : View L D). v.data_part) left ∙ ap (λ (b : Bool). cond b None first.me.0.data_part) (heads ∙ none) ∙ p.1))
+          (λ t. inr (t.0, t.1, (let n = long in let l = t.2 in omega arith), t.3, t.4)) part)
+          (told_cleaner next_actor)
+
+  module _ (before : List (Seat (Slot L D) (View L D))) (seat : Seat (Slot L D) (View L D)) (is : seats ≡ before ++ seat ∷ []) (rest : HoldNothing actors) where
+    count : length seats ≡ length before + 1
+    count = ap length is ∙ length-append before (seat ∷ [])
+
+    last_less : length before < length actors
+    last_less = let n = count in let l = A.few in omega arith
+
+    abbrev last_actor : Actor
+    last_actor = (there actors (length before) last_less).0
+
+    last_at : get_elem? actors (length before) ≡ maybe.some last_actor
+    last_at = (there actors (length before) last_less).1
+
+    seat_at : get_elem? seats (length before) ≡ maybe.some seat
+    seat_at = ap (λ (l : List (Seat (Slot L D) (View L D))). get_elem? l (length before)) is ∙ at_last before seat (length before) refl
+
+    own_seat : IsSeatOf table seat (view_of last_actor)
+    own_seat = (A.each (length before) seat last_actor seat_at last_at).0
+
+    its_number : number_of seat.me.0 ≡ length before
+    its_number = (A.each (length before) seat last_actor seat_at last_at).1
+
+    free : hand (view_of last_actor) ≡ None
+    free = rest (length before) last_actor last_at
+
+    abbrev who : Numbered
+    who = own_seat.mine.who
+
+    who_is : ◌≡◌ {A = Numbered} who (record { number = length before; actor = last_actor })
+    who_is = ap (λ (n : ℕ). record { number = n; actor = who.actor }) (sym (ap number_in own_seat.mine.one) ∙ its_number) ∙ ap (λ (a : Actor). record { number = length before; actor = a }) (same_actor who.actor last_actor own_seat.mine.state)
+
+    same_count : (p q : ℕ) → word_count p ≡ word_count q → p ≡ q
+    same_count p q e = omega arith
+
+    pub may_take_in : MayTakeIn table first seat
+    may_take_in = record {
+      of = own_seat.mine.of;
+      pages = same_count first.me.0.pages seat.me.0.pages (sym A.is_first.words ∙ own_seat.mine.words);
+      none = subst (λ (h : Option ℕ). Carries h seat.me) free own_seat.mine.carries;
+      rest = λ i y e. ap (λ (z : Numbered). hand (view_of z.actor)) (sym (in_one who i y (sym (ap (λ (l : List Numbered). get_elem? l i) own_seat.mine.one) ∙ e))) ∙ ap hand own_seat.mine.state ∙ free;
+      home = own_seat.home;
+    }
+      where
+        in_one : (x : Numbered) (i : ℕ) (y : Numbered) → get_elem? (x ∷ []) i ≡ maybe.some y → ◌≡◌ {A = Numbered} x y
+        in_one x zero y e = maybe.some-injective x y e
+        in_one x (suc i) y e = absurd (maybe.some-ne-none y (sym e))
+
+    module _ (after : Seat (Slot L D) (View L D)) (is_first : IsFirst table after) (both : after.me.0 ≡ taken_in first.me.0 seat.me.0) where
+      shorter : length seats ≡ suc (length before)
+      shorter = let n = count in omega arith
+
+      joined : after.me.0.seats ≡ numbered (length before) (drop (length before) actors)
+      joined = ap (λ (v : View L D). v.seats) both ∙ ap (λ (l : List Numbered). l ++ first.me.0.seats) (own_seat.mine.one ∙ ap (λ (x : Numbered). x ∷ []) who_is)
+          ∙ ap (λ (l : List Numbered). (record { number = length before; actor = last_actor }) ∷ l) (A.others ∙ ap (λ (n : ℕ). numbered n (drop (length seats) actors)) count ∙ ap (λ (n : ℕ). numbered (length before + 1) (drop n actors)) shorter)
+          ∙ sym (ap (numbered (length before)) (drop_at actors (length before) last_actor last_at))
+
+      pub taken_before : AreApart table actors after before
+      taken_before = record {
+        is_first = is_first;
+        few = (let l = last_less in omega arith);
+        others = joined;
+        each = λ i s a e at. A.each i s a (ap (λ (l : List (Seat (Slot L D) (View L D))). get_elem? l i) is ∙ at_longer before (seat ∷ []) i s e) at;
+      }
+
+      part_of : (o p : Option (Keeping D)) (d : Keeping D) → o ≡ Some d → first_some o p ≡ Some d
+      part_of o p d e = ap (λ (z : Option (Keeping D)). first_some z p) e
+
+      first_part : HasPart first.me.0 → HasPart after.me.0
+      first_part p = (p.0, ap (λ (v : View L D). v.data_part) both ∙ part_of first.me.0.data_part seat.me.0.data_part (record { part = p.0; out = false }) p.1)
+
+      either_part : (o : Option (Keeping D)) → first.me.0.data_part ≡ o → HasPart seat.me.0 → HasPart after.me.0
+      either_part None e p = (p.0, ap (λ (v : View L D). v.data_part) both ∙ ap (λ (z : Option (Keeping D)). first_some z seat.me.0.data_part) e ∙ p.1)
+      either_part (Some d) e p = first_part (d.part, e ∙ ap (λ (b : Bool). Some (record { part = d.part; out = b })) (A.is_first.home d e))
+
+      pub taken_part : HasPart first.me.0 → HasPart after.me.0
+      taken_part p = first_part p
+
+      pub taken_cleaner : ((i : ℕ) (a : Actor) → length seats ≤ i → get_elem? actors i ≡ maybe.some a → IsCleaner (view_of a) → HasPart first.me.0)
+          → (i : ℕ) (a : Actor) → length before ≤ i → get_elem? actors i ≡ maybe.some a → IsCleaner (view_of a) → HasPart after.me.0
+      taken_cleaner others i a l at is_one = elim (ℕ_discrete i (length before)) [
+        | yes here ↦ either_part first.me.0.data_part refl
+            (own_seat.cleaner (subst (λ (b : Actor). IsCleaner (view_of b)) (maybe.some-injective a last_actor (sym at ∙ ap (get_elem? actors) here ∙ last_at)) is_one))
+        | no far ↦ first_part (others i a (let n = count in omega arith) at is_one)
+      ]
+
+-- no actor has its seat yet, and each has
+module _ {L D : Type 0} (table : TableId) (actors : List Actor) (first : Seat (Slot L D) (View L D)) (seats : List (Seat (Slot L D) (View L D))) where
+  pub all_in_first : IsFirst table first → first.me.0.seats ≡ numbered 0 actors → seats ≡ [] → AreApart table actors first seats
+  all_in_first is_first all none = subst (AreApart table actors first) (sym none) (record {
+    is_first = is_first;
+    few = omega arith;
+    others = all;
+    each = λ i seat a e at. absurd (maybe.some-ne-none seat (sym e));
+  })
+
+  pub none_in_first : AreApart table actors first seats → length seats ≡ length actors → first.me.0.seats ≡ []
+  none_in_first A all = A.others ∙ ap (numbered (length seats)) (ap (λ (n : ℕ). drop n actors) all ∙ nothing_left actors)
+    where
+      nothing_left : {A : Type 0} (l : List A) → drop (length l) l ≡ []
+      nothing_left [] = refl
+      nothing_left (x ∷ xs) = nothing_left xs
+
+  pub part_alone : PartIsKept (length actors) actors first → ((i : ℕ) (a : Actor) → get_elem? actors i ≡ maybe.some a → IsCleaner (view_of a) → ⊥) → HasPart first.me.0
+  part_alone part none = ⊎_elim (λ p. p) (λ t. absurd (none t.0 t.1 t.3 t.4)) part

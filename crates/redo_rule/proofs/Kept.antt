@@ -1,0 +1,264 @@
+-- A turn of one actor keeps the rule, whatever it does to the slots.
+use Rattle.std.proofs.Common.{Bool, List, None, Option, Some, [], ap, false, length, length-set, refl, set, subst, suc, sym, zero, ℕ, ⊎_elim, ◌+◌, ◌<◌, ◌∙◌, ◌∷◌, ◌≡◌, ◌≢◌, ◌⊎◌}
+use Rattle.std.proofs.lemmas.List.{map-set}
+use Rattle.std.specs.Prelude.{slice_index, slice_set}
+use lib.ListN.{get_elem?}
+use mathlib.Core.Option as maybe
+use native.Mathlib.Decide.{ℕ_discrete}
+use Rattle.atomic_table.specs.Table.{State}
+use Rattle.model_core.proofs.Lists.{at_set, set_else}
+use Rattle.model_core.specs.{answer_of, lent, lsn, next, OpWords, step_of, took}
+use Rattle.model_core.specs.Actors as model
+use Rattle.model_core.specs.AnswerFits.{AnswerFits}
+use Rattle.model_core.specs.Turn.{Turn}
+use Rattle.model_core.specs.declared.ops.Answer.{Answer}
+use Rattle.model_core.specs.declared.ops.Op.{Op}
+use Rattle.model_logcore.proofs.Frame.{set_at}
+use Rattle.model_logcore.specs.LogLaws.{LogLaws}
+use Rattle.model_pagecore.specs.DataLaws.{DataLaws}
+use Rattle.model_running.proofs.EachTurn.{turn_keeps}
+use Rattle.model_running.proofs.SeatsKeep.{turn_keeps_seats}
+use Rattle.model_running.proofs.Turns.{next_words}
+use Rattle.redo_dataside.proofs.DataPartLaws.{data_laws}
+use Rattle.redo_dataside.specs.DataPartSide as data_part
+use Rattle.redo_disk.specs.{Call}
+use Rattle.redo_disk.specs.Seen.{Seen}
+use Rattle.redo_flushlist.specs.{Listing}
+use Rattle.redo_logdev.specs.Part as log
+use Rattle.redo_logside.proofs.LogPartLaws.{log_laws}
+use Rattle.redo_logside.specs.LogPartSide as log_part
+use Rattle.redo_machine.proofs.MayTurn.{may_serve}
+use Rattle.redo_machine.proofs.TurnsOf.{answer_fits}
+use Rattle.redo_machine.specs.Calls.{CallsOn}
+use Rattle.redo_machine.specs.Lists.{AreLists, lists_of}
+use Rattle.redo_machine.specs.Playing.{DataReady, HasSamePages, IsPlayed, LogReady, RunOf, data_of, log_of}
+use Rattle.redo_machine.specs.Running.{core_of, MayServe, RunsOn}
+use Rattle.redo_machine.specs.Views.{view_of, views_of}
+use Rattle.redo_machine.specs.declared.actor.Actor.{Actor}
+use Rattle.redo_machine.specs.declared.parts.Parts.{Parts}
+use Rattle.redo_rule.proofs.Hands.{stays_free}
+use Rattle.redo_rule.proofs.Retook.{at_map, view_retook}
+use Rattle.redo_rule.specs.Hands.{hand, IsFreeToCheck}
+use Rattle.redo_rule.specs.Plays.{behind, MayGo, retook, Shown, Stepped}
+use Rattle.redo_rule.specs.Ruled.{content_at, HasHolder, Knows, Ruled}
+use Rattle.redo_rule.specs.declared.law.About.{About}
+use Rattle.redo_rule.specs.declared.law.Keeping.{Keeping}
+use Rattle.redo_rule.specs.declared.law.Numbered.{Numbered}
+use Rattle.redo_rule.specs.declared.law.Slot.{Slot}
+use Rattle.redo_rule.specs.declared.law.Slot.TheVariants as slot
+use Rattle.redo_rule.specs.declared.law.View.{View}
+use Rattle.redo_store.specs.Part as store
+
+-- what stands in a list of one
+in_one : (x : Numbered) (i : ℕ) (y : Numbered) → get_elem? (x ∷ []) i ≡ maybe.some y → ◌≡◌ {A = Numbered} x y
+in_one x zero y e = maybe.some-injective x y e
+in_one x (suc i) y e = absurd (maybe.some-ne-none y (sym e))
+
+pub only : (l : List Numbered) (x : Numbered) (i : ℕ) (y : Numbered) → l ≡ x ∷ [] → get_elem? l i ≡ maybe.some y → ◌≡◌ {A = Numbered} x y
+only l x i y one e = in_one x i y (sym (ap (λ (z : List Numbered). get_elem? z i) one) ∙ e)
+
+-- two slots that are one, and two parts
+abbrev slot_or : {L D : Type 0} → Slot L D → Option (Slot L D) → Slot L D
+slot_or d None = d
+slot_or d (Some x) = x
+
+pub same_slot : {L D : Type 0} (x y : Slot L D) → Some x ≡ Some y → ◌≡◌ {A = Slot L D} x y
+same_slot x y e = ap (slot_or x) e
+
+abbrev log_or : {L D : Type 0} → log.Part L → Slot L D → log.Part L
+log_or d (slot.Log p) = p
+log_or d (slot.Pages l) = d
+log_or d (slot.Data e) = d
+
+pub same_log : {L D : Type 0} (p q : log.Part L) → ◌≡◌ {A = Slot L D} (slot.Log p) (slot.Log q) → ◌≡◌ {A = log.Part L} p q
+same_log p q e = ap (log_or p) e
+
+abbrev pages_or : {L D : Type 0} → Listing → Slot L D → Listing
+pages_or d (slot.Log p) = d
+pages_or d (slot.Pages l) = l
+pages_or d (slot.Data e) = d
+
+pub same_pages : {L D : Type 0} (l m : Listing) → ◌≡◌ {A = Slot L D} (slot.Pages l) (slot.Pages m) → l ≡ m
+same_pages l m e = ap (pages_or l) e
+
+abbrev data_or : {L D : Type 0} → store.Part D → Slot L D → store.Part D
+data_or d (slot.Log p) = d
+data_or d (slot.Pages l) = d
+data_or d (slot.Data e) = e
+
+pub same_data : {L D : Type 0} (d e : store.Part D) → ◌≡◌ {A = Slot L D} (slot.Data d) (slot.Data e) → ◌≡◌ {A = store.Part D} d e
+same_data d e is = ap (data_or d) is
+
+-- the laws of both parts, in each run
+pub laws_of_log : {L D : Type 0} (log_seen : L → Seen) (data_seen : D → Seen) (run : RunOf L D) → LogLaws (log_of log_seen data_seen run)
+laws_of_log log_seen data_seen run = log_laws log_seen (log_seen run.first_log.dev).faults run.first_log.marks.number (log_part.HasBegun log_seen (lsn run.setup.base) run.first_log)
+
+pub laws_of_data : {L D : Type 0} (log_seen : L → Seen) (data_seen : D → Seen) (run : RunOf L D) → DataLaws (data_of log_seen data_seen run)
+laws_of_data log_seen data_seen run = data_laws data_seen (data_seen run.first_data.dev).faults run.shape (data_part.HasBegun data_seen run.setup.opened run.first_data)
+
+module _ {L D : Type 0} (log_seen : L → Seen) (data_seen : D → Seen) (run : RunOf L D) (parts : Parts L D) (actors : List Actor) (runs : RunsOn log_seen data_seen run parts actors) (n : ℕ) (a : model.Actor) (at : get_elem? (views_of actors) n ≡ maybe.some a) where
+  pub serves : MayServe parts a
+  serves = may_serve log_seen data_seen run parts actors runs (laws_of_log log_seen data_seen run) (laws_of_data log_seen data_seen run) n a at
+
+  pub words_there : OpWords parts.words.pages (next a)
+  words_there = subst (λ (k : ℕ). OpWords k (next a)) (sym runs.word_pages)
+      (next_words (log_of log_seen data_seen run) (data_of log_seen data_seen run) run.setup 0 runs.running.shared runs.running.log_ghost runs.running.page_ghost (lists_of parts.lists) parts.log parts.store (views_of actors) n runs.running.both a at)
+
+  pub may_go : (pages : ℕ) (held : Option (Slot L D)) (stored : Option (Keeping D)) → pages ≡ parts.words.pages → ((p : log.Part L) → held ≡ Some (slot.Log p) → hand a ≡ Some 0 → ◌≡◌ {A = log.Part L} p parts.log)
+      → ((d : Keeping D) → stored ≡ Some d → ◌≡◌ {A = store.Part D} d.part parts.store) → IsFreeToCheck a → MayGo pages held stored a
+  may_go pages held stored count with_log with_data free = record {
+    there = subst (λ (k : ℕ). OpWords k (next a)) (sym count) words_there;
+    log = λ p is mine l lends. subst (λ (q : log.Part L). LogReady q l (next a)) (sym (with_log p is mine)) ((serves.playable l lends).log);
+    data_part = λ d is l lends. subst (λ (e : store.Part D). DataReady e l (next a)) (sym (with_data d is)) ((serves.playable l lends).data_part);
+    whole = serves.whole;
+    free = free;
+    rest = λ e. subst (λ (o : Op). AnswerFits a (answer_of (lists_of parts.lists) (log_part.has_failed parts.log.failed) 0 0 parts.words.words o)) e (serves.fits 0 0);
+  }
+
+module _ {L D : Type 0} (log_seen : L → Seen) (log_gives : L → Call → L → Type 0) (data_seen : D → Seen) (data_gives : D → Call → D → Type 0) (about : About L D) (s : State (Slot L D) (View L D)) (R : Ruled log_seen log_gives data_seen data_gives about s)
+    (id : ℕ) (v : View L D) (x : Numbered) (one : v.seats ≡ x ∷ []) (at : get_elem? s.views id ≡ maybe.some v) where
+  abbrev a : model.Actor
+  a = view_of x.actor
+
+  pub known : Knows R.parts R.actors R.seat_of R.keeper R.out id v
+  known = R.knows id v at
+
+  first : get_elem? v.seats 0 ≡ maybe.some x
+  first = ap (λ (z : List Numbered). get_elem? z 0) one
+
+  pub count : v.pages ≡ R.parts.words.pages
+  count = known.pages 0 x first
+
+  pub here : get_elem? R.actors x.number ≡ maybe.some x.actor
+  here = (known.mine 0 x first).1
+
+  pub seated : R.seat_of x.number ≡ id
+  seated = (known.mine 0 x first).0
+
+  pub there : get_elem? (views_of R.actors) x.number ≡ maybe.some a
+  there = at_map view_of R.actors x.number x.actor here
+
+  pub is_free : IsFreeToCheck a
+  is_free = known.free 0 x first
+
+  pub holds_content : (k : ℕ) → hand a ≡ Some k → v.held ≡ Some (content_at R.parts k)
+  holds_content k e = known.held 0 x k first e
+
+  pub fits : (code mark : ℕ) → AnswerFits a (answer_of (lists_of R.parts.lists) (log_part.has_failed R.parts.log.failed) code mark R.parts.words.words (next a))
+  fits code mark = (serves log_seen data_seen R.run R.parts R.actors R.runs x.number a there).fits code mark
+
+  module _ (r : Answer) (new : Parts L D) (same : HasSamePages R.parts new) (played : IsPlayed log_seen data_seen R.run (next a) (lent a) R.parts r new) where
+    abbrev b : model.Actor
+    b = took a r
+
+    abbrev after : List Actor
+    after = set R.actors x.number (retook x.actor r)
+
+    pub turn : Turn (log_of log_seen data_seen R.run) (data_of log_seen data_seen R.run) (core_of log_seen data_seen R.run R.parts R.actors) x.number r (step_of a r) (core_of log_seen data_seen R.run new after)
+    turn = record {
+      who = a;
+      who_is = there;
+      code = played.code;
+      log_served = played.log_served;
+      data_served = played.data_served;
+      words = played.words;
+      lists = played.lists;
+      answered = played.answered;
+      actors = map-set view_of R.actors x.number (retook x.actor r) ∙ ap (λ (z : model.Actor). set (views_of R.actors) x.number z) (view_retook x.actor r);
+      ends = refl;
+    }
+
+    pub runs_behind : RunsOn log_seen data_seen R.run new after
+    runs_behind = record {
+      limits = R.runs.limits;
+      its_pages = R.runs.its_pages;
+      bytes = R.runs.bytes;
+      word_pages = same.words ∙ R.runs.word_pages;
+      list_pages = same.lists ∙ R.runs.list_pages;
+      running = turn_keeps (log_of log_seen data_seen R.run) (laws_of_log log_seen data_seen R.run) (data_of log_seen data_seen R.run) (laws_of_data log_seen data_seen R.run) R.run.setup 0
+          (core_of log_seen data_seen R.run R.parts R.actors) (core_of log_seen data_seen R.run new after) x.number r (step_of a r) R.runs.running turn;
+      seated = turn_keeps_seats (log_of log_seen data_seen R.run) (data_of log_seen data_seen R.run) R.run.setup (core_of log_seen data_seen R.run R.parts R.actors) (core_of log_seen data_seen R.run new after) x.number r (step_of a r) R.runs.seated turn;
+    }
+
+    pub shown : Shown log_seen data_seen x.number a r
+    shown = record { run = R.run; old = R.parts; actors = R.actors; runs = R.runs; new = new; after = after; runs_on = runs_behind; at = there; turn = turn }
+
+    pub there_behind : get_elem? (views_of after) x.number ≡ maybe.some b
+    there_behind = at_map view_of after x.number (retook x.actor r) (set_at R.actors x.number x.actor (retook x.actor r) here) ∙ ap (λ (z : model.Actor). maybe.some z) (view_retook x.actor r)
+
+    -- who holds a slot behind the turn
+    holds_behind : (k : ℕ) → hand b ≡ Some k → HasHolder after k
+    holds_behind k e = (x.number, retook x.actor r, set_at R.actors x.number x.actor (retook x.actor r) here, ap hand (view_retook x.actor r) ∙ e)
+
+    held_still : (k : ℕ) → HasHolder R.actors k → (hand a ≡ Some k → hand b ≡ Some k) → HasHolder after k
+    held_still k t keeps = elim (ℕ_discrete t.0 x.number) [
+      | yes same ↦ holds_behind k (keeps (ap (λ (z : Actor). hand (view_of z)) (maybe.some-injective x.actor t.1 (sym here ∙ ap (get_elem? R.actors) (sym same) ∙ t.2)) ∙ t.3))
+      | no far ↦ (t.0, t.1, set_else R.actors x.number t.0 (retook x.actor r) far ∙ t.2, t.3)
+    ]
+
+    pub goes_on : (held : Option (Slot L D)) (stored : Option (Keeping D)) → ((p : log.Part L) → held ≡ Some (slot.Log p) → hand b ≡ Some 0 → ◌≡◌ {A = log.Part L} p new.log) → ((d : Keeping D) → stored ≡ Some d → ◌≡◌ {A = store.Part D} d.part new.store)
+        → MayGo v.pages held stored b
+    goes_on held stored with_log with_data = may_go log_seen data_seen R.run new after runs_behind x.number b there_behind v.pages held stored (count ∙ sym same.words) with_log with_data (stays_free a r)
+
+    module _ (w : View L D) (out : Bool) (pages_w : w.pages ≡ v.pages) (seats_w : w.seats ≡ behind x r ∷ []) (own : (k : ℕ) → hand b ≡ Some k → w.held ≡ Some (content_at new k))
+        (data_w : (d : Keeping D) → w.data_part ≡ Some d → (R.keeper ≡ id) × ◌≡◌ {A = store.Part D} d.part new.store × (out ≡ d.out)) where
+      knows_w : Knows new after R.seat_of R.keeper out id w
+      knows_w = record {
+        pages = λ i y e. pages_w ∙ count ∙ sym same.words;
+        mine = λ i y e. subst (λ (z : Numbered). (R.seat_of z.number ≡ id) × (get_elem? after z.number ≡ maybe.some z.actor)) (only w.seats (behind x r) i y seats_w e)
+            (seated, set_at R.actors x.number x.actor (retook x.actor r) here);
+        free = λ i y e. subst (λ (z : Numbered). IsFreeToCheck (view_of z.actor)) (only w.seats (behind x r) i y seats_w e) (subst IsFreeToCheck (sym (view_retook x.actor r)) (stays_free a r));
+        held = λ i y k e held. own k (ap hand (sym (view_retook x.actor r)) ∙ ap (λ (z : Numbered). hand (view_of z.actor)) (only w.seats (behind x r) i y seats_w e) ∙ held);
+        data_part = data_w;
+      }
+
+      module _ (others : (n : ℕ) (c : model.Actor) (k : ℕ) → n ≢ x.number → get_elem? (views_of R.actors) n ≡ maybe.some c → hand c ≡ Some k → ◌≡◌ {A = Slot L D} (content_at R.parts k) (content_at new k))
+          (data_others : (j : ℕ) (u : View L D) (d : Keeping D) → j ≢ id → get_elem? s.views j ≡ maybe.some u → u.data_part ≡ Some d → (R.keeper ≡ j) × ◌≡◌ {A = store.Part D} d.part new.store × (out ≡ d.out)) where
+        knows_others : (j : ℕ) (u : View L D) → j ≢ id → get_elem? s.views j ≡ maybe.some u → Knows new after R.seat_of R.keeper out j u
+        knows_others j u ne e =
+            let K = R.knows j u e in
+            let far : (i : ℕ) (y : Numbered) → get_elem? u.seats i ≡ maybe.some y → y.number ≢ x.number = λ i y f z. ne (sym (K.mine i y f).0 ∙ ap R.seat_of z ∙ seated) in record {
+              pages = λ i y f. K.pages i y f ∙ sym same.words;
+              mine = λ i y f. ((K.mine i y f).0, set_else R.actors x.number y.number (retook x.actor r) (far i y f) ∙ (K.mine i y f).1);
+              free = K.free;
+              held = λ i y k f held. K.held i y k f held ∙ ap (λ (z : Slot L D). Some z) (others y.number (view_of y.actor) k (far i y f) (at_map view_of R.actors y.number y.actor (K.mine i y f).1) held);
+              data_part = λ d f. data_others j u d ne e f;
+            }
+
+        pub kept : (hs : List (maybe.Option (Slot L D))) → AreLists new.lists
+            → CallsOn log_gives about.opened.value.log.dev about.opened.value.log.failed new.log.dev new.log.failed → CallsOn data_gives about.opened.value.store.dev about.opened.value.store.failed new.store.dev new.store.failed
+            → new.log.shape ≡ R.parts.log.shape → length hs ≡ 6 → ((k : ℕ) → k < 5 → slice_index new.words.words (7 + k) ≡ 0 → get_elem? hs k ≡ maybe.some (maybe.some (content_at new k)))
+            → (out ≡ false → get_elem? hs 5 ≡ maybe.some (maybe.some (slot.Data new.store)))
+            → ((k : ℕ) → k < 5 → slice_index new.words.words (7 + k) ≢ 0 → (hand b ≡ Some k) ⊎ ((slice_index s.words (7 + k) ≢ 0) × (hand a ≡ Some k → hand b ≡ Some k)))
+            → Ruled log_seen log_gives data_seen data_gives about (record { words = new.words.words; homes = hs; views = slice_set s.views id w })
+        kept hs are log_calls data_calls shape long home data_home turned = record {
+          run = R.run;
+          is_about = R.is_about;
+          parts = new;
+          actors = after;
+          words_are = refl;
+          lists_are = are;
+          runs = runs_behind;
+          count = length-set R.actors x.number (retook x.actor r) ∙ R.count;
+          log_calls = log_calls;
+          data_calls = data_calls;
+          log_shape = shape ∙ R.log_shape;
+          slots = long;
+          home = home;
+          seat_of = R.seat_of;
+          keeper = R.keeper;
+          out = out;
+          data_home = data_home;
+          taken = λ k l busy. ⊎_elim (λ t. holds_behind k t) (λ t. held_still k (R.taken k l t.0) t.1) (turned k l busy);
+          knows = λ j u e. ⊎_elim (λ t. subst (λ (z : View L D). Knows new after R.seat_of R.keeper out j z) t.1 (subst (λ (i : ℕ). Knows new after R.seat_of R.keeper out i w) (sym t.0) knows_w)) (λ t. knows_others j u t.0 t.1) (at_set s.views id j w u e);
+        }
+
+    -- what the step tells
+    pub steps : (carried : List (ℕ × Slot L D)) (held : Option (Slot L D)) (stored : Option (Keeping D)) (after_carried : List (ℕ × Slot L D)) → ((k : ℕ) → hand b ≡ Some k → held ≡ Some (content_at new k)) → ((d : Keeping D) → stored ≡ Some d → ◌≡◌ {A = store.Part D} d.part new.store)
+        → Stepped log_seen data_seen x r held stored after_carried (v, carried) (record { pages = v.pages; seats = behind x r ∷ []; held = held; data_part = stored }, after_carried)
+    steps carried held stored after_carried own data_is = record {
+      fits = answer_fits log_seen data_seen R.run R.parts new a (next a) r refl played (serves log_seen data_seen R.run R.parts R.actors R.runs x.number a there);
+      shown = shown;
+      is = refl;
+      may = goes_on held stored (λ p e mine. same_log p new.log (same_slot (slot.Log p) (slot.Log new.log) (sym e ∙ own 0 mine))) data_is;
+    }

@@ -1,0 +1,113 @@
+-- A store that is shared as its run begins: no actor has a seat, and the first seat knows them all.
+use Rattle.std.proofs.Common.{Bool, List, Option, [], ap, length, map, subst, suc, sym, true, zero, ℕ, ◌++◌, ◌∙◌, ◌∷◌, ◌≡◌, ◌≤◌}
+use Rattle.std.specs.Prelude.{IfSome, IsSome, vec_capacity}
+use lib.ListN.{get_elem?}
+use mathlib.Core.Option as maybe
+use Rattle.atomic_table.specs.Table.{Me}
+use Rattle.model_base.specs.declared.shape.Shape.{Shape}
+use Rattle.model_core.specs.{UserState, word_count}
+use Rattle.model_core.specs.Actors as model
+use Rattle.model_core.specs.Setup.{Setup}
+use Rattle.model_logcore.specs.{StartActor}
+use Rattle.model_running.specs.{ArePageActors, AreSeated}
+use Rattle.model_script.specs.declared.script.ScriptLine.{ScriptLine}
+use Rattle.redo_disk.specs.Seen.{Seen}
+use Rattle.redo_machine.specs.Beginning.{BeginsRun, MayBegin}
+use Rattle.redo_machine.specs.Views.{view_of, views_of}
+use Rattle.redo_machine.specs.declared.actor.Actor.{Actor}
+use Rattle.redo_machine.specs.declared.machine.Machine.{Machine}
+use Rattle.redo_pageactors.specs.declared.opened.Opened.{Opened}
+use Rattle.redo_rule.proofs.Opens as opens
+use Rattle.redo_rule.proofs.Retook.{at_map}
+use Rattle.redo_rule.specs.Cutting.{IsFirst}
+use Rattle.redo_rule.specs.Ruled.{first_view, numbered}
+use Rattle.redo_rule.specs.Seating.{IsCleaner}
+use Rattle.redo_rule.specs.Sharing.{IsUnseated}
+use Rattle.redo_rule.specs.declared.law.About.{About}
+use Rattle.redo_rule.specs.declared.law.Keeping.{Keeping}
+use Rattle.redo_rule.specs.declared.law.Slot.{Slot}
+use Rattle.redo_rule.specs.declared.law.View.{View}
+use Rattle.redo_rule.specs.declared.shared.Shared.{Shared}
+
+-- the cleaner has its own seat
+cleaner_place : (c : Setup) (seat_of : ℕ → ℕ) (writer n : ℕ) (a : model.Actor) → StartActor c seat_of writer n a → IsCleaner a → n ≡ c.cleaner
+cleaner_place c seat_of writer n (model.Cleaner v) is cleaner = is.0
+cleaner_place c seat_of writer n (model.User u) is cleaner = absurd cleaner
+cleaner_place c seat_of writer n (model.Writer s) is cleaner = absurd cleaner
+cleaner_place c seat_of writer n (model.Flusher t) is cleaner = absurd cleaner
+cleaner_place c seat_of writer n (model.Closer t) is cleaner = absurd cleaner
+cleaner_place c seat_of writer n (model.Checkpointer t) is cleaner = absurd cleaner
+cleaner_place c seat_of writer n (model.Joined es) is cleaner = absurd cleaner
+
+no_user : (users : List UserState) (l : List model.Actor) → ((i : ℕ) (a : model.Actor) → get_elem? l i ≡ maybe.some a → IsCleaner a → ⊥)
+    → (i : ℕ) (a : model.Actor) → get_elem? (map model.User users ++ l) i ≡ maybe.some a → IsCleaner a → ⊥
+no_user [] l others i a e is = others i a e is
+no_user (u ∷ users) l others zero a e is = subst IsCleaner (sym (maybe.some-injective (model.User u) a e)) is
+no_user (u ∷ users) l others (suc i) a e is = no_user users l others i a e is
+
+no_other : (l : List model.Actor) → l ≡ [] → (w : model.Actor) (f : model.Actor) → (IsCleaner w → ⊥) → (IsCleaner f → ⊥) → (i : ℕ) (a : model.Actor) → get_elem? (w ∷ f ∷ l) i ≡ maybe.some a → IsCleaner a → ⊥
+no_other l none w f not_w not_f zero a e is = not_w (subst IsCleaner (sym (maybe.some-injective w a e)) is)
+no_other l none w f not_w not_f (suc zero) a e is = not_f (subst IsCleaner (sym (maybe.some-injective f a e)) is)
+no_other l none w f not_w not_f (suc (suc i)) a e is = absurd (maybe.some-ne-none a (sym e ∙ ap (λ (z : List model.Actor). get_elem? z i) none))
+
+none_there : (c : Setup) (actors : List Actor) → AreSeated c (views_of actors) → c.log_only ≡ true → (i : ℕ) (a : Actor) → get_elem? actors i ≡ maybe.some a → IsCleaner (view_of a) → ⊥
+none_there c actors S alone i a at is =
+    no_user S.users (model.Writer S.writer ∷ model.Flusher S.flusher ∷ S.others)
+    (no_other S.others (subst (λ (b : Bool). ArePageActors b S.others) alone S.page_actors) (model.Writer S.writer) (model.Flusher S.flusher) (λ z. z) (λ z. z))
+    i (view_of a) (ap (λ (l : List model.Actor). get_elem? l i) (sym S.are) ∙ at_map view_of actors i a at) is
+
+module _ {L D : Type 0} (log_seen : L → Seen) (data_seen : D → Seen) (about : About L D) (machine : Machine L D)
+    (B : BeginsRun log_seen data_seen about.opened.value about.script.value about.log_only machine) (actors : ◌≡◌ {A = List Actor} about.actors.value.items machine.actors.items)
+    (may : MayBegin about.opened.value about.script.value about.log_only) where
+  pages_are : about.opened.value.shape.pages ≡ machine.parts.words.pages
+  pages_are = ap (λ (z : Shape). z.pages) (sym B.is_run.shape) ∙ B.runs.its_pages ∙ sym B.runs.word_pages
+
+  module _ (shared : Shared L D) (key : shared.board.shared.key ≡ about) (of : shared.first.table_id ≡ shared.board.shared.table_id) (slots : shared.board.shared.table_id.slots ≡ 6)
+      (words : shared.board.shared.table_id.words ≡ word_count machine.parts.words.pages) (me : shared.first.me ≡ (first_view about, [])) (no_entries : shared.entries.items ≡ []) (room : length about.script.value ≤ vec_capacity shared.entries)
+      (has_room : IsSome shared.room) (fits : IfSome shared.room (λ v. (v.items ≡ []) × (length machine.actors.items ≤ vec_capacity v))) where
+    view : shared.first.me.0 ≡ first_view about
+    view = ap (λ (m : Me (Slot L D) (View L D)). m.0) me
+
+    known : shared.first.me.0.seats ≡ numbered 0 machine.actors.items
+    known = ap (λ (v : View L D). v.seats) view ∙ ap (numbered 0) actors
+
+    first_is : IsFirst shared.board.shared.table_id shared.first
+    first_is = record {
+      of = of;
+      slots = slots;
+      words = words ∙ ap word_count (sym pages_are ∙ sym (ap (λ (v : View L D). v.pages) view));
+      none = ap (λ (m : Me (Slot L D) (View L D)). m.1) me;
+      empty = ap (λ (v : View L D). v.held) view;
+      rest = λ i y e. opens.fresh log_seen data_seen about machine B actors y.number y.actor (opens.there log_seen data_seen about machine B actors i y (ap (λ (v : View L D). get_elem? v.seats i) (sym view) ∙ e));
+      home = λ d has. sym (ap (λ (o : Option (Keeping D)). opens.is_out o) (sym (ap (λ (v : View L D). v.data_part) view) ∙ has));
+    }
+
+    starts : (i : ℕ) (a : Actor) → get_elem? machine.actors.items i ≡ maybe.some a → IsCleaner (view_of a) → i ≡ B.run.setup.cleaner
+    starts i a at is = cleaner_place B.run.setup B.at_start.seat_of B.at_start.writer i (view_of a) (B.at_start.starts.each i (view_of a) (at_map view_of machine.actors.items i a at)) is
+
+    pub unseated : IsUnseated shared machine.actors.items
+    unseated = record {
+      ready = record {
+        may = subst (λ (z : About L D). MayBegin z.opened.value z.script.value z.log_only) (sym key) may;
+        no_entries = no_entries;
+        room = subst (λ (z : About L D). length z.script.value ≤ vec_capacity shared.entries) (sym key) room;
+      };
+      actors_are = ap (λ (z : About L D). z.actors.value.items) key ∙ actors;
+      one_cleaner = λ i j a b at bt is jt. starts i a at is ∙ sym (starts j b bt jt);
+      no_cleaner = λ alone i a at is. none_there B.run.setup machine.actors.items B.runs.seated (B.is_run.log_only_is ∙ sym (ap (λ (z : About L D). z.log_only) key) ∙ alone) i a at is;
+      first = first_is;
+      all = known;
+      part = (about.opened.value.store, ap (λ (v : View L D). v.data_part) view);
+      has_room = has_room;
+      seats_fit = fits;
+    }
+
+-- what was told of the run at its start, as its table is told
+module _ {L D : Type 0} (log_seen : L → Seen) (data_seen : D → Seen) (about : About L D) (opened : Opened L D) (script : List ScriptLine) (log_only : Bool) (opened_is : about.opened.value ≡ opened) (script_is : about.script.value ≡ script) (only_is : about.log_only ≡ log_only) where
+  pub about_begins : (machine : Machine L D) → BeginsRun log_seen data_seen opened script log_only machine → BeginsRun log_seen data_seen about.opened.value about.script.value about.log_only machine
+  about_begins machine B = subst (λ (o : Opened L D). BeginsRun log_seen data_seen o about.script.value about.log_only machine) (sym opened_is)
+      (subst (λ (s : List ScriptLine). BeginsRun log_seen data_seen opened s about.log_only machine) (sym script_is) (subst (λ (b : Bool). BeginsRun log_seen data_seen opened script b machine) (sym only_is) B))
+
+  pub about_may : MayBegin opened script log_only → MayBegin about.opened.value about.script.value about.log_only
+  about_may M = subst (λ (o : Opened L D). MayBegin o about.script.value about.log_only) (sym opened_is)
+      (subst (λ (s : List ScriptLine). MayBegin opened s about.log_only) (sym script_is) (subst (λ (b : Bool). MayBegin opened script b) (sym only_is) M))

@@ -1,0 +1,6 @@
+-- No actor so far holds anything.
+use Rattle.redo_rule.proofs.AtRest.{HoldNothingBelow}
+use Rattle.redo_rule.proofs.resting.all_hold_nothing.Given as goal
+
+abbrev pub invariant-loop-number : goal.invariant-loop-number
+invariant-loop-number l = HoldNothingBelow l.number l.actors

@@ -1,0 +1,31 @@
+use Rattle.std.proofs.Common.{List, arith, inl, length, subst, sym, ℕ, ◌≡◌}
+use Rattle.atomic_table.specs.declared.shared.Seat.{Seat}
+use Rattle.redo_rule.proofs.Gathered.{cut_next, cut_part, may_cut}
+use Rattle.redo_rule.specs.Gathering.{AreApart, PartIsKept}
+use Rattle.redo_rule.specs.declared.law.Slot.{Slot}
+use Rattle.redo_rule.specs.declared.law.View.{View}
+use Rattle.redo_rule.proofs.seats.cut_all.Goals as goal
+
+pub loop-first-init : goal.loop-first-init
+loop-first-init g c = record { apart = c.requires.apart; part = inl c.requires.part; room = c.requires.room }
+
+pub cut_off-seat-requires-clause-head : goal.cut_off-seat-requires-clause-head
+cut_off-seat-requires-clause-head g c = may_cut c.args.table.now.table_id c.args.actors.now c.loop-first.first c.loop-first.seats.items c.loop-first.invariant.apart (let t = c.loop-first-test.true in omega arith)
+
+pub loop-first-preserved : goal.loop-first-preserved
+loop-first-preserved g c =
+    let e = c.cut_off-seat.ensures in
+    record {
+      apart = subst (AreApart c.args.table.now.table_id c.args.actors.now c.cut_off-seat.new.first) (sym c.push_reserved.ensures.items)
+          (cut_next c.args.table.now.table_id c.args.actors.now c.loop-first.first c.loop-first.seats.items c.loop-first.invariant.apart (let t = c.loop-first-test.true in omega arith) c.cut_off-seat.new.first c.cut_off-seat.result e.first e.left e.right e.mine c.requires.cleaner c.loop-first.invariant.part);
+      part = subst (λ (l : List (Seat (Slot _ _) (View _ _))). PartIsKept (length l) c.args.actors.now c.cut_off-seat.new.first) (sym c.push_reserved.ensures.items)
+          (cut_part c.args.table.now.table_id c.args.actors.now c.loop-first.first c.loop-first.seats.items c.loop-first.invariant.apart (let t = c.loop-first-test.true in omega arith) c.cut_off-seat.new.first c.cut_off-seat.result e.first e.left e.right e.mine c.requires.cleaner c.loop-first.invariant.part);
+      room = (let n = c.loop-first.invariant.room in let m = c.push_reserved.ensures.capacity in omega arith);
+    }
+
+pub returns-clause-all : goal.returns-clause-all
+returns-clause-all g c = let few = c.loop-first.invariant.apart.few in let stop = c.loop-first-test.false in omega arith
+
+pub returns-clause-part : goal.returns-clause-part
+returns-clause-part g c = let few = c.loop-first.invariant.apart.few in let stop = c.loop-first-test.false in
+    subst (λ (n : ℕ). PartIsKept n c.args.actors.now c.loop-first.first) (let e : length c.loop-first.seats.items ≡ length c.args.actors.now = omega arith in e) c.loop-first.invariant.part

@@ -1,0 +1,18 @@
+use Rattle.model_core.specs.declared.ops.Answer.TheVariants as answer
+use Rattle.model_core.specs.declared.ops.Op.TheVariants as op
+use Rattle.redo_machine.specs.Views.{view_of}
+use Rattle.redo_rule.proofs.Stepping.{load_ok, has_played, stays_mine, word_carries, word_fits}
+use Rattle.redo_rule.proofs.steps.load.Goals as goal
+
+pub load-n-requires : goal.load-n-requires
+load-n-requires g c = load_ok c.args.table.now.table_id c.args.token.now (view_of c.args.actor.now) c.requires.mine g.L.Sectors.seen g.L.Sectors.gives g.D.Sectors.seen g.D.Sectors.gives c.args.table.now.key c.args.word c.number_of.result c.requires.asks c.number_of.ensures
+
+pub took-requires : goal.took-requires
+took-requires g c = word_fits c.args.table.now.table_id c.args.token.now (view_of c.args.actor.now) c.requires.mine g.L.Sectors.seen g.D.Sectors.seen c.load-n.result c.load-n.new.seat.me (c.load-n.ensures.2 c.requires.mine.who c.requires.mine.one)
+
+pub returns-clause-mine : goal.returns-clause-mine
+returns-clause-mine g c = stays_mine c.args.table.now.table_id c.args.token.now (view_of c.args.actor.now) c.requires.mine g.L.Sectors.seen g.D.Sectors.seen c.load-n.new.seat (answer.Old c.load-n.result) _ _ _ (view_of c.took.new.self) c.load-n.ensures.0 (c.load-n.ensures.2 c.requires.mine.who c.requires.mine.one) c.took.ensures.state
+    (word_carries c.args.table.now.table_id c.args.token.now (view_of c.args.actor.now) c.requires.mine (op.Load c.args.word) c.requires.asks tt c.load-n.result)
+
+pub returns-clause-played : goal.returns-clause-played
+returns-clause-played g c = has_played c.args.table.now.table_id c.args.token.now (view_of c.args.actor.now) c.requires.mine g.L.Sectors.seen g.D.Sectors.seen c.load-n.new.seat (answer.Old c.load-n.result) _ _ _ (view_of c.took.new.self) c.load-n.ensures.0 (c.load-n.ensures.2 c.requires.mine.who c.requires.mine.one) c.took.ensures.state c.took.result c.took.ensures.step

@@ -1,0 +1,9 @@
+use Rattle.std.proofs.Common.{List, subst, sym}
+use Rattle.redo_machine.specs.declared.actor.Actor.{Actor}
+use Rattle.redo_rule.proofs.AtRest.{seated_free}
+use Rattle.redo_rule.specs.Cutting.{AreFreeToCheck}
+use Rattle.redo_rule.proofs.tests.turns.left_by.Goals as goal
+
+pub all_hold_nothing-requires : goal.all_hold_nothing-requires
+all_hold_nothing-requires g c = subst (λ (l : List Actor). AreFreeToCheck l) (sym c.as_slice.ensures.value)
+    (seated_free c.ring.result.now.table_id c.play_all.new.seats.items c.play_all.new.actors.items c.play_all.ensures.seats)

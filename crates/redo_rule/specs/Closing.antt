@@ -1,0 +1,67 @@
+-- A table as it is closed, and what every drive owes of what it leaves.
+use Rattle.std.specs.Prelude.{List, length, slice_index, true, ℕ, ◌≡◌}
+use lib.ListN.{get_elem?}
+use mathlib.Core.Option.{some}
+use Rattle.atomic_table.specs.Seated.{TableId}
+use Rattle.atomic_table.specs.declared.shared.Seat.{Seat}
+use Rattle.model_core.specs.{index}
+use Rattle.model_core.specs.declared.words.Word.TheVariants as word
+use Rattle.model_finish.specs.{marks_in}
+use Rattle.model_running.specs.{HaveEnded}
+use Rattle.model_script.specs.declared.script.ScriptLine.{ScriptLine}
+use Rattle.redo_disk.specs.{Call}
+use Rattle.redo_disk.specs.Seen.{Seen}
+use Rattle.redo_machine.specs.Calls.{CallsOn}
+use Rattle.redo_machine.specs.Drive.{ComesToRun, HoldsRun, IsOwed, IsOwedSynced}
+use Rattle.redo_machine.specs.Playing.{RunOf}
+use Rattle.redo_machine.specs.Running.{RunsOn}
+use Rattle.redo_machine.specs.Views.{view_of, views_of}
+use Rattle.redo_machine.specs.declared.actor.Actor.{Actor}
+use Rattle.redo_machine.specs.declared.drive.Driven.{Driven}
+use Rattle.redo_machine.specs.declared.parts.Parts.{Parts}
+use Rattle.redo_machine.specs.declared.running.Ran.TheVariants as ended
+use Rattle.redo_pageactors.specs.declared.closed.Closed.{Closed}
+use Rattle.redo_pageactors.specs.declared.opened.Opened.{Opened}
+use Rattle.redo_rule.specs.Cutting.{HoldNothing, IsFirst}
+use Rattle.redo_rule.specs.Ruled.{IsRunAbout, numbered}
+use Rattle.redo_rule.specs.Seating.{HasPart, IsCleaner}
+use Rattle.redo_rule.specs.declared.closing.Left.{Left}
+use Rattle.redo_rule.specs.declared.law.About.{About}
+use Rattle.redo_rule.specs.declared.law.Slot.{Slot}
+use Rattle.redo_rule.specs.declared.law.View.{View}
+
+module _ {L D : Type 0} where
+  -- the first seat knows all actors, of which none holds anything, and keeps the data part
+  pub record MayClose (about : About L D) (table : TableId) (actors : List Actor) (first : Seat (Slot L D) (View L D)) : Type 0 where
+    pub is_first : IsFirst table first
+    pub all : first.me.0.seats ≡ numbered 0 actors
+    pub count : length actors ≡ length about.actors.value.items
+    pub rest : HoldNothing actors
+    pub cleaner : (i : ℕ) (a : Actor) → get_elem? actors i ≡ some a → IsCleaner (view_of a) → HasPart first.me.0
+    pub alone : about.log_only ≡ true → HasPart first.me.0
+
+  -- where all users have ended it is a drive that came to its end
+  abbrev pub done_with : Closed L D → Driven L D
+  done_with closed = record { ended = ended.Done; closed = closed }
+
+module _ {L D : Type 0} (log_seen : L → Seen) (log_gives : L → Call → L → Type 0) (data_seen : D → Seen) (data_gives : D → Call → D → Type 0) where
+  -- The run of the script on the opened store came to these actors, and this is what its parts tell.
+  pub record LeavesParts (about : About L D) (actors : List Actor) (left : Left L D) : Type 0 where
+    pub run : RunOf L D
+    pub is_about : IsRunAbout log_seen data_seen about run
+    pub last : Parts L D
+    pub runs : RunsOn log_seen data_seen run last actors
+    pub log_calls : CallsOn log_gives about.opened.value.log.dev about.opened.value.log.failed last.log.dev last.log.failed
+    pub data_calls : CallsOn data_gives about.opened.value.store.dev about.opened.value.store.failed last.store.dev last.store.failed
+    pub log_shape : last.log.shape ≡ about.opened.value.log.shape
+    pub log : left.log ≡ last.log
+    pub data_part : left.store ≡ last.store
+    pub marks : left.marks ≡ marks_in last.words.words
+    pub code : left.code ≡ slice_index last.words.words (index word.Failed)
+
+  -- WHAT EVERY DRIVE OWES: both devices hold the run; and where all users have ended, it is a closed one.
+  pub record IsOwedRun (opened : Opened L D) (script : List ScriptLine) (actors : List Actor) (closed : Closed L D) : Type 0 where
+    pub holds : HoldsRun log_seen data_seen opened script (done_with closed)
+    pub comes_to : HaveEnded (views_of actors) → ComesToRun log_gives data_gives opened script (done_with closed)
+    pub owed : HaveEnded (views_of actors) → IsOwed log_seen data_seen opened script (done_with closed)
+    pub owed_synced : HaveEnded (views_of actors) → IsOwedSynced log_seen data_seen opened script (done_with closed)

@@ -1,0 +1,32 @@
+-- What a table leaves whose seats are all at rest.
+use Rattle.std.specs.Prelude.{List, suc, ℕ, ◌<◌, ◌≡◌}
+use lib.ListN.{get_elem?}
+use mathlib.Core.Option.{some}
+use Rattle.redo_disk.specs.{Call}
+use Rattle.redo_disk.specs.Seen.{Seen}
+use Rattle.redo_machine.specs.Calls.{CallsOn}
+use Rattle.redo_machine.specs.Lists.{listing_at}
+use Rattle.redo_machine.specs.Playing.{RunOf}
+use Rattle.redo_machine.specs.Running.{RunsOn}
+use Rattle.redo_machine.specs.declared.actor.Actor.{Actor}
+use Rattle.redo_machine.specs.declared.parts.Parts.{Parts}
+use Rattle.redo_rule.specs.Ruled.{IsRunAbout}
+use Rattle.redo_rule.specs.declared.law.About.{About}
+use Rattle.redo_rule.specs.declared.law.Slot.{Slot}
+use Rattle.redo_rule.specs.declared.law.Slot.TheVariants as slot
+
+-- The run of the script on the opened store has come to these parts and actors, of which the words and the log part are what
+-- the table had: ALL THAT `Machine::finish` IS GIVEN.
+pub record EndsWith {L D : Type 0} (log_seen : L → Seen) (log_gives : L → Call → L → Type 0) (data_seen : D → Seen) (data_gives : D → Call → D → Type 0)
+    (about : About L D) (actors : List Actor) (words : List ℕ) (slots : List (Slot L D)) : Type 0 where
+  pub run : RunOf L D
+  pub is_about : IsRunAbout log_seen data_seen about run
+  pub parts : Parts L D
+  pub runs : RunsOn log_seen data_seen run parts actors
+  pub words_are : parts.words.words ≡ words
+  pub log : get_elem? slots 0 ≡ some (slot.Log parts.log)
+  pub lists : (i : ℕ) → i < 4 → get_elem? slots (suc i) ≡ some (slot.Pages (listing_at parts.lists.lists i))
+  pub data_part : get_elem? slots 5 ≡ some (slot.Data parts.store)
+  pub log_calls : CallsOn log_gives about.opened.value.log.dev about.opened.value.log.failed parts.log.dev parts.log.failed
+  pub data_calls : CallsOn data_gives about.opened.value.store.dev about.opened.value.store.failed parts.store.dev parts.store.failed
+  pub log_shape : parts.log.shape ≡ about.opened.value.log.shape

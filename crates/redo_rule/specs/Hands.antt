@@ -1,0 +1,98 @@
+-- Which slot an actor holds: slot 0 has the log part, and slot suc i the flush list i.
+use Rattle.std.specs.Prelude.{None, Option, Some, suc, true, ℕ, ◌%◌, ◌≡◌}
+use Rattle.model_core.specs.{Actor, CheckpointerState, CleanerState, first_of_batch, is_checking, page_of, UserState}
+use Rattle.model_core.specs.Actors as actor
+use Rattle.model_core.specs.declared.limits.TheConstants.{FLUSH_LISTS}
+use Rattle.model_core.specs.declared.ops.Answer.{Answer}
+use Rattle.model_core.specs.declared.ops.Answer.TheVariants as answer
+use Rattle.model_core.specs.declared.ops.Op.{Op}
+use Rattle.model_core.specs.declared.ops.Op.TheVariants as op
+use Rattle.model_core.specs.declared.steps.CheckpointerStep.{CheckpointerStep}
+use Rattle.model_core.specs.declared.steps.CheckpointerStep.TheVariants as checkpointer_step
+use Rattle.model_core.specs.declared.steps.CleanerStep.{CleanerStep}
+use Rattle.model_core.specs.declared.steps.CleanerStep.TheVariants as cleaner_step
+use Rattle.model_core.specs.declared.steps.FlusherStep.{FlusherStep}
+use Rattle.model_core.specs.declared.steps.FlusherStep.TheVariants as flusher_step
+use Rattle.model_core.specs.declared.steps.UserStep.{UserStep}
+use Rattle.model_core.specs.declared.steps.UserStep.TheVariants as user_step
+use Rattle.model_core.specs.declared.steps.WriterStep.{WriterStep}
+use Rattle.model_core.specs.declared.steps.WriterStep.TheVariants as writer_step
+
+abbrev pub user_hand : UserState → UserStep → Option ℕ
+user_hand u user_step.StoreOldest = Some (suc (page_of u % FLUSH_LISTS))
+user_hand u user_step.GiveList = Some (suc (page_of u % FLUSH_LISTS))
+user_hand u _ = None
+
+abbrev pub writer_hand : WriterStep → Option ℕ
+writer_hand writer_step.GiveBroken = Some 0
+writer_hand writer_step.WriteTo = Some 0
+writer_hand writer_step.StoreWrite = Some 0
+writer_hand writer_step.GiveDevice = Some 0
+writer_hand writer_step.StoreFailed = Some 0
+writer_hand writer_step.GiveFailed = Some 0
+writer_hand _ = None
+
+abbrev pub flusher_hand : FlusherStep → Option ℕ
+flusher_hand flusher_step.GiveBroken = Some 0
+flusher_hand flusher_step.Sync = Some 0
+flusher_hand flusher_step.StoreFlushed = Some 0
+flusher_hand flusher_step.GiveDevice = Some 0
+flusher_hand flusher_step.StoreFailed = Some 0
+flusher_hand flusher_step.GiveFailed = Some 0
+flusher_hand _ = None
+
+abbrev pub cleaner_hand : CleanerState → CleanerStep → Option ℕ
+cleaner_hand v cleaner_step.ClearOldest = Some (suc (first_of_batch v % FLUSH_LISTS))
+cleaner_hand v cleaner_step.GiveList = Some (suc (first_of_batch v % FLUSH_LISTS))
+cleaner_hand v _ = None
+
+abbrev pub checkpointer_hand : CheckpointerState → CheckpointerStep → Option ℕ
+checkpointer_hand t checkpointer_step.GiveList = Some (suc t.list)
+checkpointer_hand t checkpointer_step.GiveBroken = Some 0
+checkpointer_hand t checkpointer_step.Checkpoint = Some 0
+checkpointer_hand t checkpointer_step.StoreCheckpoint = Some 0
+checkpointer_hand t checkpointer_step.GiveDevice = Some 0
+checkpointer_hand t checkpointer_step.StoreFailed = Some 0
+checkpointer_hand t checkpointer_step.GiveFailed = Some 0
+checkpointer_hand t _ = None
+
+-- the slot that an actor holds
+abbrev pub hand : Actor → Option ℕ
+hand (actor.User u) = user_hand u u.step
+hand (actor.Writer s) = writer_hand s.step
+hand (actor.Flusher f) = flusher_hand f.step
+hand (actor.Closer t) = None
+hand (actor.Cleaner v) = cleaner_hand v v.step
+hand (actor.Checkpointer t) = checkpointer_hand t t.step
+hand (actor.Joined es) = None
+
+-- who checks for a failure holds nothing
+abbrev pub IsFreeToCheck : Actor → Type 0
+IsFreeToCheck a = is_checking a ≡ true → hand a ≡ None
+
+-- what an Op does with what its actor holds, which is `before`, and behind an answer `behind` of it
+abbrev pub Handles : Op → Option ℕ → (Answer → Option ℕ) → Type 0
+Handles op.TakeDevice before behind = (before ≡ None) × ((n : Option ℕ) → behind (answer.Taken n) ≡ Some 0) × (behind answer.Broken ≡ Some 0) × (behind answer.Held ≡ None)
+Handles op.GiveDevice before behind = (before ≡ Some 0) × (behind (answer.Taken None) ≡ None)
+Handles (op.TakeAdd p x) before behind = (before ≡ None) × ((n : Option ℕ) → behind (answer.Taken n) ≡ Some (suc (p % FLUSH_LISTS))) × (behind answer.Held ≡ None)
+Handles (op.TakeRemove p) before behind = (before ≡ None) × ((n : Option ℕ) → behind (answer.Taken n) ≡ Some (suc (p % FLUSH_LISTS))) × (behind answer.Held ≡ None)
+Handles (op.TakeOldest i) before behind = (before ≡ None) × ((n : Option ℕ) → behind (answer.Taken n) ≡ Some (suc i)) × (behind answer.Held ≡ None)
+Handles (op.GiveList i) before behind = (before ≡ Some (suc i)) × (behind (answer.Taken None) ≡ None)
+Handles (op.WriteTo t) before behind = (before ≡ Some 0) × ((n : ℕ) → behind (answer.Called n) ≡ Some 0) × ((c : ℕ) → behind (answer.Failed c) ≡ Some 0)
+Handles op.Sync before behind = (before ≡ Some 0) × ((n : ℕ) → behind (answer.Called n) ≡ Some 0) × ((c : ℕ) → behind (answer.Failed c) ≡ Some 0)
+Handles (op.Checkpoint x) before behind = (before ≡ Some 0) × ((n : ℕ) → behind (answer.Called n) ≡ Some 0) × ((c : ℕ) → behind (answer.Failed c) ≡ Some 0)
+Handles op.WriteBatch before behind = (before ≡ None) × ((r : Answer) → behind r ≡ None)
+Handles op.Rest before behind = Unit {0}
+Handles _ before behind = (n : ℕ) → behind (answer.Old n) ≡ before
+
+-- an Op for which its actor holds nothing
+abbrev pub IsFreeOp : Op → Type 0
+IsFreeOp (op.Store w x) = ⊥
+IsFreeOp (op.Add w x) = ⊥
+IsFreeOp (op.Swap w x y) = ⊥
+IsFreeOp op.GiveDevice = ⊥
+IsFreeOp (op.GiveList i) = ⊥
+IsFreeOp (op.WriteTo t) = ⊥
+IsFreeOp op.Sync = ⊥
+IsFreeOp (op.Checkpoint x) = ⊥
+IsFreeOp _ = Unit {0}

@@ -1,0 +1,13 @@
+pub mod Causes
+pub mod Closing
+pub mod Cutting
+pub mod Ending
+pub mod Gathering
+pub mod Hands
+pub mod Mine
+pub mod Plays
+pub mod Ruled
+pub mod Seating
+pub mod Seats
+pub mod Sharing
+pub mod Slots

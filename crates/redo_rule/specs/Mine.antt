@@ -1,0 +1,53 @@
+-- A seat of this table, whose view is the actor's state.
+use Rattle.std.specs.Prelude.{List, [], ℕ, ◌∷◌, ◌≡◌, ◌⊎◌}
+use Rattle.atomic_table.specs.Seated.{TableId}
+use Rattle.atomic_table.specs.declared.shared.Seat.{Seat}
+use Rattle.model_core.specs.Actors as model
+use Rattle.model_core.specs.{next, step_of, took, word_count}
+use Rattle.model_core.specs.declared.ops.Answer.{Answer}
+use Rattle.model_core.specs.declared.ops.Answer.TheVariants as answer
+use Rattle.model_core.specs.declared.ops.Op.TheVariants as op
+use Rattle.model_core.specs.declared.ops.Step.{Step}
+use Rattle.redo_disk.specs.Seen.{Seen}
+use Rattle.redo_machine.specs.Views.{view_of}
+use Rattle.redo_rule.specs.Hands.{hand}
+use Rattle.redo_rule.specs.Plays.{Carries, MayGo, Shown}
+use Rattle.redo_rule.specs.declared.law.Numbered.{Numbered}
+use Rattle.redo_rule.specs.declared.law.Slot.{Slot}
+use Rattle.redo_rule.specs.declared.law.View.{View}
+
+-- the number of a seat's actor
+abbrev pub number_in : List Numbered → ℕ
+number_in [] = 0
+number_in (x ∷ xs) = x.number
+
+abbrev pub number_of : {L D : Type 0} → View L D → ℕ
+number_of v = number_in v.seats
+
+-- a seat keeps its number, and what it knows of the data part
+pub record Stays {L D : Type 0} (v w : View L D) : Type 0 where
+  pub number : number_of w ≡ number_of v
+  pub data_part : w.data_part ≡ v.data_part
+
+-- THE SEAT IS AT THIS TABLE, its view is the actor's state, it has the slot that the actor holds, and the actor may go on.
+pub record Mine {L D : Type 0} (table : TableId) (seat : Seat (Slot L D) (View L D)) (a : model.Actor) : Type 0 where
+  pub of : seat.table_id ≡ table
+  pub slots : table.slots ≡ 6
+  pub words : table.words ≡ word_count seat.me.0.pages
+  pub who : Numbered
+  pub one : seat.me.0.seats ≡ who ∷ []
+  pub state : view_of who.actor ≡ a
+  pub carries : Carries (hand a) seat.me
+  pub may : MayGo seat.me.0.pages seat.me.0.held seat.me.0.data_part a
+
+-- the actor has had a turn of the definition, with some answer, and its step ended so
+pub record HasPlayed {L D : Type 0} (log_seen : L → Seen) (data_seen : D → Seen) (a : model.Actor) (step : Step) (b : model.Actor) : Type 0 where
+  pub answer : Answer
+  pub number : ℕ
+  pub shown : Shown log_seen data_seen number a answer
+  pub is : b ≡ took a answer
+  pub ends : step ≡ step_of a answer
+
+-- an actor that has ended rests; any other has had its turn
+abbrev pub HasGone : {L D : Type 0} (log_seen : L → Seen) (data_seen : D → Seen) (a : model.Actor) (step : Step) (b : model.Actor) → Type 0
+HasGone log_seen data_seen a step b = ((next a ≡ op.Rest) × (b ≡ a) × (step ≡ step_of a answer.Rested)) ⊎ HasPlayed log_seen data_seen a step b

@@ -1,0 +1,174 @@
+-- What each step of the table tells its seat: the actor's state took an answer, and what it may do next.
+use Rattle.std.specs.Prelude.{Bool, List, None, Option, Some, [], cond, false, map, true, suc, zero, ℕ, ◌%◌, ◌++◌, ◌+◌, ◌==◌, ◌∷◌, ◌≡◌, ◌≢◌}
+use lib.ListN.{get_elem?}
+use mathlib.Core.Option.{some}
+use Rattle.atomic_table.specs.Table.{Me, rest}
+use Rattle.model_core.specs.{checkpointer_after, cleaner_after, closer_after, flusher_after, heard, lent, next, old_of, oldest_end, OpWords, step_of, took, user_checked, user_took, writer_after}
+use Rattle.model_core.specs.Actors as model
+use Rattle.model_core.specs.AnswerFits.{AnswerFits}
+use Rattle.model_core.specs.Turn.{Turn}
+use Rattle.model_core.specs.declared.limits.TheConstants.{FLUSH_LISTS}
+use Rattle.model_core.specs.declared.ops.Answer.{Answer}
+use Rattle.model_core.specs.declared.ops.Answer.TheVariants as answer
+use Rattle.model_core.specs.declared.ops.Op.{Op}
+use Rattle.model_core.specs.declared.ops.Op.TheVariants as op
+use Rattle.redo_disk.specs.Seen.{Seen}
+use Rattle.redo_disk.specs.declared.error.DevError.{DevError}
+use Rattle.redo_flushlist.specs.{Listing, without}
+use Rattle.redo_logdev.specs.Part as log
+use Rattle.redo_logside.specs.{has_failed}
+use Rattle.redo_logside.specs.LogPartSide as log_part
+use Rattle.redo_dataside.specs.DataPartSide as data_part
+use Rattle.redo_machine.specs.Lists.{listed_of}
+use Rattle.redo_machine.specs.Playing.{DataReady, HasWholePages, LogReady, RunOf, data_of, log_of}
+use Rattle.redo_machine.specs.Running.{core_of, RunsOn}
+use Rattle.redo_machine.specs.Views.{view_of, views_of}
+use Rattle.redo_machine.specs.declared.actor.Actor.{Actor}
+use Rattle.redo_machine.specs.declared.actor.Actor.TheVariants as own
+use Rattle.redo_machine.specs.declared.parts.Parts.{Parts}
+use Rattle.redo_rule.specs.Hands.{hand, IsFreeToCheck}
+use Rattle.redo_rule.specs.declared.law.Keeping.{Keeping}
+use Rattle.redo_rule.specs.declared.law.Numbered.{Numbered}
+use Rattle.redo_rule.specs.declared.law.Slot.{Slot}
+use Rattle.redo_rule.specs.declared.law.Slot.TheVariants as slot
+use Rattle.redo_rule.specs.declared.law.View.{View}
+use Rattle.redo_store.specs.Part as store
+use Rattle.redo_words.specs.{Lends}
+use Rattle.redo_words.specs.declared.lent.Lent.{Lent}
+use Rattle.model_core.specs.{Each, oldest_of}
+use Rattle.model_core.specs.declared.limits.TheConstants.{CLOSED_LINKS}
+use Rattle.std.specs.Prelude.{◌<◌}
+
+-- an actor's state after an answer
+abbrev pub retook : Actor → Answer → Actor
+retook (own.User u) r = own.User (cond u.checks (user_checked u (old_of r)) (user_took u (heard r) u.step))
+retook (own.Writer s) r = own.Writer (writer_after s r)
+retook (own.Flusher t) r = own.Flusher (flusher_after t r)
+retook (own.Closer t) r = own.Closer (closer_after t r)
+retook (own.Cleaner v) r = own.Cleaner (cleaner_after v r)
+retook (own.Checkpointer t) r = own.Checkpointer (checkpointer_after t r)
+
+-- a seat's actor after it
+abbrev pub behind : Numbered → Answer → Numbered
+behind x r = record { number = x.number; actor = retook x.actor r }
+
+-- how a device call ended, as its part tells
+abbrev pub log_code : Option DevError → ℕ
+log_code None = 0
+log_code (Some fault) = log_part.fault_code fault
+
+abbrev pub data_code : Option DevError → ℕ
+data_code None = 0
+data_code (Some fault) = data_part.fault_code fault
+
+-- the answer to a call that ended so, and told this number
+abbrev pub called_by : ℕ → ℕ → Answer
+called_by code told = cond (code == 0) (answer.Called told) (answer.Failed code)
+
+-- what the log part's call tells
+abbrev pub told_by : Op → ℕ → ℕ
+told_by op.Sync stable = stable
+told_by _ stable = 0
+
+-- the answer to whoever gets the log part
+abbrev pub taking : Bool → Answer
+taking broken = cond broken answer.Broken (answer.Taken None)
+
+-- the Op takes the list in this slot
+abbrev pub TakesList : Op → ℕ → Type 0
+TakesList (op.TakeAdd p x) k = k ≡ suc (p % FLUSH_LISTS)
+TakesList (op.TakeRemove p) k = k ≡ suc (p % FLUSH_LISTS)
+TakesList (op.TakeOldest i) k = k ≡ suc i
+TakesList _ k = ⊥
+
+-- what it makes of the list, and what it reads off it
+abbrev pub list_behind : Op → Listing → Listing
+list_behind (op.TakeAdd p x) l = record { pages = l.pages; entries = l.entries ++ (record { page = p; oldest = x }) ∷ [] }
+list_behind (op.TakeRemove p) l = record { pages = l.pages; entries = without p l.entries }
+list_behind _ l = l
+
+abbrev pub list_said : Op → Listing → Option ℕ
+list_said (op.TakeOldest i) l = oldest_end (map listed_of l.entries)
+list_said _ l = None
+
+-- the conditions of a list's call
+abbrev pub ListFits : Op → Listing → Type 0
+ListFits (op.TakeAdd p x) l = (p < l.pages) × (oldest_of p (map listed_of l.entries) ≡ 0) × Each (λ y. y.oldest < x + CLOSED_LINKS) (map listed_of l.entries) × Each (λ y. 0 < y.oldest) (map listed_of l.entries)
+ListFits (op.TakeRemove p) l = 0 < oldest_of p (map listed_of l.entries)
+ListFits _ l = Unit {0}
+
+module _ {L D : Type 0} where
+  -- what an actor may do next, with what its seat has
+  pub record MayGo (pages : ℕ) (held : Option (Slot L D)) (stored : Option (Keeping D)) (a : model.Actor) : Type 0 where
+    pub there : OpWords pages (next a)
+    pub log : (p : log.Part L) → held ≡ Some (slot.Log p) → hand a ≡ Some 0 → (l : Lent) → Lends l (lent a) → LogReady p l (next a)
+    pub data_part : (d : Keeping D) → stored ≡ Some d → (l : Lent) → Lends l (lent a) → DataReady d.part l (next a)
+    pub whole : HasWholePages (next a) (lent a)
+    pub free : IsFreeToCheck a
+    pub rest : next a ≡ op.Rest → AnswerFits a answer.Rested
+
+  -- a seat carries the slot that its actor holds
+  abbrev pub Carries : Option ℕ → Me (Slot L D) (View L D) → Type 0
+  Carries None me = me.1 ≡ []
+  Carries (Some zero) me = (p : log.Part L) × (me.1 ≡ (0, slot.Log p) ∷ []) × (me.0.held ≡ Some (slot.Log p))
+  Carries (Some (suc i)) me = (l : Listing) × (me.1 ≡ (suc i, slot.Pages l) ∷ []) × (me.0.held ≡ Some (slot.Pages l))
+
+  -- the data part is taken out of its slot, and nothing else changes
+  abbrev pub reached : Me (Slot L D) (View L D) → ℕ → Me (Slot L D) (View L D) → Type 0
+  reached m n m' = (d : store.Part D) → m.0.data_part ≡ Some (record { part = d; out = false })
+      → m' ≡ (record { pages = m.0.pages; seats = m.0.seats; held = m.0.held; data_part = Some (record { part = d; out = true }) }, (5, slot.Data d) ∷ m.1)
+
+module _ {L D : Type 0} (log_seen : L → Seen) (data_seen : D → Seen) where
+  -- THERE WAS A MOMENT at which the invariant held, and one turn of the definition was this actor's, with this answer
+  pub record Shown (number : ℕ) (a : model.Actor) (r : Answer) : Type 0 where
+    pub run : RunOf L D
+    pub old : Parts L D
+    pub actors : List Actor
+    pub runs : RunsOn log_seen data_seen run old actors
+    pub new : Parts L D
+    pub after : List Actor
+    pub runs_on : RunsOn log_seen data_seen run new after
+    pub at : get_elem? (views_of actors) number ≡ some a
+    pub turn : Turn (log_of log_seen data_seen run) (data_of log_seen data_seen run) (core_of log_seen data_seen run old actors) number r (step_of a r) (core_of log_seen data_seen run new after)
+
+  -- the seat's actor took an answer
+  pub record Stepped (x : Numbered) (r : Answer) (held : Option (Slot L D)) (stored : Option (Keeping D)) (carried : List (ℕ × Slot L D)) (m m' : Me (Slot L D) (View L D)) : Type 0 where
+    pub fits : AnswerFits (view_of x.actor) r
+    pub shown : Shown x.number (view_of x.actor) r
+    pub is : m' ≡ (record { pages = m.0.pages; seats = behind x r ∷ []; held = held; data_part = stored }, carried)
+    pub may : MayGo m.0.pages held stored (took (view_of x.actor) r)
+
+  -- a step on a word: the number found is the answer
+  abbrev pub saw : Me (Slot L D) (View L D) → ℕ → Me (Slot L D) (View L D) → Type 0
+  saw m n m' = (x : Numbered) → m.0.seats ≡ x ∷ [] → Stepped x (answer.Old n) m.0.held m.0.data_part m.1 m m'
+
+  -- the taking of the log part
+  abbrev pub seized : Me (Slot L D) (View L D) → ℕ → Me (Slot L D) (View L D) → Type 0
+  seized m n m' = (x : Numbered) → m.0.seats ≡ x ∷ []
+      → (n ≡ 0 → (p : log.Part L) × Stepped x (taking (has_failed p.failed)) (Some (slot.Log p)) m.0.data_part ((0, slot.Log p) ∷ m.1) m m')
+      × (n ≢ 0 → Stepped x answer.Held m.0.held m.0.data_part m.1 m m')
+
+  -- the taking of a flush list, whose call is to follow
+  abbrev pub seized_list : Me (Slot L D) (View L D) → ℕ → Me (Slot L D) (View L D) → Type 0
+  seized_list m n m' = (x : Numbered) (k : ℕ) → m.0.seats ≡ x ∷ [] → TakesList (next (view_of x.actor)) k
+      → (n ≡ 0 → (l : Listing) × ListFits (next (view_of x.actor)) l
+      × Stepped x (answer.Taken (list_said (next (view_of x.actor)) l)) (Some (slot.Pages (list_behind (next (view_of x.actor)) l))) m.0.data_part ((k, slot.Pages l) ∷ m.1) m m')
+      × (n ≢ 0 → Stepped x answer.Held m.0.held m.0.data_part m.1 m m')
+
+  -- a turn word is given back with its slot
+  abbrev pub gave : Me (Slot L D) (View L D) → ℕ → Me (Slot L D) (View L D) → Type 0
+  gave m n m' = (x : Numbered) → m.0.seats ≡ x ∷ [] → Stepped x (answer.Taken None) None m.0.data_part (rest m.1) m m'
+
+  -- after a call of the log part
+  abbrev pub called : Me (Slot L D) (View L D) → ℕ → Me (Slot L D) (View L D) → Type 0
+  called m n m' = (x : Numbered) (q : log.Part L) → m.0.seats ≡ x ∷ [] → m.1 ≡ (0, slot.Log q) ∷ []
+      → Stepped x (called_by (log_code q.failed) (told_by (next (view_of x.actor)) q.marks.stable)) (Some (slot.Log q)) m.0.data_part m.1 m m'
+
+  -- after a call of the data part, which is back in its slot
+  abbrev pub batched : Me (Slot L D) (View L D) → ℕ → Me (Slot L D) (View L D) → Type 0
+  batched m n m' = (x : Numbered) (e : store.Part D) → m.0.seats ≡ x ∷ [] → m.1 ≡ (5, slot.Data e) ∷ []
+      → Stepped x (called_by (data_code e.failed) 0) m.0.held (Some (record { part = e; out = false })) (rest m.1) m m'
+
+  -- a look that changes nothing: what the actor may do
+  abbrev pub looked : Me (Slot L D) (View L D) → ℕ → Me (Slot L D) (View L D) → Type 0
+  looked m n m' = (m' ≡ m) × ((x : Numbered) → m.0.seats ≡ x ∷ [] → MayGo m.0.pages m.0.held m.0.data_part (view_of x.actor))

@@ -1,0 +1,42 @@
+-- How a seat is cut off the first one, and how it is taken in again.
+use Rattle.std.specs.Prelude.{Bool, List, None, Option, Some, [], cond, false, true, ◌++◌, ◌∷◌}
+use Rattle.redo_machine.specs.declared.actor.Actor.{Actor}
+use Rattle.redo_machine.specs.declared.actor.Actor.TheVariants as own
+use Rattle.redo_rule.specs.declared.law.Numbered.{Numbered}
+use Rattle.redo_rule.specs.declared.law.View.{View}
+
+abbrev pub is_cleaner : Actor → Bool
+is_cleaner (own.Cleaner v) = true
+is_cleaner _ = false
+
+abbrev pub head_of : List Numbered → List Numbered
+head_of [] = []
+head_of (x ∷ xs) = x ∷ []
+
+abbrev pub tail_of : List Numbered → List Numbered
+tail_of [] = []
+tail_of (x ∷ xs) = xs
+
+-- the cleaner's seat gets the data part
+abbrev pub heads_cleaner : List Numbered → Bool
+heads_cleaner [] = false
+heads_cleaner (x ∷ xs) = is_cleaner x.actor
+
+abbrev pub first_some : {A : Type 0} → Option A → Option A → Option A
+first_some (Some x) other = Some x
+first_some None other = other
+
+module _ {L D : Type 0} where
+  -- the first of its actors gets a seat of its own
+  abbrev pub cut_left : View L D → View L D
+  cut_left v = record { pages = v.pages; seats = tail_of v.seats; held = v.held; data_part = cond (heads_cleaner v.seats) None v.data_part }
+
+  abbrev pub cut_right : View L D → View L D
+  cut_right v = record { pages = v.pages; seats = head_of v.seats; held = None; data_part = cond (heads_cleaner v.seats) v.data_part None }
+
+  -- what the other has comes before
+  abbrev pub taken_in : View L D → View L D → View L D
+  taken_in v w = record { pages = v.pages; seats = w.seats ++ v.seats; held = None; data_part = first_some v.data_part w.data_part }
+
+  abbrev pub spent : View L D
+  spent = record { pages = 0; seats = []; held = None; data_part = None }

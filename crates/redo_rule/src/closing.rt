@@ -1,0 +1,113 @@
+// A store behind its run.
+ghost use Rattle.std.specs.Prelude.{◌<◌, ◌≡◌, length, slice_index};
+ghost use Rattle.std.specs.Slots.{IsFull, slots_items, slots_len};
+ghost use Rattle.model_core.specs.{index};
+ghost use Rattle.redo_machine.specs.History.{ListsInOrder};
+ghost use Rattle.redo_machine.specs.Leaving.{LeavesRun};
+ghost use Rattle.redo_rule.specs.Closing.{IsOwedRun, LeavesParts, MayClose};
+ghost use Rattle.redo_rule.specs.Cutting.{HoldNothing};
+ghost use Rattle.redo_rule.specs.Sharing.{AreSeatsOf, IsSeated, opened_of, script_of, starts_of, table_of};
+
+use crate::law::{Seat, Slot};
+use crate::seats::take_all;
+use crate::shared::{Board, Shared};
+use crate::slots::{data_in, drop_list, log_in};
+use atomic_table::Closed as ClosedTable;
+use model_history::Marks;
+use redo_disk::Sectors;
+use redo_logdev::LogPart;
+use redo_machine::{Actor, history_of};
+use redo_pageactors::Closed;
+use redo_store::DataPart;
+use redo_words::{Word, number_of};
+use std::alloc::Global;
+
+/// What a table leaves but for the history.
+pub(crate) struct Left<L: Sectors, D: Sectors> {
+    pub(crate) marks: Marks,
+    pub(crate) log: LogPart<L>,
+    pub(crate) store: DataPart<D>,
+    pub(crate) code: u32,
+}
+
+/// What stands in a word.
+fn word_in<L: Sectors, D: Sectors>(closed: &ClosedTable<Slot<L, D>, Global>, word: Word) -> u64
+    requires there { index word < slots_len closed.now.words }
+    requires full { IsFull closed.now.words }
+    ensures { result ≡ slice_index (slots_items closed.now.words) (index word) }
+{
+    closed.word(number_of(word) as usize)
+}
+
+/// Closes a table, given the seat that knows all actors, of which none holds anything.
+fn close_table<L: Sectors, D: Sectors>(
+    board: Board<L, D>,
+    first: Seat<L, D>,
+    actors: &[Actor],
+) -> Left<L, D>
+    requires { MayClose board.shared.key board.shared.table_id actors.now first }
+    ensures { LeavesParts L.seen L.gives D.seen D.gives board.shared.key actors.now result }
+{
+    let _ = actors;
+    let mut closed = board.close_with(first);
+    let marks = Marks {
+        wtail: word_in(&closed, Word::Wtail),
+        write: word_in(&closed, Word::Write),
+        flushed: word_in(&closed, Word::Flushed),
+        ckpt: word_in(&closed, Word::Ckpt),
+    };
+    let code = word_in(&closed, Word::Failed) as u32;
+    let log = closed.take(0);
+    let a = closed.take(1);
+    let b = closed.take(2);
+    let c = closed.take(3);
+    let d = closed.take(4);
+    let data = closed.take(5);
+    closed.free();
+    drop_list(a);
+    drop_list(b);
+    drop_list(c);
+    drop_list(d);
+    Left {
+        marks,
+        log: log_in(log),
+        store: data_in(data),
+        code,
+    }
+}
+
+impl<L: Sectors, D: Sectors> Shared<L, D> {
+    /// What the run leaves, given the seats of all actors, none of which holds a turn: its history, its marks, both parts, and
+    /// the code in FAILED.
+    pub fn finish(self, seats: Vec<Seat<L, D>>, actors: &[Actor]) -> Closed<L, D>
+        requires seated { IsSeated self }
+        requires seats { AreSeatsOf (table_of self) seats.items actors.now }
+        requires all { length actors.now ≡ length (starts_of self) }
+        requires rest { HoldNothing actors.now }
+        ensures leaves { LeavesRun L.seen L.gives D.seen D.gives (opened_of self) (script_of self) self.board.shared.key.log_only actors.now result }
+        ensures listed { ListsInOrder result.marks actors.now result.history }
+        ensures owed { IsOwedRun L.seen L.gives D.seen D.gives (opened_of self) (script_of self) actors.now result }
+    {
+        let Shared {
+            board,
+            mut first,
+            room: _,
+            entries,
+        } = self;
+        take_all(&board.shared, &mut first, seats, actors);
+        let Left {
+            marks,
+            log,
+            store,
+            code,
+        } = close_table(board, first, actors);
+        let history = history_of(entries, actors, &marks);
+        Closed {
+            history,
+            marks,
+            log,
+            store,
+            code,
+        }
+    }
+}

@@ -1,0 +1,115 @@
+// One Op of one actor, on the shared table: the log part.
+ghost use Rattle.std.specs.Prelude.{◌≡◌};
+ghost use Rattle.model_core.specs.{next};
+ghost use Rattle.model_core.specs.declared.ops.Op.TheVariants as op;
+ghost use Rattle.redo_machine.specs.Views.{view_of};
+ghost use Rattle.redo_rule.specs.Mine.{HasPlayed, Mine, Stays};
+
+use crate::law::{Ring, Seat};
+use crate::plays::{Called, Gave, Seized};
+use crate::slots::{checkpoint_slot, sync_slot, taken_answer, write_slot};
+use redo_disk::Sectors;
+use redo_machine::{Actor, called};
+use redo_words::{Answer, Step};
+
+/// The turn word of the log part, and its slot.
+const DEVICE: usize = 7;
+
+const LOG: usize = 0;
+
+/// `TakeDevice`.
+pub(crate) fn take_device<L: Sectors, D: Sectors>(
+    table: &Ring<L, D>,
+    token: &mut Seat<L, D>,
+    actor: &mut Actor,
+) -> Step
+    requires mine { Mine table.now.table_id token.old (view_of actor.old) }
+    requires asks { next (view_of actor.old) ≡ op.TakeDevice }
+    ensures mine { Mine table.now.table_id token.new (view_of actor.new) }
+    ensures played { HasPlayed L.seen D.seen (view_of actor.old) result (view_of actor.new) }
+    ensures seat { token.new.id ≡ token.old.id }
+    ensures stays { Stays token.old.me.0 token.new.me.0 }
+{
+    if table.compare_exchange::<Seized>(token, DEVICE, 0, 1) != 0 {
+        return actor.took(Answer::Held);
+    }
+    let answer = taken_answer(token.slot_mut(table, LOG));
+    actor.took(answer)
+}
+
+/// `GiveDevice`.
+pub(crate) fn give_device<L: Sectors, D: Sectors>(
+    table: &Ring<L, D>,
+    token: &mut Seat<L, D>,
+    actor: &mut Actor,
+) -> Step
+    requires mine { Mine table.now.table_id token.old (view_of actor.old) }
+    requires asks { next (view_of actor.old) ≡ op.GiveDevice }
+    ensures mine { Mine table.now.table_id token.new (view_of actor.new) }
+    ensures played { HasPlayed L.seen D.seen (view_of actor.old) result (view_of actor.new) }
+    ensures seat { token.new.id ≡ token.old.id }
+    ensures stays { Stays token.old.me.0 token.new.me.0 }
+{
+    table.store::<Gave>(token, DEVICE, 0);
+    actor.took(Answer::Taken(None))
+}
+
+/// `WriteTo mark`.
+pub(crate) fn write_to<L: Sectors, D: Sectors>(
+    table: &Ring<L, D>,
+    token: &mut Seat<L, D>,
+    actor: &mut Actor,
+    mark: u64,
+) -> Step
+    requires mine { Mine table.now.table_id token.old (view_of actor.old) }
+    requires asks { next (view_of actor.old) ≡ op.WriteTo mark }
+    ensures mine { Mine table.now.table_id token.new (view_of actor.new) }
+    ensures played { HasPlayed L.seen D.seen (view_of actor.old) result (view_of actor.new) }
+    ensures seat { token.new.id ≡ token.old.id }
+    ensures stays { Stays token.old.me.0 token.new.me.0 }
+{
+    let code = write_slot(token.slot_mut(table, LOG), mark, actor.lent());
+    table.load::<Called>(token, 0);
+    actor.took(called(code, 0))
+}
+
+/// `Sync`.
+pub(crate) fn sync<L: Sectors, D: Sectors>(
+    table: &Ring<L, D>,
+    token: &mut Seat<L, D>,
+    actor: &mut Actor,
+) -> Step
+    requires mine { Mine table.now.table_id token.old (view_of actor.old) }
+    requires asks { next (view_of actor.old) ≡ op.Sync }
+    ensures mine { Mine table.now.table_id token.new (view_of actor.new) }
+    ensures played { HasPlayed L.seen D.seen (view_of actor.old) result (view_of actor.new) }
+    ensures seat { token.new.id ≡ token.old.id }
+    ensures stays { Stays token.old.me.0 token.new.me.0 }
+{
+    let lent = actor.lent();
+    let _ = lent;
+    let (code, stable) = sync_slot(token.slot_mut(table, LOG));
+    table.load::<Called>(token, 0);
+    actor.took(called(code, stable))
+}
+
+/// `Checkpoint lsn`.
+pub(crate) fn checkpoint<L: Sectors, D: Sectors>(
+    table: &Ring<L, D>,
+    token: &mut Seat<L, D>,
+    actor: &mut Actor,
+    lsn: u64,
+) -> Step
+    requires mine { Mine table.now.table_id token.old (view_of actor.old) }
+    requires asks { next (view_of actor.old) ≡ op.Checkpoint lsn }
+    ensures mine { Mine table.now.table_id token.new (view_of actor.new) }
+    ensures played { HasPlayed L.seen D.seen (view_of actor.old) result (view_of actor.new) }
+    ensures seat { token.new.id ≡ token.old.id }
+    ensures stays { Stays token.old.me.0 token.new.me.0 }
+{
+    let lent = actor.lent();
+    let _ = lent;
+    let code = checkpoint_slot(token.slot_mut(table, LOG), lsn);
+    table.load::<Called>(token, 0);
+    actor.took(called(code, 0))
+}

@@ -1,0 +1,28 @@
+//! The second drive of a run: its actors over a table that they share, each in a thread of its own, without a lock.
+//!
+//! `Shared::new` lays the words, both device parts and the flush lists into a table. `Shared::seats` gives each actor its seat,
+//! `play` plays one Op of an actor on the table, and `Shared::finish` closes the table once all actors hold nothing. The rule
+//! of the table is the invariant of the running store, and holds between any two steps of any threads.
+#![tactic(auto)]
+
+mod batch;
+mod closing;
+mod device;
+mod law;
+mod laying;
+mod listing;
+mod playing;
+mod plays;
+mod resting;
+mod seating;
+mod seats;
+mod shared;
+mod slots;
+mod steps;
+#[cfg(test)]
+mod tests;
+
+pub use law::{About, Keeping, Law, Numbered, Ring, Seat, Slot, View};
+pub use playing::play;
+pub use resting::{all_hold_nothing, holds_nothing};
+pub use shared::{Board, Shared};

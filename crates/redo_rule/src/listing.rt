@@ -1,0 +1,113 @@
+// One Op of one actor, on the shared table: the flush lists.
+ghost use Rattle.std.specs.Prelude.{suc, ◌+◌, ◌<◌, ◌≡◌};
+ghost use Rattle.model_core.specs.declared.limits.TheConstants.{FLUSH_LISTS};
+ghost use Rattle.model_core.specs.{next};
+ghost use Rattle.model_core.specs.declared.ops.Op.TheVariants as op;
+ghost use Rattle.redo_machine.specs.Views.{view_of};
+ghost use Rattle.redo_rule.specs.Mine.{HasPlayed, Mine, Stays};
+
+use crate::law::{Ring, Seat};
+use crate::plays::{Gave, SeizedList};
+use crate::slots::{add_slot, oldest_slot, remove_slot};
+use model_core::FLUSH_LISTS;
+use redo_disk::Sectors;
+use redo_machine::Actor;
+use redo_words::{Answer, Step, Word, number_of};
+
+/// The turn word of a flush list, and its slot.
+fn turn_of(list: u32) -> usize
+    requires { list < FLUSH_LISTS }
+    ensures { result ≡ 8 + list }
+{
+    number_of(Word::List(list)) as usize
+}
+
+fn slot_of(list: u32) -> usize
+    ensures { result ≡ suc list }
+{
+    list as usize + 1
+}
+
+/// `TakeAdd page oldest`.
+pub(crate) fn take_add<L: Sectors, D: Sectors>(
+    table: &Ring<L, D>,
+    token: &mut Seat<L, D>,
+    actor: &mut Actor,
+    page: u32,
+    oldest: u64,
+) -> Step
+    requires mine { Mine table.now.table_id token.old (view_of actor.old) }
+    requires asks { next (view_of actor.old) ≡ op.TakeAdd page oldest }
+    ensures mine { Mine table.now.table_id token.new (view_of actor.new) }
+    ensures played { HasPlayed L.seen D.seen (view_of actor.old) result (view_of actor.new) }
+    ensures seat { token.new.id ≡ token.old.id }
+    ensures stays { Stays token.old.me.0 token.new.me.0 }
+{
+    let list = page % FLUSH_LISTS as u32;
+    if table.compare_exchange::<SeizedList>(token, turn_of(list), 0, 1) != 0 {
+        return actor.took(Answer::Held);
+    }
+    add_slot(token.slot_mut(table, slot_of(list)), page, oldest);
+    actor.took(Answer::Taken(None))
+}
+
+/// `TakeRemove page`.
+pub(crate) fn take_remove<L: Sectors, D: Sectors>(
+    table: &Ring<L, D>,
+    token: &mut Seat<L, D>,
+    actor: &mut Actor,
+    page: u32,
+) -> Step
+    requires mine { Mine table.now.table_id token.old (view_of actor.old) }
+    requires asks { next (view_of actor.old) ≡ op.TakeRemove page }
+    ensures mine { Mine table.now.table_id token.new (view_of actor.new) }
+    ensures played { HasPlayed L.seen D.seen (view_of actor.old) result (view_of actor.new) }
+    ensures seat { token.new.id ≡ token.old.id }
+    ensures stays { Stays token.old.me.0 token.new.me.0 }
+{
+    let list = page % FLUSH_LISTS as u32;
+    if table.compare_exchange::<SeizedList>(token, turn_of(list), 0, 1) != 0 {
+        return actor.took(Answer::Held);
+    }
+    remove_slot(token.slot_mut(table, slot_of(list)), page);
+    actor.took(Answer::Taken(None))
+}
+
+/// `TakeOldest list`.
+pub(crate) fn take_oldest<L: Sectors, D: Sectors>(
+    table: &Ring<L, D>,
+    token: &mut Seat<L, D>,
+    actor: &mut Actor,
+    list: u32,
+) -> Step
+    requires mine { Mine table.now.table_id token.old (view_of actor.old) }
+    requires asks { next (view_of actor.old) ≡ op.TakeOldest list }
+    ensures mine { Mine table.now.table_id token.new (view_of actor.new) }
+    ensures played { HasPlayed L.seen D.seen (view_of actor.old) result (view_of actor.new) }
+    ensures seat { token.new.id ≡ token.old.id }
+    ensures stays { Stays token.old.me.0 token.new.me.0 }
+{
+    if table.compare_exchange::<SeizedList>(token, turn_of(list), 0, 1) != 0 {
+        return actor.took(Answer::Held);
+    }
+    let oldest = oldest_slot(token.slot_mut(table, slot_of(list)), list);
+    actor.took(Answer::Taken(oldest))
+}
+
+/// `GiveList list`.
+pub(crate) fn give_list<L: Sectors, D: Sectors>(
+    table: &Ring<L, D>,
+    token: &mut Seat<L, D>,
+    actor: &mut Actor,
+    list: u32,
+) -> Step
+    requires mine { Mine table.now.table_id token.old (view_of actor.old) }
+    requires asks { next (view_of actor.old) ≡ op.GiveList list }
+    ensures mine { Mine table.now.table_id token.new (view_of actor.new) }
+    ensures played { HasPlayed L.seen D.seen (view_of actor.old) result (view_of actor.new) }
+    ensures seat { token.new.id ≡ token.old.id }
+    ensures stays { Stays token.old.me.0 token.new.me.0 }
+{
+    table.store::<Gave>(token, turn_of(list), 0);
+    actor.took(Answer::Taken(None))
+}

@@ -1,0 +1,86 @@
+// One Op of one actor, on the shared table.
+ghost use Rattle.std.specs.Prelude.{ℕ, ◌≡◌, ◌⊎◌};
+ghost use Rattle.model_core.specs.{next};
+ghost use Rattle.model_core.specs.Waiting.{ending};
+ghost use Rattle.redo_machine.specs.Views.{view_of};
+ghost use Rattle.redo_rule.specs.Causes.{HasMetFailure, HasWaited};
+ghost use Rattle.redo_rule.specs.Mine.{HasGone, HasPlayed, Mine, Stays, number_of};
+ghost use Rattle.redo_rule.specs.Seating.{IsBare, IsSeatOf};
+
+use crate::batch::write_batch;
+use crate::device::{checkpoint, give_device, sync, take_device, write_to};
+use crate::law::{Ring, Seat};
+use crate::listing::{give_list, take_add, take_oldest, take_remove};
+use crate::steps::{add, load, store, swap};
+use redo_disk::Sectors;
+use redo_machine::Actor;
+use redo_words::{Answer, Op, Step};
+
+/// Plays an Op on the words, the log part or a list.
+fn play_token<L: Sectors, D: Sectors>(
+    table: &Ring<L, D>,
+    token: &mut Seat<L, D>,
+    actor: &mut Actor,
+    op: Op,
+) -> Step
+    requires mine { Mine table.now.table_id token.old (view_of actor.old) }
+    requires asks { next (view_of actor.old) ≡ op }
+    requires bare { IsBare op }
+    ensures mine { Mine table.now.table_id token.new (view_of actor.new) }
+    ensures played { HasPlayed L.seen D.seen (view_of actor.old) result (view_of actor.new) }
+    ensures stays { Stays token.old.me.0 token.new.me.0 }
+{
+    match op {
+        Op::Load(word) => load(table, token, actor, word),
+        Op::Store(word, number) => store(table, token, actor, word, number),
+        Op::Add(word, number) => add(table, token, actor, word, number),
+        Op::Swap(word, old, new) => swap(table, token, actor, word, old, new),
+        Op::TakeDevice => take_device(table, token, actor),
+        Op::GiveDevice => give_device(table, token, actor),
+        Op::TakeAdd(page, oldest) => take_add(table, token, actor, page, oldest),
+        Op::TakeRemove(page) => take_remove(table, token, actor, page),
+        Op::TakeOldest(list) => take_oldest(table, token, actor, list),
+        Op::GiveList(list) => give_list(table, token, actor, list),
+        Op::WriteTo(mark) => write_to(table, token, actor, mark),
+        Op::Sync => sync(table, token, actor),
+        Op::Checkpoint(lsn) => checkpoint(table, token, actor, lsn),
+        Op::WriteBatch | Op::Rest => unreachable!(),
+    }
+}
+
+/// Plays the next Op of an actor.
+fn play_next<L: Sectors, D: Sectors>(
+    table: &Ring<L, D>,
+    seat: &mut Seat<L, D>,
+    actor: &mut Actor,
+) -> Step
+    requires { IsSeatOf table.now.table_id seat.old (view_of actor.old) }
+    ensures seat { IsSeatOf table.now.table_id seat.new (view_of actor.new) }
+    ensures number { number_of seat.new.me.0 ≡ number_of seat.old.me.0 }
+    ensures played { HasGone L.seen D.seen (view_of actor.old) result (view_of actor.new) }
+{
+    let op = actor.next();
+    match op {
+        Op::WriteBatch => write_batch(table, seat, actor),
+        Op::Rest => actor.took(Answer::Rested),
+        _ => play_token(table, seat, actor, op),
+    }
+}
+
+/// Plays the next Op of the actor whose state is the seat's view, and tells how its step ended. It doesn't wait, and takes no
+/// memory.
+pub fn play<L: Sectors, D: Sectors>(
+    table: &Ring<L, D>,
+    seat: &mut Seat<L, D>,
+    actor: &mut Actor,
+) -> Step
+    requires { IsSeatOf table.now.table_id seat.old (view_of actor.old) }
+    ensures seat { IsSeatOf table.now.table_id seat.new (view_of actor.new) }
+    ensures number { number_of seat.new.me.0 ≡ number_of seat.old.me.0 }
+    ensures played { HasGone L.seen D.seen (view_of actor.old) result (view_of actor.new) }
+    ensures idle { result ≡ Step.Idle → HasWaited L.seen D.seen (view_of actor.old) }
+    ensures ended { result ≡ Step.Ended → ending (view_of actor.new) ≡ Step.Ended }
+    ensures failed { (code : ℕ) → result ≡ Step.Failed code → (next (view_of actor.old) ≡ Op.Rest) ⊎ HasMetFailure L.seen D.seen (view_of actor.old) }
+{
+    play_next(table, seat, actor)
+}

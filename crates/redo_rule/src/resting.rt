@@ -1,0 +1,55 @@
+// Whether actors hold anything. One that has a seat is free wherever it checks for a failure.
+ghost use Rattle.std.specs.Prelude.{None, false, true, ◌≡◌};
+ghost use Rattle.model_core.specs.{next};
+ghost use Rattle.redo_machine.specs.Views.{view_of};
+ghost use Rattle.redo_rule.specs.Cutting.{AreFreeToCheck, HoldNothing};
+ghost use Rattle.redo_rule.specs.Hands.{hand, IsFreeOp, IsFreeToCheck};
+
+use redo_machine::Actor;
+use redo_words::Op;
+
+/// Whether an actor that asks for this Op surely holds nothing: where it stores it may hold a turn.
+fn is_free(op: Op) -> bool
+    ensures free { result ≡ true → IsFreeOp op }
+    ensures held { IsFreeOp op → result ≡ true }
+{
+    match op {
+        Op::Load(_)
+        | Op::TakeDevice
+        | Op::TakeAdd(_, _)
+        | Op::TakeRemove(_)
+        | Op::TakeOldest(_)
+        | Op::WriteBatch
+        | Op::Rest => true,
+        Op::Store(_, _)
+        | Op::Add(_, _)
+        | Op::Swap(_, _, _)
+        | Op::GiveDevice
+        | Op::GiveList(_)
+        | Op::WriteTo(_)
+        | Op::Sync
+        | Op::Checkpoint(_) => false,
+    }
+}
+
+/// Whether an actor surely holds nothing.
+pub fn holds_nothing(actor: &Actor) -> bool
+    requires { IsFreeToCheck (view_of actor.now) }
+    ensures nothing { result ≡ true → hand (view_of actor.now) ≡ None }
+    ensures asks { IsFreeOp (next (view_of actor.now)) → result ≡ true }
+{
+    is_free(actor.next())
+}
+
+/// Whether each of these actors surely holds nothing, so that their store may be finished.
+pub fn all_hold_nothing(actors: &[Actor]) -> bool
+    requires { AreFreeToCheck actors.now }
+    ensures { result ≡ true → HoldNothing actors.now }
+{
+    for number in 0..actors.len() {
+        if !holds_nothing(&actors[number]) {
+            return false;
+        }
+    }
+    true
+}

@@ -1,0 +1,86 @@
+// A store that its actors share, each in a thread of its own.
+ghost use Rattle.std.specs.Prelude.{◌≡◌, IfErr, IfOk};
+ghost use Rattle.redo_machine.specs.Beginning.{MayBegin};
+ghost use Rattle.redo_rule.specs.Sharing.{IsNew};
+
+use crate::law::{About, Law, Ring, Seat, Slot, View};
+use crate::laying::{lay_out, make_board, parts_in};
+use atomic_table::Table;
+use model_history::Entry;
+use model_script::Script;
+use redo_disk::Sectors;
+use redo_lsn::NoMemory;
+use redo_machine::{Actor, Machine, Parts};
+use redo_pageactors::Opened;
+use std::alloc::Global;
+use std::snapshot::Snapshot;
+
+pub type Board<L, D> = Table<Slot<L, D>, View<L, D>, About<L, D>, Law, Global>;
+
+/// A store that its actors share.
+pub struct Shared<L: Sectors, D: Sectors> {
+    pub(crate) board: Board<L, D>,
+    // the seat of all actors that have none of their own
+    pub(crate) first: Seat<L, D>,
+    // room for a seat of each actor, until they have theirs
+    pub(crate) room: Option<Vec<Seat<L, D>>>,
+    // room for an entry of each line
+    pub(crate) entries: Vec<Entry>,
+}
+
+impl<L: Sectors, D: Sectors> Shared<L, D> {
+    /// The store as the run of a script begins, with the log alone or with the pages, and its actors, none of which has a seat
+    /// yet. It takes all memory; where there is none it gives both devices back as they were.
+    pub fn new(
+        alloc: Global,
+        opened: Opened<L, D>,
+        script: &Script,
+        log_only: bool,
+    ) -> Result<(Shared<L, D>, Vec<Actor>), (NoMemory, L, D)>
+        requires { MayBegin opened script.now log_only }
+        ensures err { IfErr result (λ error. (error.1 ≡ opened.log.dev) × (error.2 ≡ opened.store.dev)) }
+        ensures new { IfOk result (λ made. IsNew opened script.now log_only made.0 made.1.items) }
+    {
+        let opened_is = Snapshot::of(&opened);
+        let machine = Machine::new(alloc, opened, script, log_only)?;
+        let (parts, actors, entries) = machine.into_parts();
+        let about = About {
+            opened: opened_is,
+            script: Snapshot::of(script),
+            actors: Snapshot::of(&actors),
+            log_only,
+        };
+        let Parts {
+            words,
+            log,
+            store,
+            lists,
+        } = parts;
+        lists.are_lists();
+        match lay_out(alloc, actors.len(), log, store, lists) {
+            Err((log, store)) => Err((NoMemory, log.into_dev(), store.into_dev())),
+            Ok((room, slots)) => match make_board(alloc, words.as_slice(), slots, &about) {
+                Ok((board, first)) => {
+                    let shared = Shared {
+                        board,
+                        first,
+                        room: Some(room),
+                        entries,
+                    };
+                    Ok((shared, actors))
+                }
+                Err(slots) => {
+                    let (log, store) = parts_in(slots);
+                    Err((NoMemory, log.into_dev(), store.into_dev()))
+                }
+            },
+        }
+    }
+
+    /// The words and slots, which threads may be lent.
+    pub fn ring(&self) -> &Ring<L, D>
+        ensures { result.now ≡ self.now.board.shared }
+    {
+        &self.board.shared
+    }
+}

@@ -1,0 +1,163 @@
+// Calls of what lies in a slot.
+ghost use Rattle.std.specs.Prelude.{◌≡◌, ℕ, None};
+ghost use Rattle.model_core.specs.Actors as model;
+ghost use Rattle.model_base.specs.declared.shape.Shape.{Shape};
+ghost use Rattle.model_core.specs.{DataServed, KeptPage, LogServed, oldest_end};
+ghost use Rattle.redo_dataside.specs.DataPartSide as data_part;
+ghost use Rattle.model_core.specs.declared.ops.Op.TheVariants as op;
+ghost use Rattle.model_logdev.specs.{MayBeNext};
+ghost use Rattle.redo_logdev.specs.Part as log_dev;
+ghost use Rattle.redo_logside.specs.{has_failed};
+ghost use Rattle.redo_logside.specs.LogPartSide as log_part;
+ghost use Rattle.redo_machine.specs.Playing.{HasWholePages, MayBatchLent, MayWriteLent};
+ghost use Rattle.redo_rule.specs.Plays.{ListFits, list_behind, list_said, taking};
+ghost use Rattle.redo_rule.specs.Slots.{IsBatched, IsCalled, IsData, IsLog, IsPages};
+ghost use Rattle.redo_store.specs.Part as store_dev;
+ghost use Rattle.redo_words.specs.{Lends};
+
+use crate::law::Slot;
+use redo_disk::Sectors;
+use redo_logdev::LogPart;
+use redo_logside::{checkpoint, sync};
+use redo_machine::{call_batch, call_write};
+use redo_store::DataPart;
+use redo_words::{Answer, Lent};
+
+/// The answer to whoever has taken the log part.
+pub(crate) fn taken_answer<L: Sectors, D: Sectors>(slot: &Slot<L, D>) -> Answer
+    requires { IsLog slot.now (λ p. Unit {0}) }
+    ensures { (p : log_dev.Part L) → slot.now ≡ Slot.Log p → result ≡ taking (has_failed p.failed) }
+{
+    match slot {
+        Slot::Log(part) => match part.failed() {
+            None => Answer::Taken(None),
+            Some(_) => Answer::Broken,
+        },
+        Slot::Pages(_) | Slot::Data(_) => unreachable!(),
+    }
+}
+
+/// Writes the log up to a mark.
+pub(crate) fn write_slot<L: Sectors, D: Sectors>(
+    slot: &mut Slot<L, D>,
+    mark: u64,
+    lent: Lent<'_>,
+) -> u32
+    requires { IsLog slot.old (λ p. MayWriteLent p mark lent) }
+    ensures { IsCalled L.gives slot.old slot.new (λ p q. (faults start : ℕ) (first : log_dev.Part L) (l : model.Lent) → Lends lent.entry l
+        → LogServed (log_part.log_side L.seen faults first.marks.number (log_part.HasBegun L.seen start first)) p l (op.WriteTo mark) result q) }
+{
+    match slot {
+        Slot::Log(part) => call_write(part, mark, lent),
+        Slot::Pages(_) | Slot::Data(_) => unreachable!(),
+    }
+}
+
+/// The code of a sync, and the stable mark behind it.
+pub(crate) fn sync_slot<L: Sectors, D: Sectors>(slot: &mut Slot<L, D>) -> (u32, u64)
+    requires { IsLog slot.old (λ p. p.failed ≡ None) }
+    ensures called { IsCalled L.gives slot.old slot.new (λ p q. (faults start : ℕ) (first : log_dev.Part L) (l : model.Lent)
+        → LogServed (log_part.log_side L.seen faults first.marks.number (log_part.HasBegun L.seen start first)) p l op.Sync result.0 q) }
+    ensures stable { (q : log_dev.Part L) → slot.new ≡ Slot.Log q → result.1 ≡ q.marks.stable }
+{
+    match slot {
+        Slot::Log(part) => {
+            let code = sync(part);
+            (code, part.stable())
+        }
+        Slot::Pages(_) | Slot::Data(_) => unreachable!(),
+    }
+}
+
+/// Writes a checkpoint at an lsn.
+pub(crate) fn checkpoint_slot<L: Sectors, D: Sectors>(slot: &mut Slot<L, D>, lsn: u64) -> u32
+    requires { IsLog slot.old (λ p. (p.failed ≡ None) × MayBeNext p.marks lsn) }
+    ensures { IsCalled L.gives slot.old slot.new (λ p q. (faults start : ℕ) (first : log_dev.Part L) (l : model.Lent)
+        → LogServed (log_part.log_side L.seen faults first.marks.number (log_part.HasBegun L.seen start first)) p l (op.Checkpoint lsn) result q) }
+{
+    match slot {
+        Slot::Log(part) => checkpoint(part, lsn),
+        Slot::Pages(_) | Slot::Data(_) => unreachable!(),
+    }
+}
+
+/// Writes a batch of pages.
+pub(crate) fn batch_slot<L: Sectors, D: Sectors>(slot: &mut Slot<L, D>, lent: Lent<'_>) -> u32
+    requires { IsData slot.old (λ p. MayBatchLent p lent) }
+    ensures { IsBatched D.gives slot.old slot.new (λ p q. (faults : ℕ) (shape : Shape) (opened : ℕ → KeptPage) (first : store_dev.Part D) (l : model.Lent) → Lends lent.entry l
+        → HasWholePages op.WriteBatch l
+        → DataServed (data_part.data_side D.seen faults shape (data_part.HasBegun D.seen opened first)) p l op.WriteBatch result q) }
+{
+    match slot {
+        Slot::Data(part) => call_batch(part, lent),
+        Slot::Log(_) | Slot::Pages(_) => unreachable!(),
+    }
+}
+
+/// Lists a page.
+pub(crate) fn add_slot<L: Sectors, D: Sectors>(slot: &mut Slot<L, D>, page: u32, oldest: u64)
+    requires { IsPages slot.old (ListFits (op.TakeAdd page oldest)) }
+    ensures { IsPages slot.old (λ l. slot.new ≡ Slot.Pages (list_behind (op.TakeAdd page oldest) l)) }
+{
+    match slot {
+        Slot::Pages(list) => list.add(page, oldest),
+        Slot::Log(_) | Slot::Data(_) => unreachable!(),
+    }
+}
+
+/// Takes a page off its list.
+pub(crate) fn remove_slot<L: Sectors, D: Sectors>(slot: &mut Slot<L, D>, page: u32)
+    requires { IsPages slot.old (ListFits (op.TakeRemove page)) }
+    ensures { IsPages slot.old (λ l. slot.new ≡ Slot.Pages (list_behind (op.TakeRemove page) l)) }
+{
+    match slot {
+        Slot::Pages(list) => list.remove(page),
+        Slot::Log(_) | Slot::Data(_) => unreachable!(),
+    }
+}
+
+/// The oldest modification of the page that entered a list first.
+pub(crate) fn oldest_slot<L: Sectors, D: Sectors>(slot: &Slot<L, D>, list: u32) -> Option<u64>
+    requires { IsPages slot.now (λ l. Unit {0}) }
+    ensures { IsPages slot.now (λ l. result ≡ list_said (op.TakeOldest list) l) }
+{
+    match slot {
+        Slot::Pages(list) => list.oldest_end(),
+        Slot::Log(_) | Slot::Data(_) => unreachable!(),
+    }
+}
+
+/// The log part that lies in a slot.
+pub(crate) fn log_in<L: Sectors, D: Sectors>(slot: Slot<L, D>) -> LogPart<L>
+    requires { IsLog slot (λ p. Unit {0}) }
+    ensures { slot ≡ Slot.Log result }
+{
+    match slot {
+        Slot::Log(part) => part,
+        Slot::Pages(_list) => unreachable!(),
+        Slot::Data(_part) => unreachable!(),
+    }
+}
+
+/// The data part that lies in a slot.
+pub(crate) fn data_in<L: Sectors, D: Sectors>(slot: Slot<L, D>) -> DataPart<D>
+    requires { IsData slot (λ d. Unit {0}) }
+    ensures { slot ≡ Slot.Data result }
+{
+    match slot {
+        Slot::Log(_part) => unreachable!(),
+        Slot::Pages(_list) => unreachable!(),
+        Slot::Data(part) => part,
+    }
+}
+
+/// Lets the flush list go that lies in a slot.
+pub(crate) fn drop_list<L: Sectors, D: Sectors>(slot: Slot<L, D>)
+    requires { IsPages slot (λ l. Unit {0}) }
+{
+    match slot {
+        Slot::Log(_part) => unreachable!(),
+        Slot::Pages(_list) => {}
+        Slot::Data(_part) => unreachable!(),
+    }
+}

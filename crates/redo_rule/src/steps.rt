@@ -1,0 +1,88 @@
+// One Op of one actor, on the shared table: the words.
+ghost use Rattle.std.specs.Prelude.{◌≡◌};
+ghost use Rattle.model_core.specs.{next};
+ghost use Rattle.model_core.specs.declared.ops.Op.TheVariants as op;
+ghost use Rattle.redo_machine.specs.Views.{view_of};
+ghost use Rattle.redo_rule.specs.Mine.{HasPlayed, Mine, Stays};
+
+use crate::law::{Ring, Seat};
+use crate::plays::Saw;
+use redo_disk::Sectors;
+use redo_machine::Actor;
+use redo_words::{Answer, Step, Word, number_of};
+
+/// `Load word`.
+pub(crate) fn load<L: Sectors, D: Sectors>(
+    table: &Ring<L, D>,
+    token: &mut Seat<L, D>,
+    actor: &mut Actor,
+    word: Word,
+) -> Step
+    requires mine { Mine table.now.table_id token.old (view_of actor.old) }
+    requires asks { next (view_of actor.old) ≡ op.Load word }
+    ensures mine { Mine table.now.table_id token.new (view_of actor.new) }
+    ensures played { HasPlayed L.seen D.seen (view_of actor.old) result (view_of actor.new) }
+    ensures seat { token.new.id ≡ token.old.id }
+    ensures stays { Stays token.old.me.0 token.new.me.0 }
+{
+    let n = table.load::<Saw>(token, number_of(word) as usize);
+    actor.took(Answer::Old(n))
+}
+
+/// `Store word number`.
+pub(crate) fn store<L: Sectors, D: Sectors>(
+    table: &Ring<L, D>,
+    token: &mut Seat<L, D>,
+    actor: &mut Actor,
+    word: Word,
+    number: u64,
+) -> Step
+    requires mine { Mine table.now.table_id token.old (view_of actor.old) }
+    requires asks { next (view_of actor.old) ≡ op.Store word number }
+    ensures mine { Mine table.now.table_id token.new (view_of actor.new) }
+    ensures played { HasPlayed L.seen D.seen (view_of actor.old) result (view_of actor.new) }
+    ensures seat { token.new.id ≡ token.old.id }
+    ensures stays { Stays token.old.me.0 token.new.me.0 }
+{
+    let n = table.swap::<Saw>(token, number_of(word) as usize, number);
+    actor.took(Answer::Old(n))
+}
+
+/// `Add word number`.
+pub(crate) fn add<L: Sectors, D: Sectors>(
+    table: &Ring<L, D>,
+    token: &mut Seat<L, D>,
+    actor: &mut Actor,
+    word: Word,
+    number: u64,
+) -> Step
+    requires mine { Mine table.now.table_id token.old (view_of actor.old) }
+    requires asks { next (view_of actor.old) ≡ op.Add word number }
+    ensures mine { Mine table.now.table_id token.new (view_of actor.new) }
+    ensures played { HasPlayed L.seen D.seen (view_of actor.old) result (view_of actor.new) }
+    ensures seat { token.new.id ≡ token.old.id }
+    ensures stays { Stays token.old.me.0 token.new.me.0 }
+{
+    let n = table.fetch_add::<Saw>(token, number_of(word) as usize, number);
+    actor.took(Answer::Old(n))
+}
+
+/// `Swap word old new`.
+pub(crate) fn swap<L: Sectors, D: Sectors>(
+    table: &Ring<L, D>,
+    token: &mut Seat<L, D>,
+    actor: &mut Actor,
+    word: Word,
+    old: u64,
+    new: u64,
+) -> Step
+    requires mine { Mine table.now.table_id token.old (view_of actor.old) }
+    requires asks { next (view_of actor.old) ≡ op.Swap word old new }
+    ensures mine { Mine table.now.table_id token.new (view_of actor.new) }
+    ensures played { HasPlayed L.seen D.seen (view_of actor.old) result (view_of actor.new) }
+    ensures seat { token.new.id ≡ token.old.id }
+    ensures stays { Stays token.old.me.0 token.new.me.0 }
+{
+    let n = table.compare_exchange::<Saw>(token, number_of(word) as usize, old, new);
+    actor.took(Answer::Old(n))
+}

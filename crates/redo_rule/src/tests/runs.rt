@@ -1,0 +1,118 @@
+// Runs of seats that one thread plays in turn.
+use super::store::{DATA_CALLS, Device, LOG_CALLS};
+use super::turns::left_by;
+use model_base::{PAGE_SIZE, SLOTS};
+use model_history::Marks;
+use model_history::State::{Flushed, Lost, Written};
+use redo_disk::Sectors;
+use redo_pageactors::Closed;
+use redo_words::Step::{Ended, Idle, Moved};
+use std::process::Abort;
+use std::test::Fail;
+
+/// A line of each of two users.
+const TWO_USERS: &[u8] = b"1 w b1 3 100 7\n2 w b1 4 100 8\n";
+
+/// A line of each of two users, on one page.
+const ONE_PAGE: &[u8] = b"1 w b1 3 100 7\n2 w b1 3 101 8\n";
+
+/// A line whose group of 13 bytes is on two pages, and is answered once it is flushed.
+const TWO_PAGES: &[u8] = b"1 f b1 3 100 7;b1 4 100 8\n";
+
+/// A byte of a page's place on the data device.
+fn byte_in_place(rt: &impl Abort, store: &mut Device, page: u32, at: usize) -> Result<u8, Fail> {
+    let mut bytes = [0; PAGE_SIZE as usize];
+    let start = (u64::from(SLOTS) + u64::from(page)) * u64::from(PAGE_SIZE);
+    assert!(rt; at < bytes.len() && start + u64::from(PAGE_SIZE) <= store.len());
+    store.read(start, &mut bytes)?;
+    Ok(bytes[at])
+}
+
+/// The second user's group is linked while the first one's isn't copied yet: its link stands, and the writer waits. Once the
+/// first one's is linked too, the writer takes both.
+#[test]
+fn second_links_first(rt: HostRuntime) -> Result<(), Fail> {
+    let (first, second, writer) = (0, 1, 2);
+    let turns = [
+        (first, 5, Moved),
+        (second, 9, Moved),
+        (writer, 1, Idle),
+        (first, 5, Moved),
+        (writer, 18, Moved),
+        (first, 11, Ended),
+        (second, 11, Ended),
+    ];
+    let closed = left_by(&rt, rt.alloc(), TWO_USERS, (None, None), &turns, 0)?;
+    let marks = Marks {
+        wtail: 8216,
+        write: 8216,
+        flushed: 8204,
+        ckpt: 8192,
+    };
+    assert_eq!(rt; (closed.marks, closed.code), (marks, 0));
+    let history = [(1, 0, 8204, 8210, Written), (2, 0, 8210, 8216, Written)];
+    assert_eq!(rt; closed.history.0.len(), history.len());
+    for (entry, told) in closed.history.0.iter().zip(&history) {
+        let found = (entry.user, entry.k, entry.start, entry.end, entry.state);
+        assert_eq!(rt; found, *told);
+    }
+    Ok(())
+}
+
+/// Two users on one page: the second waits until the first has released the latch. The cleaner writes both bytes.
+#[test]
+fn two_seats_write_one_page(rt: HostRuntime) -> Result<(), Fail> {
+    let (first, second, writer, flusher, cleaner) = (0, 1, 2, 3, 5);
+    let turns = [
+        (first, 4, Moved),
+        (second, 4, Idle),
+        (first, 15, Moved),
+        (second, 2, Idle),
+        (first, 1, Moved),
+        (second, 14, Moved),
+        (writer, 17, Moved),
+        (first, 1, Ended),
+        (second, 1, Ended),
+        (flusher, 5, Moved),
+        (cleaner, 528, Moved),
+    ];
+    let closed = left_by(&rt, rt.alloc(), ONE_PAGE, (None, None), &turns, 0)?;
+    assert_eq!(rt; closed.code, 0);
+    let mut store = closed.store.into_dev();
+    assert_eq!(rt; byte_in_place(&rt, &mut store, 3, 100)?, 7);
+    assert_eq!(rt; byte_in_place(&rt, &mut store, 3, 101)?, 8);
+    Ok(())
+}
+
+/// A device fails at each of its calls: the log device where the group is written and where it is synced, and the data device at
+/// each of the five of a batch of two pages. The user finds the failure before it looks at its mark again, so it is never
+/// answered. One call more, and nothing fails.
+#[test]
+fn a_device_fails_at_each_call(rt: HostRuntime) -> Result<(), Fail> {
+    for calls in 0..3 {
+        let limit = Some(LOG_CALLS + calls);
+        let closed = left_by(&rt, rt.alloc(), TWO_PAGES, (limit, None), &[], 5)?;
+        let wanted = if calls < 2 { (1, Lost) } else { (0, Flushed) };
+        see_one(&rt, &closed, wanted, calls);
+    }
+    for calls in 0..6 {
+        let limit = Some(DATA_CALLS + calls);
+        let closed = left_by(&rt, rt.alloc(), TWO_PAGES, (None, limit), &[], 5)?;
+        let wanted = if calls < 5 { (2, Lost) } else { (0, Flushed) };
+        see_one(&rt, &closed, wanted, calls);
+    }
+    Ok(())
+}
+
+/// Sees that a run left this code, and its one group in this state.
+fn see_one(
+    rt: &impl Abort,
+    closed: &Closed<Device, Device>,
+    wanted: (u32, model_history::State),
+    calls: u64,
+) {
+    assert_eq!(rt; closed.history.0.len(), 1);
+    for entry in closed.history.0.iter() {
+        assert_eq!(rt; (closed.code, entry.state), wanted, "behind {calls} calls");
+    }
+}

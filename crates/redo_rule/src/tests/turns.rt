@@ -1,0 +1,114 @@
+// Turns that are given by hand, and what a store leaves behind them.
+ghost use Rattle.std.specs.Prelude.{length, ◌<◌, ◌≡◌};
+ghost use Rattle.redo_rule.specs.Sharing.{AreSeatsOf, IsSeated, starts_of, table_of};
+
+use super::store::{Device, Playing, begin};
+use crate::{Ring, Seat, all_hold_nothing, play};
+use redo_disk::Sectors;
+use redo_machine::Actor;
+use redo_pageactors::Closed;
+use redo_words::Step;
+use std::alloc::Global;
+use std::process::Abort;
+use std::test::Fail;
+
+/// Turns of the actor at a seat: how many, and how the last of them ends. Each one before it moves the actor on.
+pub type Turns = (usize, u64, Step);
+
+/// Plays the next Op of the actor at a seat.
+fn turn<L: Sectors, D: Sectors>(
+    table: &Ring<L, D>,
+    seats: &mut Vec<Seat<L, D>>,
+    actors: &mut Vec<Actor>,
+    seat: usize,
+) -> Step
+    requires seats { AreSeatsOf table.now.table_id seats.old.items actors.old.items }
+    requires there { seat < length actors.old.items }
+    ensures seats { AreSeatsOf table.now.table_id seats.new.items actors.new.items }
+    ensures count { length actors.new.items ≡ length actors.old.items }
+{
+    play(table, &mut seats[seat], &mut actors[seat])
+}
+
+/// Gives the actor at a seat turns until one doesn't move it on, at most so many. Answers how many, and how the last ends.
+fn take_turns<L: Sectors, D: Sectors>(
+    table: &Ring<L, D>,
+    seats: &mut Vec<Seat<L, D>>,
+    actors: &mut Vec<Actor>,
+    seat: usize,
+    most: u64,
+) -> (u64, Step)
+    requires seats { AreSeatsOf table.now.table_id seats.old.items actors.old.items }
+    requires there { seat < length actors.old.items }
+    ensures seats { AreSeatsOf table.now.table_id seats.new.items actors.new.items }
+    ensures count { length actors.new.items ≡ length actors.old.items }
+{
+    for taken in 0..most {
+        let step = turn(table, seats, actors, seat);
+        if step != Step::Moved {
+            return (taken + 1, step);
+        }
+    }
+    (most, Step::Moved)
+}
+
+/// Gives each actor turns until it doesn't move, the first one last.
+fn play_round<L: Sectors, D: Sectors>(
+    table: &Ring<L, D>,
+    seats: &mut Vec<Seat<L, D>>,
+    actors: &mut Vec<Actor>,
+)
+    requires { AreSeatsOf table.now.table_id seats.old.items actors.old.items }
+    ensures seats { AreSeatsOf table.now.table_id seats.new.items actors.new.items }
+    ensures count { length actors.new.items ≡ length actors.old.items }
+{
+    let count = actors.len();
+    for seat in 1..count {
+        take_turns(table, seats, actors, seat, u64::MAX);
+    }
+    if 0 < count {
+        take_turns(table, seats, actors, 0, u64::MAX);
+    }
+}
+
+/// Gives these turns, and then so many rounds.
+fn play_all<L: Sectors, D: Sectors>(
+    rt: &impl Abort,
+    table: &Ring<L, D>,
+    seats: &mut Vec<Seat<L, D>>,
+    actors: &mut Vec<Actor>,
+    turns: &[Turns],
+    rounds: u64,
+)
+    requires { AreSeatsOf table.now.table_id seats.old.items actors.old.items }
+    ensures seats { AreSeatsOf table.now.table_id seats.new.items actors.new.items }
+    ensures count { length actors.new.items ≡ length actors.old.items }
+{
+    for (seat, count, last) in turns {
+        assert!(rt; *seat < actors.len());
+        let taken = take_turns(table, seats, actors, *seat, *count);
+        assert_eq!(rt; taken, (*count, *last), "the turns of seat {seat}");
+    }
+    for _ in 0..rounds {
+        play_round(table, seats, actors);
+    }
+}
+
+/// What the store of a script leaves behind these turns, on devices that pass so many calls.
+pub fn left_by(
+    rt: &impl Abort,
+    alloc: Global,
+    text: &[u8],
+    calls: (Option<u64>, Option<u64>),
+    turns: &[Turns],
+    rounds: u64,
+) -> Result<Closed<Device, Device>, Fail> {
+    let Playing {
+        shared,
+        mut seats,
+        mut actors,
+    } = begin(rt, alloc, text, calls.0, calls.1)?;
+    play_all(rt, shared.ring(), &mut seats, &mut actors, turns, rounds);
+    assert!(rt; all_hold_nothing(actors.as_slice()));
+    Ok(shared.finish(seats, actors.as_slice()))
+}
