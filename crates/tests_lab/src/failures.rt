@@ -101,14 +101,21 @@ fn status_failing(alloc: Global, device: &str, call: u64) -> Result<u8, Fail> {
     Ok(call_on(alloc, "run", LINE, new_devices(alloc, &name)?)?.status)
 }
 
+/// How many calls of this device fail a run with this status, each alone, before the first that the run doesn't make.
+fn failing_calls(alloc: Global, device: &str, status: u8) -> Result<u64, Fail> {
+    for call in 0..200u64 {
+        if status_failing(alloc, device, call)? != status {
+            return Ok(call);
+        }
+    }
+    Ok(200)
+}
+
 /// Each call of a run that fails alone is told, up to the last one that the run makes.
 #[test]
 fn tells_of_each_call_that_failed(rt: HostRuntime) -> Result<(), Fail> {
     for (device, status) in [("log", 6), ("data", 7)] {
-        let mut failed = 0u64;
-        while failed < 200 && status_failing(rt.alloc(), device, failed)? == status {
-            failed += 1;
-        }
+        let failed = failing_calls(rt.alloc(), device, status)?;
         // formatting and opening make more calls than these
         assert!(rt; failed > 3, "{device} {failed}");
         for later in [failed, failed.saturating_add(1)] {
