@@ -10,6 +10,9 @@ use redo_words::Step::{Ended, Idle, Moved};
 use std::process::Abort;
 use std::test::Fail;
 
+/// One line, whose group has six bytes and is answered once it is written.
+const ONE_LINE: &[u8] = b"1 w b1 3 100 7\n";
+
 /// A line of each of two users.
 const TWO_USERS: &[u8] = b"1 w b1 3 100 7\n2 w b1 4 100 8\n";
 
@@ -26,6 +29,23 @@ fn byte_in_place(rt: &impl Abort, store: &mut Device, page: u32, at: usize) -> R
     assert!(rt; at < bytes.len() && start + u64::from(PAGE_SIZE) <= store.len());
     store.read(start, &mut bytes)?;
     Ok(bytes[at])
+}
+
+/// The user reserves by its fifth call, and its group of six bytes is linked by the sixth from there on: the writer waits until
+/// then, and moves the tail behind it.
+#[test]
+fn a_link_comes_six_calls_from_the_reservation(rt: HostRuntime) -> Result<(), Fail> {
+    let (user, writer) = (0, 1);
+    let turns = [
+        (user, 4 + 5, Moved),
+        (writer, 1, Idle),
+        (user, 1, Moved),
+        (writer, 16, Idle),
+        (user, 11, Ended),
+    ];
+    let closed = left_by(&rt, rt.alloc(), ONE_LINE, (None, None), &turns, 0)?;
+    assert_eq!(rt; (closed.marks.wtail, closed.code), (8210, 0));
+    Ok(())
 }
 
 /// The second user's group is linked while the first one's isn't copied yet: its link stands, and the writer waits. Once the
