@@ -1,9 +1,9 @@
 -- The devices behind the fuses are those that were handed in.
-use Rattle.std.proofs.Common.{◌≡◌, List, Result, Ok, Err, refl, ap, ◌∙◌, ⊎_elim}
+use Rattle.std.proofs.Common.{◌≡◌, Bool, List, Result, Ok, Err, refl, ap, ◌∙◌, ⊎_elim}
 use Rattle.model_script.specs.declared.script.ScriptLine.{ScriptLine}
 use Rattle.redo_disk.specs.{Call, MakesCalls}
 use Rattle.redo_disk.specs.Seen.{Seen}
-use Rattle.redo_machine.specs.declared.drive.Turns.{Turns}
+use Rattle.redo_drive.specs.declared.drive.Driven.{Driven}
 use Rattle.redo_memdisk.specs.{CallsThrough, entry_of}
 use Rattle.redo_memdisk.specs.declared.fused.Fused.{Fused}
 use Rattle.redo_memdisk.proofs.Behind.{keeps-behind}
@@ -49,16 +49,16 @@ format-entries log_seen log_gives data_seen data_gives log_old log_new data_old 
 format-entries log_seen log_gives data_seen data_gives log_old log_new data_old data_new (Err f) same = both-same same.0 same.1
 
 -- the lines of a script
-pub unplayed-entries : {L D : Type 0} {opened : Opened (Fused L) (Fused D)} {turns : Turns} {script : List ScriptLine} {c : Course} {log_now : Fused L} {data_now : Fused D}
-    → AreLeftOpened opened turns script c log_now data_now → AreOf (entry_of opened.log.dev) (entry_of opened.store.dev) log_now data_now
+pub unplayed-entries : {L D : Type 0} {opened : Opened (Fused L) (Fused D)} {log_only : Bool} {script : List ScriptLine} {c : Course} {log_now : Fused L} {data_now : Fused D}
+    → AreLeftOpened opened log_only script c log_now data_now → AreOf (entry_of opened.log.dev) (entry_of opened.store.dev) log_now data_now
 unplayed-entries left = both-same left.log_same left.data_same
 
 pub driven-entries : {L D : Type 0} {see_log : Fused L → Seen} {see_data : Fused D → Seen} {log_seen : L → Seen} {log_gives : L → Call → L → Type 0}
-    {data_seen : D → Seen} {data_gives : D → Call → D → Type 0}
-    {opened : Opened (Fused L) (Fused D)} {turns : Turns} {script : List ScriptLine} {c : Course} {log_now : Fused L} {data_now : Fused D}
-    → AreDriven see_log (CallsThrough log_seen log_gives) see_data (CallsThrough data_seen data_gives) opened turns script c log_now data_now
+    {data_seen : D → Seen} {data_gives : D → Call → D → Type 0} {tells : Opened (Fused L) (Fused D) → List ScriptLine → Driven (Fused L) (Fused D) → Type 0}
+    {opened : Opened (Fused L) (Fused D)} {log_only : Bool} {script : List ScriptLine} {c : Course} {log_now : Fused L} {data_now : Fused D}
+    → AreDriven see_log (CallsThrough log_seen log_gives) see_data (CallsThrough data_seen data_gives) tells opened log_only script c log_now data_now
     → AreOf (entry_of opened.log.dev) (entry_of opened.store.dev) log_now data_now
 driven-entries are = record {
-  log_device = same-entry are.log_is ∙ calls-entry (are.comes_to.log_calls.live refl);
-  data_device = same-entry are.data_is ∙ calls-entry (are.comes_to.data_calls.live refl);
+  log_device = same-entry are.log_is ∙ calls-entry (are.owed.comes_to.log_calls.live refl);
+  data_device = same-entry are.data_is ∙ calls-entry (are.owed.comes_to.data_calls.live refl);
 }

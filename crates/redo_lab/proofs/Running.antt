@@ -24,8 +24,9 @@ use Rattle.redo_lab.proofs.Leaving.{leaves-found, leaves-read, leaves-unprepared
 use Rattle.redo_lab.proofs.RunPlayed.{ClosedLaws, FormattedLaw, armed-same, stopped-on, was-found}
 use Rattle.redo_lab.proofs.RunPossible.{OneReading, UnfitLaw, can-play, ended-kept}
 use Rattle.redo_lab.proofs.Told.{OneAnswer}
-use Rattle.redo_lab.specs.Asked.{drive_of, drive_of_seed, leaves_devices, reads_script, runs_script, turns_of}
-use Rattle.redo_lab.specs.Call.{AreUnfailedFor, Call, Each, Guarded, IsUnfailed, IsUnfailedAside, RunEnd}
+use Rattle.redo_lab.specs.Asked.{drive_of, drive_of_seed, leaves_devices, reads_script, runs_script}
+use Rattle.redo_drive.specs.declared.drive.RunEnd.{RunEnd}
+use Rattle.redo_lab.specs.Call.{AreUnfailedFor, Call, Each, Guarded, IsUnfailed, IsUnfailedAside}
 use Rattle.redo_lab.specs.Cause.{IsCauseOf, IsDeviceFault, IsPastSource, IsRefused, IsRefusedAtEntry, IsUnbegun}
 use Rattle.redo_lab.specs.Complete.{CanPlay, IsPossible}
 use Rattle.redo_lab.specs.Course.{AreRefusedOpened, AreStopped, AreUnderWay, CameSoFar, Driving, HoldsRun, IsEndedBy, IsStoppedBy}
@@ -192,7 +193,7 @@ module _ (call : Call) (command : Command) (drive : Drive) (stops : Stops) (scri
       (run-reads call stops drive.log_only script run log_failed data_failed laws.one laws.formatted laws.closed.reads has holds)
 
   abbrev Ends : Fault → Type 0
-  Ends f = IsEndedBy (driving call drive script) call.log.entry call.store.entry stops (turns_of drive) script f (now_of call.log) (now_of call.store)
+  Ends f = IsEndedBy (driving call drive script) call.log.entry call.store.entry stops drive.log_only script f (now_of call.log) (now_of call.store)
 
   -- IT ENDED before its first line, or its turns were spent.
   ended-tells : (f : Fault) → Ends f → AreTelling call
@@ -203,7 +204,7 @@ module _ (call : Call) (command : Command) (drive : Drive) (stops : Stops) (scri
   ended-tells (fault.Store cause) ended =
       ⊎_elim (λ short. tells-unprepared call 0 0 short.ends) (λ refused. tells-way call stops 0 0 refused.way) ended
   ended-tells (fault.Fit misfit) ended = tells-way call stops 0 0 ended.way
-  ended-tells (fault.Turns count user) ended = tells-way call stops ended.log_failed ended.data_failed ended.so_far.way
+  ended-tells (fault.Turns turns user) ended = tells-way call stops ended.log_failed ended.data_failed ended.so_far.way
   ended-tells f ended = absurd ended
 
   ended-leaves : (f : Fault) → Ends f → LeavesStore call
@@ -219,7 +220,7 @@ module _ (call : Call) (command : Command) (drive : Drive) (stops : Stops) (scri
       (λ refused. leaves-found call stops 0 0 laws.one laws.formatted refused.way refused.keeps)
       ended
   ended-leaves (fault.Fit misfit) ended = leaves-found call stops 0 0 laws.one laws.formatted ended.way ended.keeps
-  ended-leaves (fault.Turns count user) ended = leaves-held ended.run ended.log_failed ended.data_failed ended.so_far ended.holds
+  ended-leaves (fault.Turns turns user) ended = leaves-held ended.run ended.log_failed ended.data_failed ended.so_far ended.holds
   ended-leaves f ended = absurd ended
 
   ended-cause : (f : Fault) → Ends f → IsCauseOf call command f
@@ -250,10 +251,9 @@ module _ (call : Call) (command : Command) (drive : Drive) (stops : Stops) (scri
       first = ended.first;
     },
   )
-  ended-cause (fault.Turns count user) ended = record {
+  ended-cause (fault.Turns turns user) ended = record {
     drive = drive;
     asked = running.asked;
-    turns_are = ended.count_is;
     opened = ended.so_far.opened;
     script = script;
     run = ended.run;
@@ -263,11 +263,11 @@ module _ (call : Call) (command : Command) (drive : Drive) (stops : Stops) (scri
   ended-cause f ended = absurd ended
 
   pub ended-early : (f : Fault)
-      → IsEndedBy (driving call drive script) call.log.entry call.store.entry stops (turns_of drive) script f (now_of call.log) (now_of call.store)
+      → IsEndedBy (driving call drive script) call.log.entry call.store.entry stops drive.log_only script f (now_of call.log) (now_of call.store)
       → EndsWith call command (outcome.Fault f)
   ended-early f ended = ends-with (outcome.Fault f) (ended-tells f ended) (ended-leaves f ended) (ended-cause f ended)
       (λ can unfailed. let aside = running.aside unfailed in
-      ended-kept (driving call drive script) call command stops (turns_of drive) script f running.runs laws.one laws.same laws.unfit can aside.0.0 aside.1.0 ended)
+      ended-kept (driving call drive script) call command stops drive.log_only script f running.runs laws.one laws.same laws.unfit can aside.0.0 aside.1.0 ended)
 
 -- A command that isn't `crash` ends with the fault of a device that failed since its fuse was armed.
 pub record IsUncrashing (call : Call) (command : Command) : Type 0 where

@@ -2,12 +2,15 @@
 ghost use Rattle.std.specs.Prelude.{ℕ, List, ◌≡◌, ◌+◌, true};
 ghost use Rattle.model_base.specs.declared.limits.TheConstants.{MAX_SCRIPT};
 ghost use Rattle.model_command.specs.declared.asked.Command.TheVariants.{Crash, Run};
+ghost use Rattle.model_command.specs.declared.asked.Drive.{Drive as Asked};
 ghost use Rattle.redo_io.specs.{TakesAtMost};
 ghost use Rattle.redo_io.specs.declared.read.TheConstants.{PIECE};
-ghost use Rattle.redo_lab.specs.Asked.{IsWithin, is_by_turns, is_served};
+ghost use Rattle.redo_lab.specs.Asked.{IsWithin, is_served};
 ghost use Rattle.redo_lab.specs.Handed.{AreOf};
 ghost use Rattle.redo_lab.specs.Outcome.{EndsWith, call_of};
+ghost use Rattle.redo_lab.specs.Playing.{Serves};
 
+use crate::asked::turns_of;
 use crate::crash_command::crash_command;
 use crate::gen_command::gen_command;
 use crate::outcome::{Done, unasked};
@@ -15,24 +18,26 @@ use crate::playing::Stops;
 use crate::run_command::run_command;
 use crate::script::read_script;
 use crate::simple::{format_devices, print_pages, print_store};
-use model_command::{Command, Drive};
+use model_command::Command;
 use model_opening::openable_reads;
 use model_script::read_lines_are_ranged;
 use redo_disk::Sectors;
+use redo_drive::Drive;
 use redo_io::Source;
+use redo_memdisk::Fused;
 use std::alloc::Global;
 
 /// The command `run`, on the script of the source.
-fn run_source<S: Source, L: Sectors, D: Sectors>(
+fn run_source<S: Source, L: Sectors, D: Sectors, V: Drive<Fused<L>, Fused<D>>>(
     alloc: Global,
     src: &mut S,
-    drive: &Drive,
+    drive: &V,
     log: L,
     store: D,
 ) -> Done<L, D>
-    requires { is_by_turns drive.now ≡ true }
-    ensures ends { (words : List (List ℕ))
-        → EndsWith (call_of L.seen L.gives D.seen D.gives words (S.seen src.old) (S.seen src.new) log store result) (Run drive.now) result.outcome }
+    ensures ends { (asked : Asked) (words : List (List ℕ))
+        → Serves L.seen L.gives D.seen D.gives (V.alone drive.now) (V.says drive.now) asked
+        → EndsWith (call_of L.seen L.gives D.seen D.gives words (S.seen src.old) (S.seen src.new) log store result) (Run asked) result.outcome }
     ensures entered { AreOf log store result.log result.store }
     ensures taken { TakesAtMost (MAX_SCRIPT + PIECE) (S.seen src.old).left (S.seen src.new).left }
 {
@@ -45,19 +50,19 @@ fn run_source<S: Source, L: Sectors, D: Sectors>(
 }
 
 /// The command `crash`, on the script of the source.
-fn crash_source<S: Source, L: Sectors, D: Sectors>(
+fn crash_source<S: Source, L: Sectors, D: Sectors, V: Drive<Fused<L>, Fused<D>>>(
     alloc: Global,
     src: &mut S,
-    drive: &Drive,
+    drive: &V,
     stops: Stops,
     pick: u64,
     log: L,
     store: D,
 ) -> Done<L, D>
-    requires { is_by_turns drive.now ≡ true }
-    ensures ends { (words : List (List ℕ))
+    ensures ends { (asked : Asked) (words : List (List ℕ))
+        → Serves L.seen L.gives D.seen D.gives (V.alone drive.now) (V.says drive.now) asked
         → EndsWith (call_of L.seen L.gives D.seen D.gives words (S.seen src.old) (S.seen src.new) log store result)
-        (Crash drive.now stops.log stops.store pick) result.outcome }
+        (Crash asked stops.log stops.store pick) result.outcome }
     ensures entered { AreOf log store result.log result.store }
     ensures taken { TakesAtMost (MAX_SCRIPT + PIECE) (S.seen src.old).left (S.seen src.new).left }
 {
@@ -90,7 +95,7 @@ pub(crate) fn done<S: Source, L: Sectors, D: Sectors>(
             space,
             log_blocks,
         } => format_devices(alloc, pages, space, log_blocks, log, store),
-        Command::Run { drive } => run_source(alloc, src, &drive, log, store),
+        Command::Run { drive } => run_source(alloc, src, &turns_of(&drive), log, store),
         Command::Crash {
             drive,
             stop_log,
@@ -101,7 +106,7 @@ pub(crate) fn done<S: Source, L: Sectors, D: Sectors>(
                 log: stop_log,
                 store: stop_data,
             };
-            crash_source(alloc, src, &drive, stops, pick, log, store)
+            crash_source(alloc, src, &turns_of(&drive), stops, pick, log, store)
         }
         Command::Recover => print_pages(alloc, log, store),
         Command::Dump => print_store(alloc, log, store),

@@ -1,31 +1,31 @@
 // The command `crash`.
-ghost use Rattle.std.specs.Prelude.{ℕ, ◌≡◌, ◌≤◌, true, List, Some, IfOk, length};
+ghost use Rattle.std.specs.Prelude.{ℕ, ◌≤◌, List, Some, IfOk, length};
 ghost use Rattle.std.specs.List.{AllByRecursion};
 ghost use Rattle.model_base.specs.declared.limits.TheConstants.{MAX_PAGES};
 ghost use Rattle.model_command.specs.declared.asked.Command.TheVariants.{Crash};
+ghost use Rattle.model_command.specs.declared.asked.Drive.{Drive as Asked};
 ghost use Rattle.model_script.specs.{IsScriptLine};
 ghost use Rattle.redo_io.specs.{SourceSeen};
 ghost use Rattle.redo_memdisk.specs.{entry_of};
-ghost use Rattle.redo_lab.specs.Asked.{is_by_turns};
 ghost use Rattle.redo_lab.specs.Crashed.{ReadsBack};
 ghost use Rattle.redo_lab.specs.Handed.{AreOf};
 ghost use Rattle.redo_lab.specs.Outcome.{EndsWith, call_of};
+ghost use Rattle.redo_lab.specs.Playing.{Serves};
 ghost use Rattle.redo_lab.specs.Reported.{IsReportOf, run_of};
 ghost use Rattle.redo_lab.specs.Stages.{shown};
 ghost use Rattle.redo_lab.specs.Script.{IsScriptRead};
 
-use crate::asked::turns_of;
 use crate::faults::fault_of;
 use crate::outcome::{Done, Outcome};
 use crate::playing::{Course, Played, Ran, Stops, run_lines};
 use crate::reading::contents;
 use crate::reporting::report_of;
-use model_command::Drive;
 use model_opening::{formatted_is_openable, openable_reads};
 use model_run::{closed_run_is_safe, crash_of_safe_run, held_run_is_opened, held_run_reads};
 use model_script::{Script, unfit_is_misfit};
 use model_store::{one_answer, one_reading};
 use redo_disk::Sectors;
+use redo_drive::Drive;
 use redo_io::Text;
 use redo_lsn::NoMemory;
 use redo_memdisk::Fused;
@@ -72,21 +72,21 @@ fn crash_and_read<L: Sectors, D: Sectors>(
     }
 }
 
-/// Runs the script as the drive asks with these stops, crashes both devices with this pick, reads the store, and reports it
+/// Runs the script by this drive with these stops, crashes both devices with this pick, reads the store, and reports it
 /// all. A device that fails from the arming of its fuse to the crash ends the run and not the command.
-pub(crate) fn crash_command<L: Sectors, D: Sectors>(
+pub(crate) fn crash_command<L: Sectors, D: Sectors, V: Drive<Fused<L>, Fused<D>>>(
     alloc: Global,
     script: &Script,
-    drive: &Drive,
+    drive: &V,
     stops: Stops,
     pick: u64,
     log: L,
     store: D,
 ) -> Done<L, D>
-    requires lines { AllByRecursion IsScriptLine script.now }
-    requires by_turns { is_by_turns drive.now ≡ true }
-    ensures ends { (words : List (List ℕ)) (source source_now : SourceSeen) → IsScriptRead source source_now script.now
-        → EndsWith (call_of L.seen L.gives D.seen D.gives words source source_now log store result) (Crash drive.now stops.log stops.store pick) result.outcome }
+    requires { AllByRecursion IsScriptLine script.now }
+    ensures ends { (asked : Asked) (words : List (List ℕ)) (source source_now : SourceSeen)
+        → Serves L.seen L.gives D.seen D.gives (V.alone drive.now) (V.says drive.now) asked → IsScriptRead source source_now script.now
+        → EndsWith (call_of L.seen L.gives D.seen D.gives words source source_now log store result) (Crash asked stops.log stops.store pick) result.outcome }
     ensures entered { AreOf log store result.log result.store }
 {
     one_answer();
@@ -102,7 +102,7 @@ pub(crate) fn crash_command<L: Sectors, D: Sectors>(
         course,
         mut log,
         mut store,
-    } = run_lines(alloc, script, &turns_of(drive), stops, log, store);
+    } = run_lines(alloc, script, drive, stops, log, store);
     let outcome = match course {
         Course::Ended(fault) => Outcome::Fault(fault),
         Course::Stopped(_) => crash_and_read(alloc, script, pick, None, &mut log, &mut store),

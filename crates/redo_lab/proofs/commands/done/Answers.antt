@@ -1,3 +1,4 @@
+use Rattle.redo_lab.proofs.ByDrive.{turns-serve}
 use Rattle.redo_lab.proofs.Called.{all-left}
 use Rattle.redo_lab.proofs.commands.done.Goals as goal
 
@@ -5,10 +6,12 @@ pub returns-in-Format-clause-ends : goal.returns-in-Format-clause-ends
 returns-in-Format-clause-ends g c = λ words. rw c.in-Format.is (c.format_devices.ensures.ends words _)
 
 pub returns-in-Run-clause-ends : goal.returns-in-Run-clause-ends
-returns-in-Run-clause-ends g c = λ words. rw c.in-Run.is (c.run_source.ensures.ends words)
+returns-in-Run-clause-ends g c = λ words. rw c.in-Run.is
+    (c.run_source.ensures.ends c.in-Run.drive words (turns-serve c.in-Run.drive _ c.turns_of.ensures (rw c.in-Run.is at c.requires.served)))
 
 pub returns-in-Crash-clause-ends : goal.returns-in-Crash-clause-ends
-returns-in-Crash-clause-ends g c = λ words. rw c.in-Crash.is (c.crash_source.ensures.ends words)
+returns-in-Crash-clause-ends g c = λ words. rw c.in-Crash.is
+    (c.crash_source.ensures.ends c.in-Crash.drive words (turns-serve c.in-Crash.drive _ c.turns_of-2.ensures (rw c.in-Crash.is at c.requires.served)))
 
 pub returns-in-Recover-clause-ends : goal.returns-in-Recover-clause-ends
 returns-in-Recover-clause-ends g c = λ words. rw c.in-Recover.is (c.print_pages.ensures.ends words _)
