@@ -59,10 +59,10 @@ fn crash_source<S: Source, L: Sectors, D: Sectors, V: Drive<Fused<L>, Fused<D>>>
     log: L,
     store: D,
 ) -> Done<L, D>
-    ensures ends { (asked : Asked) (words : List (List ℕ))
+    ensures ends { (asked : Asked) (words : List (List ℕ)) (workers : ℕ)
         → Serves L.seen L.gives D.seen D.gives (V.alone drive.now) (V.says drive.now) asked
         → EndsWith (call_of L.seen L.gives D.seen D.gives words (S.seen src.old) (S.seen src.new) log store result)
-        (Crash asked stops.log stops.store pick) result.outcome }
+        (Crash asked stops.log stops.store pick workers) result.outcome }
     ensures entered { AreOf log store result.log result.store }
     ensures taken { TakesAtMost (MAX_SCRIPT + PIECE) (S.seen src.old).left (S.seen src.new).left }
 {
@@ -101,6 +101,7 @@ pub(crate) fn done<S: Source, L: Sectors, D: Sectors>(
             stop_log,
             stop_data,
             pick,
+            ..
         } => {
             let stops = Stops {
                 log: stop_log,
@@ -108,8 +109,8 @@ pub(crate) fn done<S: Source, L: Sectors, D: Sectors>(
             };
             crash_source(alloc, src, &turns_of(&drive), stops, pick, log, store)
         }
-        Command::Recover => print_pages(alloc, log, store),
-        Command::Dump => print_store(alloc, log, store),
+        Command::Recover { .. } => print_pages(alloc, log, store),
+        Command::Dump { .. } => print_store(alloc, log, store),
         Command::Gen {
             seed,
             users,

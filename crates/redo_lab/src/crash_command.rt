@@ -84,9 +84,9 @@ pub(crate) fn crash_command<L: Sectors, D: Sectors, V: Drive<Fused<L>, Fused<D>>
     store: D,
 ) -> Done<L, D>
     requires { AllByRecursion IsScriptLine script.now }
-    ensures ends { (asked : Asked) (words : List (List ℕ)) (source source_now : SourceSeen)
+    ensures ends { (asked : Asked) (words : List (List ℕ)) (source source_now : SourceSeen) (workers : ℕ)
         → Serves L.seen L.gives D.seen D.gives (V.alone drive.now) (V.says drive.now) asked → IsScriptRead source source_now script.now
-        → EndsWith (call_of L.seen L.gives D.seen D.gives words source source_now log store result) (Crash asked stops.log stops.store pick) result.outcome }
+        → EndsWith (call_of L.seen L.gives D.seen D.gives words source source_now log store result) (Crash asked stops.log stops.store pick workers) result.outcome }
     ensures entered { AreOf log store result.log result.store }
 {
     one_answer();
