@@ -21,7 +21,7 @@ in-turns false is = refl
 pub turns-serve : {L D : Type 0} {log_seen : L → Seen} {log_gives : L → Call → L → Type 0} {data_seen : D → Seen} {data_gives : D → Call → D → Type 0}
     (asked : Drive) (turns : Turns) → turns ≡ turns_of asked → is_by_turns asked ≡ true
     → Serves log_seen log_gives data_seen data_gives turns.log_only
-    (λ opened script driven. RunsByTurns (seen_through log_seen) (CallsThrough log_seen log_gives) (seen_through data_seen) (CallsThrough data_seen data_gives) opened script turns driven)
+    (λ L D log_seen log_gives data_seen data_gives opened script driven. RunsByTurns log_seen log_gives data_seen data_gives opened script turns driven)
     asked
 turns-serve {log_seen = log_seen} {log_gives = log_gives} {data_seen = data_seen} {data_gives = data_gives} asked turns same is = record {
   log_only_is = ap (λ (turns : Turns). turns.log_only) same;

@@ -24,11 +24,10 @@ use model_script::read_lines_are_ranged;
 use redo_disk::Sectors;
 use redo_drive::Drive;
 use redo_io::Source;
-use redo_memdisk::Fused;
 use std::alloc::Global;
 
 /// The command `run`, on the script of the source.
-fn run_source<S: Source, L: Sectors, D: Sectors, V: Drive<Fused<L>, Fused<D>>>(
+fn run_source<S: Source, L: Sectors + Send, D: Sectors + Send, V: Drive>(
     alloc: Global,
     src: &mut S,
     drive: &V,
@@ -50,7 +49,7 @@ fn run_source<S: Source, L: Sectors, D: Sectors, V: Drive<Fused<L>, Fused<D>>>(
 }
 
 /// The command `crash`, on the script of the source.
-fn crash_source<S: Source, L: Sectors, D: Sectors, V: Drive<Fused<L>, Fused<D>>>(
+fn crash_source<S: Source, L: Sectors + Send, D: Sectors + Send, V: Drive>(
     alloc: Global,
     src: &mut S,
     drive: &V,
@@ -75,7 +74,7 @@ fn crash_source<S: Source, L: Sectors, D: Sectors, V: Drive<Fused<L>, Fused<D>>>
 }
 
 /// A command, done on two devices.
-pub(crate) fn done<S: Source, L: Sectors, D: Sectors>(
+pub(crate) fn done<S: Source, L: Sectors + Send, D: Sectors + Send>(
     alloc: Global,
     command: Command,
     src: &mut S,

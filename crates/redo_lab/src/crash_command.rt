@@ -74,7 +74,7 @@ fn crash_and_read<L: Sectors, D: Sectors>(
 
 /// Runs the script by this drive with these stops, crashes both devices with this pick, reads the store, and reports it
 /// all. A device that fails from the arming of its fuse to the crash ends the run and not the command.
-pub(crate) fn crash_command<L: Sectors, D: Sectors, V: Drive<Fused<L>, Fused<D>>>(
+pub(crate) fn crash_command<L: Sectors + Send, D: Sectors + Send, V: Drive>(
     alloc: Global,
     script: &Script,
     drive: &V,
@@ -83,7 +83,7 @@ pub(crate) fn crash_command<L: Sectors, D: Sectors, V: Drive<Fused<L>, Fused<D>>
     log: L,
     store: D,
 ) -> Done<L, D>
-    requires { AllByRecursion IsScriptLine script.now }
+    requires lines { AllByRecursion IsScriptLine script.now }
     ensures ends { (asked : Asked) (words : List (List ℕ)) (source source_now : SourceSeen) (workers : ℕ)
         → Serves L.seen L.gives D.seen D.gives (V.alone drive.now) (V.says drive.now) asked → IsScriptRead source source_now script.now
         → EndsWith (call_of L.seen L.gives D.seen D.gives words source source_now log store result) (Crash asked stops.log stops.store pick workers) result.outcome }

@@ -102,7 +102,7 @@ fn turns_of_seed(seed: u64, max: u64) -> Turns
 }
 
 /// Runs the script of the seed by the turns of the same seed, and sums the run up; of a fault there is its line alone.
-fn run_script<L: Sectors, D: Sectors>(
+fn run_script<L: Sectors + Send, D: Sectors + Send>(
     alloc: Global,
     script: &Script,
     seed: u64,
@@ -148,7 +148,7 @@ fn run_script<L: Sectors, D: Sectors>(
 }
 
 /// Generates the script of the seed, and runs it.
-fn run_seed<L: Sectors, D: Sectors>(
+fn run_seed<L: Sectors + Send, D: Sectors + Send>(
     alloc: Global,
     seed: u64,
     users: u32,
@@ -172,7 +172,7 @@ fn run_seed<L: Sectors, D: Sectors>(
 }
 
 /// Generates the script of the seed, and prints or runs it. It reads no source.
-pub(crate) fn gen_command<L: Sectors, D: Sectors>(
+pub(crate) fn gen_command<L: Sectors + Send, D: Sectors + Send>(
     alloc: Global,
     seed: u64,
     users: u32,

@@ -16,7 +16,7 @@ use std::alloc::Global;
 
 /// Does what the words ask for on the two devices, with the script of the source where the command takes one, and prints
 /// what came of it.
-pub fn lab<S: Source, O: Sink, L: Sectors, D: Sectors>(
+pub fn lab<S: Source, O: Sink, L: Sectors + Send, D: Sectors + Send>(
     alloc: Global,
     words: &[String],
     src: &mut S,

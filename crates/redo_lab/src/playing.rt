@@ -141,7 +141,7 @@ fn close<L: Sectors, D: Sectors>(start: u64, driven: Driven<Fused<L>, Fused<D>>)
 }
 
 /// Runs the lines of a script on an opened store by this drive, if it fits that.
-fn play<L: Sectors, D: Sectors, V: Drive<Fused<L>, Fused<D>>>(
+fn play<L: Sectors + Send, D: Sectors + Send, V: Drive>(
     alloc: Global,
     script: &Script,
     drive: &V,
@@ -187,7 +187,7 @@ fn unopened(fault: RecFault) -> Course
 }
 
 /// Opens the store on both devices, whose fuses are armed, and runs the script by this drive.
-fn open_and_play<L: Sectors, D: Sectors, V: Drive<Fused<L>, Fused<D>>>(
+fn open_and_play<L: Sectors + Send, D: Sectors + Send, V: Drive>(
     alloc: Global,
     script: &Script,
     drive: &V,
@@ -215,7 +215,7 @@ fn open_and_play<L: Sectors, D: Sectors, V: Drive<Fused<L>, Fused<D>>>(
 }
 
 /// Prepares both devices, arms their fuses, opens the store and runs the script by this drive.
-pub(crate) fn run_lines<L: Sectors, D: Sectors, V: Drive<Fused<L>, Fused<D>>>(
+pub(crate) fn run_lines<L: Sectors + Send, D: Sectors + Send, V: Drive>(
     alloc: Global,
     script: &Script,
     drive: &V,

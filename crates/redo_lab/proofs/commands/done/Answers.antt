@@ -11,7 +11,7 @@ returns-in-Run-clause-ends g c = λ words. rw c.in-Run.is
 
 pub returns-in-Crash-clause-ends : goal.returns-in-Crash-clause-ends
 returns-in-Crash-clause-ends g c = λ words. rw c.in-Crash.is
-    (c.crash_source.ensures.ends c.in-Crash.drive words _ (turns-serve c.in-Crash.drive _ c.turns_of-2.ensures (rw c.in-Crash.is at c.requires.served)))
+    (c.crash_source.ensures.ends c.in-Crash.drive words _ (turns-serve c.in-Crash.drive _ c.turns_of-in-Crash.ensures (rw c.in-Crash.is at c.requires.served)))
 
 pub returns-in-Recover-clause-ends : goal.returns-in-Recover-clause-ends
 returns-in-Recover-clause-ends g c = λ words. rw c.in-Recover.is (c.print_pages.ensures.ends words _ _)

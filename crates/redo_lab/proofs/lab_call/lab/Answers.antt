@@ -5,10 +5,10 @@ use Rattle.redo_lab.proofs.lab_call.lab.Goals as goal
 use Rattle.redo_lab.proofs.lab_call.lab.Goals.{in-Ok, in-Err}
 
 pub done-requires-clause-within : goal.done-requires-clause-within
-done-requires-clause-within g c = command-of-within _ c.in-Ok.command c.in-Ok.ensures.asked
+done-requires-clause-within g c = λ κs live. command-of-within _ c.in-Ok.command c.in-Ok.ensures.asked
 
 pub done-requires-clause-served : goal.done-requires-clause-served
-done-requires-clause-served g c = command-of-served _ c.in-Ok.command c.in-Ok.ensures.asked
+done-requires-clause-served g c = λ κs live. command-of-served _ c.in-Ok.command c.in-Ok.ensures.asked
 
 pub returns-clause-call : goal.returns-clause-call
 returns-clause-call g c =
