@@ -10,23 +10,24 @@ use Rattle.model_script.specs.declared.script.ScriptLine.{ScriptLine}
 use Rattle.redo_disk.specs.{Call}
 use Rattle.redo_disk.specs.Seen.{Seen}
 use Rattle.redo_logdev.specs.Part as log
-use Rattle.redo_logside.proofs.ShapeStays.{run_shape}
-use Rattle.redo_logside.specs.LogPartSide as log_part
-use Rattle.redo_machine.proofs.LeftRun as left_run
-use Rattle.redo_machine.specs.Beginning.{MayBegin}
-use Rattle.redo_machine.specs.Calls.{CallOnBoth, CallsOn}
-use Rattle.redo_machine.specs.Drive.{ComesToRun, HasMetError, HoldsRun, IsOwed, IsOwedSynced, RunsByTurns}
-use Rattle.redo_machine.specs.Leaving.{LeavesRun}
-use Rattle.redo_machine.specs.Playing.{RunOf, data_of, log_of}
-use Rattle.redo_machine.specs.Running.{core_of}
+use Rattle.redo_drive.proofs.ShapeStays.{run_shape}
+use Rattle.redo_drive.specs.LogPartSide as log_part
+use Rattle.redo_drive.proofs.LeftRun as left_run
+use Rattle.redo_drive.specs.Beginning.{MayBegin}
+use Rattle.redo_drive.specs.Calls.{CallOnBoth, CallsOn}
+use Rattle.redo_drive.specs.Drive.{ComesToRun, HasMetError, HoldsRun, IsOwed, IsOwedSynced}
+use Rattle.redo_machine.specs.ByTurns.{RunsByTurns}
+use Rattle.redo_drive.specs.Leaving.{LeavesRun}
+use Rattle.redo_drive.specs.Playing.{RunOf, data_of, log_of}
+use Rattle.redo_drive.specs.Turning.{core_of}
 use Rattle.redo_machine.specs.Turns.{EndsAs}
-use Rattle.redo_machine.specs.Views.{views_of}
-use Rattle.redo_machine.specs.declared.actor.Actor.{Actor}
-use Rattle.redo_machine.specs.declared.drive.Driven.{Driven}
+use Rattle.redo_drive.specs.Views.{views_of}
+use Rattle.redo_drive.specs.declared.actor.Actor.{Actor}
+use Rattle.redo_drive.specs.declared.drive.Driven.{Driven}
 use Rattle.redo_machine.specs.declared.drive.Turns.{Turns}
-use Rattle.redo_machine.specs.declared.parts.Parts.{Parts}
-use Rattle.redo_machine.specs.declared.running.Ran.{Ran}
-use Rattle.redo_machine.specs.declared.running.Ran.TheVariants as ended
+use Rattle.redo_drive.specs.declared.parts.Parts.{Parts}
+use Rattle.redo_drive.specs.declared.drive.RunEnd.{RunEnd}
+use Rattle.redo_drive.specs.declared.drive.RunEnd.TheVariants as ended
 use Rattle.redo_pageactors.specs.declared.opened.Opened.{Opened}
 use Rattle.redo_store.specs.Part as store
 

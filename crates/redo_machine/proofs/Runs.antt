@@ -14,17 +14,18 @@ use Rattle.model_script.specs.{draw, first_state, next_state, state_after}
 use Rattle.redo_disk.specs.{Call}
 use Rattle.redo_disk.specs.Seen.{Seen}
 use Rattle.redo_machine.proofs.UserSeats.{first_is_least}
-use Rattle.redo_machine.proofs.Viewed.{length_views, so_at}
-use Rattle.redo_machine.specs.Asking.{AskOfBoth}
-use Rattle.redo_machine.specs.Calls.{CallOnBoth}
+use Rattle.redo_drive.proofs.Viewed.{length_views, so_at}
+use Rattle.redo_drive.specs.Asking.{AskOfBoth}
+use Rattle.redo_drive.specs.Calls.{CallOnBoth}
 use Rattle.redo_machine.specs.OpenUsers.{IsFirstOpen}
-use Rattle.redo_machine.specs.Playing.{RunOf, data_of, log_of}
-use Rattle.redo_machine.specs.Running.{IsOnRun, RunsOn, TakesTurn, core_of}
+use Rattle.redo_drive.specs.Playing.{RunOf, data_of, log_of}
+use Rattle.redo_drive.specs.Running.{IsOnRun, RunsOn}
+use Rattle.redo_drive.specs.Turning.{TakesTurn, core_of}
 use Rattle.redo_machine.specs.Turns.{AskInTurns, EndsAsking, IsDrawn}
-use Rattle.redo_machine.specs.Views.{view_of, views_of}
-use Rattle.redo_machine.specs.declared.actor.Actor.{Actor}
+use Rattle.redo_drive.specs.Views.{view_of, views_of}
+use Rattle.redo_drive.specs.declared.actor.Actor.{Actor}
 use Rattle.redo_machine.specs.declared.machine.Machine.{Machine}
-use Rattle.redo_machine.specs.declared.running.Ran.TheVariants as ran
+use Rattle.redo_drive.specs.declared.drive.RunEnd.TheVariants as ran
 
 -- one draw more
 more_draws : (n state : ℕ) → state_after n (next_state state) ≡ next_state (state_after n state)

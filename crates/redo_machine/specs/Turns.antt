@@ -5,13 +5,13 @@ use Rattle.model_running.specs.{IsDone, IsSpent, TakesTurns}
 use Rattle.model_script.specs.{first_state, state_after}
 use Rattle.redo_disk.specs.{Call}
 use Rattle.redo_disk.specs.Seen.{Seen}
-use Rattle.redo_machine.specs.Asking.{AskOfParts}
-use Rattle.redo_machine.specs.Playing.{RunOf, data_of, log_of}
-use Rattle.redo_machine.specs.Running.{core_of}
-use Rattle.redo_machine.specs.declared.actor.Actor.{Actor}
-use Rattle.redo_machine.specs.declared.parts.Parts.{Parts}
-use Rattle.redo_machine.specs.declared.running.Ran.{Ran}
-use Rattle.redo_machine.specs.declared.running.Ran.TheVariants as ran
+use Rattle.redo_drive.specs.Asking.{AskOfParts}
+use Rattle.redo_drive.specs.Playing.{RunOf, data_of, log_of}
+use Rattle.redo_drive.specs.Turning.{core_of}
+use Rattle.redo_drive.specs.declared.actor.Actor.{Actor}
+use Rattle.redo_drive.specs.declared.parts.Parts.{Parts}
+use Rattle.redo_drive.specs.declared.drive.RunEnd.{RunEnd}
+use Rattle.redo_drive.specs.declared.drive.RunEnd.TheVariants as ran
 
 -- as long as the turns are drawn, the state is the seed's, so many draws on
 abbrev pub IsDrawn : ℕ → ℕ → ℕ → ℕ → Type 0

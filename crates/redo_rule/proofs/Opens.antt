@@ -15,14 +15,14 @@ use Rattle.model_running.proofs.FlatWords.{flat_read}
 use Rattle.redo_disk.specs.{Call}
 use Rattle.redo_disk.specs.Seen.{Seen}
 use Rattle.redo_logdev.specs.Part as log
-use Rattle.redo_machine.proofs.CallsOn.{not_called}
-use Rattle.redo_machine.specs.Beginning.{BeginsRun}
-use Rattle.redo_machine.specs.Calls.{CallsOn}
-use Rattle.redo_machine.specs.Lists.{AreLists, listing_at}
-use Rattle.redo_machine.specs.Views.{view_of}
-use Rattle.redo_machine.specs.declared.actor.Actor.{Actor}
-use Rattle.redo_machine.specs.declared.machine.Machine.{Machine}
-use Rattle.redo_machine.specs.declared.parts.Parts.{Parts}
+use Rattle.redo_drive.proofs.CallsOn.{not_called}
+use Rattle.redo_drive.specs.Begins.{BeginsRun}
+use Rattle.redo_drive.specs.Calls.{CallsOn}
+use Rattle.redo_drive.specs.Lists.{AreLists, listing_at}
+use Rattle.redo_drive.specs.Views.{view_of}
+use Rattle.redo_drive.specs.declared.actor.Actor.{Actor}
+use Rattle.redo_drive.specs.declared.making.Beginning.{Beginning}
+use Rattle.redo_drive.specs.declared.parts.Parts.{Parts}
 use Rattle.redo_rule.proofs.Retook.{at_map}
 use Rattle.redo_rule.specs.Hands.{checkpointer_hand, cleaner_hand, flusher_hand, hand, user_hand, writer_hand}
 use Rattle.redo_rule.specs.Ruled.{content_at, first_view, Knows, numbered, Ruled}

@@ -12,10 +12,11 @@ use Rattle.model_logcore.specs.{StartActor}
 use Rattle.model_running.specs.{ArePageActors, AreSeated}
 use Rattle.model_script.specs.declared.script.ScriptLine.{ScriptLine}
 use Rattle.redo_disk.specs.Seen.{Seen}
-use Rattle.redo_machine.specs.Beginning.{BeginsRun, MayBegin}
-use Rattle.redo_machine.specs.Views.{view_of, views_of}
-use Rattle.redo_machine.specs.declared.actor.Actor.{Actor}
-use Rattle.redo_machine.specs.declared.machine.Machine.{Machine}
+use Rattle.redo_drive.specs.Beginning.{MayBegin}
+use Rattle.redo_drive.specs.Begins.{BeginsRun}
+use Rattle.redo_drive.specs.Views.{view_of, views_of}
+use Rattle.redo_drive.specs.declared.actor.Actor.{Actor}
+use Rattle.redo_drive.specs.declared.making.Beginning.{Beginning}
 use Rattle.redo_pageactors.specs.declared.opened.Opened.{Opened}
 use Rattle.redo_rule.proofs.Opens as opens
 use Rattle.redo_rule.proofs.Retook.{at_map}

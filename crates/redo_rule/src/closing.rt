@@ -2,8 +2,8 @@
 ghost use Rattle.std.specs.Prelude.{◌<◌, ◌≡◌, length, slice_index};
 ghost use Rattle.std.specs.Slots.{IsFull, slots_items, slots_len};
 ghost use Rattle.model_core.specs.{index};
-ghost use Rattle.redo_machine.specs.History.{ListsInOrder};
-ghost use Rattle.redo_machine.specs.Leaving.{LeavesRun};
+ghost use Rattle.redo_drive.specs.History.{ListsInOrder};
+ghost use Rattle.redo_drive.specs.Leaving.{LeavesRun};
 ghost use Rattle.redo_rule.specs.Closing.{IsOwedRun, LeavesParts, MayClose};
 ghost use Rattle.redo_rule.specs.Cutting.{HoldNothing};
 ghost use Rattle.redo_rule.specs.Sharing.{AreSeatsOf, IsSeated, opened_of, script_of, starts_of, table_of};

@@ -1,7 +1,7 @@
 // Both parts and the lists in their slots, and a table over them.
 ghost use Rattle.std.specs.Prelude.{[], ◌++◌, ◌<◌, ◌∷◌, ◌≡◌, ◌≤◌, IfErr, IfOk, length, vec_capacity, vec_len};
 ghost use Rattle.atomic_table.specs.Table.{opening};
-ghost use Rattle.redo_machine.specs.Lists.{AreLists, Listings};
+ghost use Rattle.redo_drive.specs.Lists.{AreLists, Listings};
 ghost use Rattle.redo_logdev.specs.Part as log_dev;
 ghost use Rattle.redo_rule.specs.Ruled.{Ruled, first_view};
 ghost use Rattle.redo_rule.specs.Sharing.{AreLaid, laid};

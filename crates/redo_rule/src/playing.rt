@@ -2,7 +2,7 @@
 ghost use Rattle.std.specs.Prelude.{ℕ, ◌≡◌, ◌⊎◌};
 ghost use Rattle.model_core.specs.{next};
 ghost use Rattle.model_core.specs.Waiting.{ending};
-ghost use Rattle.redo_machine.specs.Views.{view_of};
+ghost use Rattle.redo_drive.specs.Views.{view_of};
 ghost use Rattle.redo_rule.specs.Causes.{HasMetFailure, HasWaited};
 ghost use Rattle.redo_rule.specs.Mine.{HasGone, HasPlayed, Mine, Stays, number_of};
 ghost use Rattle.redo_rule.specs.Seating.{IsBare, IsSeatOf};

@@ -1,5 +1,5 @@
 // Runs whose turns are given by hand, and what is read behind a crash.
-ghost use Rattle.redo_machine.specs.Running.{IsOnRun};
+ghost use Rattle.redo_drive.specs.Running.{IsOnRun};
 
 use super::store::{Device, machine_on, opened};
 use crate::{Machine, Ran, Turned};

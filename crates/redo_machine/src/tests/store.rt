@@ -1,6 +1,6 @@
 // Machines on stores that were just formatted, over devices in memory that may stop.
 ghost use Rattle.std.specs.Prelude.{IfOk};
-ghost use Rattle.redo_machine.specs.Running.{IsOnRun};
+ghost use Rattle.redo_drive.specs.Running.{IsOnRun};
 ghost use Rattle.redo_pageactors.specs.{IsRunnable};
 
 use crate::Machine;

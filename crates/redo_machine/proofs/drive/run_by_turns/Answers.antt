@@ -1,6 +1,6 @@
 -- The machine begins the run, its turns lead to the end, and what `finish` tells of that end is what the run comes to.
 use Rattle.std.proofs.Common.{arith, rules}
-use Rattle.redo_machine.proofs.LogCount.{log_within_script}
+use Rattle.redo_drive.proofs.LogCount.{log_within_script}
 use Rattle.redo_machine.proofs.RunLeft.{comes_to_run, holds_run, is_owed, is_owed_synced}
 use Rattle.redo_machine.proofs.drive.run_by_turns.Goals as goal
 

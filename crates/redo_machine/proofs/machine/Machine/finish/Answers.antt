@@ -5,11 +5,11 @@ use Rattle.model_core.specs.declared.words.Word.TheVariants as word
 use Rattle.model_finish.proofs.Finished.{marks_same}
 use Rattle.model_finish.specs.{word_marks}
 use Rattle.model_history.specs.declared.entry.Marks.{Marks}
-use Rattle.redo_machine.proofs.FailureCode.{small_code}
-use Rattle.redo_machine.proofs.Told.{as_many, have_groups, history_is}
-use Rattle.redo_machine.specs.History.{HasGroups, ListsInOrder, all_listed}
-use Rattle.redo_machine.specs.Views.{view_of}
-use Rattle.redo_machine.specs.declared.actor.Actor.{Actor}
+use Rattle.redo_drive.proofs.FailureCode.{small_code}
+use Rattle.redo_drive.proofs.Told.{as_many, have_groups, history_is}
+use Rattle.redo_drive.specs.History.{HasGroups, ListsInOrder, all_listed}
+use Rattle.redo_drive.specs.Views.{view_of}
+use Rattle.redo_drive.specs.declared.actor.Actor.{Actor}
 use Rattle.redo_machine.proofs.machine.Machine.finish.Goals as goal
 
 pub overflow_cast-code : goal.overflow_cast-code

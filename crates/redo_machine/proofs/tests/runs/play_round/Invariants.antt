@@ -1,5 +1,5 @@
 -- The machine stays on its run.
-use Rattle.redo_machine.specs.Running.{IsOnRun}
+use Rattle.redo_drive.specs.Running.{IsOnRun}
 use Rattle.redo_machine.proofs.tests.runs.play_round.Given as goal
 
 abbrev pub invariant-loop-seat : goal.invariant-loop-seat
