@@ -25,7 +25,9 @@ impl<L: Sectors, D: Sectors> Drive<L, D> for Turns {
 
     ghost says = { λ turns opened script driven. RunsByTurns L.seen L.gives D.seen D.gives opened script turns driven };
 
-    fn log_only(&self) -> bool {
+    fn log_only(&self) -> bool
+        ensures { result ≡ self.now.log_only }
+    {
         self.log_only
     }
 
@@ -35,6 +37,10 @@ impl<L: Sectors, D: Sectors> Drive<L, D> for Turns {
         opened: Opened<L, D>,
         script: &Script,
     ) -> Result<Driven<L, D>, (NoMemory, L, D)>
+        requires { MayBegin opened script.now self.now.log_only }
+        ensures err { IfErr result (λ error. (error.1 ≡ opened.log.dev) × (error.2 ≡ opened.store.dev)) }
+        ensures owed { IfOk result (Owes L.seen L.gives D.seen D.gives opened script.now) }
+        ensures says { IfOk result (RunsByTurns L.seen L.gives D.seen D.gives opened script.now self.now) }
     {
         let mut machine = Machine::new(alloc, opened, script, self.log_only)?;
         let ended = machine.run(self.seed, self.max);

@@ -10,7 +10,7 @@ use crate::law::{Ring, Seat};
 use crate::plays::{Batched, Reached};
 use crate::slots::batch_slot;
 use redo_disk::Sectors;
-use redo_machine::{Actor, called};
+use redo_drive::{Actor, called};
 use redo_words::Step;
 
 /// The slot of the data part, which has no turn word, since the cleaner alone comes to it.

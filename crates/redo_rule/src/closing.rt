@@ -16,7 +16,7 @@ use atomic_table::Closed as ClosedTable;
 use model_history::Marks;
 use redo_disk::Sectors;
 use redo_logdev::LogPart;
-use redo_machine::{Actor, history_of};
+use redo_drive::{Actor, history_of};
 use redo_pageactors::Closed;
 use redo_store::DataPart;
 use redo_words::{Word, number_of};

@@ -9,7 +9,7 @@ use crate::law::{Ring, Seat};
 use crate::plays::{Called, Gave, Seized};
 use crate::slots::{checkpoint_slot, sync_slot, taken_answer, write_slot};
 use redo_disk::Sectors;
-use redo_machine::{Actor, called};
+use redo_drive::{Actor, called};
 use redo_words::{Answer, Step};
 
 /// The turn word of the log part, and its slot.

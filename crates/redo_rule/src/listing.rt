@@ -11,7 +11,7 @@ use crate::plays::{Gave, SeizedList};
 use crate::slots::{add_slot, oldest_slot, remove_slot};
 use model_core::FLUSH_LISTS;
 use redo_disk::Sectors;
-use redo_machine::Actor;
+use redo_drive::Actor;
 use redo_words::{Answer, Step, Word, number_of};
 
 /// The turn word of a flush list, and its slot.

@@ -13,7 +13,7 @@ use crate::law::{Ring, Seat};
 use crate::listing::{give_list, take_add, take_oldest, take_remove};
 use crate::steps::{add, load, store, swap};
 use redo_disk::Sectors;
-use redo_machine::Actor;
+use redo_drive::Actor;
 use redo_words::{Answer, Op, Step};
 
 /// Plays an Op on the words, the log part or a list.

@@ -15,7 +15,7 @@ use crate::law::{Ring, Seat};
 use crate::seating::{cut_off, take_in};
 use crate::shared::Shared;
 use redo_disk::Sectors;
-use redo_machine::Actor;
+use redo_drive::Actor;
 
 /// Cuts a seat off the first one for each actor.
 fn cut_all<L: Sectors, D: Sectors>(

@@ -10,7 +10,7 @@ use model_history::Entry;
 use model_script::Script;
 use redo_disk::Sectors;
 use redo_lsn::NoMemory;
-use redo_machine::{Actor, Machine, Parts};
+use redo_drive::{Actor, Machine, Parts};
 use redo_pageactors::Opened;
 use std::alloc::Global;
 use std::snapshot::Snapshot;

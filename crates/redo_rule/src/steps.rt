@@ -8,7 +8,7 @@ ghost use Rattle.redo_rule.specs.Mine.{HasPlayed, Mine, Stays};
 use crate::law::{Ring, Seat};
 use crate::plays::Saw;
 use redo_disk::Sectors;
-use redo_machine::Actor;
+use redo_drive::Actor;
 use redo_words::{Answer, Step, Word, number_of};
 
 /// `Load word`.
