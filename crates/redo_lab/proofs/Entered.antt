@@ -54,11 +54,11 @@ unplayed-entries left = both-same left.log_same left.data_same
 
 pub driven-entries : {L D : Type 0} {see_log : Fused L → Seen} {see_data : Fused D → Seen} {log_seen : L → Seen} {log_gives : L → Call → L → Type 0}
     {data_seen : D → Seen} {data_gives : D → Call → D → Type 0}
-    (says : Says)
+    {S : Type 0} (says : Says (Fused L) (Fused D) S) (drive : S)
     {opened : Opened (Fused L) (Fused D)} {log_only : Bool} {script : List ScriptLine} {c : Course} {log_now : Fused L} {data_now : Fused D}
-    → AreDriven see_log (CallsThrough log_seen log_gives) see_data (CallsThrough data_seen data_gives) says opened log_only script c log_now data_now
+    → AreDriven see_log (CallsThrough log_seen log_gives) see_data (CallsThrough data_seen data_gives) says drive opened log_only script c log_now data_now
     → AreOf (entry_of opened.log.dev) (entry_of opened.store.dev) log_now data_now
-driven-entries says are = record {
+driven-entries says drive are = record {
   log_device = same-entry are.log_is ∙ calls-entry (are.owed.comes_to.log_calls.live refl);
   data_device = same-entry are.data_is ∙ calls-entry (are.owed.comes_to.data_calls.live refl);
 }

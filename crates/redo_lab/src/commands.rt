@@ -35,7 +35,7 @@ fn run_source<S: Source, L: Sectors + Send, D: Sectors + Send, V: Drive>(
     store: D,
 ) -> Done<L, D>
     ensures ends { (asked : Asked) (words : List (List ℕ))
-        → Serves L.seen L.gives D.seen D.gives (V.alone drive.now) (V.says drive.now) asked
+        → Serves L.seen L.gives D.seen D.gives V.alone V.says drive.now asked
         → EndsWith (call_of L.seen L.gives D.seen D.gives words (S.seen src.old) (S.seen src.new) log store result) (Run asked) result.outcome }
     ensures entered { AreOf log store result.log result.store }
     ensures taken { TakesAtMost (MAX_SCRIPT + PIECE) (S.seen src.old).left (S.seen src.new).left }
@@ -59,7 +59,7 @@ fn crash_source<S: Source, L: Sectors + Send, D: Sectors + Send, V: Drive>(
     store: D,
 ) -> Done<L, D>
     ensures ends { (asked : Asked) (words : List (List ℕ)) (workers : ℕ)
-        → Serves L.seen L.gives D.seen D.gives (V.alone drive.now) (V.says drive.now) asked
+        → Serves L.seen L.gives D.seen D.gives V.alone V.says drive.now asked
         → EndsWith (call_of L.seen L.gives D.seen D.gives words (S.seen src.old) (S.seen src.new) log store result)
         (Crash asked stops.log stops.store pick workers) result.outcome }
     ensures entered { AreOf log store result.log result.store }

@@ -45,7 +45,7 @@ pub(crate) fn run_command<L: Sectors + Send, D: Sectors + Send, V: Drive>(
 ) -> Done<L, D>
     requires lines { AllByRecursion IsScriptLine script.now }
     ensures ends { (asked : Asked) (words : List (List ℕ)) (source source_now : SourceSeen)
-        → Serves L.seen L.gives D.seen D.gives (V.alone drive.now) (V.says drive.now) asked → IsScriptRead source source_now script.now
+        → Serves L.seen L.gives D.seen D.gives V.alone V.says drive.now asked → IsScriptRead source source_now script.now
         → EndsWith (call_of L.seen L.gives D.seen D.gives words source source_now log store result) (Run asked) result.outcome }
     ensures entered { AreOf log store result.log result.store }
 {
