@@ -10,7 +10,7 @@ use Rattle.redo_disk.specs.{Call}
 use Rattle.redo_disk.specs.Seen.{Seen}
 use Rattle.redo_drive.specs.declared.drive.Driven.{Driven}
 use Rattle.redo_drive.specs.declared.drive.RunEnd.TheVariants.{Done, Spent}
-use Rattle.redo_drive.specs.{RunsByTurns}
+use Rattle.redo_machine.specs.{RunsByTurns}
 use Rattle.redo_machine.specs.declared.drive.Turns.{Turns}
 use Rattle.redo_memdisk.specs.{CallsThrough, seen_through}
 use Rattle.redo_memdisk.specs.declared.fused.Fused.{Fused}
@@ -25,47 +25,45 @@ pub in-threads : (command : Command) (drive : Drive) → drive_of command ≡ So
 in-threads command drive is = ap (λ (asked : Option Drive). elim asked [ None ↦ false | Some drive ↦ drive.threads ]) is
 
 module _ {L D : Type 0} (log_seen : L → Seen) (log_gives : L → Call → L → Type 0) (data_seen : D → Seen) (data_gives : D → Call → D → Type 0) where
-  abbrev Tells : Type 1
-  Tells = Opened (Fused L) (Fused D) → List ScriptLine → Driven (Fused L) (Fused D) → Type 0
-
   -- what the drive tells that is in threads or isn't
-  abbrev TellsIn : Bool → Drive → Tells
+  abbrev TellsIn : Bool → Drive → Opened (Fused L) (Fused D) → List ScriptLine → Driven (Fused L) (Fused D) → Type 0
   TellsIn threads asked opened script driven =
       TellsOf threads (seen_through log_seen) (CallsThrough log_seen log_gives) (seen_through data_seen) (CallsThrough data_seen data_gives) asked opened script driven
 
-  abbrev ByTurns : Turns → Tells
-  ByTurns turns opened script driven =
-      RunsByTurns (seen_through log_seen) (CallsThrough log_seen log_gives) (seen_through data_seen) (CallsThrough data_seen data_gives) opened script turns driven
-
   -- by turns
-  pub turns-serve : (asked : Drive) (turns : Turns) → turns ≡ turns_of asked → asked.threads ≡ false
-      → Serves log_seen log_gives data_seen data_gives turns.log_only
-      (λ opened script driven. RunsByTurns (seen_through log_seen) (CallsThrough log_seen log_gives) (seen_through data_seen) (CallsThrough data_seen data_gives) opened script turns driven)
-      asked
+  turns-serve : (asked : Drive) (turns : Turns) → turns ≡ turns_of asked → asked.threads ≡ false
+      → Serves log_seen log_gives data_seen data_gives (λ (turns : Turns). turns.log_only)
+      (λ log_seen log_gives data_seen data_gives turns opened script driven. RunsByTurns log_seen log_gives data_seen data_gives opened script turns driven)
+      turns asked
   turns-serve asked turns same is = record {
     log_only_is = ap (λ (turns : Turns). turns.log_only) same;
     told = λ opened script driven told. subst (λ (threads : Bool). TellsIn threads asked opened script driven) (sym is)
-        (subst (λ (turns : Turns). ByTurns turns opened script driven) same told);
+        (subst (λ (turns : Turns). RunsByTurns (seen_through log_seen) (CallsThrough log_seen log_gives) (seen_through data_seen) (CallsThrough data_seen data_gives) opened script turns driven) same told);
   }
 
   -- and a command that doesn't run in threads
   pub turns-serve-command : (command : Command) (turns : Turns) → ((asked : Drive) → drive_of command ≡ Some asked → turns ≡ turns_of asked)
       → runs_in_threads command ≡ false
-      → ServesCommand log_seen log_gives data_seen data_gives turns.log_only
-      (λ opened script driven. RunsByTurns (seen_through log_seen) (CallsThrough log_seen log_gives) (seen_through data_seen) (CallsThrough data_seen data_gives) opened script turns driven)
-      command
+      → ServesCommand log_seen log_gives data_seen data_gives (λ (turns : Turns). turns.log_only)
+      (λ log_seen log_gives data_seen data_gives turns opened script driven. RunsByTurns log_seen log_gives data_seen data_gives opened script turns driven)
+      turns command
   turns-serve-command command turns is by_turns asked asked_is =
       turns-serve asked turns (is asked asked_is) (sym (in-threads command asked asked_is) ∙ by_turns)
 
   -- in threads
-  pub threads-serve-command : (command : Command) (drive : Drive) → drive_of command ≡ Some drive → drive.threads ≡ true
-      → ServesCommand log_seen log_gives data_seen data_gives drive.log_only (λ opened script driven. RunsInThreads opened script drive.log_only driven) command
-  threads-serve-command command drive is threads asked asked_is =
+  pub threads-serve-command : {S : Type 0} (alone : S → Bool) (threads : S) (command : Command) (drive : Drive) → drive_of command ≡ Some drive → drive.threads ≡ true
+      → alone threads ≡ drive.log_only
+      → ServesCommand log_seen log_gives data_seen data_gives alone
+      (λ log_seen log_gives data_seen data_gives threads opened script driven. RunsInThreads opened script (alone threads) driven)
+      threads command
+  threads-serve-command {S} alone threads command drive is in_threads log_only asked asked_is =
       let same : drive ≡ asked = cc (is, asked_is) in
-      subst (λ (found : Drive). Serves log_seen log_gives data_seen data_gives drive.log_only (λ opened script driven. RunsInThreads opened script drive.log_only driven) found) same
+      subst (λ (found : Drive). Serves log_seen log_gives data_seen data_gives alone
+      (λ log_seen log_gives data_seen data_gives threads opened script driven. RunsInThreads opened script (alone threads) driven) threads found) same
       (record {
-        log_only_is = refl;
-        told = λ opened script driven told. subst (λ (threads : Bool). TellsIn threads drive opened script driven) (sym threads) told;
+        log_only_is = log_only;
+        told = λ opened script driven told. subst (λ (threads : Bool). TellsIn threads drive opened script driven) (sym in_threads)
+            (subst (λ (log_only : Bool). RunsInThreads opened script log_only driven) log_only told);
       })
 
   -- turns are spent by no drive in threads

@@ -29,14 +29,13 @@ use Rattle.redo_pageactors.specs.{IsRunnable}
 use Rattle.redo_pageactors.specs.declared.opened.Opened.{Opened}
 use Rattle.redo_recover.specs.{OnContents}
 use Rattle.redo_disk.proofs.Made.{may_end}
-use Rattle.redo_drive.specs.{HasMemory, IsOwedWith, Owes}
+use Rattle.redo_drive.specs.{HasMemory, IsOwedWith, Owes, room_from}
 use Rattle.redo_drive.specs.Drive.{failed_in, HoldsRun as IsRunHeld}
 use Rattle.redo_drive.specs.declared.drive.Driven.{Driven}
 use Rattle.redo_drive.specs.declared.drive.RunEnd.{RunEnd}
 use Rattle.redo_drive.specs.declared.drive.RunEnd.TheVariants.{Done, Spent}
-use Rattle.redo_machine.specs.{room_from}
 use Rattle.model_theorem.specs.{LosesOnlyByFailure}
-use Rattle.redo_machine.specs.Beginning.{IsOpenedAs as IsStartedAs}
+use Rattle.redo_drive.specs.Beginning.{IsOpenedAs as IsStartedAs}
 use Rattle.redo_lab.specs.declared.playing.Course.{Course}
 use Rattle.redo_lab.specs.declared.playing.Played.{Played}
 use Rattle.redo_lab.specs.declared.playing.Stops.{Stops}
@@ -45,7 +44,7 @@ use Rattle.redo_lab.proofs.Told.{both-told, on-contents}
 use Rattle.redo_lab.proofs.UnderWay.{AreCounted, HeaderFirst, ReadingLaws, counted-more, counted-opening, formatted-read, goes-on, keeps-found, same-both, told-some, way-of}
 use Rattle.redo_lab.specs.Course.{AreMisfitted, ArePlayed, AreUnstarted, ByDrive, CameSoFar, ClosesRun, ComesTo, Driving, HoldsRun, ran_of}
 use Rattle.redo_lab.specs.Drives.{TellsBehind}
-use Rattle.redo_lab.specs.Playing.{AreArmed, AreDriven, AreLeftOpened, Serves, course_done, course_of, ended_by, played_of}
+use Rattle.redo_lab.specs.Playing.{AreArmed, AreDriven, AreLeftOpened, Says, course_done, course_of, ended_by, played_of}
 use Rattle.redo_lab.specs.Prepared.{ArePrepared, WhereTold}
 use Rattle.redo_lab.specs.Stages.{Shown, shown}
 use Rattle.redo_lab.specs.Store.{IsOpenedAs}
@@ -428,14 +427,14 @@ unplayed-comes {L} {D} {log_seen = log_seen} {data_seen = data_seen} {log_entry 
 -- or the lines were run, by a drive that serves
 pub driven-comes : {L D : Type 0} {log_seen : L → Seen} {log_gives : L → Call → L → Type 0} {data_seen : D → Seen} {data_gives : D → Call → D → Type 0}
     {log_entry data_entry : Seen} {stops : Stops} {log_found data_found : Shown} {log : Fused L} {data_device : Fused D} {store : Opened (Fused L) (Fused D)}
-    {tells : Opened (Fused L) (Fused D) → List ScriptLine → Driven (Fused L) (Fused D) → Type 0}
-    (asked : Drive) (script : List ScriptLine) (c : Course) (log_now : Fused L) (data_now : Fused D)
-    → ((opened : Opened (Fused L) (Fused D)) (script : List ScriptLine) (driven : Driven (Fused L) (Fused D)) → tells opened script driven
+    {S : Type 0} (says : Says (Fused L) (Fused D) S) (drive : S) (asked : Drive) (script : List ScriptLine) (c : Course) (log_now : Fused L) (data_now : Fused D)
+    → ((opened : Opened (Fused L) (Fused D)) (script : List ScriptLine) (driven : Driven (Fused L) (Fused D))
+    → says (seen_through log_seen) (CallsThrough log_seen log_gives) (seen_through data_seen) (CallsThrough data_seen data_gives) drive opened script driven
     → TellsBehind log_seen log_gives data_seen data_gives asked opened script driven)
     → IsOpenedUnderWay log_seen log_gives data_seen data_gives log_entry data_entry stops log_found data_found log data_device store
-    → AreDriven (seen_through log_seen) (CallsThrough log_seen log_gives) (seen_through data_seen) (CallsThrough data_seen data_gives) tells store asked.log_only script c log_now data_now
+    → AreDriven (seen_through log_seen) (CallsThrough log_seen log_gives) (seen_through data_seen) (CallsThrough data_seen data_gives) says drive store asked.log_only script c log_now data_now
     → ComesTo (ByDrive log_seen log_gives data_seen data_gives asked script) log_entry data_entry stops asked.log_only script c (shown log_seen log_now) (shown data_seen data_now)
-driven-comes {L} {D} {log_seen = log_seen} {log_gives = log_gives} {data_seen = data_seen} {data_gives = data_gives} {log_entry = log_entry} {data_entry = data_entry} {stops = stops} {store = store} asked script c _ data_now serves is are =
+driven-comes {L} {D} {log_seen = log_seen} {log_gives = log_gives} {data_seen = data_seen} {data_gives = data_gives} {log_entry = log_entry} {data_entry = data_entry} {stops = stops} {store = store} says drive asked script c _ data_now serves is are =
     let Comes : Course → Fused L → Fused D → Type 0 = λ c one other.
     ComesTo (ByDrive log_seen log_gives data_seen data_gives asked script) log_entry data_entry stops asked.log_only script c (shown log_seen one) (shown data_seen other) in
     subst (λ (one : Fused L). Comes c one data_now) (sym are.log_is) (subst (λ (one : Fused D). Comes c are.driven.closed.log.dev one) (sym are.data_is)

@@ -8,7 +8,8 @@ use Rattle.model_theorem.specs.{Ran}
 use Rattle.model_theorem.specs.Values as values
 use Rattle.redo_disk.specs.{Call}
 use Rattle.redo_disk.specs.Seen.{Seen}
-use Rattle.redo_drive.specs.{RunsByTurns, ran_of}
+use Rattle.redo_drive.specs.{ran_of}
+use Rattle.redo_machine.specs.{RunsByTurns}
 use Rattle.redo_drive.specs.declared.drive.Driven.{Driven}
 use Rattle.redo_drive.specs.declared.drive.RunEnd.{RunEnd}
 use Rattle.redo_memdisk.specs.{CallsThrough, seen_through}

@@ -13,11 +13,11 @@ use Rattle.redo_disk.specs.{Call}
 use Rattle.redo_disk.specs.Seen.{Seen}
 use Rattle.redo_disk.specs.declared.error.DevError.{DevError}
 use Rattle.redo_disk.specs.declared.error.DevError.TheVariants as device
-use Rattle.redo_drive.specs.{Owes}
+use Rattle.redo_drive.specs.{Owes, room_from}
 use Rattle.redo_drive.specs.declared.drive.Driven.{Driven}
 use Rattle.redo_drive.specs.declared.drive.RunEnd.{RunEnd}
 use Rattle.redo_drive.specs.declared.drive.RunEnd.TheVariants as ended
-use Rattle.redo_machine.specs.{room_from}
+use Rattle.redo_memdisk.specs.{CallsThrough, seen_through}
 use Rattle.redo_memdisk.specs.declared.fused.Fused.{Fused}
 use Rattle.redo_pageactors.specs.declared.closed.Closed.{Closed}
 use Rattle.redo_pageactors.specs.declared.opened.Opened.{Opened}
@@ -93,31 +93,35 @@ pub record AreLeftOpened {L D : Type 0} (opened : Opened L D) (log_only : Bool) 
   pub data_same : data_now ≡ opened.store.dev
   pub why : IsUnplayed opened log_only script found
 
--- THE LINES WERE RUN by a drive that tells this, with all that every drive owes; and this came of it.
+-- what drives of a kind say of their runs
+abbrev pub Says : (L D S : Type 0) → Type 1
+Says L D S = (L → Seen) → (L → Call → L → Type 0) → (D → Seen) → (D → Call → D → Type 0) → S → Opened L D → List ScriptLine → Driven L D → Type 0
+
+-- THE LINES WERE RUN by a drive that says this, with all that every drive owes; and this came of it.
 pub record AreDriven {L D : Type 0} (log_seen : L → Seen) (log_gives : L → Call → L → Type 0) (data_seen : D → Seen) (data_gives : D → Call → D → Type 0)
-    (tells : Opened L D → List ScriptLine → Driven L D → Type 0)
-    (opened : Opened L D) (log_only : Bool) (script : List ScriptLine) (found : Course) (log_now : L) (data_now : D) : Type 0 where
+    {S : Type 0} (says : Says L D S) (drive : S) (opened : Opened L D) (log_only : Bool) (script : List ScriptLine) (found : Course) (log_now : L) (data_now : D) : Type 0 where
   pub fits : ScriptFits opened.shape opened.start (room_from log_only opened.shape opened.start) script
   pub driven : Driven L D
-  pub told : tells opened script driven
+  pub told : says log_seen log_gives data_seen data_gives drive opened script driven
   pub owed : Owes log_seen log_gives data_seen data_gives opened script driven
   pub course_is : found ≡ course_of driven.ended (played_of opened.start driven.closed)
       (ended_by driven.closed.log.failed driven.closed.store.failed)
   pub log_is : log_now ≡ driven.closed.log.dev
   pub data_is : data_now ≡ driven.closed.store.dev
 
--- A DRIVE SERVES what is asked: it runs the log alone where that is asked, and tells what the drive that is asked for tells.
+-- A DRIVE SERVES what is asked: it runs the log alone where that is asked, and says what the drive that is asked for tells.
 pub record Serves {L D : Type 0} (log_seen : L → Seen) (log_gives : L → Call → L → Type 0) (data_seen : D → Seen) (data_gives : D → Call → D → Type 0)
-    (log_only : Bool) (tells : Opened (Fused L) (Fused D) → List ScriptLine → Driven (Fused L) (Fused D) → Type 0) (asked : Drive) : Type 0 where
-  pub log_only_is : log_only ≡ asked.log_only
-  pub told : (opened : Opened (Fused L) (Fused D)) (script : List ScriptLine) (driven : Driven (Fused L) (Fused D)) → tells opened script driven
+    {S : Type 0} (alone : S → Bool) (says : Says (Fused L) (Fused D) S) (drive : S) (asked : Drive) : Type 0 where
+  pub log_only_is : alone drive ≡ asked.log_only
+  pub told : (opened : Opened (Fused L) (Fused D)) (script : List ScriptLine) (driven : Driven (Fused L) (Fused D))
+      → says (seen_through log_seen) (CallsThrough log_seen log_gives) (seen_through data_seen) (CallsThrough data_seen data_gives) drive opened script driven
       → TellsBehind log_seen log_gives data_seen data_gives asked opened script driven
 
 -- and so for a command that runs a script
 abbrev pub ServesCommand : {L D : Type 0} → (L → Seen) → (L → Call → L → Type 0) → (D → Seen) → (D → Call → D → Type 0)
-    → Bool → (Opened (Fused L) (Fused D) → List ScriptLine → Driven (Fused L) (Fused D) → Type 0) → Command → Type 0
-ServesCommand log_seen log_gives data_seen data_gives log_only tells command =
-    (asked : Drive) → drive_of command ≡ Some asked → Serves log_seen log_gives data_seen data_gives log_only tells asked
+    → {S : Type 0} → (S → Bool) → Says (Fused L) (Fused D) S → S → Command → Type 0
+ServesCommand log_seen log_gives data_seen data_gives alone says drive command =
+    (asked : Drive) → drive_of command ≡ Some asked → Serves log_seen log_gives data_seen data_gives alone says drive asked
 
 -- the command to crash so
 abbrev pub crash_of : Drive → Crashing → Command

@@ -24,12 +24,11 @@ use model_script::read_lines_are_ranged;
 use redo_disk::Sectors;
 use redo_drive::Drive;
 use redo_io::Source;
-use redo_memdisk::Fused;
 use std::alloc::Global;
 use std::thread::Threads;
 
 /// The command `run`, on the script of the source.
-fn run_source<S: Source, L: Sectors, D: Sectors, V: Drive<Fused<L>, Fused<D>>>(
+fn run_source<S: Source, L: Sectors + Send, D: Sectors + Send, V: Drive>(
     alloc: Global,
     src: &mut S,
     drive: &V,
@@ -37,7 +36,7 @@ fn run_source<S: Source, L: Sectors, D: Sectors, V: Drive<Fused<L>, Fused<D>>>(
     store: D,
 ) -> Done<L, D>
     ensures ends { (asked : Asked) (words : List (List ℕ))
-        → Serves L.seen L.gives D.seen D.gives (V.alone drive.now) (V.says drive.now) asked
+        → Serves L.seen L.gives D.seen D.gives V.alone V.says drive.now asked
         → EndsWith (call_of L.seen L.gives D.seen D.gives words (S.seen src.old) (S.seen src.new) log store result) (Run asked) result.outcome }
     ensures entered { AreOf log store result.log result.store }
     ensures taken { TakesAtMost (MAX_SCRIPT + PIECE) (S.seen src.old).left (S.seen src.new).left }
@@ -51,7 +50,7 @@ fn run_source<S: Source, L: Sectors, D: Sectors, V: Drive<Fused<L>, Fused<D>>>(
 }
 
 /// The command `crash`, on the script of the source.
-fn crash_source<R: Threads + Sync, S: Source, L: Sectors, D: Sectors, V: Drive<Fused<L>, Fused<D>>>(
+fn crash_source<R: Threads + Sync, S: Source, L: Sectors + Send, D: Sectors + Send, V: Drive>(
     rt: &R,
     alloc: Global,
     src: &mut S,
@@ -60,9 +59,9 @@ fn crash_source<R: Threads + Sync, S: Source, L: Sectors, D: Sectors, V: Drive<F
     log: L,
     store: D,
 ) -> Done<L, D>
-    requires { (1 ≤ crash.workers) × (crash.workers ≤ MAX_WORKERS) }
+    requires workers { (1 ≤ crash.workers) × (crash.workers ≤ MAX_WORKERS) }
     ensures ends { (asked : Asked) (words : List (List ℕ))
-        → Serves L.seen L.gives D.seen D.gives (V.alone drive.now) (V.says drive.now) asked
+        → Serves L.seen L.gives D.seen D.gives V.alone V.says drive.now asked
         → EndsWith (call_of L.seen L.gives D.seen D.gives words (S.seen src.old) (S.seen src.new) log store result) (crash_of asked crash) result.outcome }
     ensures entered { AreOf log store result.log result.store }
     ensures taken { TakesAtMost (MAX_SCRIPT + PIECE) (S.seen src.old).left (S.seen src.new).left }
@@ -76,7 +75,7 @@ fn crash_source<R: Threads + Sync, S: Source, L: Sectors, D: Sectors, V: Drive<F
 }
 
 /// A command, done on two devices; a script is run by this drive.
-pub(crate) fn done<R: Threads + Sync, S: Source, L: Sectors, D: Sectors, V: Drive<Fused<L>, Fused<D>>>(
+pub(crate) fn done<R: Threads + Sync, S: Source, L: Sectors + Send, D: Sectors + Send, V: Drive>(
     rt: &R,
     alloc: Global,
     command: Command,
@@ -85,9 +84,9 @@ pub(crate) fn done<R: Threads + Sync, S: Source, L: Sectors, D: Sectors, V: Driv
     log: L,
     store: D,
 ) -> Done<L, D>
-    requires { IsWithin command }
+    requires within { IsWithin command }
     ensures ends { (words : List (List ℕ))
-        → ServesCommand L.seen L.gives D.seen D.gives (V.alone drive.now) (V.says drive.now) command
+        → ServesCommand L.seen L.gives D.seen D.gives V.alone V.says drive.now command
         → EndsWith (call_of L.seen L.gives D.seen D.gives words (S.seen src.old) (S.seen src.new) log store result) command result.outcome }
     ensures entered { AreOf log store result.log result.store }
     ensures taken { TakesAtMost (MAX_SCRIPT + PIECE) (S.seen src.old).left (S.seen src.new).left }

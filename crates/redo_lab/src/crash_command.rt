@@ -85,7 +85,7 @@ fn crash_and_read<R: Threads + Sync, L: Sectors, D: Sectors>(
 }
 
 /// Runs the script by this drive on devices that stop, crashes both, reads the store, and reports it all. A device that fails from the arming of its fuse to the crash ends the run and not the command.
-pub(crate) fn crash_command<R: Threads + Sync, L: Sectors, D: Sectors, V: Drive<Fused<L>, Fused<D>>>(
+pub(crate) fn crash_command<R: Threads + Sync, L: Sectors + Send, D: Sectors + Send, V: Drive>(
     rt: &R,
     alloc: Global,
     script: &Script,
@@ -97,7 +97,7 @@ pub(crate) fn crash_command<R: Threads + Sync, L: Sectors, D: Sectors, V: Drive<
     requires lines { AllByRecursion IsScriptLine script.now }
     requires workers { (1 ≤ crash.workers) × (crash.workers ≤ MAX_WORKERS) }
     ensures ends { (asked : Asked) (words : List (List ℕ)) (source source_now : SourceSeen)
-        → Serves L.seen L.gives D.seen D.gives (V.alone drive.now) (V.says drive.now) asked → IsScriptRead source source_now script.now
+        → Serves L.seen L.gives D.seen D.gives V.alone V.says drive.now asked → IsScriptRead source source_now script.now
         → EndsWith (call_of L.seen L.gives D.seen D.gives words source source_now log store result) (crash_of asked crash) result.outcome }
     ensures entered { AreOf log store result.log result.store }
 {

@@ -91,7 +91,7 @@ fn read_behind<L: Sectors, D: Sectors>(
 }
 
 /// Runs the script of the seed by this drive, and sums the run up; of a fault there is its line alone.
-fn run_script<L: Sectors, D: Sectors, V: Drive<Fused<L>, Fused<D>>>(
+fn run_script<L: Sectors + Send, D: Sectors + Send, V: Drive>(
     alloc: Global,
     script: &Script,
     drive: &V,
@@ -100,7 +100,7 @@ fn run_script<L: Sectors, D: Sectors, V: Drive<Fused<L>, Fused<D>>>(
 ) -> Done<L, D>
     requires { AllByRecursion IsScriptLine script.now }
     ensures ends { (words : List (List ℕ)) (source : SourceSeen) (seed users groups max : ℕ) → script.now ≡ generated_lines seed users groups
-        → Serves L.seen L.gives D.seen D.gives (V.alone drive.now) (V.says drive.now) (drive_of_seed seed max)
+        → Serves L.seen L.gives D.seen D.gives V.alone V.says drive.now (drive_of_seed seed max)
         → EndsWith (call_of L.seen L.gives D.seen D.gives words source source log store result) (Gen seed users groups true max) result.outcome }
     ensures entered { AreOf log store result.log result.store }
 {
@@ -137,7 +137,7 @@ fn run_script<L: Sectors, D: Sectors, V: Drive<Fused<L>, Fused<D>>>(
 }
 
 /// Generates the script of the seed, and runs it by this drive. It reads no source.
-pub(crate) fn run_seed<L: Sectors, D: Sectors, V: Drive<Fused<L>, Fused<D>>>(
+pub(crate) fn run_seed<L: Sectors + Send, D: Sectors + Send, V: Drive>(
     alloc: Global,
     seed: u64,
     users: u32,
@@ -149,7 +149,7 @@ pub(crate) fn run_seed<L: Sectors, D: Sectors, V: Drive<Fused<L>, Fused<D>>>(
     requires some_users { 1 ≤ users }
     requires few_users { users ≤ MAX_USERS }
     ensures ends { (words : List (List ℕ)) (source : SourceSeen) (max : ℕ)
-        → Serves L.seen L.gives D.seen D.gives (V.alone drive.now) (V.says drive.now) (drive_of_seed seed max)
+        → Serves L.seen L.gives D.seen D.gives V.alone V.says drive.now (drive_of_seed seed max)
         → EndsWith (call_of L.seen L.gives D.seen D.gives words source source log store result) (Gen seed users groups true max) result.outcome }
     ensures entered { AreOf log store result.log result.store }
 {

@@ -7,7 +7,7 @@ ghost use Rattle.model_log.specs.declared.layout.TheConstants.{BLOCK_HEADER};
 ghost use Rattle.model_script.specs.{IsScriptLine};
 ghost use Rattle.redo_disk.specs.Seen.{Seen};
 ghost use Rattle.redo_memdisk.specs.{CallsThrough, entry_of, seen_through};
-ghost use Rattle.redo_machine.specs.{room_from};
+ghost use Rattle.redo_drive.specs.{room_from};
 ghost use Rattle.redo_pageactors.specs.{IsRunnable};
 ghost use Rattle.redo_lab.specs.Course.{ByDrive, ComesTo};
 ghost use Rattle.redo_lab.specs.Handed.{AreOf};
@@ -141,7 +141,7 @@ fn close<L: Sectors, D: Sectors>(start: u64, driven: Driven<Fused<L>, Fused<D>>)
 }
 
 /// Runs the lines of a script on an opened store by this drive, if it fits that.
-fn play<L: Sectors, D: Sectors, V: Drive<Fused<L>, Fused<D>>>(
+fn play<L: Sectors + Send, D: Sectors + Send, V: Drive>(
     alloc: Global,
     script: &Script,
     drive: &V,
@@ -150,7 +150,7 @@ fn play<L: Sectors, D: Sectors, V: Drive<Fused<L>, Fused<D>>>(
     requires runnable { IsRunnable opened }
     requires lines { AllByRecursion IsScriptLine script.now }
     ensures plays { AreLeftOpened opened (V.alone drive.now) script.now result.course result.log result.store
-        ⊎ AreDriven (seen_through L.seen) (CallsThrough L.seen L.gives) (seen_through D.seen) (CallsThrough D.seen D.gives) (V.says drive.now) opened (V.alone drive.now) script.now
+        ⊎ AreDriven (seen_through L.seen) (CallsThrough L.seen L.gives) (seen_through D.seen) (CallsThrough D.seen D.gives) V.says drive.now opened (V.alone drive.now) script.now
         result.course result.log result.store }
 {
     fitting_script();
@@ -187,7 +187,7 @@ fn unopened(fault: RecFault) -> Course
 }
 
 /// Opens the store on both devices, whose fuses are armed, and runs the script by this drive.
-fn open_and_play<L: Sectors, D: Sectors, V: Drive<Fused<L>, Fused<D>>>(
+fn open_and_play<L: Sectors + Send, D: Sectors + Send, V: Drive>(
     alloc: Global,
     script: &Script,
     drive: &V,
@@ -196,7 +196,7 @@ fn open_and_play<L: Sectors, D: Sectors, V: Drive<Fused<L>, Fused<D>>>(
 ) -> Ran<L, D>
     requires { AllByRecursion IsScriptLine script.now }
     ensures comes_to { (asked : Asked) (log_entry data_entry : Seen) (stops : Stops) (log_found data_found : Shown)
-        → Serves L.seen L.gives D.seen D.gives (V.alone drive.now) (V.says drive.now) asked
+        → Serves L.seen L.gives D.seen D.gives V.alone V.says drive.now asked
         → AreArmed log_entry data_entry stops log_found data_found (shown L.seen log) (shown D.seen store)
         → ComesTo (ByDrive L.seen L.gives D.seen D.gives asked script.now) log_entry data_entry stops asked.log_only script.now result.course (shown L.seen result.log) (shown D.seen result.store) }
     ensures entered { AreOf (entry_of log) (entry_of store) result.log result.store }
@@ -215,7 +215,7 @@ fn open_and_play<L: Sectors, D: Sectors, V: Drive<Fused<L>, Fused<D>>>(
 }
 
 /// Prepares both devices, arms their fuses, opens the store and runs the script by this drive.
-pub(crate) fn run_lines<L: Sectors, D: Sectors, V: Drive<Fused<L>, Fused<D>>>(
+pub(crate) fn run_lines<L: Sectors + Send, D: Sectors + Send, V: Drive>(
     alloc: Global,
     script: &Script,
     drive: &V,
@@ -224,7 +224,7 @@ pub(crate) fn run_lines<L: Sectors, D: Sectors, V: Drive<Fused<L>, Fused<D>>>(
     store: D,
 ) -> Ran<L, D>
     requires { AllByRecursion IsScriptLine script.now }
-    ensures comes_to { (asked : Asked) → Serves L.seen L.gives D.seen D.gives (V.alone drive.now) (V.says drive.now) asked
+    ensures comes_to { (asked : Asked) → Serves L.seen L.gives D.seen D.gives V.alone V.says drive.now asked
         → ComesTo (ByDrive L.seen L.gives D.seen D.gives asked script.now) (L.seen log) (D.seen store) stops asked.log_only script.now result.course (shown L.seen result.log) (shown D.seen result.store) }
     ensures entered { AreOf log store result.log result.store }
 {

@@ -22,7 +22,6 @@ use model_script::{Script, unfit_is_misfit};
 use model_store::{one_answer, one_reading};
 use redo_disk::Sectors;
 use redo_drive::Drive;
-use redo_memdisk::Fused;
 use std::alloc::Global;
 
 /// What there is to print of lines that were run: the report, and behind it the fault of the device that ended the run.
@@ -37,16 +36,16 @@ fn print_run(alloc: Global, script: &Script, played: &Played, fault: Option<Faul
 }
 
 /// Runs the script by this drive, and reports the run.
-pub(crate) fn run_command<L: Sectors, D: Sectors, V: Drive<Fused<L>, Fused<D>>>(
+pub(crate) fn run_command<L: Sectors + Send, D: Sectors + Send, V: Drive>(
     alloc: Global,
     script: &Script,
     drive: &V,
     log: L,
     store: D,
 ) -> Done<L, D>
-    requires { AllByRecursion IsScriptLine script.now }
+    requires lines { AllByRecursion IsScriptLine script.now }
     ensures ends { (asked : Asked) (words : List (List ℕ)) (source source_now : SourceSeen)
-        → Serves L.seen L.gives D.seen D.gives (V.alone drive.now) (V.says drive.now) asked → IsScriptRead source source_now script.now
+        → Serves L.seen L.gives D.seen D.gives V.alone V.says drive.now asked → IsScriptRead source source_now script.now
         → EndsWith (call_of L.seen L.gives D.seen D.gives words source source_now log store result) (Run asked) result.outcome }
     ensures entered { AreOf log store result.log result.store }
 {

@@ -3,7 +3,7 @@ use Rattle.redo_lab.proofs.Unscripted.{crash-unscripted}
 use Rattle.redo_lab.proofs.commands.crash_source.Goals as goal
 
 pub crash_command-requires-clause-lines : goal.crash_command-requires-clause-lines
-crash_command-requires-clause-lines g c =
+crash_command-requires-clause-lines g c = λ κs live.
     c.read_lines_are_ranged.ensures c.in-Ok.ensures.script.text c.in-Ok.script c.in-Ok.ensures.script.of_text.is_script
 
 pub returns-in-Ok-clause-ends : goal.returns-in-Ok-clause-ends

@@ -2,8 +2,8 @@ use Rattle.std.proofs.Common.{ap}
 use Rattle.redo_lab.proofs.Unscripted.{run-unscripted}
 use Rattle.redo_lab.proofs.commands.run_source.Goals as goal
 
-pub run_command-requires : goal.run_command-requires
-run_command-requires g c =
+pub run_command-requires-clause-lines : goal.run_command-requires-clause-lines
+run_command-requires-clause-lines g c = λ κs live.
     c.read_lines_are_ranged.ensures c.in-Ok.ensures.script.text c.in-Ok.script c.in-Ok.ensures.script.of_text.is_script
 
 pub returns-in-Ok-clause-ends : goal.returns-in-Ok-clause-ends

@@ -1,13 +1,14 @@
+use Rattle.std.proofs.Common.{refl}
 use Rattle.redo_lab.proofs.AskedLimits.{command-of-within}
 use Rattle.redo_lab.proofs.ByDrive.{threads-serve-command}
 use Rattle.redo_lab.proofs.Called.{Printed, command-called, nothing-called}
 use Rattle.redo_lab.proofs.lab_call.lab.Goals as goal
 
-pub done-requires : goal.done-requires
-done-requires g c = command-of-within _ c.in-Ok.command c.in-Ok.ensures.asked
+pub done-requires-clause-within : goal.done-requires-clause-within
+done-requires-clause-within g c = λ κs live. command-of-within _ c.in-Ok.command c.in-Ok.ensures.asked
 
 pub lab_turns-requires-clause-within : goal.lab_turns-requires-clause-within
-lab_turns-requires-clause-within g c = command-of-within _ c.in-Ok.command c.in-Ok.ensures.asked
+lab_turns-requires-clause-within g c = λ κs live. command-of-within _ c.in-Ok.command c.in-Ok.ensures.asked
 
 pub returns-in-Err-clause-call : goal.returns-in-Err-clause-call
 returns-in-Err-clause-call g c =
@@ -24,7 +25,7 @@ returns-in-Some-clause-call g c =
     rw (c.end.ensures.log, c.end.ensures.store)
     (command-called g.L.Sectors.seen g.L.Sectors.gives g.D.Sectors.seen g.D.Sectors.gives _ (g.S.Source.seen c.args.src.now) (g.S.Source.seen c.done.new.src)
     c.args.log c.args.store c.done.result printed c.in-Ok.command c.in-Ok.ensures.asked
-    (c.done.ensures.ends _ (threads-serve-command g.L.Sectors.seen g.L.Sectors.gives g.D.Sectors.seen g.D.Sectors.gives c.in-Ok.command c.in-Some.drive is.0 is.1))
+    (c.done.ensures.ends _ (threads-serve-command g.L.Sectors.seen g.L.Sectors.gives g.D.Sectors.seen g.D.Sectors.gives _ _ c.in-Ok.command c.in-Some.drive is.0 is.1 refl))
     c.done.ensures.taken c.end.ensures.printed)
 
 pub returns-in-None-clause-call : goal.returns-in-None-clause-call

@@ -24,7 +24,7 @@ returns-in-Ok-clause-comes_to g c = λ asked log_entry data_entry stops log_foun
     } in
     ⊎_elim
     (unplayed-comes (ByDrive g.L.Sectors.seen g.L.Sectors.gives g.D.Sectors.seen g.D.Sectors.gives asked c.args.script.now) asked.log_only c.args.script.now c.play.result.course c.play.result.log c.play.result.store opened)
-    (driven-comes asked c.args.script.now c.play.result.course c.play.result.log c.play.result.store serves.told opened)
+    (driven-comes g.V.Drive.says c.args.drive.now asked c.args.script.now c.play.result.course c.play.result.log c.play.result.store serves.told opened)
     (rw serves.log_only_is at c.play.ensures.plays)
 
 pub returns-in-Err-clause-comes_to : goal.returns-in-Err-clause-comes_to
@@ -42,7 +42,7 @@ returns-in-Err-clause-comes_to g c = λ asked log_entry data_entry stops log_fou
 
 pub returns-in-Ok-clause-entered : goal.returns-in-Ok-clause-entered
 returns-in-Ok-clause-entered g c = entries-then (both-entries c.in-Ok.ensures.log_calls c.in-Ok.ensures.data_calls)
-    (⊎_elim unplayed-entries driven-entries c.play.ensures.plays)
+    (⊎_elim unplayed-entries (driven-entries g.V.Drive.says c.args.drive.now) c.play.ensures.plays)
 
 pub returns-in-Err-clause-entered : goal.returns-in-Err-clause-entered
 returns-in-Err-clause-entered g c = both-entries c.in-Err.ensures.log_calls c.in-Err.ensures.data_calls
