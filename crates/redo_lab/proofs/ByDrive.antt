@@ -15,7 +15,7 @@ use Rattle.redo_machine.specs.declared.drive.Turns.{Turns}
 use Rattle.redo_memdisk.specs.{CallsThrough, seen_through}
 use Rattle.redo_memdisk.specs.declared.fused.Fused.{Fused}
 use Rattle.redo_pageactors.specs.declared.opened.Opened.{Opened}
-use Rattle.redo_threads.specs.{RunsInThreads}
+use Rattle.redo_threads.specs.InThreads.{RunsInThreads}
 use Rattle.redo_lab.specs.Asked.{drive_of, runs_in_threads, turns_of}
 use Rattle.redo_lab.specs.Drives.{DrivenBy, TellsOf}
 use Rattle.redo_lab.specs.Playing.{Serves, ServesCommand}
@@ -70,7 +70,7 @@ module _ {L D : Type 0} (log_seen : L → Seen) (log_gives : L → Call → L �
   none-spent : (threads : Bool) (asked : Drive) (store : Opened (Fused L) (Fused D)) (script : List ScriptLine) (driven : Driven (Fused L) (Fused D)) (turns user : ℕ)
       → TellsIn threads asked store script driven → driven.ended ≡ Spent turns user → threads ≡ false
   none-spent false asked store script driven turns user told ended = refl
-  none-spent true asked store script driven turns user told ended = let same : Done ≡ Spent turns user = sym told.ended ∙ ended in absurd (cc)
+  none-spent true asked store script driven turns user told ended = let same : Done ≡ Spent turns user = sym told.done ∙ ended in absurd (cc)
 
   pub spends-turns : (asked : Drive) (opened : values.Opened) (script : List ScriptLine) (run : Ran) (turns user : ℕ) (log_met store_met : Option Disk)
       → DrivenBy log_seen log_gives data_seen data_gives asked opened script run (Spent turns user) log_met store_met → asked.threads ≡ false

@@ -16,7 +16,7 @@ use Rattle.redo_memdisk.specs.{CallsThrough, seen_through}
 use Rattle.redo_memdisk.specs.declared.fused.Fused.{Fused}
 use Rattle.redo_pageactors.specs.{IsRunnable}
 use Rattle.redo_pageactors.specs.declared.opened.Opened.{Opened}
-use Rattle.redo_threads.specs.{RunsInThreads}
+use Rattle.redo_threads.specs.InThreads.{RunsInThreads}
 use Rattle.redo_lab.specs.Asked.{turns_of}
 
 -- the store stands opened on both devices, as the theorem has it, and a run can start on it
