@@ -16,6 +16,7 @@ use Rattle.redo_memdisk.specs.{CallsThrough, seen_through}
 use Rattle.redo_memdisk.specs.declared.fused.Fused.{Fused}
 use Rattle.redo_pageactors.specs.{IsRunnable}
 use Rattle.redo_pageactors.specs.declared.opened.Opened.{Opened}
+use Rattle.redo_threads.specs.InThreads.{RunsInThreads}
 use Rattle.redo_lab.specs.Asked.{turns_of}
 
 -- the store stands opened on both devices, as the theorem has it, and a run can start on it
@@ -37,12 +38,12 @@ pub record IsDriven {L D : Type 0} (log_seen : L → Seen) (data_seen : D → Se
   pub log_is : log_met ≡ (log_seen driven.closed.log.dev).tells
   pub store_is : store_met ≡ (data_seen driven.closed.store.dev).tells
 
--- what the drive tells: by turns those of the seed, at most as many as are allowed; runs in threads aren't served yet
+-- what the drive tells: by turns, those of the seed, at most as many as are allowed; or in threads, by which no turns are counted
 abbrev pub TellsOf : {L D : Type 0} → (threads : Bool) → (L → Seen) → (L → Call → L → Type 0) → (D → Seen) → (D → Call → D → Type 0)
     → Drive → Opened L D → List ScriptLine → Driven L D → Type 0
 TellsOf false log_seen log_gives data_seen data_gives drive store script driven =
     RunsByTurns log_seen log_gives data_seen data_gives store script (turns_of drive) driven
-TellsOf true log_seen log_gives data_seen data_gives drive store script driven = ⊥
+TellsOf true log_seen log_gives data_seen data_gives drive store script driven = RunsInThreads store script drive.log_only driven
 
 -- the same on devices behind their fuses
 abbrev pub TellsBehind : {L D : Type 0} → (L → Seen) → (L → Call → L → Type 0) → (D → Seen) → (D → Call → D → Type 0)

@@ -1,6 +1,8 @@
 -- What the inner functions of a run come to: both devices once their fuses are armed, and the lines of a script on the store
 -- that was opened.
 use Rattle.std.specs.Prelude.{◌≡◌, ◌⊎◌, ℕ, Bool, List, Option, Some, None}
+use Rattle.model_command.specs.declared.asked.Command.{Command}
+use Rattle.model_command.specs.declared.asked.Command.TheVariants.{Crash}
 use Rattle.model_command.specs.declared.asked.Drive.{Drive}
 use Rattle.model_report.specs.declared.fault.Fault.{Fault}
 use Rattle.model_report.specs.declared.fault.Fault.TheVariants as fault
@@ -27,6 +29,8 @@ use Rattle.redo_lab.specs.declared.playing.Course.{Course}
 use Rattle.redo_lab.specs.declared.playing.Course.TheVariants as course
 use Rattle.redo_lab.specs.declared.playing.Played.{Played}
 use Rattle.redo_lab.specs.declared.playing.Stops.{Stops}
+use Rattle.redo_lab.specs.declared.crash_command.Crashing.{Crashing}
+use Rattle.redo_lab.specs.Asked.{drive_of}
 use Rattle.redo_lab.specs.Drives.{TellsBehind}
 use Rattle.redo_lab.specs.Faults.{fault_of}
 use Rattle.redo_lab.specs.Prepared.{ArePrepared}
@@ -112,3 +116,13 @@ pub record Serves {L D : Type 0} (log_seen : L → Seen) (log_gives : L → Call
   pub told : (opened : Opened (Fused L) (Fused D)) (script : List ScriptLine) (driven : Driven (Fused L) (Fused D))
       → says (seen_through log_seen) (CallsThrough log_seen log_gives) (seen_through data_seen) (CallsThrough data_seen data_gives) drive opened script driven
       → TellsBehind log_seen log_gives data_seen data_gives asked opened script driven
+
+-- and so for a command that runs a script
+abbrev pub ServesCommand : {L D : Type 0} → (L → Seen) → (L → Call → L → Type 0) → (D → Seen) → (D → Call → D → Type 0)
+    → {S : Type 0} → (S → Bool) → Says (Fused L) (Fused D) S → S → Command → Type 0
+ServesCommand log_seen log_gives data_seen data_gives alone says drive command =
+    (asked : Drive) → drive_of command ≡ Some asked → Serves log_seen log_gives data_seen data_gives alone says drive asked
+
+-- the command to crash so
+abbrev pub crash_of : Drive → Crashing → Command
+crash_of asked crash = Crash asked crash.stops.log crash.stops.store crash.pick crash.workers

@@ -1,5 +1,6 @@
 use Rattle.std.proofs.Common.{inl, inr}
 use Rattle.model_command.specs.declared.asked.Command.TheVariants.{Run}
+use Rattle.redo_lab.proofs.ByDrive.{spends-turns}
 use Rattle.redo_lab.proofs.RunDone.{run-played}
 use Rattle.redo_lab.proofs.Running.{RunLaws, ended-early, ended-stopped, no_stops, running-run, uncrashing-run}
 use Rattle.redo_lab.proofs.run_command.run_command.Goals as goal
@@ -17,7 +18,8 @@ returns-clause-ends g c = λ asked words source source_now serves read.
     } in
     elim c.match-course.branch [
       | in-Ended2 w ↦ rw w.outcome-is (elim w.in-Ended.is [
-        | inl ended ↦ ended-early _ (Run asked) asked no_stops c.args.script.now (running-run _ asked c.args.script.now read) laws w.in-Ended.fault
+        | inl ended ↦ ended-early _ (Run asked) asked no_stops c.args.script.now (running-run _ asked c.args.script.now read) laws
+            (spends-turns g.L.Sectors.seen g.L.Sectors.gives g.D.Sectors.seen g.D.Sectors.gives asked) w.in-Ended.fault
             (rw ended at c.run_lines-course.ensures.comes_to asked serves)
         | inr stopped ↦ ended-stopped _ (Run asked) asked c.args.script.now (running-run _ asked c.args.script.now read)
             (uncrashing-run _ asked) laws w.in-Ended.fault
