@@ -1,5 +1,5 @@
 -- The drives serve what is asked for.
-use Rattle.std.proofs.Common.{ℕ, ◌≡◌, Bool, true, false, List, Option, Some, ap, refl, sym, subst, ◌∙◌}
+use Rattle.std.proofs.Common.{ℕ, ◌≡◌, Bool, true, false, List, Option, Some, None, ap, refl, sym, subst, ◌∙◌}
 use Rattle.model_command.specs.declared.asked.Command.{Command}
 use Rattle.model_command.specs.declared.asked.Drive.{Drive}
 use Rattle.model_device.specs.Disk.{Disk}

@@ -12,7 +12,7 @@ ghost use Rattle.redo_lab.specs.Outcome.{EndsWith, call_of};
 ghost use Rattle.redo_lab.specs.Playing.{Serves, ServesCommand, crash_of};
 
 use crate::crash_command::{Crashing, crash_command};
-use crate::gen_command::{print_script, run_seed};
+use crate::gen_command::gen_command;
 use crate::outcome::{Done, unasked};
 use crate::playing::Stops;
 use crate::run_command::run_command;
@@ -122,15 +122,8 @@ pub(crate) fn done<R: Threads + Sync, S: Source, L: Sectors + Send, D: Sectors +
             seed,
             users,
             groups,
-            run: true,
+            run,
             ..
-        } => run_seed(alloc, seed, users, groups, drive, log, store),
-        Command::Gen {
-            seed,
-            users,
-            groups,
-            run: false,
-            ..
-        } => print_script(alloc, seed, users, groups, log, store),
+        } => gen_command(alloc, seed, users, groups, run, drive, log, store),
     }
 }

@@ -7,11 +7,11 @@ ghost use Rattle.model_command.specs.declared.words.TheConstants.{MAX_WORKERS};
 ghost use Rattle.model_script.specs.{IsScriptLine};
 ghost use Rattle.redo_io.specs.{SourceSeen};
 ghost use Rattle.redo_memdisk.specs.{entry_of};
-ghost use Rattle.redo_lab.specs.Crashed.{ReadsBack};
 ghost use Rattle.redo_lab.specs.Handed.{AreOf};
 ghost use Rattle.redo_lab.specs.Outcome.{EndsWith, call_of};
 ghost use Rattle.redo_lab.specs.Playing.{Serves, crash_of};
 ghost use Rattle.redo_lab.specs.Reported.{IsReportOf, run_of};
+ghost use Rattle.redo_lab.specs.Reread.{ReadsBack};
 ghost use Rattle.redo_lab.specs.Stages.{shown};
 ghost use Rattle.redo_lab.specs.Script.{IsScriptRead};
 

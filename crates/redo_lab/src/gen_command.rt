@@ -9,12 +9,12 @@ ghost use Rattle.redo_io.specs.{SourceSeen};
 ghost use Rattle.redo_memdisk.specs.{entry_of};
 ghost use Rattle.redo_recover.specs.{reading_of};
 ghost use Rattle.redo_lab.specs.Asked.{drive_of_seed};
-ghost use Rattle.redo_lab.specs.Behind.{ReadsBehind};
 ghost use Rattle.redo_lab.specs.Course.{ran_of};
 ghost use Rattle.redo_lab.specs.Handed.{AreOf};
 ghost use Rattle.redo_lab.specs.Outcome.{EndsWith, call_of};
 ghost use Rattle.redo_lab.specs.Playing.{Serves};
 ghost use Rattle.redo_lab.specs.Reported.{summary_of};
+ghost use Rattle.redo_lab.specs.Reread.{ReadsAfter};
 ghost use Rattle.redo_lab.specs.Stages.{shown};
 
 use crate::faults::fault_of;
@@ -36,8 +36,8 @@ use redo_report::summary;
 use redo_script::{generate, generate_lines, generated_lines_are_ranged};
 use std::alloc::Global;
 
-/// Prints the script of the seed. It reads no source.
-pub(crate) fn print_script<L: Sectors, D: Sectors>(
+/// Prints the script of the seed.
+fn print_script<L: Sectors, D: Sectors>(
     alloc: Global,
     seed: u64,
     users: u32,
@@ -74,13 +74,13 @@ fn summarize(alloc: Global, played: &Played, recovered: &Recovered) -> Result<Te
 }
 
 /// Reads the store behind a run, and sums both up.
-fn read_behind<L: Sectors, D: Sectors>(
+fn read_after<L: Sectors, D: Sectors>(
     alloc: Global,
     played: &Played,
     log: &mut Fused<L>,
     store: &mut Fused<D>,
 ) -> Outcome
-    ensures reads { ReadsBehind (ran_of played.now) result (shown L.seen log.old) (shown D.seen store.old)
+    ensures reads { ReadsAfter (ran_of played.now) result (shown L.seen log.old) (shown D.seen store.old)
         (shown L.seen log.new) (shown D.seen store.new) }
     ensures entered { AreOf (entry_of log.old) (entry_of store.old) log.new store.new }
 {
@@ -126,7 +126,7 @@ fn run_script<L: Sectors + Send, D: Sectors + Send, V: Drive>(
         Course::Ended(fault) | Course::Stopped(fault) => Outcome::Fault(fault),
         Course::Played(played, ended) => match ended {
             Some(fault) => Outcome::Fault(fault),
-            None => read_behind(alloc, &played, &mut log, &mut store),
+            None => read_after(alloc, &played, &mut log, &mut store),
         },
     };
     Done {
@@ -136,8 +136,8 @@ fn run_script<L: Sectors + Send, D: Sectors + Send, V: Drive>(
     }
 }
 
-/// Generates the script of the seed, and runs it by this drive. It reads no source.
-pub(crate) fn run_seed<L: Sectors + Send, D: Sectors + Send, V: Drive>(
+/// Generates the script of the seed, and runs it by this drive.
+fn run_seed<L: Sectors + Send, D: Sectors + Send, V: Drive>(
     alloc: Global,
     seed: u64,
     users: u32,
@@ -158,5 +158,30 @@ pub(crate) fn run_seed<L: Sectors + Send, D: Sectors + Send, V: Drive>(
     match generate_lines(alloc, seed, users, groups) {
         Ok(script) => run_script(alloc, &script, drive, log, store),
         Err(_) => unasked(Fault::Memory, log, store),
+    }
+}
+
+/// Generates the script of the seed, and prints it or runs it by this drive. It reads no source.
+pub(crate) fn gen_command<L: Sectors + Send, D: Sectors + Send, V: Drive>(
+    alloc: Global,
+    seed: u64,
+    users: u32,
+    groups: u64,
+    run: bool,
+    drive: &V,
+    log: L,
+    store: D,
+) -> Done<L, D>
+    requires some_users { 1 ≤ users }
+    requires few_users { users ≤ MAX_USERS }
+    ensures ends { (words : List (List ℕ)) (source : SourceSeen) (max : ℕ)
+        → (run ≡ true → Serves L.seen L.gives D.seen D.gives V.alone V.says drive.now (drive_of_seed seed max))
+        → EndsWith (call_of L.seen L.gives D.seen D.gives words source source log store result) (Gen seed users groups run max) result.outcome }
+    ensures entered { AreOf log store result.log result.store }
+{
+    if run {
+        run_seed(alloc, seed, users, groups, drive, log, store)
+    } else {
+        print_script(alloc, seed, users, groups, log, store)
     }
 }

@@ -36,7 +36,7 @@ returns-clause-ends g c = λ words source seed users groups max is serves.
         | in-None done ↦ rw (done.outcome-is, done.log-is, done.store-is)
             (seed-played _ seed users groups max c.args.script.now refl is laws c.base_is_fair.ensures w.in-Played.played _ _
             (rw (w.in-Played.is, done.in-None.is) at comes_to)
-            _ done.read_behind.ensures.reads)
+            _ done.read_after.ensures.reads)
       ])
     ]
 
@@ -46,6 +46,6 @@ returns-clause-entered g c =
       | in-Ended2 w ↦ rw (w.log-is, w.store-is) c.run_lines-course.ensures.entered
       | in-Played w ↦ rw (w.log-is, w.store-is) (elim w.match-ended.branch [
         | in-Some cut ↦ rw (cut.log-is, cut.store-is) c.run_lines-course.ensures.entered
-        | in-None done ↦ rw (done.log-is, done.store-is) (entries-then c.run_lines-course.ensures.entered done.read_behind.ensures.entered)
+        | in-None done ↦ rw (done.log-is, done.store-is) (entries-then c.run_lines-course.ensures.entered done.read_after.ensures.entered)
       ])
     ]

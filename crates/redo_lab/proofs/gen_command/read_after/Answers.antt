@@ -2,7 +2,7 @@ use Rattle.redo_recover.specs.{reading_of}
 use Rattle.redo_lab.proofs.Entered.{both-entries}
 use Rattle.redo_lab.proofs.ReadBehind.{behind-fails, behind-read, data-read, log-read}
 use Rattle.redo_lab.specs.Course.{ran_of}
-use Rattle.redo_lab.proofs.gen_command.read_behind.Goals as goal
+use Rattle.redo_lab.proofs.gen_command.read_after.Goals as goal
 
 pub returns-in-Ok-clause-reads : goal.returns-in-Ok-clause-reads
 returns-in-Ok-clause-reads g c =
