@@ -8,6 +8,7 @@ mod crash_command;
 mod ended;
 mod faults;
 mod gen_command;
+mod in_threads;
 mod lab_call;
 mod outcome;
 mod playing;
