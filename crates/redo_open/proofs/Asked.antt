@@ -1,14 +1,14 @@
 -- The calls of both devices, as they end.
-use Rattle.std.proofs.Common.{◌≡◌, ℕ, Option, Some, None, Ok, Err, sym, ap, subst}
+use Rattle.std.proofs.Common.{◌≡◌, ℕ, Option, Some, None, Ok, Err, sym, ap, subst, arith, length-append}
 use Rattle.redo_disk.specs.{Call, EndWith, MakesCalls, MayEndWith, ReadsMayEndWith}
 use Rattle.redo_disk.specs.declared.error.DevError.{DevError}
 use Rattle.redo_disk.specs.declared.error.DevError.TheVariants as device
-use Rattle.redo_disk.proofs.Calls.{MayEndWith-append}
+use Rattle.redo_disk.proofs.Calls.{MayEndWith-append, MayEndWith-no_memory}
 use Rattle.redo_disk.proofs.Made.{joined_calls, may_end, out_of_memory, weaker_calls}
 use Rattle.redo_logdev.specs.Part.{Part as Log}
-use Rattle.redo_open.specs.Opening.{Answer, IsStarted, log_left, data_left, log_error_in, data_error_in}
+use Rattle.redo_open.specs.Opening.{Answer, IsStarted, OpensLog, log_left, data_left, log_error_in, data_error_in}
 use Rattle.redo_open.specs.Places.{IsPageFault}
-use Rattle.redo_recover.specs.{data_error, data_fault_of, log_error, log_fault_of}
+use Rattle.redo_recover.specs.{ReadsLog, data_error, data_fault_of, log_error, log_fault_of}
 use Rattle.redo_recover.specs.declared.fault.RecFault.{RecFault}
 use Rattle.redo_recover.specs.declared.fault.RecFault.TheVariants.{DataDev, NoMemory}
 use Rattle.redo_recover.specs.declared.recovered.Recovered.{Recovered}
@@ -70,3 +70,23 @@ may_end_then {error = error} = joined_calls (MayEndWith-append error)
 pub reads_end : {D : Type 0} {gives : D → Call → D → Type 0} {old new : D} {error : Option DevError}
     → MakesCalls gives old new (ReadsMayEndWith error) → MakesCalls gives old new (MayEndWith error)
 reads_end = weaker_calls (λ calls are. are.ends)
+
+-- THE LOG DEVICE, which was read first.
+
+pub opens_log : {D : Type 0} {gives : D → Call → D → Type 0} {old new : D} {size : ℕ} {error : Option DevError}
+    → MakesCalls gives old new (ReadsLog size error) → MakesCalls gives old new (OpensLog size error)
+opens_log = weaker_calls (λ calls are. record { ends = are.reads.ends; begun = are.begun })
+
+-- and beside which a fault of the pages came
+pub opens_beside : {D : Type 0} {gives : D → Call → D → Type 0} {old new : D} {size : ℕ} (fault : RecFault) → IsPageFault fault
+    → MakesCalls gives old new (ReadsLog size None) → MakesCalls gives old new (OpensLog size (log_error fault))
+opens_beside DataDev own made = opens_log made
+opens_beside NoMemory own made = weaker_calls (λ calls are. record { ends = MayEndWith-no_memory calls are.reads.ends; begun = are.begun }) made
+opens_beside _ own made = absurd own
+
+pub opens_then : {D : Type 0} {gives : D → Call → D → Type 0} {old middle new : D} {size : ℕ} {error : Option DevError}
+    → MakesCalls gives old middle (ReadsLog size None) → MakesCalls gives middle new (MayEndWith error) → MakesCalls gives old new (OpensLog size error)
+opens_then {error = error} = joined_calls (λ xs ys one other. record {
+  ends = MayEndWith-append error xs ys one.reads.ends other;
+  begun = λ room. (let some = one.begun room in omega (arith, length-append xs ys, some));
+})

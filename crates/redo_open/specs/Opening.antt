@@ -1,5 +1,5 @@
 -- Opening a store off two devices that are handed in: what is opened, and what is left of the devices.
-use Rattle.std.specs.Prelude.{ℕ, ◌≡◌, ◌≢◌, ◌<◌, ◌+◌, List, Option, None, Result, Ok, Err, IfOk, IfErr, IfSome}
+use Rattle.std.specs.Prelude.{ℕ, ◌≡◌, ◌≢◌, ◌≤◌, ◌<◌, ◌+◌, List, length, Option, None, Result, Ok, Err, IfOk, IfErr, IfSome}
 use Rattle.model_base.specs.{HasRisen}
 use Rattle.model_base.specs.declared.limits.TheConstants.{LSN_LIMIT}
 use Rattle.model_logdev.specs.{first_marks, next_number}
@@ -8,6 +8,8 @@ use Rattle.model_opening.specs.{IsReady, KeepsOpened, start_of}
 use Rattle.model_store.specs.{IsOrderly, IsReading, Refuses}
 use Rattle.model_store.specs.Reading.{Reading}
 use Rattle.model_store.specs.declared.refusal.Refusal.{Refusal}
+use Rattle.model_log.specs.declared.layout.TheConstants.{HEADER_BYTES}
+use Rattle.redo_disk.specs.{Call, MayEndWith}
 use Rattle.redo_disk.specs.Seen.{Seen}
 use Rattle.redo_disk.specs.declared.error.DevError.{DevError}
 use Rattle.redo_store.specs.Part.{Part}
@@ -105,3 +107,8 @@ log_error_in (Err error) = log_error error.0
 abbrev pub data_error_in : {L D : Type 0} → Answer L D → Option DevError
 data_error_in (Ok store) = None
 data_error_in (Err error) = data_error error.0
+
+-- The calls of a log device of this size: they end so, and where it has room for a header, there is at least one.
+pub record OpensLog (size : ℕ) (error : Option DevError) (calls : List Call) : Type 0 where
+  pub ends : MayEndWith error calls
+  pub begun : HEADER_BYTES ≤ size → 0 < length calls

@@ -7,7 +7,7 @@ ghost use Rattle.model_store.specs.Reading.{Reading};
 ghost use Rattle.redo_disk.specs.{MakesCalls, MayEndWith};
 ghost use Rattle.redo_open.specs.Devices.{HasSameCheckpoint, IsSameDevice, WhereBothTell};
 ghost use Rattle.redo_open.specs.Mend.{IsSettledData};
-ghost use Rattle.redo_open.specs.Opening.{log_left, data_left, log_error_in, data_error_in, HasFaultCause, IsOpeningOf, IsOpenedReady, IsStarted, OpensRecovered};
+ghost use Rattle.redo_open.specs.Opening.{log_left, data_left, log_error_in, data_error_in, HasFaultCause, IsOpeningOf, IsOpenedReady, IsStarted, OpensLog, OpensRecovered};
 ghost use Rattle.redo_pageactors.specs.{IsRunnable};
 ghost use Rattle.redo_recover.specs.{AreFoundOn, IsOfDevices, OnContents, reading_of};
 
@@ -107,7 +107,7 @@ pub fn open_store<L: Sectors, D: Sectors>(
         (L.seen error.1) (D.seen error.2) error.0) }
     ensures log { IsSameDevice (L.seen log) (L.seen (log_left result)) }
     ensures data_device { IsSameDevice (D.seen data_device) (D.seen (data_left result)) }
-    ensures log_calls { MakesCalls L.gives log (log_left result) (MayEndWith (log_error_in result)) }
+    ensures log_calls { MakesCalls L.gives log (log_left result) (OpensLog (L.seen log).size (log_error_in result)) }
     ensures data_calls { MakesCalls D.gives data_device (data_left result) (MayEndWith (data_error_in result)) }
 {
     let recovered = match recover(alloc, &mut log, &mut data_device) {

@@ -13,6 +13,6 @@ pub use Rattle.redo_recover.specs.Groups.{IsEndOf}
 pub use Rattle.redo_recover.specs.Pages.{AreNotAhead}
 pub use Rattle.redo_recover.specs.Places.{AreFoundOn, ArePlacesOf, HaveSlots, IsFoundAt}
 pub use Rattle.redo_recover.specs.Reading.{IsOfDevices, reading_of}
-pub use Rattle.redo_recover.specs.Reads.{IsOnlyRead, data_error, data_error_of, log_error, log_error_of}
+pub use Rattle.redo_recover.specs.Reads.{IsLogRead, IsOnlyRead, ReadsLog, data_error, data_error_of, log_error, log_error_of}
 pub use Rattle.redo_recover.specs.Recovery.{IsCaused, IsRecovered, Recovers}
 pub use Rattle.redo_recover.specs.Start.{IsLengthFault}

@@ -1,6 +1,7 @@
 -- A device that is read and not written, and the error that it may have answered.
-use Rattle.std.specs.Prelude.{◌≡◌, Option, Some, None, Result, Ok, Err}
+use Rattle.std.specs.Prelude.{ℕ, ◌≡◌, ◌≤◌, ◌<◌, List, length, Option, Some, None, Result, Ok, Err}
 use Rattle.model_base.specs.{HasRisen}
+use Rattle.model_log.specs.declared.layout.TheConstants.{HEADER_BYTES}
 use Rattle.redo_disk.specs.{Call, MakesCalls, ReadsMayEndWith}
 use Rattle.redo_disk.specs.Seen.{Seen}
 use Rattle.redo_disk.specs.declared.error.DevError.{DevError}
@@ -9,12 +10,25 @@ use Rattle.redo_recover.specs.Devices.{IsUnchanged}
 use Rattle.redo_recover.specs.declared.fault.RecFault.{RecFault}
 use Rattle.redo_recover.specs.declared.fault.RecFault.TheVariants.{LogDev, DataDev, NoMemory}
 
--- THE DEVICE WAS READ AND NOTHING ELSE: it means what it meant, and its calls were reads. All but the last answered Ok, and
--- the last one answered this error, if any did; where memory ran out they may all have answered Ok. A failure is counted.
-pub record IsOnlyRead {D : Type 0} (seen : D → Seen) (gives : D → Call → D → Type 0) (old : D) (error : Option DevError) (new : D) : Type 0 where
+-- the device means what it meant, such calls were made of it, and a failure is counted
+pub record IsReadBy {D : Type 0} (Are : List Call → Type 0) (seen : D → Seen) (gives : D → Call → D → Type 0) (old : D) (error : Option DevError) (new : D) : Type 0 where
   pub unchanged : IsUnchanged (seen old) (seen new)
-  pub calls : MakesCalls gives old new (ReadsMayEndWith error)
+  pub calls : MakesCalls gives old new Are
   pub failed : error ≡ Some device.Failed → HasRisen (seen old).faults (seen new).faults
+
+-- THE DEVICE WAS READ AND NOTHING ELSE. All calls but the last answered Ok, and the last one answered this error, if any did;
+-- where memory ran out they may all have answered Ok.
+abbrev pub IsOnlyRead : {D : Type 0} → (D → Seen) → (D → Call → D → Type 0) → D → Option DevError → D → Type 0
+IsOnlyRead seen gives old error new = IsReadBy (ReadsMayEndWith error) seen gives old error new
+
+-- the calls of a log device of this size: where it has room for a header, there is at least one
+pub record ReadsLog (size : ℕ) (error : Option DevError) (calls : List Call) : Type 0 where
+  pub reads : ReadsMayEndWith error calls
+  pub begun : HEADER_BYTES ≤ size → 0 < length calls
+
+-- the same of a log device
+abbrev pub IsLogRead : {D : Type 0} → (D → Seen) → (D → Call → D → Type 0) → D → Option DevError → D → Type 0
+IsLogRead seen gives old error new = IsReadBy (ReadsLog (seen old).size error) seen gives old error new
 
 -- the error that the log device may have answered where this is the fault
 abbrev pub log_error : RecFault → Option DevError

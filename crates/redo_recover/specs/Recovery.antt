@@ -7,7 +7,7 @@ use Rattle.redo_disk.specs.Seen.{Seen}
 use Rattle.redo_recover.specs.Devices.{HasCauseIn, HasLengthCause, OnContent, OnContents}
 use Rattle.redo_recover.specs.Places.{AreFoundOn}
 use Rattle.redo_recover.specs.Reading.{IsOfDevices, reading_of}
-use Rattle.redo_recover.specs.Reads.{IsOnlyRead, data_error_of, log_error_of}
+use Rattle.redo_recover.specs.Reads.{IsLogRead, IsOnlyRead, data_error_of, log_error_of}
 use Rattle.redo_recover.specs.declared.fault.RecFault.{RecFault}
 use Rattle.redo_recover.specs.declared.recovered.Recovered.{Recovered}
 
@@ -30,5 +30,5 @@ pub record Recovers {L D : Type 0} (log_seen : L → Seen) (log_gives : L → Ca
     (log_old log_new : L) (data_old data_new : D) (result : Result Recovered RecFault) : Type 0 where
   pub recovered : IfOk result (IsRecovered (log_seen log_old) (data_seen data_old))
   pub caused : IfErr result (IsCaused (log_seen log_old) (data_seen data_old))
-  pub log : IsOnlyRead log_seen log_gives log_old (log_error_of result) log_new
+  pub log : IsLogRead log_seen log_gives log_old (log_error_of result) log_new
   pub data_device : IsOnlyRead data_seen data_gives data_old (data_error_of result) data_new

@@ -5,7 +5,7 @@ ghost use Rattle.model_log.specs.{header_block, log_device_length, newest_checkp
 ghost use Rattle.model_page.specs.{data_device_length};
 ghost use Rattle.redo_disk.specs.{HasSize};
 ghost use Rattle.redo_recover.specs.Devices.{HasCauseIn, HasLengthCause, OnContents};
-ghost use Rattle.redo_recover.specs.Reads.{IsOnlyRead, MayBeOwn, data_error, log_error_of};
+ghost use Rattle.redo_recover.specs.Reads.{IsLogRead, MayBeOwn, data_error, log_error_of};
 ghost use Rattle.redo_recover.specs.Start.{IsHeadFault, IsLengthFault, IsStart, IsUsable};
 
 use crate::RecFault;
@@ -81,7 +81,7 @@ pub(crate) fn read_start<L: Sectors, D: Sectors>(log: &mut L, device: &D) -> Res
     ensures usable { IfOk result (IsUsable (L.seen log.old).size (D.seen device.now).size) }
     ensures lengths { IfErr result (HasLengthCause (L.seen log.old).size (D.seen device.now).size) }
     ensures cause { IfErr result (HasCauseIn (L.seen log.old).tells (D.seen device.now).tells) }
-    ensures reads { IsOnlyRead L.seen L.gives log.old (log_error_of result) log.new }
+    ensures reads { IsLogRead L.seen L.gives log.old (log_error_of result) log.new }
     ensures apart { IfErr result (λ fault. MayBeOwn (data_error fault)) }
 {
     let log_len = log.len();

@@ -7,7 +7,7 @@ use Rattle.redo_disk.proofs.Made.{call_ends, may_end}
 use Rattle.redo_open.specs.Devices.{HasSameCheckpoint, WhereBothTell}
 use Rattle.redo_open.specs.Opening.{log_left, data_left, IsOpenedReady}
 use Rattle.redo_open.specs.Places.{IsPageFault}
-use Rattle.redo_open.proofs.Asked.{beside_pages, data_ends, may_end_then, reads_end}
+use Rattle.redo_open.proofs.Asked.{data_ends, may_end_then, opens_beside, opens_log, opens_then, reads_end}
 use Rattle.redo_open.proofs.Endings.{device-own}
 use Rattle.redo_open.proofs.Stores.{also-refused, openable-same, opened-read, opening-cause, both-err, sync-cause, synced-holds}
 use Rattle.redo_open.proofs.Told.{cause-since}
@@ -70,21 +70,21 @@ returns-in-Err-sync-clause-cause g c =
     (cause-since _ _ _ (Err c.in-Err-sync.error) c.in-Ok.ensures.data_device.unchanged.later c.in-Err-sync.ensures.step.cause)
 
 pub returns-in-Err-clause-log_calls : goal.returns-in-Err-clause-log_calls
-returns-in-Err-clause-log_calls g c = reads_end c.in-Err.ensures.log.calls
+returns-in-Err-clause-log_calls g c = opens_log c.in-Err.ensures.log.calls
 
 pub returns-in-Err-clause-data_calls : goal.returns-in-Err-clause-data_calls
 returns-in-Err-clause-data_calls g c = reads_end c.in-Err.ensures.data_device.calls
 
 pub returns-in-Err-sync-clause-log_calls : goal.returns-in-Err-sync-clause-log_calls
 returns-in-Err-sync-clause-log_calls g c =
-    beside_pages c.data_fault.result (subst IsPageFault (sym c.data_fault.ensures) (device-own c.in-Err-sync.error)) (reads_end c.in-Ok.ensures.log.calls)
+    opens_beside c.data_fault.result (subst IsPageFault (sym c.data_fault.ensures) (device-own c.in-Err-sync.error)) c.in-Ok.ensures.log.calls
 
 pub returns-in-Err-sync-clause-data_calls : goal.returns-in-Err-sync-clause-data_calls
 returns-in-Err-sync-clause-data_calls g c =
     may_end_then (reads_end c.in-Ok.ensures.data_device.calls) (data_ends c.in-Err-sync.error c.data_fault.result c.data_fault.ensures (call_ends c.in-Err-sync.ensures.gives))
 
 pub returns-clause-log_calls : goal.returns-clause-log_calls
-returns-clause-log_calls g c = may_end_then (reads_end c.in-Ok.ensures.log.calls) c.open_recovered.ensures.log_calls
+returns-clause-log_calls g c = opens_then c.in-Ok.ensures.log.calls c.open_recovered.ensures.log_calls
 
 pub returns-clause-data_calls : goal.returns-clause-data_calls
 returns-clause-data_calls g c =

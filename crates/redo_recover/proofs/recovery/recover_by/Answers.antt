@@ -5,7 +5,7 @@ use Rattle.model_record.specs.declared.group.Whole.{Whole}
 use Rattle.model_stop.specs.{IsStop}
 use Rattle.redo_recover.specs.Reads.{data_error, log_error}
 use Rattle.redo_recover.proofs.Causing.{page-cause, reading-of, scan-cause}
-use Rattle.redo_recover.proofs.Only.{only-none, only-own, only-then}
+use Rattle.redo_recover.proofs.Only.{log-own, log-then, only-none, only-own}
 use Rattle.redo_recover.proofs.Unchanged.{content-before}
 use Rattle.redo_recover.proofs.recovery.recover_by.Goals as goal
 
@@ -37,7 +37,7 @@ returns-in_err-views g c =
         cause = scan-cause log (g.L.Sectors.seen c.read_start.new.log) data_device.tells c.in_ok-shape.field-0 fault c.in_ok-shape.ensures.reads.unchanged
             c.in_ok-shape.ensures.start c.in_err-views.ensures.fault;
       };
-      log = only-then _ _ _ _ c.in_ok-shape.ensures.reads c.in_err-views.ensures.reads;
+      log = log-then _ _ _ _ c.in_ok-shape.ensures.reads c.in_err-views.ensures.reads;
       data_device = only-own _ _ (data_error fault) c.in_err-views.ensures.apart (only-none c.args.data_device.now);
     })
 
@@ -55,7 +55,7 @@ returns-in_err-pages g c =
             c.in_ok-views.field-0.groups.items c.in_ok-views.field-0.end fault c.in_ok-shape.ensures.reads.unchanged c.in_ok-shape.ensures.start
             c.in_ok-views.ensures.scan c.in_err-pages.ensures.cause;
       };
-      log = only-own _ _ (log_error fault) c.in_err-pages.ensures.apart (only-then _ _ _ None c.in_ok-shape.ensures.reads c.in_ok-views.ensures.reads);
+      log = log-own _ _ (log_error fault) c.in_err-pages.ensures.apart (log-then _ _ _ None c.in_ok-shape.ensures.reads c.in_ok-views.ensures.reads);
       data_device = c.in_err-pages.ensures.reads;
     })
 
@@ -90,6 +90,6 @@ returns g c =
         };
       };
       caused = tt;
-      log = only-then _ _ _ None c.in_ok-shape.ensures.reads c.in_ok-views.ensures.reads;
+      log = log-then _ _ _ None c.in_ok-shape.ensures.reads c.in_ok-views.ensures.reads;
       data_device = c.in_ok-pages.ensures.reads;
     }

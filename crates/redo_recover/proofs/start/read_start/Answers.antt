@@ -7,7 +7,7 @@ use Rattle.redo_recover.specs.Start.{IsLengthFault}
 use Rattle.redo_recover.specs.declared.fault.RecFault.{RecFault}
 use Rattle.redo_recover.proofs.Starting.{header-of, sized, head-cause, length-cause, checkpoint-cause, starts}
 use Rattle.redo_recover.proofs.Unchanged.{log_fault-cause}
-use Rattle.redo_recover.proofs.Only.{only-log, only-none, only-one, only-own}
+use Rattle.redo_recover.proofs.Only.{log-fault, log-one, log-own, log-short}
 use Rattle.redo_recover.proofs.Owning.{head-own, length-own, log-apart}
 use Rattle.redo_recover.proofs.start.read_start.Goals as goal
 
@@ -81,30 +81,30 @@ returns-in-None-clause-cause g c =
     (record { long = omega arith; head = head; log_long = omega (arith, c.in_ok-check_lengths.ensures.fit.0); data_long = omega (arith, c.in_ok-check_lengths.ensures.fit.1) }) newest
 
 pub returns-then-log_len-lt-HEADER_BYTES-clause-reads : goal.returns-then-log_len-lt-HEADER_BYTES-clause-reads
-returns-then-log_len-lt-HEADER_BYTES-clause-reads g c = only-own c.args.log.now c.args.log.now _ tt (only-none c.args.log.now)
+returns-then-log_len-lt-HEADER_BYTES-clause-reads g c = log-short c.args.log.now _ tt (omega (arith, c.len-log_len.ensures.size))
 
 pub returns-in-Err-clause-reads : goal.returns-in-Err-clause-reads
-returns-in-Err-clause-reads g c = only-log _ _ c.in-Err.error _ c.log_fault.ensures (only-one _ _ _ _ _ _ _ c.in-Err.ensures.step c.in-Err.ensures.gives)
+returns-in-Err-clause-reads g c = log-fault _ _ c.in-Err.error _ c.log_fault.ensures (log-one _ _ _ _ _ _ _ c.in-Err.ensures.step c.in-Err.ensures.gives)
 
 pub returns-in_err-shape-clause-reads : goal.returns-in_err-shape-clause-reads
 returns-in_err-shape-clause-reads g c =
     let fault = c.in_err-shape.field-0.0 in
     let p = err_from_is_err_and c.from_residual.result c.from_residual.ensures.1 in
-    rw (p.1, p.2) (only-own _ _ (log_error fault) (head-own c.read.new.out fault c.in_err-shape.ensures.fault).0
-    (only-one _ _ _ _ _ _ _ c.in-Ok.ensures.step c.in-Ok.ensures.gives))
+    rw (p.1, p.2) (log-own _ _ (log_error fault) (head-own c.read.new.out fault c.in_err-shape.ensures.fault).0
+    (log-one _ _ _ _ _ _ _ c.in-Ok.ensures.step c.in-Ok.ensures.gives))
 
 pub returns-in_err-check_lengths-clause-reads : goal.returns-in_err-check_lengths-clause-reads
 returns-in_err-check_lengths-clause-reads g c =
     let fault = c.in_err-check_lengths.field-0.0 in
     let p = err_from_is_err_and c.from_residual-in_err-check_lengths.result c.from_residual-in_err-check_lengths.ensures.1 in
-    rw (p.1, p.2) (only-own _ _ (log_error fault) (length-own c.in_ok-shape.shape _ _ fault c.in_err-check_lengths.ensures.fault).0
-    (only-one _ _ _ _ _ _ _ c.in-Ok.ensures.step c.in-Ok.ensures.gives))
+    rw (p.1, p.2) (log-own _ _ (log_error fault) (length-own c.in_ok-shape.shape _ _ fault c.in_err-check_lengths.ensures.fault).0
+    (log-one _ _ _ _ _ _ _ c.in-Ok.ensures.step c.in-Ok.ensures.gives))
 
 pub returns-in-Some-clause-reads : goal.returns-in-Some-clause-reads
-returns-in-Some-clause-reads g c = only-one _ _ _ _ _ _ _ c.in-Ok.ensures.step c.in-Ok.ensures.gives
+returns-in-Some-clause-reads g c = log-one _ _ _ _ _ _ _ c.in-Ok.ensures.step c.in-Ok.ensures.gives
 
 pub returns-in-None-clause-reads : goal.returns-in-None-clause-reads
-returns-in-None-clause-reads g c = only-one _ _ _ _ _ _ _ c.in-Ok.ensures.step c.in-Ok.ensures.gives
+returns-in-None-clause-reads g c = log-one _ _ _ _ _ _ _ c.in-Ok.ensures.step c.in-Ok.ensures.gives
 
 pub returns-in-Err-clause-apart : goal.returns-in-Err-clause-apart
 returns-in-Err-clause-apart g c = subst (λ (f : RecFault). MayBeOwn (data_error f)) (sym c.log_fault.ensures) (log-apart c.in-Err.error)
