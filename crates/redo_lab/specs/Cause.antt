@@ -16,10 +16,11 @@ use Rattle.model_store.specs.{IsUnused}
 use Rattle.model_store.specs.declared.refusal.Refusal.{Refusal}
 use Rattle.model_store.specs.declared.refusal.Refusal.TheVariants.{SmallLog}
 use Rattle.model_theorem.specs.{Opened, Ran, room_of}
+use Rattle.redo_drive.specs.declared.drive.RunEnd.TheVariants.{Spent}
 use Rattle.redo_memdisk.specs.declared.fuse.Stage.TheVariants.{Before}
 use Rattle.redo_lab.specs.Answer.{shape_of}
 use Rattle.redo_lab.specs.Asked.{drive_of, reads_script}
-use Rattle.redo_lab.specs.Call.{AreUnfailedFor, Call, Each, Guarded, IsUnfailed, Spent, WhereToldAtEntry, WhereToldNow}
+use Rattle.redo_lab.specs.Call.{AreUnfailedFor, Call, Each, Guarded, IsUnfailed, WhereToldAtEntry, WhereToldNow}
 use Rattle.redo_lab.specs.Script.{IsBadLine, IsLongScript, IsScriptFor, IsScriptRead}
 use Rattle.redo_lab.specs.Store.{AreRefused, IsOpenedAs, IsTooShort}
 use Rattle.redo_lab.specs.Told.{IsOpenedFirst, IsRunOf}
@@ -63,15 +64,15 @@ IsRefused call (Dump why) refusal = WhereToldAtEntry call (AreRefused refusal)
 IsRefused call (Gen seed users groups true max) refusal = IsRefusedAtEntry call refusal ⊎ WhereToldNow call (AreRefused refusal)
 IsRefused call (Gen seed users groups false max) refusal = ⊥
 
--- THE TURNS ARE SPENT: the drive's run has taken all of them, and this is the least user that hasn't ended. Nothing was crashed.
+-- THE TURNS ARE SPENT: the drive's run has taken so many, which are all, and this is the least user that hasn't ended. Nothing was
+-- crashed.
 pub record AreTurnsSpent (call : Call) (command : Command) (turns user : ℕ) : Type 0 where
   pub drive : Drive
   pub asked : drive_of command ≡ Some drive
-  pub turns_are : turns ≡ drive.max
   pub opened : Opened
   pub script : List ScriptLine
   pub run : Ran
-  pub is_run : IsRunOf call command drive opened script run (Spent user) call.log.now.tells call.store.now.tells
+  pub is_run : IsRunOf call command drive opened script run (Spent turns user) call.log.now.tells call.store.now.tells
   pub uncrashed : Each (λ device. device.fuse.pick ≡ None) call
 
 -- A quantity of the script is the first that doesn't fit the store that was opened.

@@ -21,6 +21,6 @@ mod shapes;
 mod simple;
 
 pub use ended::Ended;
-pub use lab_call::lab;
+pub use lab_call::{lab, lab_turns};
 pub use printing::print_fault;
 pub use shapes::{LOG_LENGTH, STORE_LENGTH};

@@ -1,23 +1,28 @@
+use Rattle.std.proofs.Common.{refl}
 use Rattle.redo_lab.proofs.Called.{all-left}
+use Rattle.redo_lab.specs.Asked.{drive_of_seed}
 use Rattle.redo_lab.proofs.commands.done.Goals as goal
 
 pub returns-in-Format-clause-ends : goal.returns-in-Format-clause-ends
-returns-in-Format-clause-ends g c = λ words. rw c.in-Format.is (c.format_devices.ensures.ends words _)
+returns-in-Format-clause-ends g c = λ words serves. rw c.in-Format.is (c.format_devices.ensures.ends words _)
 
 pub returns-in-Run-clause-ends : goal.returns-in-Run-clause-ends
-returns-in-Run-clause-ends g c = λ words. rw c.in-Run.is (c.run_source.ensures.ends words)
+returns-in-Run-clause-ends g c = λ words serves. rw c.in-Run.is (c.run_source.ensures.ends _ words (serves _ (rw c.in-Run.is refl)))
 
 pub returns-in-Crash-clause-ends : goal.returns-in-Crash-clause-ends
-returns-in-Crash-clause-ends g c = λ words. rw c.in-Crash.is (c.crash_source.ensures.ends words _)
+returns-in-Crash-clause-ends g c = λ words serves. rw c.in-Crash.is (c.crash_source.ensures.ends _ words (serves _ (rw c.in-Crash.is refl)))
 
 pub returns-in-Recover-clause-ends : goal.returns-in-Recover-clause-ends
-returns-in-Recover-clause-ends g c = λ words. rw c.in-Recover.is (c.print_pages.ensures.ends words _ _)
+returns-in-Recover-clause-ends g c = λ words serves. rw c.in-Recover.is (c.print_pages.ensures.ends words _)
 
 pub returns-in-Dump-clause-ends : goal.returns-in-Dump-clause-ends
-returns-in-Dump-clause-ends g c = λ words. rw c.in-Dump.is (c.print_store.ensures.ends words _ _)
+returns-in-Dump-clause-ends g c = λ words serves. rw c.in-Dump.is (c.print_store.ensures.ends words _ _)
 
 pub returns-in-Gen-clause-ends : goal.returns-in-Gen-clause-ends
-returns-in-Gen-clause-ends g c = λ words. rw c.in-Gen.is (c.gen_command.ensures.ends words _)
+returns-in-Gen-clause-ends g c = λ words serves. rw c.in-Gen.is (c.run_seed.ensures.ends words _ _ (serves _ (rw c.in-Gen.is refl)))
+
+pub returns-in-Gen-2-clause-ends : goal.returns-in-Gen-2-clause-ends
+returns-in-Gen-2-clause-ends g c = λ words serves. rw c.in-Gen.is (c.print_script.ensures.ends words _ _)
 
 pub returns-in-Format-clause-entered : goal.returns-in-Format-clause-entered
 returns-in-Format-clause-entered g c = c.format_devices.ensures.entered
@@ -35,7 +40,10 @@ pub returns-in-Dump-clause-entered : goal.returns-in-Dump-clause-entered
 returns-in-Dump-clause-entered g c = c.print_store.ensures.entered
 
 pub returns-in-Gen-clause-entered : goal.returns-in-Gen-clause-entered
-returns-in-Gen-clause-entered g c = c.gen_command.ensures.entered
+returns-in-Gen-clause-entered g c = c.run_seed.ensures.entered
+
+pub returns-in-Gen-2-clause-entered : goal.returns-in-Gen-2-clause-entered
+returns-in-Gen-2-clause-entered g c = c.print_script.ensures.entered
 
 pub returns-in-Format-clause-taken : goal.returns-in-Format-clause-taken
 returns-in-Format-clause-taken g c = all-left (g.S.Source.seen c.args.src.now).left
@@ -48,3 +56,6 @@ returns-in-Dump-clause-taken g c = all-left (g.S.Source.seen c.args.src.now).lef
 
 pub returns-in-Gen-clause-taken : goal.returns-in-Gen-clause-taken
 returns-in-Gen-clause-taken g c = all-left (g.S.Source.seen c.args.src.now).left
+
+pub returns-in-Gen-2-clause-taken : goal.returns-in-Gen-2-clause-taken
+returns-in-Gen-2-clause-taken g c = all-left (g.S.Source.seen c.args.src.now).left
