@@ -1,29 +1,24 @@
 -- The command `format`.
-use Rattle.std.proofs.Common.{◌≡◌, ◌∙◌, ◌&&◌, ◌-◌, ◌^◌, inl, inr, refl, sym, ap, ℕ, Bool, true, false, List, [], ◌∷◌, map, codes, Option, Some, None, option_map, true≢false}
-use Rattle.std.specs.Prelude.{if◌then◌else◌, option_and_then, fold, unwrap_or}
-use Rattle.std.proofs.Math.Bool.{and-false}
+use Rattle.std.proofs.Common.{◌≡◌, ◌∙◌, ◌-◌, ◌^◌, inl, inr, refl, sym, ap, ℕ, Bool, true, false, List, map, codes, Option, Some, None, option_map, true≢false}
+use Rattle.std.specs.Prelude.{option_and_then, fold}
 use Rattle.clap.specs.Walk.{Row, Rule, Text, first_of, with_default}
 use Rattle.model_base.specs.declared.limits.TheConstants.{DEFAULT_LOG_BLOCKS, DEFAULT_PAGES, DEFAULT_SPACE, MAX_LOG_BLOCKS, MAX_PAGES, MIN_LOG_BLOCKS}
-use Rattle.model_command.specs.{Said, are_different, crash_of, drive_of, format_of, workers_of, given_number, is_flag, is_given, number_within, word_number}
+use Rattle.model_command.specs.{are_different, format_of, is_flag, is_given, word_number}
 use Rattle.model_command.specs.declared.asked.Asked.{Asked}
-use Rattle.model_command.specs.declared.asked.Command.{Command}
 use Rattle.model_command.specs.declared.asked.Command.TheVariants as asked
-use Rattle.model_command.specs.declared.asked.Drive.{Drive}
 use Rattle.model_command.specs.declared.words.Name.{Name}
 use Rattle.model_command.specs.declared.words.Name.TheVariants as name
-use Rattle.model_command.specs.declared.words.TheConstants.{DEFAULT_TURNS, MAX_TURNS, MAX_WORKERS}
-use Rattle.model_words.specs.Found.{is_true, text_number, text_number_or}
-use Rattle.model_words.proofs.Asked.{flag_in, number_in, or_is, read, whole_is}
+use Rattle.model_words.specs.Found.{is_true, text_number_or}
+use Rattle.model_words.proofs.Asked.{or_is, read}
 use Rattle.model_words.proofs.Asked.{Command as Reads}
-use Rattle.model_words.proofs.Commands.{as_asked, given_is, good_options, number_bad, or_bad, text_is, twice_options, unfit_options}
+use Rattle.model_words.proofs.Commands.{as_asked, given_is, good_options, or_bad, text_is, twice_options, unfit_options}
 use Rattle.model_words.proofs.Different.{different_is}
 use Rattle.model_words.proofs.Said.{none_then}
 use Rattle.model_words.proofs.Defaults.{Bad, flag_kept, number_kept}
-use Rattle.model_words.proofs.Lookups.{Ok, text_in}
-use Rattle.model_words.proofs.Rules.{Place, crash_names, dump_names, format_names, id, plain, recover_names, rules, run_names}
-use Rattle.model_words.proofs.Said.{are_members, conv, fits}
+use Rattle.model_words.proofs.Rules.{format_names, id, plain, rules}
+use Rattle.model_words.proofs.Said.{are_members}
 use Rattle.model_words.proofs.Spelled.{is_member}
-use Rattle.model_words.proofs.Uses.{Use, use_row}
+use Rattle.model_words.proofs.Uses.{use_row}
 
 abbrev format_with : Bool → Option ℕ → Option ℕ → Option ℕ → Option Asked
 format_with files pages space log_blocks =
