@@ -117,7 +117,7 @@ pub(crate) fn done<R: Threads + Sync, S: Source, L: Sectors + Send, D: Sectors +
             crash_source(rt, alloc, src, drive, crash, log, store)
         }
         Command::Recover { workers } => print_pages(rt, alloc, workers, log, store),
-        Command::Dump { .. } => print_store(alloc, log, store),
+        Command::Dump { why } => print_store(alloc, why, log, store),
         Command::Gen {
             seed,
             users,

@@ -1,5 +1,5 @@
 // The commands that take no script.
-ghost use Rattle.std.specs.Prelude.{ℕ, Bool, List, ◌≤◌};
+ghost use Rattle.std.specs.Prelude.{ℕ, List, ◌≤◌};
 ghost use Rattle.model_base.specs.{IsWithinLimits};
 ghost use Rattle.model_command.specs.declared.asked.Command.TheVariants.{Format, Recover, Dump};
 ghost use Rattle.model_command.specs.declared.words.TheConstants.{MAX_WORKERS};
@@ -77,9 +77,14 @@ pub(crate) fn print_pages<R: Threads + Sync, L: Sectors, D: Sectors>(
     }
 }
 
-/// Reads the store, and lists what stands on its devices.
-pub(crate) fn print_store<L: Sectors, D: Sectors>(alloc: Global, log: L, store: D) -> Done<L, D>
-    ensures ends { (words : List (List ℕ)) (source : SourceSeen) (why : Bool)
+/// Reads the store, and lists what stands on its devices, and where that is asked why no further block is read.
+pub(crate) fn print_store<L: Sectors, D: Sectors>(
+    alloc: Global,
+    why: bool,
+    log: L,
+    store: D,
+) -> Done<L, D>
+    ensures ends { (words : List (List ℕ)) (source : SourceSeen)
         → EndsWith (call_of L.seen L.gives D.seen D.gives words source source log store result) (Dump why) result.outcome }
     ensures entered { AreOf log store result.log result.store }
 {
@@ -87,7 +92,7 @@ pub(crate) fn print_store<L: Sectors, D: Sectors>(alloc: Global, log: L, store: 
     let mut log = Fused::plain(log);
     let mut store = Fused::plain(store);
     let outcome = match recover(alloc, &mut log, &mut store) {
-        Ok(recovered) => Outcome::of_text(listing_of(alloc, &recovered)),
+        Ok(recovered) => Outcome::of_text(listing_of(alloc, &recovered, why)),
         Err(fault) => Outcome::Fault(fault_of(fault)),
     };
     Done {

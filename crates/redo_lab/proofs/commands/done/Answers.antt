@@ -15,7 +15,7 @@ pub returns-in-Recover-clause-ends : goal.returns-in-Recover-clause-ends
 returns-in-Recover-clause-ends g c = λ words serves. rw c.in-Recover.is (c.print_pages.ensures.ends words _)
 
 pub returns-in-Dump-clause-ends : goal.returns-in-Dump-clause-ends
-returns-in-Dump-clause-ends g c = λ words serves. rw c.in-Dump.is (c.print_store.ensures.ends words _ _)
+returns-in-Dump-clause-ends g c = λ words serves. rw c.in-Dump.is (c.print_store.ensures.ends words _)
 
 pub returns-in-Gen-clause-ends : goal.returns-in-Gen-clause-ends
 returns-in-Gen-clause-ends g c = λ words serves. rw c.in-Gen.is
