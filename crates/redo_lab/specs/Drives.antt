@@ -8,7 +8,6 @@ use Rattle.model_theorem.specs.{Ran}
 use Rattle.model_theorem.specs.Values as values
 use Rattle.redo_disk.specs.{Call}
 use Rattle.redo_disk.specs.Seen.{Seen}
-use Rattle.redo_drive.specs.{ran_of}
 use Rattle.redo_machine.specs.{RunsByTurns}
 use Rattle.redo_drive.specs.declared.drive.Driven.{Driven}
 use Rattle.redo_drive.specs.declared.drive.RunEnd.{RunEnd}
@@ -34,7 +33,7 @@ pub record IsDriven {L D : Type 0} (log_seen : L → Seen) (data_seen : D → Se
   pub driven : Driven L D
   pub told : tells store script driven
   pub ends : driven.ended ≡ end
-  pub run_is : run ≡ ran_of store.start driven.closed
+  pub run_is : run ≡ record { start = store.start; entries = driven.closed.history; marks = driven.closed.marks }
   pub log_is : log_met ≡ (log_seen driven.closed.log.dev).tells
   pub store_is : store_met ≡ (data_seen driven.closed.store.dev).tells
 

@@ -4,14 +4,12 @@ ghost use Rattle.std.specs.String.{string_bytes};
 ghost use Rattle.redo_lab.specs.Asked.{IsWithin, command_of, runs_in_threads};
 ghost use Rattle.redo_lab.specs.Ending.{IsCallOf};
 ghost use Rattle.redo_lab.specs.Handed.{AreOf, lab_call_of};
-ghost use Rattle.redo_lab.specs.Outcome.{IsOutcomePrinted};
 
 use crate::asked::{in_threads, read_command, turns_for};
 use crate::commands::done;
-use crate::ended::Ended;
+use crate::ended::{Ended, end};
 use crate::in_threads::InThreads;
-use crate::outcome::{Done, unasked};
-use crate::printing::print_outcome;
+use crate::outcome::unasked;
 use model_command::Command;
 use model_opening::openable_reads;
 use redo_disk::Sectors;
@@ -20,21 +18,6 @@ use redo_threads::Gate;
 use std::alloc::Global;
 use std::sync::Wait;
 use std::thread::Threads;
-
-/// Prints what a command comes to, and gives back its devices.
-fn end<O: Sink, L, D>(out: &mut O, done: Done<L, D>) -> Ended<L, D>
-    ensures printed { IsOutcomePrinted done.outcome result.status (O.seen out.old) (O.seen out.new) }
-    ensures log { result.log ≡ done.log }
-    ensures store { result.store ≡ done.store }
-{
-    let Done {
-        outcome,
-        log,
-        store,
-    } = done;
-    let status = print_outcome(out, &outcome);
-    Ended { status, log, store }
-}
 
 /// Does a command that runs nothing in threads on the two devices, with the script of the source where it takes one, and prints
 /// what came of it. Threads may still help to read the store.
