@@ -1,5 +1,5 @@
 -- The numbers of a command that is asked for are within its limits.
-use Rattle.std.proofs.Common.{ℕ, ◌≡◌, ◌≤◌, ◌-◌, ◌^◌, ◌&&◌, Bool, true, false, nat_le, if◌then◌else◌, List, [], ◌∷◌, codes, Option, Some, None, refl, subst, arith, lit≤}
+use Rattle.std.proofs.Common.{ℕ, ◌≡◌, ◌≤◌, ◌-◌, ◌^◌, ◌&&◌, Bool, true, false, nat_le, if◌then◌else◌, List, [], ◌∷◌, codes, Option, Some, None, IfSome, refl, subst, arith, lit≤}
 use Rattle.std.specs.Option.{option_map, option_and_then}
 use Rattle.std.specs.Str.{bytes_eq}
 use Rattle.model_base.specs.declared.limits.TheConstants.{DEFAULT_LOG_BLOCKS, DEFAULT_PAGES, DEFAULT_SPACE, MAX_LOG_BLOCKS, MAX_PAGES, MIN_LOG_BLOCKS}
@@ -15,7 +15,10 @@ use Rattle.model_command.specs.declared.words.Name.TheVariants as name
 use Rattle.model_command.specs.declared.words.Expected.TheVariants.{Any}
 use Rattle.model_script.specs.declared.misfit.TheConstants.{MAX_USERS}
 use borrow.Author.Tests.{leb-true}
+use Rattle.model_command.specs.declared.asked.Drive.{Drive}
+use Rattle.redo_lab.specs.declared.crash_command.Crashing.{Crashing}
 use Rattle.redo_lab.specs.Asked.{IsWithin, command_of}
+use Rattle.redo_lab.specs.Playing.{command_with}
 
 -- the number is between these
 abbrev IsBetween : ℕ → ℕ → ℕ → Type 0
@@ -148,3 +151,9 @@ pub command-of-within : (words : List (List ℕ)) (command : Command) → comman
 command-of-within words command is =
     let asked = map-some (λ (asked : Asked). asked.command) (asked_of words) command is in
     subst IsWithin asked.2 (asked-within words asked.0 asked.1)
+
+-- of a script's crash
+pub within-workers : (asked : Drive) (crash : Option Crashing) → IsWithin (command_with asked crash)
+    → IfSome crash (λ crash. (1 ≤ crash.workers) × (crash.workers ≤ MAX_WORKERS))
+within-workers asked None is = tt
+within-workers asked (Some crash) is = is

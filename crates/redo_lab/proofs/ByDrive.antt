@@ -18,7 +18,6 @@ use Rattle.redo_pageactors.specs.declared.opened.Opened.{Opened}
 use Rattle.redo_threads.specs.InThreads.{RunsInThreads}
 use Rattle.redo_lab.specs.Asked.{drive_of, runs_in_threads, turns_of}
 use Rattle.redo_lab.specs.Drives.{DrivenBy, TellsOf}
-use Rattle.redo_lab.specs.Playing.{Serves, ServesCommand}
 
 -- the command runs its script in threads if its drive does
 pub in-threads : (command : Command) (drive : Drive) → drive_of command ≡ Some drive → runs_in_threads command ≡ drive.threads
@@ -31,40 +30,20 @@ module _ {L D : Type 0} (log_seen : L → Seen) (log_gives : L → Call → L �
       TellsOf threads (seen_through log_seen) (CallsThrough log_seen log_gives) (seen_through data_seen) (CallsThrough data_seen data_gives) asked opened script driven
 
   -- by turns
-  turns-serve : (asked : Drive) (turns : Turns) → turns ≡ turns_of asked → asked.threads ≡ false
-      → Serves log_seen log_gives data_seen data_gives (λ (turns : Turns). turns.log_only)
-      (λ log_seen log_gives data_seen data_gives turns opened script driven. RunsByTurns log_seen log_gives data_seen data_gives opened script turns driven)
-      turns asked
-  turns-serve asked turns same is = record {
-    log_only_is = ap (λ (turns : Turns). turns.log_only) same;
-    told = λ opened script driven told. subst (λ (threads : Bool). TellsIn threads asked opened script driven) (sym is)
-        (subst (λ (turns : Turns). RunsByTurns (seen_through log_seen) (CallsThrough log_seen log_gives) (seen_through data_seen) (CallsThrough data_seen data_gives) opened script turns driven) same told);
-  }
-
-  -- and a command that doesn't run in threads
-  pub turns-serve-command : (command : Command) (turns : Turns) → ((asked : Drive) → drive_of command ≡ Some asked → turns ≡ turns_of asked)
-      → runs_in_threads command ≡ false
-      → ServesCommand log_seen log_gives data_seen data_gives (λ (turns : Turns). turns.log_only)
-      (λ log_seen log_gives data_seen data_gives turns opened script driven. RunsByTurns log_seen log_gives data_seen data_gives opened script turns driven)
-      turns command
-  turns-serve-command command turns is by_turns asked asked_is =
-      turns-serve asked turns (is asked asked_is) (sym (in-threads command asked asked_is) ∙ by_turns)
+  pub tells-turns : (asked : Drive) (turns : Turns) (opened : Opened (Fused L) (Fused D)) (script : List ScriptLine) (driven : Driven (Fused L) (Fused D))
+      → turns ≡ turns_of asked → asked.threads ≡ false
+      → RunsByTurns (seen_through log_seen) (CallsThrough log_seen log_gives) (seen_through data_seen) (CallsThrough data_seen data_gives) opened script turns driven
+      → TellsIn asked.threads asked opened script driven
+  tells-turns asked turns opened script driven same is told =
+      subst (λ (threads : Bool). TellsIn threads asked opened script driven) (sym is)
+      (subst (λ (turns : Turns). RunsByTurns (seen_through log_seen) (CallsThrough log_seen log_gives) (seen_through data_seen) (CallsThrough data_seen data_gives) opened script turns driven) same told)
 
   -- in threads
-  pub threads-serve-command : {S : Type 0} (alone : S → Bool) (threads : S) (command : Command) (drive : Drive) → drive_of command ≡ Some drive → drive.threads ≡ true
-      → alone threads ≡ drive.log_only
-      → ServesCommand log_seen log_gives data_seen data_gives alone
-      (λ log_seen log_gives data_seen data_gives threads opened script driven. RunsInThreads opened script (alone threads) driven)
-      threads command
-  threads-serve-command {S} alone threads command drive is in_threads log_only asked asked_is =
-      let same : drive ≡ asked = cc (is, asked_is) in
-      subst (λ (found : Drive). Serves log_seen log_gives data_seen data_gives alone
-      (λ log_seen log_gives data_seen data_gives threads opened script driven. RunsInThreads opened script (alone threads) driven) threads found) same
-      (record {
-        log_only_is = log_only;
-        told = λ opened script driven told. subst (λ (threads : Bool). TellsIn threads drive opened script driven) (sym in_threads)
-            (subst (λ (log_only : Bool). RunsInThreads opened script log_only driven) log_only told);
-      })
+  pub tells-threads : (asked : Drive) (log_only : Bool) (opened : Opened (Fused L) (Fused D)) (script : List ScriptLine) (driven : Driven (Fused L) (Fused D))
+      → log_only ≡ asked.log_only → asked.threads ≡ true → RunsInThreads opened script log_only driven → TellsIn asked.threads asked opened script driven
+  tells-threads asked log_only opened script driven same is told =
+      subst (λ (threads : Bool). TellsIn threads asked opened script driven) (sym is)
+      (subst (λ (log_only : Bool). RunsInThreads opened script log_only driven) same told)
 
   -- turns are spent by no drive in threads
   none-spent : (threads : Bool) (asked : Drive) (store : Opened (Fused L) (Fused D)) (script : List ScriptLine) (driven : Driven (Fused L) (Fused D)) (turns user : ℕ)

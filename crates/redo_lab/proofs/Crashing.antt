@@ -22,7 +22,6 @@ use Rattle.redo_recover.specs.declared.recovered.Recovered.{Recovered}
 use Rattle.redo_recover.specs.declared.fault.RecFault.{RecFault}
 use Rattle.redo_recover.specs.declared.fault.RecFault.TheVariants.{SmallLog, NotFormatted, BadFormat, SmallData, NoCheckpoint, BadRecord, PageLost, PageAhead, LogDev, DataDev, NoMemory}
 use Rattle.redo_lab.specs.declared.outcome.Outcome.TheVariants as outcome
-use Rattle.redo_lab.proofs.Behind.{reads-of-pieces}
 use Rattle.redo_lab.proofs.Stages.{after-crashed, crashed-now, crashed-reads}
 use Rattle.redo_lab.proofs.Telling.{reads-keep}
 use Rattle.redo_lab.proofs.Told.{on-contents}

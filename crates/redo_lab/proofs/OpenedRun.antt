@@ -1,5 +1,5 @@
 -- A store that was opened on two devices whose fuses are armed, and the run of a script on it.
-use Rattle.std.proofs.Common.{ℕ, ◌≡◌, ◌≤◌, ◌<◌, ◌+◌, cond, Bool, List, Option, Some, None, IfSome, refl, sym, ap, subst, ◌∙◌, inl, inr, ⊎_elim, arith}
+use Rattle.std.proofs.Common.{ℕ, ◌≡◌, ◌≤◌, ◌<◌, ◌+◌, cond, Bool, List, Option, Some, None, IfSome, refl, sym, ap, subst, ◌∙◌, inl, inr, ⊎_elim, arith, Result, Ok, Err, IfOk, IfErr}
 use Rattle.std.specs.List.{AllByRecursion}
 use Rattle.std.proofs.lemmas.Bool.{eq-eqb}
 use Rattle.model_base.specs.{default_shape}
@@ -36,7 +36,10 @@ use Rattle.redo_drive.specs.declared.drive.RunEnd.{RunEnd}
 use Rattle.redo_drive.specs.declared.drive.RunEnd.TheVariants.{Done, Spent}
 use Rattle.model_theorem.specs.{LosesOnlyByFailure}
 use Rattle.redo_drive.specs.Beginning.{IsOpenedAs as IsStartedAs}
+use Rattle.model_report.specs.declared.fault.Fault.TheVariants as fault
 use Rattle.redo_lab.specs.declared.playing.Course.{Course}
+use Rattle.redo_lab.specs.declared.playing.Course.TheVariants as course
+use Rattle.redo_lab.specs.declared.playing.Ran.{Ran}
 use Rattle.redo_lab.specs.declared.playing.Played.{Played}
 use Rattle.redo_lab.specs.declared.playing.Stops.{Stops}
 use Rattle.redo_lab.proofs.Telling.{calls-go_on}
@@ -44,7 +47,7 @@ use Rattle.redo_lab.proofs.Told.{both-told, on-contents}
 use Rattle.redo_lab.proofs.UnderWay.{AreCounted, ReadingLaws, counted-more, counted-opening, formatted-read, goes-on, keeps-found, same-both, told-some, way-of}
 use Rattle.redo_lab.specs.Course.{AreMisfitted, ArePlayed, AreUnstarted, ByDrive, CameSoFar, ClosesRun, ComesTo, Driving, HoldsRun, ran_of}
 use Rattle.redo_lab.specs.Drives.{TellsBehind}
-use Rattle.redo_lab.specs.Playing.{AreArmed, AreDriven, AreLeftOpened, Says, course_done, course_of, ended_by, played_of}
+use Rattle.redo_lab.specs.Playing.{AreArmed, AreLeftOpened, AreReady, IsOpened, StandsReady, course_done, course_of, ended_by, played_of}
 use Rattle.redo_lab.specs.Prepared.{ArePrepared, WhereTold}
 use Rattle.redo_lab.specs.Stages.{Shown, shown}
 use Rattle.redo_lab.specs.Store.{IsOpenedAs}
@@ -123,19 +126,6 @@ opens-as laws log_entry data_entry log_found data_found store end prepared read 
       },
     ))
     prepared.which
-
--- WHAT IS KNOWN of a store that was opened so
-pub record IsOpened {L D : Type 0} (log_seen : L → Seen) (log_gives : L → Call → L → Type 0) (data_seen : D → Seen) (data_gives : D → Call → D → Type 0)
-    (log : Fused L) (data_device : Fused D) (store : Opened (Fused L) (Fused D)) : Type 0 where
-  pub keeps : (reading : Reading) → WhereBothTell (log_seen log.inner).tells (data_seen data_device.inner).tells (λ log_disk data_disk.
-      IsOpenable reading log_disk data_disk
-      → WhereBothTell (log_seen store.log.dev.inner).tells (data_seen store.store.dev.inner).tells (KeepsOpened reading))
-  pub ready : (reading : Reading) → WhereBothTell (log_seen log.inner).tells (data_seen data_device.inner).tells (λ log_disk data_disk.
-      IsOpenable reading log_disk data_disk → IsOpenedReady (seen_through log_seen) (seen_through data_seen) reading store)
-  pub read : OnContents (log_seen log.inner).tells (data_seen data_device.inner).tells (λ log_bytes data_bytes. IsOpeningOf log_bytes data_bytes store)
-  pub runnable : IsRunnable store
-  pub log_calls : MakesCalls (CallsThrough log_seen log_gives) log store.log.dev (OpensLog (log_seen log.inner).size None)
-  pub data_calls : MakesCalls (CallsThrough data_seen data_gives) data_device store.store.dev (MayEndWith None)
 
 -- one failure at the most is counted
 pub one-failure : (error : Option DevError) → failures error ≤ 1
@@ -424,19 +414,50 @@ unplayed-comes {L} {D} {log_seen = log_seen} {data_seen = data_seen} {log_entry 
     (λ unfit. subst (λ (c : Course). Comes c store.log.dev store.store.dev) (sym unfit.2) (misfitted log_only is unfit.1))
     left.why))
 
--- or the lines were run, by a drive that serves
-pub driven-comes : {L D : Type 0} {log_seen : L → Seen} {log_gives : L → Call → L → Type 0} {data_seen : D → Seen} {data_gives : D → Call → D → Type 0}
+-- the script was judged by it
+pub judged-ready : {L D : Type 0} {log_seen : L → Seen} {log_gives : L → Call → L → Type 0} {data_seen : D → Seen} {data_gives : D → Call → D → Type 0}
     {log_entry data_entry : Seen} {stops : Stops} {log_found data_found : Shown} {log : Fused L} {data_device : Fused D} {store : Opened (Fused L) (Fused D)}
-    {S : Type 0} (says : Says (Fused L) (Fused D) S) (drive : S) (asked : Drive) (script : List ScriptLine) (c : Course) (log_now : Fused L) (data_now : Fused D)
-    → ((opened : Opened (Fused L) (Fused D)) (script : List ScriptLine) (driven : Driven (Fused L) (Fused D))
-    → says (seen_through log_seen) (CallsThrough log_seen log_gives) (seen_through data_seen) (CallsThrough data_seen data_gives) drive opened script driven
-    → TellsBehind log_seen log_gives data_seen data_gives asked opened script driven)
+    (asked : Drive) (script : List ScriptLine) (r : Result (Opened (Fused L) (Fused D)) (Ran L D))
     → IsOpenedUnderWay log_seen log_gives data_seen data_gives log_entry data_entry stops log_found data_found log data_device store
-    → AreDriven (seen_through log_seen) (CallsThrough log_seen log_gives) (seen_through data_seen) (CallsThrough data_seen data_gives) says drive store asked.log_only script c log_now data_now
-    → ComesTo (ByDrive log_seen log_gives data_seen data_gives asked script) log_entry data_entry stops asked.log_only script c (shown log_seen log_now) (shown data_seen data_now)
-driven-comes {L} {D} {log_seen = log_seen} {log_gives = log_gives} {data_seen = data_seen} {data_gives = data_gives} {log_entry = log_entry} {data_entry = data_entry} {stops = stops} {store = store} says drive asked script c _ data_now serves is are =
-    let Comes : Course → Fused L → Fused D → Type 0 = λ c one other.
-    ComesTo (ByDrive log_seen log_gives data_seen data_gives asked script) log_entry data_entry stops asked.log_only script c (shown log_seen one) (shown data_seen other) in
-    subst (λ (one : Fused L). Comes c one data_now) (sym are.log_is) (subst (λ (one : Fused D). Comes c are.driven.closed.log.dev one) (sym are.data_is)
-    (subst (λ (c : Course). Comes c are.driven.closed.log.dev are.driven.closed.store.dev) (sym are.course_is)
-    (ended-by asked script are.driven is are.fits (serves store script are.driven are.told) are.owed are.driven.ended refl)))
+    → IfOk r (λ given. (given ≡ store) × ScriptFits store.shape store.start (room_from asked.log_only store.shape store.start) script)
+    → IfErr r (λ ran. AreLeftOpened store asked.log_only script ran.course ran.log ran.store)
+    → AreReady log_seen log_gives data_seen data_gives asked log_entry data_entry stops script r
+judged-ready {L} {D} {log_seen = log_seen} {log_gives = log_gives} {data_seen = data_seen} {data_gives = data_gives} {log_entry = log_entry} {data_entry = data_entry} {stops = stops} {log_found = log_found} {data_found = data_found} {log = log} {data_device = data_device} asked script (Ok given) is fits unfit =
+    subst (λ (found : Opened (Fused L) (Fused D)). StandsReady log_seen log_gives data_seen data_gives asked log_entry data_entry stops script found) (sym fits.0)
+    (record {
+      log_found = log_found;
+      data_found = data_found;
+      log = log;
+      data_device = data_device;
+      armed = is.armed;
+      opened = is.opened;
+      fits = fits.1;
+    })
+judged-ready {log_seen = log_seen} {log_gives = log_gives} {data_seen = data_seen} {data_gives = data_gives} asked script (Err ran) is fits unfit =
+    unplayed-comes (ByDrive log_seen log_gives data_seen data_gives asked script) asked.log_only script ran.course ran.log ran.store is unfit
+
+-- there was no memory for the run
+pub unmade-comes : {L D : Type 0} {log_seen : L → Seen} {log_gives : L → Call → L → Type 0} {data_seen : D → Seen} {data_gives : D → Call → D → Type 0}
+    {log_entry data_entry : Seen} {stops : Stops} {script : List ScriptLine} {store : Opened (Fused L) (Fused D)}
+    (laws : ReadingLaws) (asked : Drive) (log_now : Fused L) (data_now : Fused D)
+    → StandsReady log_seen log_gives data_seen data_gives asked log_entry data_entry stops script store
+    → log_now ≡ store.log.dev → data_now ≡ store.store.dev
+    → ComesTo (ByDrive log_seen log_gives data_seen data_gives asked script) log_entry data_entry stops asked.log_only script (course.Ended fault.Memory)
+    (shown log_seen log_now) (shown data_seen data_now)
+unmade-comes {log_seen = log_seen} {log_gives = log_gives} {data_seen = data_seen} {data_gives = data_gives} {script = script} laws asked log_now data_now ready log_same data_same =
+    unplayed-comes (ByDrive log_seen log_gives data_seen data_gives asked script) asked.log_only script (course.Ended fault.Memory) log_now data_now
+    (record { laws = laws; armed = ready.armed; opened = ready.opened })
+    (record { log_same = log_same; data_same = data_same; why = inl refl })
+
+-- or the lines were run on it
+pub driven-comes : {L D : Type 0} {log_seen : L → Seen} {log_gives : L → Call → L → Type 0} {data_seen : D → Seen} {data_gives : D → Call → D → Type 0}
+    {log_entry data_entry : Seen} {stops : Stops} {script : List ScriptLine} {store : Opened (Fused L) (Fused D)}
+    (laws : ReadingLaws) (asked : Drive) (driven : Driven (Fused L) (Fused D))
+    → StandsReady log_seen log_gives data_seen data_gives asked log_entry data_entry stops script store
+    → TellsBehind log_seen log_gives data_seen data_gives asked store script driven
+    → Owes (seen_through log_seen) (CallsThrough log_seen log_gives) (seen_through data_seen) (CallsThrough data_seen data_gives) store script driven
+    → ComesTo (ByDrive log_seen log_gives data_seen data_gives asked script) log_entry data_entry stops asked.log_only script
+    (course_of driven.ended (played_of store.start driven.closed) (ended_by driven.closed.log.failed driven.closed.store.failed))
+    (shown log_seen driven.closed.log.dev) (shown data_seen driven.closed.store.dev)
+driven-comes {script = script} laws asked driven ready told owes =
+    ended-by asked script driven (record { laws = laws; armed = ready.armed; opened = ready.opened }) ready.fits told owes driven.ended refl

@@ -15,7 +15,6 @@ use Rattle.redo_recover.specs.{data_error, data_error_of, HasCauseIn, log_error,
 use Rattle.redo_recover.specs.declared.recovered.Recovered.{Recovered}
 use Rattle.redo_recover.specs.declared.fault.RecFault.{RecFault}
 use Rattle.redo_lab.specs.declared.outcome.Outcome.TheVariants as outcome
-use Rattle.redo_lab.proofs.Behind.{reads-of-pieces}
 use Rattle.redo_lab.proofs.Crashing.{IsAsMet, reading-fails, store-read}
 use Rattle.redo_lab.proofs.Stages.{armed-calls}
 use Rattle.redo_lab.proofs.Telling.{reads-keep}

@@ -13,6 +13,7 @@ use Rattle.model_report.specs.declared.fault.Fault.{Fault}
 use Rattle.model_report.specs.declared.fault.Fault.TheVariants as fault
 use Rattle.model_script.specs.{script_of}
 use Rattle.model_script.specs.declared.misfit.Misfit.{Misfit}
+use Rattle.redo_lab.specs.declared.crash_command.Crashing.{Crashing}
 use Rattle.redo_lab.specs.declared.outcome.Outcome.TheVariants as outcome
 use Rattle.redo_lab.proofs.Keeping.{OpenableLaw}
 use Rattle.redo_lab.proofs.Leaving.{leaves-kept}
@@ -23,6 +24,7 @@ use Rattle.redo_lab.specs.Cause.{IsCauseOf}
 use Rattle.redo_lab.specs.Complete.{CanRun, IsPossible, MayKeepFrom}
 use Rattle.redo_lab.specs.Left.{LeavesStore}
 use Rattle.redo_lab.specs.Outcome.{EndsWith}
+use Rattle.redo_lab.specs.Playing.{command_with}
 use Rattle.redo_lab.specs.Script.{IsBadLine, IsLongScript, IsScriptFault}
 use Rattle.redo_lab.specs.Stages.{IsLeftAlone, now_of}
 
@@ -96,12 +98,17 @@ module _ (call : Call) (command : Command) (log_only : Bool) (alone : AreLeftAlo
       (λ can source. absurd (no-long-script call log_only misfit can cause))
   script-fails f cause = absurd cause
 
-pub run-unscripted : (call : Call) (drive : Drive) (f : Fault) → AreLeftAlone call → IsScriptFault call.source call.source_now f → OpenableLaw
+run-unscripted : (call : Call) (drive : Drive) (f : Fault) → AreLeftAlone call → IsScriptFault call.source call.source_now f → OpenableLaw
     → EndsWith call (Run drive) (outcome.Fault f)
 run-unscripted call drive f alone cause law =
     script-fails call (Run drive) drive.log_only alone law refl (λ leaves. false≢true leaves) (λ possible. possible) f cause
 
-pub crash-unscripted : (call : Call) (drive : Drive) (stop_log stop_data : Option ℕ) (pick workers : ℕ) (f : Fault) → AreLeftAlone call → IsScriptFault call.source call.source_now f → OpenableLaw
+crash-unscripted : (call : Call) (drive : Drive) (stop_log stop_data : Option ℕ) (pick workers : ℕ) (f : Fault) → AreLeftAlone call → IsScriptFault call.source call.source_now f → OpenableLaw
     → EndsWith call (Crash drive stop_log stop_data pick workers) (outcome.Fault f)
 crash-unscripted call drive stop_log stop_data pick workers f alone cause law =
     script-fails call (Crash drive stop_log stop_data pick workers) drive.log_only alone law refl (λ leaves. false≢true leaves) (λ possible. possible) f cause
+
+pub scripted-unscripted : (call : Call) (drive : Drive) (crash : Option Crashing) (f : Fault) → AreLeftAlone call → IsScriptFault call.source call.source_now f → OpenableLaw
+    → EndsWith call (command_with drive crash) (outcome.Fault f)
+scripted-unscripted call drive None f = run-unscripted call drive f
+scripted-unscripted call drive (Some crash) f = crash-unscripted call drive crash.stops.log crash.stops.store crash.pick crash.workers f

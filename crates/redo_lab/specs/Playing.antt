@@ -1,26 +1,30 @@
 -- What the inner functions of a run come to: both devices once their fuses are armed, and the lines of a script on the store
 -- that was opened.
-use Rattle.std.specs.Prelude.{◌≡◌, ◌⊎◌, ℕ, Bool, List, Option, Some, None}
+use Rattle.std.specs.Prelude.{◌≡◌, ◌⊎◌, ℕ, Bool, List, Option, Some, None, Result, Ok, Err}
 use Rattle.model_command.specs.declared.asked.Command.{Command}
-use Rattle.model_command.specs.declared.asked.Command.TheVariants.{Crash}
+use Rattle.model_command.specs.declared.asked.Command.TheVariants.{Crash, Run}
 use Rattle.model_command.specs.declared.asked.Drive.{Drive}
 use Rattle.model_report.specs.declared.fault.Fault.{Fault}
 use Rattle.model_report.specs.declared.fault.Fault.TheVariants as fault
 use Rattle.model_script.specs.{first_misfit, ScriptFits}
 use Rattle.model_script.specs.declared.misfit.Misfit.{Misfit}
 use Rattle.model_script.specs.declared.script.ScriptLine.{ScriptLine}
-use Rattle.redo_disk.specs.{Call}
+use Rattle.model_opening.specs.{IsOpenable, KeepsOpened}
+use Rattle.model_store.specs.Reading.{Reading}
+use Rattle.redo_disk.specs.{Call, MakesCalls, MayEndWith}
 use Rattle.redo_disk.specs.Seen.{Seen}
 use Rattle.redo_disk.specs.declared.error.DevError.{DevError}
 use Rattle.redo_disk.specs.declared.error.DevError.TheVariants as device
-use Rattle.redo_drive.specs.{Owes, room_from}
-use Rattle.redo_drive.specs.declared.drive.Driven.{Driven}
+use Rattle.redo_drive.specs.{room_from}
 use Rattle.redo_drive.specs.declared.drive.RunEnd.{RunEnd}
 use Rattle.redo_drive.specs.declared.drive.RunEnd.TheVariants as ended
 use Rattle.redo_memdisk.specs.{CallsThrough, seen_through}
 use Rattle.redo_memdisk.specs.declared.fused.Fused.{Fused}
+use Rattle.redo_open.specs.{IsOpenedReady, IsOpeningOf, OpensLog, WhereBothTell}
 use Rattle.redo_pageactors.specs.declared.closed.Closed.{Closed}
+use Rattle.redo_pageactors.specs.{IsRunnable}
 use Rattle.redo_pageactors.specs.declared.opened.Opened.{Opened}
+use Rattle.redo_recover.specs.{OnContents}
 use Rattle.redo_recover.specs.declared.fault.RecFault.{RecFault}
 use Rattle.redo_recover.specs.declared.fault.RecFault.TheVariants.{LogDev, DataDev}
 use Rattle.redo_script.specs.declared.unfit.Unfit.{Unfit}
@@ -29,12 +33,14 @@ use Rattle.redo_lab.specs.declared.playing.Course.{Course}
 use Rattle.redo_lab.specs.declared.playing.Course.TheVariants as course
 use Rattle.redo_lab.specs.declared.playing.Played.{Played}
 use Rattle.redo_lab.specs.declared.playing.Stops.{Stops}
+use Rattle.redo_lab.specs.declared.asked.Scripted.{Scripted}
 use Rattle.redo_lab.specs.declared.crash_command.Crashing.{Crashing}
-use Rattle.redo_lab.specs.Asked.{drive_of}
-use Rattle.redo_lab.specs.Drives.{TellsBehind}
+use Rattle.redo_lab.specs.declared.playing.Ran.{Ran}
+use Rattle.redo_lab.specs.Course.{ByDrive, ComesTo}
+use Rattle.redo_lab.specs.Handed.{AreOf}
 use Rattle.redo_lab.specs.Faults.{fault_of}
 use Rattle.redo_lab.specs.Prepared.{ArePrepared}
-use Rattle.redo_lab.specs.Stages.{IsArmed, Shown}
+use Rattle.redo_lab.specs.Stages.{IsArmed, Shown, shown}
 
 -- BOTH FUSES WERE ARMED after the devices were prepared, and no call was made since.
 pub record AreArmed (log_entry data_entry : Seen) (stops : Stops) (log_found data_found log_now data_now : Shown) : Type 0 where
@@ -93,36 +99,60 @@ pub record AreLeftOpened {L D : Type 0} (opened : Opened L D) (log_only : Bool) 
   pub data_same : data_now ≡ opened.store.dev
   pub why : IsUnplayed opened log_only script found
 
--- what drives of a kind say of their runs
-abbrev pub Says : (L D S : Type 0) → Type 1
-Says L D S = (L → Seen) → (L → Call → L → Type 0) → (D → Seen) → (D → Call → D → Type 0) → S → Opened L D → List ScriptLine → Driven L D → Type 0
+-- WHAT IS KNOWN of a store that was opened on these two devices
+pub record IsOpened {L D : Type 0} (log_seen : L → Seen) (log_gives : L → Call → L → Type 0) (data_seen : D → Seen) (data_gives : D → Call → D → Type 0)
+    (log : Fused L) (data_device : Fused D) (store : Opened (Fused L) (Fused D)) : Type 0 where
+  pub keeps : (reading : Reading) → WhereBothTell (log_seen log.inner).tells (data_seen data_device.inner).tells (λ log_disk data_disk.
+      IsOpenable reading log_disk data_disk
+      → WhereBothTell (log_seen store.log.dev.inner).tells (data_seen store.store.dev.inner).tells (KeepsOpened reading))
+  pub ready : (reading : Reading) → WhereBothTell (log_seen log.inner).tells (data_seen data_device.inner).tells (λ log_disk data_disk.
+      IsOpenable reading log_disk data_disk → IsOpenedReady (seen_through log_seen) (seen_through data_seen) reading store)
+  pub read : OnContents (log_seen log.inner).tells (data_seen data_device.inner).tells (λ log_bytes data_bytes. IsOpeningOf log_bytes data_bytes store)
+  pub runnable : IsRunnable store
+  pub log_calls : MakesCalls (CallsThrough log_seen log_gives) log store.log.dev (OpensLog (log_seen log.inner).size None)
+  pub data_calls : MakesCalls (CallsThrough data_seen data_gives) data_device store.store.dev (MayEndWith None)
 
--- THE LINES WERE RUN by a drive that says this, with all that every drive owes; and this came of it.
-pub record AreDriven {L D : Type 0} (log_seen : L → Seen) (log_gives : L → Call → L → Type 0) (data_seen : D → Seen) (data_gives : D → Call → D → Type 0)
-    {S : Type 0} (says : Says L D S) (drive : S) (opened : Opened L D) (log_only : Bool) (script : List ScriptLine) (found : Course) (log_now : L) (data_now : D) : Type 0 where
-  pub fits : ScriptFits opened.shape opened.start (room_from log_only opened.shape opened.start) script
-  pub driven : Driven L D
-  pub told : says log_seen log_gives data_seen data_gives drive opened script driven
-  pub owed : Owes log_seen log_gives data_seen data_gives opened script driven
-  pub course_is : found ≡ course_of driven.ended (played_of opened.start driven.closed)
-      (ended_by driven.closed.log.failed driven.closed.store.failed)
-  pub log_is : log_now ≡ driven.closed.log.dev
-  pub data_is : data_now ≡ driven.closed.store.dev
+-- THE STORE WAS OPENED on both devices once they were armed, and the script fits it.
+pub record StandsReady {L D : Type 0} (log_seen : L → Seen) (log_gives : L → Call → L → Type 0) (data_seen : D → Seen) (data_gives : D → Call → D → Type 0)
+    (asked : Drive) (log_entry data_entry : Seen) (stops : Stops) (script : List ScriptLine) (store : Opened (Fused L) (Fused D)) : Type 0 where
+  pub log_found : Shown
+  pub data_found : Shown
+  pub log : Fused L
+  pub data_device : Fused D
+  pub armed : AreArmed log_entry data_entry stops log_found data_found (shown log_seen log) (shown data_seen data_device)
+  pub opened : IsOpened log_seen log_gives data_seen data_gives log data_device store
+  pub fits : ScriptFits store.shape store.start (room_from asked.log_only store.shape store.start) script
 
--- A DRIVE SERVES what is asked: it runs the log alone where that is asked, and says what the drive that is asked for tells.
-pub record Serves {L D : Type 0} (log_seen : L → Seen) (log_gives : L → Call → L → Type 0) (data_seen : D → Seen) (data_gives : D → Call → D → Type 0)
-    {S : Type 0} (alone : S → Bool) (says : Says (Fused L) (Fused D) S) (drive : S) (asked : Drive) : Type 0 where
-  pub log_only_is : alone drive ≡ asked.log_only
-  pub told : (opened : Opened (Fused L) (Fused D)) (script : List ScriptLine) (driven : Driven (Fused L) (Fused D))
-      → says (seen_through log_seen) (CallsThrough log_seen log_gives) (seen_through data_seen) (CallsThrough data_seen data_gives) drive opened script driven
-      → TellsBehind log_seen log_gives data_seen data_gives asked opened script driven
+-- the store stands ready for the drive that is asked for, or this came of it
+abbrev pub AreReady : {L D : Type 0} → (L → Seen) → (L → Call → L → Type 0) → (D → Seen) → (D → Call → D → Type 0)
+    → Drive → (log_entry data_entry : Seen) → Stops → List ScriptLine → Result (Opened (Fused L) (Fused D)) (Ran L D) → Type 0
+AreReady log_seen log_gives data_seen data_gives asked log_entry data_entry stops script (Ok store) =
+    StandsReady log_seen log_gives data_seen data_gives asked log_entry data_entry stops script store
+AreReady log_seen log_gives data_seen data_gives asked log_entry data_entry stops script (Err ran) =
+    ComesTo (ByDrive log_seen log_gives data_seen data_gives asked script) log_entry data_entry stops asked.log_only script
+    ran.course (shown log_seen ran.log) (shown data_seen ran.store)
 
--- and so for a command that runs a script
-abbrev pub ServesCommand : {L D : Type 0} → (L → Seen) → (L → Call → L → Type 0) → (D → Seen) → (D → Call → D → Type 0)
-    → {S : Type 0} → (S → Bool) → Says (Fused L) (Fused D) S → S → Command → Type 0
-ServesCommand log_seen log_gives data_seen data_gives alone says drive command =
-    (asked : Drive) → drive_of command ≡ Some asked → Serves log_seen log_gives data_seen data_gives alone says drive asked
+-- its devices are those that were handed in
+abbrev pub AreEntered : {L D : Type 0} → L → D → Result (Opened (Fused L) (Fused D)) (Ran L D) → Type 0
+AreEntered log store (Ok opened) = AreOf log store opened.log.dev opened.store.dev
+AreEntered log store (Err ran) = AreOf log store ran.log ran.store
 
--- the command to crash so
-abbrev pub crash_of : Drive → Crashing → Command
-crash_of asked crash = Crash asked crash.stops.log crash.stops.store crash.pick crash.workers
+-- WHAT A RUN CAME TO, of a script by the drive that is asked for, on these two devices.
+abbrev pub IsRanBy : {L D : Type 0} → (L → Seen) → (L → Call → L → Type 0) → (D → Seen) → (D → Call → D → Type 0)
+    → Drive → Stops → List ScriptLine → L → D → Ran L D → Type 0
+IsRanBy log_seen log_gives data_seen data_gives asked stops script log store ran =
+    ComesTo (ByDrive log_seen log_gives data_seen data_gives asked script) (log_seen log) (data_seen store) stops asked.log_only script
+    ran.course (shown log_seen ran.log) (shown data_seen ran.store)
+
+-- where the devices are to stop: nowhere, unless they are crashed
+abbrev pub stops_of : Option Crashing → Stops
+stops_of None = record { log = None; store = None }
+stops_of (Some crash) = crash.stops
+
+-- the command that runs a script so, and crashes both devices then, if it is to
+abbrev pub command_with : Drive → Option Crashing → Command
+command_with asked None = Run asked
+command_with asked (Some crash) = Crash asked crash.stops.log crash.stops.store crash.pick crash.workers
+
+abbrev pub command_for : Scripted → Command
+command_for asked = command_with asked.drive asked.crash

@@ -1,10 +1,12 @@
 // What the words ask for.
 ghost use Rattle.std.specs.Prelude.{◌≡◌, ◌⊎◌, Some, None, true, false, IfSome, IfOk, IfErr, map};
 ghost use Rattle.std.specs.String.{string_bytes};
-ghost use Rattle.model_command.specs.declared.asked.Drive.{Drive};
 ghost use Rattle.model_report.specs.declared.fault.Fault.TheVariants.{Memory, Words};
-ghost use Rattle.redo_lab.specs.Asked.{command_of, drive_of, runs_in_threads, turns_of};
+ghost use Rattle.redo_lab.specs.Asked.{command_of, runs_in_threads, turns_of};
+ghost use Rattle.redo_lab.specs.Playing.{command_for};
 
+use crate::crash_command::Crashing;
+use crate::playing::Stops;
 use model_command::{Command, Drive};
 use model_report::Fault;
 use redo_command::{WordsFault, read_words};
@@ -12,7 +14,7 @@ use redo_machine::Turns;
 use std::alloc::Global;
 
 /// The turns of a drive.
-fn turns_of(drive: &Drive) -> Turns
+pub(crate) fn turns_of(drive: &Drive) -> Turns
     ensures { result ≡ turns_of drive.now }
 {
     Turns {
@@ -22,44 +24,41 @@ fn turns_of(drive: &Drive) -> Turns
     }
 }
 
-/// How a command runs a script, if it runs one: `gen` by the turns of the script's seed.
-fn drive_of(command: &Command) -> Option<Drive>
-    ensures { result ≡ drive_of command.now }
-{
-    match command {
-        Command::Run { drive } | Command::Crash { drive, .. } => Some(*drive),
-        Command::Gen { seed, run, max, .. } if *run => Some(Drive {
-            seed: *seed,
-            max: *max,
-            threads: false,
-            log_only: false,
-        }),
-        _ => None,
-    }
+/// A script to be run so, and whether and how both devices are crashed then.
+#[derive(Clone, Copy)]
+pub(crate) struct Scripted {
+    pub(crate) drive: Drive,
+    pub(crate) crash: Option<Crashing>,
 }
 
-/// The drive of a command that runs its script in threads.
-pub(crate) fn in_threads(command: &Command) -> Option<Drive>
-    ensures some { IfSome result (λ asked. (drive_of command.now ≡ Some asked) × (asked.threads ≡ true)) }
+/// The script that a command runs off the source in threads, if it runs one so.
+pub(crate) fn threaded(command: &Command) -> Option<Scripted>
+    ensures some { IfSome result (λ asked. (command.now ≡ command_for asked) × (asked.drive.threads ≡ true)) }
     ensures none { result ≡ None → runs_in_threads command.now ≡ false }
 {
-    match drive_of(command) {
-        Some(drive) if drive.threads => Some(drive),
+    match command {
+        Command::Run { drive } if drive.threads => Some(Scripted {
+            drive: *drive,
+            crash: None,
+        }),
+        Command::Crash {
+            drive,
+            stop_log,
+            stop_data,
+            pick,
+            workers,
+        } if drive.threads => Some(Scripted {
+            drive: *drive,
+            crash: Some(Crashing {
+                stops: Stops {
+                    log: *stop_log,
+                    store: *stop_data,
+                },
+                pick: *pick,
+                workers: *workers,
+            }),
+        }),
         _ => None,
-    }
-}
-
-/// The turns by which a command runs its script, and none where it runs no script.
-pub(crate) fn turns_for(command: &Command) -> Turns
-    ensures { (asked : Drive) → drive_of command.now ≡ Some asked → result ≡ turns_of asked }
-{
-    match drive_of(command) {
-        Some(drive) => turns_of(&drive),
-        None => Turns {
-            seed: 0,
-            max: 0,
-            log_only: false,
-        },
     }
 }
 

@@ -1,92 +1,136 @@
 // A command, done on two devices.
-ghost use Rattle.std.specs.Prelude.{ℕ, List, ◌+◌, ◌≤◌};
+ghost use Rattle.std.specs.Prelude.{ℕ, List, ◌≡◌, ◌+◌, ◌≤◌, true, false, IfSome};
 ghost use Rattle.model_base.specs.declared.limits.TheConstants.{MAX_SCRIPT};
-ghost use Rattle.model_command.specs.declared.asked.Command.TheVariants.{Run};
 ghost use Rattle.model_command.specs.declared.asked.Drive.{Drive as Asked};
 ghost use Rattle.model_command.specs.declared.words.TheConstants.{MAX_WORKERS};
-ghost use Rattle.redo_io.specs.{TakesAtMost};
+ghost use Rattle.redo_io.specs.{SourceSeen, TakesAtMost};
 ghost use Rattle.redo_io.specs.declared.read.TheConstants.{PIECE};
-ghost use Rattle.redo_lab.specs.Asked.{IsWithin};
+ghost use Rattle.redo_lab.specs.Asked.{IsWithin, runs_in_threads};
 ghost use Rattle.redo_lab.specs.Handed.{AreOf};
 ghost use Rattle.redo_lab.specs.Outcome.{EndsWith, call_of};
-ghost use Rattle.redo_lab.specs.Playing.{Serves, ServesCommand, crash_of};
+ghost use Rattle.redo_lab.specs.Playing.{IsRanBy, command_for, command_with, stops_of};
+ghost use Rattle.redo_lab.specs.Script.{IsScriptRead};
 
+use crate::asked::{Scripted, turns_of};
 use crate::crash_command::{Crashing, crash_command};
 use crate::gen_command::gen_command;
 use crate::outcome::{Done, unasked};
-use crate::playing::Stops;
+use crate::playing::{Ran, Stops, by_turns, in_threads};
 use crate::run_command::run_command;
 use crate::script::read_script;
 use crate::simple::{format_devices, print_pages, print_store};
 use model_command::Command;
 use model_opening::openable_reads;
-use model_script::read_lines_are_ranged;
+use model_script::{Script, read_lines_are_ranged};
 use redo_disk::Sectors;
-use redo_drive::Drive;
 use redo_io::Source;
+use redo_threads::Gate;
 use std::alloc::Global;
+use std::sync::Wait;
 use std::thread::Threads;
 
-/// The command `run`, on the script of the source.
-fn run_source<S: Source, L: Sectors + Send, D: Sectors + Send, V: Drive>(
-    alloc: Global,
-    src: &mut S,
-    drive: &V,
-    log: L,
-    store: D,
-) -> Done<L, D>
-    ensures ends { (asked : Asked) (words : List (List ℕ))
-        → Serves L.seen L.gives D.seen D.gives V.alone V.says drive.now asked
-        → EndsWith (call_of L.seen L.gives D.seen D.gives words (S.seen src.old) (S.seen src.new) log store result) (Run asked) result.outcome }
-    ensures entered { AreOf log store result.log result.store }
-    ensures taken { TakesAtMost (MAX_SCRIPT + PIECE) (S.seen src.old).left (S.seen src.new).left }
+/// Where the devices are to stop: nowhere, unless they are crashed.
+fn stops_of(crash: Option<Crashing>) -> Stops
+    ensures { result ≡ stops_of crash }
 {
-    openable_reads();
-    read_lines_are_ranged();
-    match read_script(alloc, src) {
-        Ok(script) => run_command(alloc, &script, drive, log, store),
-        Err(fault) => unasked(fault, log, store),
+    match crash {
+        Some(crash) => crash.stops,
+        None => Stops {
+            log: None,
+            store: None,
+        },
     }
 }
 
-/// The command `crash`, on the script of the source.
-fn crash_source<R: Threads + Sync, S: Source, L: Sectors + Send, D: Sectors + Send, V: Drive>(
+/// What comes of a run of the script: a report, and of a crash one after it.
+fn after_run<R: Threads + Sync, L: Sectors, D: Sectors>(
+    rt: &R,
+    alloc: Global,
+    script: &Script,
+    ran: Ran<L, D>,
+    crash: Option<Crashing>,
+) -> Done<L, D>
+    requires workers { IfSome crash (λ crash. (1 ≤ crash.workers) × (crash.workers ≤ MAX_WORKERS)) }
+    ensures ends { (asked : Asked) (words : List (List ℕ)) (source source_now : SourceSeen) (log : L) (store : D)
+        → IsRanBy L.seen L.gives D.seen D.gives asked (stops_of crash) script.now log store ran → IsScriptRead source source_now script.now
+        → EndsWith (call_of L.seen L.gives D.seen D.gives words source source_now log store result) (command_with asked crash) result.outcome }
+    ensures entered { (log : L) (store : D) → AreOf log store ran.log ran.store → AreOf log store result.log result.store }
+{
+    match crash {
+        None => run_command(alloc, script, ran),
+        Some(crash) => crash_command(rt, alloc, script, ran, crash),
+    }
+}
+
+/// Runs the script of the source by turns.
+fn source_by_turns<R: Threads + Sync, S: Source, L: Sectors, D: Sectors>(
     rt: &R,
     alloc: Global,
     src: &mut S,
-    drive: &V,
-    crash: Crashing,
+    asked: Scripted,
     log: L,
     store: D,
 ) -> Done<L, D>
-    requires workers { (1 ≤ crash.workers) × (crash.workers ≤ MAX_WORKERS) }
-    ensures ends { (asked : Asked) (words : List (List ℕ))
-        → Serves L.seen L.gives D.seen D.gives V.alone V.says drive.now asked
-        → EndsWith (call_of L.seen L.gives D.seen D.gives words (S.seen src.old) (S.seen src.new) log store result) (crash_of asked crash) result.outcome }
+    requires within { IsWithin (command_for asked) }
+    requires by_turns { asked.drive.threads ≡ false }
+    ensures ends { (words : List (List ℕ))
+        → EndsWith (call_of L.seen L.gives D.seen D.gives words (S.seen src.old) (S.seen src.new) log store result) (command_for asked) result.outcome }
     ensures entered { AreOf log store result.log result.store }
     ensures taken { TakesAtMost (MAX_SCRIPT + PIECE) (S.seen src.old).left (S.seen src.new).left }
 {
     openable_reads();
     read_lines_are_ranged();
     match read_script(alloc, src) {
-        Ok(script) => crash_command(rt, alloc, &script, drive, crash, log, store),
+        Ok(script) => {
+            let turns = turns_of(&asked.drive);
+            let stops = stops_of(asked.crash);
+            let ran = by_turns(alloc, &script, &turns, stops, log, store);
+            after_run(rt, alloc, &script, ran, asked.crash)
+        }
         Err(fault) => unasked(fault, log, store),
     }
 }
 
-/// A command, done on two devices; a script is run by this drive.
-pub(crate) fn done<R: Threads + Sync, S: Source, L: Sectors + Send, D: Sectors + Send, V: Drive>(
+/// Runs the script of the source in threads. A gate may hold the users.
+pub(crate) fn source_in_threads<
+    R: Threads + Wait + Sync,
+    S: Source,
+    L: Sectors + Send,
+    D: Sectors + Send,
+    G: Gate,
+>(rt: &R, alloc: Global, src: &mut S, gate: &G, asked: Scripted, log: L, store: D) -> Done<L, D>
+    requires within { IsWithin (command_for asked) }
+    requires in_threads { asked.drive.threads ≡ true }
+    ensures ends { (words : List (List ℕ))
+        → EndsWith (call_of L.seen L.gives D.seen D.gives words (S.seen src.old) (S.seen src.new) log store result) (command_for asked) result.outcome }
+    ensures entered { AreOf log store result.log result.store }
+    ensures taken { TakesAtMost (MAX_SCRIPT + PIECE) (S.seen src.old).left (S.seen src.new).left }
+{
+    openable_reads();
+    read_lines_are_ranged();
+    match read_script(alloc, src) {
+        Ok(script) => {
+            let log_only = asked.drive.log_only;
+            let stops = stops_of(asked.crash);
+            let ran = in_threads(rt, alloc, &script, log_only, gate, stops, log, store);
+            after_run(rt, alloc, &script, ran, asked.crash)
+        }
+        Err(fault) => unasked(fault, log, store),
+    }
+}
+
+/// A command that runs no script in threads, done on two devices.
+pub(crate) fn done<R: Threads + Sync, S: Source, L: Sectors, D: Sectors>(
     rt: &R,
     alloc: Global,
     command: Command,
     src: &mut S,
-    drive: &V,
     log: L,
     store: D,
 ) -> Done<L, D>
     requires within { IsWithin command }
+    requires by_turns { runs_in_threads command ≡ false }
     ensures ends { (words : List (List ℕ))
-        → ServesCommand L.seen L.gives D.seen D.gives V.alone V.says drive.now command
         → EndsWith (call_of L.seen L.gives D.seen D.gives words (S.seen src.old) (S.seen src.new) log store result) command result.outcome }
     ensures entered { AreOf log store result.log result.store }
     ensures taken { TakesAtMost (MAX_SCRIPT + PIECE) (S.seen src.old).left (S.seen src.new).left }
@@ -97,24 +141,28 @@ pub(crate) fn done<R: Threads + Sync, S: Source, L: Sectors + Send, D: Sectors +
             space,
             log_blocks,
         } => format_devices(alloc, pages, space, log_blocks, log, store),
-        Command::Run { .. } => run_source(alloc, src, drive, log, store),
+        Command::Run { drive } => {
+            let asked = Scripted { drive, crash: None };
+            source_by_turns(rt, alloc, src, asked, log, store)
+        }
         Command::Crash {
+            drive,
             stop_log,
             stop_data,
             pick,
             workers,
-            ..
         } => {
             let stops = Stops {
                 log: stop_log,
                 store: stop_data,
             };
-            let crash = Crashing {
+            let crash = Some(Crashing {
                 stops,
                 pick,
                 workers,
-            };
-            crash_source(rt, alloc, src, drive, crash, log, store)
+            });
+            let asked = Scripted { drive, crash };
+            source_by_turns(rt, alloc, src, asked, log, store)
         }
         Command::Recover { workers } => print_pages(rt, alloc, workers, log, store),
         Command::Dump { why } => print_store(alloc, why, log, store),
@@ -123,7 +171,7 @@ pub(crate) fn done<R: Threads + Sync, S: Source, L: Sectors + Send, D: Sectors +
             users,
             groups,
             run,
-            ..
-        } => gen_command(alloc, seed, users, groups, run, drive, log, store),
+            max,
+        } => gen_command(alloc, seed, users, groups, run, max, log, store),
     }
 }

@@ -1,15 +1,13 @@
 // The command `crash`.
 ghost use Rattle.std.specs.Prelude.{ℕ, ◌≤◌, List, Some, IfOk, length};
-ghost use Rattle.std.specs.List.{AllByRecursion};
 ghost use Rattle.model_base.specs.declared.limits.TheConstants.{MAX_PAGES};
 ghost use Rattle.model_command.specs.declared.asked.Drive.{Drive as Asked};
 ghost use Rattle.model_command.specs.declared.words.TheConstants.{MAX_WORKERS};
-ghost use Rattle.model_script.specs.{IsScriptLine};
 ghost use Rattle.redo_io.specs.{SourceSeen};
 ghost use Rattle.redo_memdisk.specs.{entry_of};
 ghost use Rattle.redo_lab.specs.Handed.{AreOf};
 ghost use Rattle.redo_lab.specs.Outcome.{EndsWith, call_of};
-ghost use Rattle.redo_lab.specs.Playing.{Serves, crash_of};
+ghost use Rattle.redo_lab.specs.Playing.{IsRanBy, command_with};
 ghost use Rattle.redo_lab.specs.Reported.{IsReportOf, run_of};
 ghost use Rattle.redo_lab.specs.Reread.{ReadsBack};
 ghost use Rattle.redo_lab.specs.Stages.{shown};
@@ -17,7 +15,7 @@ ghost use Rattle.redo_lab.specs.Script.{IsScriptRead};
 
 use crate::faults::fault_of;
 use crate::outcome::{Done, Outcome};
-use crate::playing::{Course, Played, Ran, Stops, run_lines};
+use crate::playing::{Course, Played, Ran, Stops};
 use crate::reading::contents;
 use crate::reporting::report_of;
 use model_opening::{formatted_is_openable, openable_reads};
@@ -25,7 +23,6 @@ use model_run::{closed_run_is_safe, crash_of_safe_run, held_run_is_opened, held_
 use model_script::{Script, unfit_is_misfit};
 use model_store::{one_answer, one_reading};
 use redo_disk::Sectors;
-use redo_drive::Drive;
 use redo_io::Text;
 use redo_lsn::NoMemory;
 use redo_memdisk::Fused;
@@ -84,22 +81,20 @@ fn crash_and_read<R: Threads + Sync, L: Sectors, D: Sectors>(
     }
 }
 
-/// Runs the script by this drive on devices that stop, crashes both, reads the store, and reports it all. A device that fails from the arming of its fuse to the crash ends the run and not the command.
-pub(crate) fn crash_command<R: Threads + Sync, L: Sectors + Send, D: Sectors + Send, V: Drive>(
+/// Crashes both devices after a run of the script, reads the store, and reports it all. A device that failed from the arming of
+/// its fuse to the crash ended the run and doesn't end the command.
+pub(crate) fn crash_command<R: Threads + Sync, L: Sectors, D: Sectors>(
     rt: &R,
     alloc: Global,
     script: &Script,
-    drive: &V,
+    ran: Ran<L, D>,
     crash: Crashing,
-    log: L,
-    store: D,
 ) -> Done<L, D>
-    requires lines { AllByRecursion IsScriptLine script.now }
-    requires workers { (1 ≤ crash.workers) × (crash.workers ≤ MAX_WORKERS) }
-    ensures ends { (asked : Asked) (words : List (List ℕ)) (source source_now : SourceSeen)
-        → Serves L.seen L.gives D.seen D.gives V.alone V.says drive.now asked → IsScriptRead source source_now script.now
-        → EndsWith (call_of L.seen L.gives D.seen D.gives words source source_now log store result) (crash_of asked crash) result.outcome }
-    ensures entered { AreOf log store result.log result.store }
+    requires { (1 ≤ crash.workers) × (crash.workers ≤ MAX_WORKERS) }
+    ensures ends { (asked : Asked) (words : List (List ℕ)) (source source_now : SourceSeen) (log : L) (store : D)
+        → IsRanBy L.seen L.gives D.seen D.gives asked crash.stops script.now log store ran → IsScriptRead source source_now script.now
+        → EndsWith (call_of L.seen L.gives D.seen D.gives words source source_now log store result) (command_with asked (Some crash)) result.outcome }
+    ensures entered { (log : L) (store : D) → AreOf log store ran.log ran.store → AreOf log store result.log result.store }
 {
     one_answer();
     one_reading();
@@ -114,12 +109,20 @@ pub(crate) fn crash_command<R: Threads + Sync, L: Sectors + Send, D: Sectors + S
         course,
         mut log,
         mut store,
-    } = run_lines(alloc, script, drive, crash.stops, log, store);
+    } = ran;
     let outcome = match course {
         Course::Ended(fault) => Outcome::Fault(fault),
         Course::Stopped(_) => crash_and_read(rt, alloc, script, crash, None, &mut log, &mut store),
         Course::Played(played, _) => {
-            crash_and_read(rt, alloc, script, crash, Some(&played), &mut log, &mut store)
+            crash_and_read(
+                rt,
+                alloc,
+                script,
+                crash,
+                Some(&played),
+                &mut log,
+                &mut store,
+            )
         }
     };
     Done {

@@ -8,18 +8,17 @@ ghost use Rattle.model_script.specs.declared.misfit.TheConstants.{MAX_USERS};
 ghost use Rattle.redo_io.specs.{SourceSeen};
 ghost use Rattle.redo_memdisk.specs.{entry_of};
 ghost use Rattle.redo_recover.specs.{reading_of};
-ghost use Rattle.redo_lab.specs.Asked.{drive_of_seed};
+ghost use Rattle.redo_lab.specs.Asked.{drive_of_seed, turns_of};
 ghost use Rattle.redo_lab.specs.Course.{ran_of};
 ghost use Rattle.redo_lab.specs.Handed.{AreOf};
 ghost use Rattle.redo_lab.specs.Outcome.{EndsWith, call_of};
-ghost use Rattle.redo_lab.specs.Playing.{Serves};
 ghost use Rattle.redo_lab.specs.Reported.{summary_of};
 ghost use Rattle.redo_lab.specs.Reread.{ReadsAfter};
 ghost use Rattle.redo_lab.specs.Stages.{shown};
 
 use crate::faults::fault_of;
 use crate::outcome::{Done, Outcome, unasked};
-use crate::playing::{Course, Played, Ran, Stops, run_lines};
+use crate::playing::{Course, Played, Ran, Stops, by_turns};
 use crate::reading::contents;
 use model_opening::{formatted_is_openable, openable_reads};
 use model_report::Fault;
@@ -27,9 +26,9 @@ use model_run::{closed_run_is_safe, held_run_is_opened, held_run_reads};
 use model_script::{Script, unfit_is_misfit};
 use model_store::{base_is_fair, one_answer, one_reading};
 use redo_disk::Sectors;
-use redo_drive::Drive;
 use redo_io::Text;
 use redo_lsn::NoMemory;
+use redo_machine::Turns;
 use redo_memdisk::Fused;
 use redo_recover::{Recovered, recover};
 use redo_report::summary;
@@ -90,17 +89,28 @@ fn read_after<L: Sectors, D: Sectors>(
     }
 }
 
-/// Runs the script of the seed by this drive, and sums the run up; of a fault there is its line alone.
-fn run_script<L: Sectors + Send, D: Sectors + Send, V: Drive>(
+/// The turns of a run: those of the script's seed.
+fn turns_of_seed(seed: u64, max: u64) -> Turns
+    ensures { result ≡ turns_of (drive_of_seed seed max) }
+{
+    Turns {
+        seed,
+        max,
+        log_only: false,
+    }
+}
+
+/// Runs the script of the seed by these turns, and sums the run up; of a fault there is its line alone.
+fn run_script<L: Sectors, D: Sectors>(
     alloc: Global,
     script: &Script,
-    drive: &V,
+    turns: &Turns,
     log: L,
     store: D,
 ) -> Done<L, D>
     requires { AllByRecursion IsScriptLine script.now }
     ensures ends { (words : List (List ℕ)) (source : SourceSeen) (seed users groups max : ℕ) → script.now ≡ generated_lines seed users groups
-        → Serves L.seen L.gives D.seen D.gives V.alone V.says drive.now (drive_of_seed seed max)
+        → turns.now ≡ turns_of (drive_of_seed seed max)
         → EndsWith (call_of L.seen L.gives D.seen D.gives words source source log store result) (Gen seed users groups true max) result.outcome }
     ensures entered { AreOf log store result.log result.store }
 {
@@ -121,7 +131,7 @@ fn run_script<L: Sectors + Send, D: Sectors + Send, V: Drive>(
         course,
         mut log,
         mut store,
-    } = run_lines(alloc, script, drive, stops, log, store);
+    } = by_turns(alloc, script, turns, stops, log, store);
     let outcome = match course {
         Course::Ended(fault) | Course::Stopped(fault) => Outcome::Fault(fault),
         Course::Played(played, ended) => match ended {
@@ -136,51 +146,49 @@ fn run_script<L: Sectors + Send, D: Sectors + Send, V: Drive>(
     }
 }
 
-/// Generates the script of the seed, and runs it by this drive.
-fn run_seed<L: Sectors + Send, D: Sectors + Send, V: Drive>(
+/// Generates the script of the seed, and runs it by the turns of the same seed.
+fn run_seed<L: Sectors, D: Sectors>(
     alloc: Global,
     seed: u64,
     users: u32,
     groups: u64,
-    drive: &V,
+    max: u64,
     log: L,
     store: D,
 ) -> Done<L, D>
     requires some_users { 1 ≤ users }
     requires few_users { users ≤ MAX_USERS }
-    ensures ends { (words : List (List ℕ)) (source : SourceSeen) (max : ℕ)
-        → Serves L.seen L.gives D.seen D.gives V.alone V.says drive.now (drive_of_seed seed max)
+    ensures ends { (words : List (List ℕ)) (source : SourceSeen)
         → EndsWith (call_of L.seen L.gives D.seen D.gives words source source log store result) (Gen seed users groups true max) result.outcome }
     ensures entered { AreOf log store result.log result.store }
 {
     openable_reads();
     generated_lines_are_ranged();
     match generate_lines(alloc, seed, users, groups) {
-        Ok(script) => run_script(alloc, &script, drive, log, store),
+        Ok(script) => run_script(alloc, &script, &turns_of_seed(seed, max), log, store),
         Err(_) => unasked(Fault::Memory, log, store),
     }
 }
 
-/// Generates the script of the seed, and prints it or runs it by this drive. It reads no source.
-pub(crate) fn gen_command<L: Sectors + Send, D: Sectors + Send, V: Drive>(
+/// Generates the script of the seed, and prints it or runs it. It reads no source.
+pub(crate) fn gen_command<L: Sectors, D: Sectors>(
     alloc: Global,
     seed: u64,
     users: u32,
     groups: u64,
     run: bool,
-    drive: &V,
+    max: u64,
     log: L,
     store: D,
 ) -> Done<L, D>
     requires some_users { 1 ≤ users }
     requires few_users { users ≤ MAX_USERS }
-    ensures ends { (words : List (List ℕ)) (source : SourceSeen) (max : ℕ)
-        → (run ≡ true → Serves L.seen L.gives D.seen D.gives V.alone V.says drive.now (drive_of_seed seed max))
+    ensures ends { (words : List (List ℕ)) (source : SourceSeen)
         → EndsWith (call_of L.seen L.gives D.seen D.gives words source source log store result) (Gen seed users groups run max) result.outcome }
     ensures entered { AreOf log store result.log result.store }
 {
     if run {
-        run_seed(alloc, seed, users, groups, drive, log, store)
+        run_seed(alloc, seed, users, groups, max, log, store)
     } else {
         print_script(alloc, seed, users, groups, log, store)
     }

@@ -5,10 +5,9 @@ ghost use Rattle.redo_lab.specs.Asked.{IsWithin, command_of, runs_in_threads};
 ghost use Rattle.redo_lab.specs.Ending.{IsCallOf};
 ghost use Rattle.redo_lab.specs.Handed.{AreOf, lab_call_of};
 
-use crate::asked::{in_threads, read_command, turns_for};
-use crate::commands::done;
+use crate::asked::{read_command, threaded};
+use crate::commands::{done, source_in_threads};
 use crate::ended::{Ended, end};
-use crate::in_threads::InThreads;
 use crate::outcome::unasked;
 use model_command::Command;
 use model_opening::openable_reads;
@@ -21,13 +20,7 @@ use std::thread::Threads;
 
 /// Does a command that runs nothing in threads on the two devices, with the script of the source where it takes one, and prints
 /// what came of it. Threads may still help to read the store.
-pub fn lab_turns<
-    R: Threads + Sync,
-    S: Source,
-    O: Sink,
-    L: Sectors + Send,
-    D: Sectors + Send,
->(
+pub fn lab_turns<R: Threads + Sync, S: Source, O: Sink, L: Sectors, D: Sectors>(
     rt: &R,
     alloc: Global,
     command: Command,
@@ -42,8 +35,7 @@ pub fn lab_turns<
         → IsCallOf (lab_call_of L.seen L.gives D.seen D.gives words (S.seen src.old) (S.seen src.new) (O.seen out.old) (O.seen out.new) log store result) }
     ensures entered { AreOf log store result.log result.store }
 {
-    let turns = turns_for(&command);
-    end(out, done(rt, alloc, command, src, &turns, log, store))
+    end(out, done(rt, alloc, command, src, log, store))
 }
 
 /// Does what the words ask for on the two devices, with the script of the source where the command takes one, and prints
@@ -74,14 +66,10 @@ pub fn lab<
         Ok(command) => command,
         Err(fault) => return end(out, unasked(fault, log, store)),
     };
-    match in_threads(&command) {
-        Some(drive) => {
-            let threads = InThreads {
-                rt,
-                gate,
-                log_only: drive.log_only,
-            };
-            end(out, done(rt, alloc, command, src, &threads, log, store))
+    match threaded(&command) {
+        Some(asked) => {
+            let done = source_in_threads(rt, alloc, src, gate, asked, log, store);
+            end(out, done)
         }
         None => lab_turns(rt, alloc, command, src, out, log, store),
     }

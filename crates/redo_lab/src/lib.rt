@@ -8,7 +8,6 @@ mod crash_command;
 mod ended;
 mod faults;
 mod gen_command;
-mod in_threads;
 mod lab_call;
 mod outcome;
 mod playing;

@@ -1,19 +1,22 @@
 // The run of a script on two devices: they are prepared and opened, the script is judged, and its lines are run.
-ghost use Rattle.std.specs.Prelude.{◌≡◌, ◌≤◌, ◌<◌, ◌^◌, ◌⊎◌};
+ghost use Rattle.std.specs.Prelude.{◌≡◌, ◌≤◌, ◌<◌, ◌^◌, true, false, IfErr, IfOk};
 ghost use Rattle.std.specs.List.{AllByRecursion};
 ghost use Rattle.model_base.specs.{IsWithinLimits};
 ghost use Rattle.model_command.specs.declared.asked.Drive.{Drive as Asked};
 ghost use Rattle.model_log.specs.declared.layout.TheConstants.{BLOCK_HEADER};
-ghost use Rattle.model_script.specs.{IsScriptLine};
+ghost use Rattle.model_report.specs.declared.fault.Fault.TheVariants.{Memory};
+ghost use Rattle.model_script.specs.{IsScriptLine, ScriptFits};
 ghost use Rattle.redo_disk.specs.Seen.{Seen};
-ghost use Rattle.redo_memdisk.specs.{CallsThrough, entry_of, seen_through};
+ghost use Rattle.redo_memdisk.specs.{entry_of};
 ghost use Rattle.redo_drive.specs.{room_from};
+ghost use Rattle.redo_drive.specs.Beginning.{MayBegin};
 ghost use Rattle.redo_pageactors.specs.{IsRunnable};
-ghost use Rattle.redo_lab.specs.Course.{ByDrive, ComesTo};
+ghost use Rattle.redo_lab.specs.Asked.{turns_of};
+ghost use Rattle.redo_lab.specs.declared.playing.Course.TheVariants as ended;
 ghost use Rattle.redo_lab.specs.Handed.{AreOf};
 ghost use Rattle.redo_lab.specs.Stages.{Shown, shown};
 ghost use Rattle.redo_lab.specs.declared.playing.Stops.{Stops};
-ghost use Rattle.redo_lab.specs.Playing.{AreArmed, AreDriven, AreLeftOpened, Serves, course_done, course_of, ended_by, fault_of_unfit, played_of, unopened};
+ghost use Rattle.redo_lab.specs.Playing.{AreArmed, AreEntered, AreLeftOpened, AreReady, IsRanBy, course_done, course_of, ended_by, fault_of_unfit, played_of, unopened};
 
 use crate::faults::fault_of;
 use crate::prepare::prepare;
@@ -25,13 +28,17 @@ use model_report::Fault;
 use model_script::{Script, fitting_script};
 use model_store::{one_answer, one_reading};
 use redo_disk::{DevError, Sectors};
-use redo_drive::{Drive, Driven, RunEnd};
+use redo_drive::{Driven, RunEnd};
+use redo_machine::{Turns, run_by_turns};
 use redo_memdisk::Fused;
 use redo_open::open_store;
 use redo_pageactors::Opened;
 use redo_recover::RecFault;
 use redo_script::{Unfit, judge};
+use redo_threads::{Gate, drive_in_threads};
 use std::alloc::Global;
+use std::sync::Wait;
+use std::thread::Threads;
 
 /// After how many calls each device stops, if it is to stop.
 #[derive(Clone, Copy)]
@@ -140,39 +147,42 @@ fn close<L: Sectors, D: Sectors>(start: u64, driven: Driven<Fused<L>, Fused<D>>)
     }
 }
 
-/// Runs the lines of a script on an opened store by this drive, if it fits that.
-fn play<L: Sectors + Send, D: Sectors + Send, V: Drive>(
+/// A run over which memory ran out, with both devices as they were.
+fn without_memory<L: Sectors, D: Sectors>(log: Fused<L>, store: Fused<D>) -> Ran<L, D>
+    ensures course { result.course ≡ ended.Ended Memory }
+    ensures log { result.log ≡ log }
+    ensures store { result.store ≡ store }
+{
+    Ran {
+        course: Course::Ended(Fault::Memory),
+        log,
+        store,
+    }
+}
+
+/// Judges a script by the store that was opened: it is to fit.
+fn fitted<L: Sectors, D: Sectors>(
     alloc: Global,
     script: &Script,
-    drive: &V,
+    log_only: bool,
     opened: Opened<Fused<L>, Fused<D>>,
-) -> Ran<L, D>
+) -> Result<Opened<Fused<L>, Fused<D>>, Ran<L, D>>
     requires runnable { IsRunnable opened }
     requires lines { AllByRecursion IsScriptLine script.now }
-    ensures plays { AreLeftOpened opened (V.alone drive.now) script.now result.course result.log result.store
-        ⊎ AreDriven (seen_through L.seen) (CallsThrough L.seen L.gives) (seen_through D.seen) (CallsThrough D.seen D.gives) V.says drive.now opened (V.alone drive.now) script.now
-        result.course result.log result.store }
+    ensures begins { IfOk result (λ given. MayBegin given script.now log_only) }
+    ensures fits { IfOk result (λ given. (given ≡ opened) × ScriptFits opened.shape opened.start (room_from log_only opened.shape opened.start) script.now) }
+    ensures unfit { IfErr result (λ ran. AreLeftOpened opened log_only script.now ran.course ran.log ran.store) }
 {
     fitting_script();
     let start = opened.start;
-    let room_end = room_from(drive.log_only(), &opened.shape, start);
+    let room_end = room_from(log_only, &opened.shape, start);
     match judge(alloc, &opened.shape, start, room_end, script) {
-        Ok(()) => {}
-        Err(unfit) => {
-            return Ran {
-                course: Course::Ended(fault_of_unfit(unfit)),
-                log: opened.log.into_dev(),
-                store: opened.store.into_dev(),
-            };
-        }
-    }
-    match drive.drive(alloc, opened, script) {
-        Ok(driven) => close(start, driven),
-        Err((_, log, store)) => Ran {
-            course: Course::Ended(Fault::Memory),
-            log,
-            store,
-        },
+        Ok(()) => Ok(opened),
+        Err(unfit) => Err(Ran {
+            course: Course::Ended(fault_of_unfit(unfit)),
+            log: opened.log.into_dev(),
+            store: opened.store.into_dev(),
+        }),
     }
 }
 
@@ -186,61 +196,121 @@ fn unopened(fault: RecFault) -> Course
     }
 }
 
-/// Opens the store on both devices, whose fuses are armed, and runs the script by this drive.
-fn open_and_play<L: Sectors + Send, D: Sectors + Send, V: Drive>(
+/// Opens the store on both devices, whose fuses are armed, for the run of a script that fits it.
+fn open_fitted<L: Sectors, D: Sectors>(
     alloc: Global,
     script: &Script,
-    drive: &V,
+    log_only: bool,
     log: Fused<L>,
     store: Fused<D>,
-) -> Ran<L, D>
+) -> Result<Opened<Fused<L>, Fused<D>>, Ran<L, D>>
     requires { AllByRecursion IsScriptLine script.now }
-    ensures comes_to { (asked : Asked) (log_entry data_entry : Seen) (stops : Stops) (log_found data_found : Shown)
-        → Serves L.seen L.gives D.seen D.gives V.alone V.says drive.now asked
+    ensures begins { IfOk result (λ opened. MayBegin opened script.now log_only) }
+    ensures ready { (asked : Asked) (log_entry data_entry : Seen) (stops : Stops) (log_found data_found : Shown)
+        → log_only ≡ asked.log_only
         → AreArmed log_entry data_entry stops log_found data_found (shown L.seen log) (shown D.seen store)
-        → ComesTo (ByDrive L.seen L.gives D.seen D.gives asked script.now) log_entry data_entry stops asked.log_only script.now result.course (shown L.seen result.log) (shown D.seen result.store) }
-    ensures entered { AreOf (entry_of log) (entry_of store) result.log result.store }
+        → AreReady L.seen L.gives D.seen D.gives asked log_entry data_entry stops script.now result }
+    ensures entered { AreEntered (entry_of log) (entry_of store) result }
 {
     one_reading();
     one_answer();
     formatted_is_openable();
     match open_store(alloc, log, store) {
-        Ok(opened) => play(alloc, script, drive, opened),
-        Err((fault, log, store)) => Ran {
+        Ok(opened) => fitted(alloc, script, log_only, opened),
+        Err((fault, log, store)) => Err(Ran {
             course: unopened(fault),
             log,
             store,
-        },
+        }),
     }
 }
 
-/// Prepares both devices, arms their fuses, opens the store and runs the script by this drive.
-pub(crate) fn run_lines<L: Sectors + Send, D: Sectors + Send, V: Drive>(
+/// Prepares both devices, arms their fuses, and opens the store for the run of a script that fits it.
+fn ready<L: Sectors, D: Sectors>(
     alloc: Global,
     script: &Script,
-    drive: &V,
+    log_only: bool,
     stops: Stops,
     log: L,
     store: D,
-) -> Ran<L, D>
+) -> Result<Opened<Fused<L>, Fused<D>>, Ran<L, D>>
     requires { AllByRecursion IsScriptLine script.now }
-    ensures comes_to { (asked : Asked) → Serves L.seen L.gives D.seen D.gives V.alone V.says drive.now asked
-        → ComesTo (ByDrive L.seen L.gives D.seen D.gives asked script.now) (L.seen log) (D.seen store) stops asked.log_only script.now result.course (shown L.seen result.log) (shown D.seen result.store) }
-    ensures entered { AreOf log store result.log result.store }
+    ensures begins { IfOk result (λ opened. MayBegin opened script.now log_only) }
+    ensures ready { (asked : Asked) → log_only ≡ asked.log_only
+        → AreReady L.seen L.gives D.seen D.gives asked (L.seen log) (D.seen store) stops script.now result }
+    ensures entered { AreEntered log store result }
 {
     let mut log = Fused::plain(log);
     let mut store = Fused::plain(store);
     match prepare(&mut log, &mut store) {
         Ok(()) => {}
         Err(fault) => {
-            return Ran {
+            return Err(Ran {
                 course: Course::Ended(fault_of(fault)),
                 log,
                 store,
-            };
+            });
         }
     }
     log.arm(stops.log);
     store.arm(stops.store);
-    open_and_play(alloc, script, drive, log, store)
+    open_fitted(alloc, script, log_only, log, store)
+}
+
+/// Runs the lines of a script by these turns: on both devices, prepared, and with these stops once their fuses are armed.
+pub(crate) fn by_turns<L: Sectors, D: Sectors>(
+    alloc: Global,
+    script: &Script,
+    turns: &Turns,
+    stops: Stops,
+    log: L,
+    store: D,
+) -> Ran<L, D>
+    requires { AllByRecursion IsScriptLine script.now }
+    ensures comes_to { (asked : Asked) → turns.now ≡ turns_of asked → asked.threads ≡ false
+        → IsRanBy L.seen L.gives D.seen D.gives asked stops script.now log store result }
+    ensures entered { AreOf log store result.log result.store }
+{
+    one_reading();
+    one_answer();
+    formatted_is_openable();
+    let opened = match ready(alloc, script, turns.log_only, stops, log, store) {
+        Ok(opened) => opened,
+        Err(ran) => return ran,
+    };
+    let start = opened.start;
+    match run_by_turns(alloc, opened, script, turns) {
+        Ok(driven) => close(start, driven),
+        Err((_, log, store)) => without_memory(log, store),
+    }
+}
+
+/// The same in threads. A gate may hold the users.
+pub(crate) fn in_threads<R: Threads + Wait + Sync, L: Sectors + Send, D: Sectors + Send, G: Gate>(
+    rt: &R,
+    alloc: Global,
+    script: &Script,
+    log_only: bool,
+    gate: &G,
+    stops: Stops,
+    log: L,
+    store: D,
+) -> Ran<L, D>
+    requires lines { AllByRecursion IsScriptLine script.now }
+    ensures comes_to { (asked : Asked) → log_only ≡ asked.log_only → asked.threads ≡ true
+        → IsRanBy L.seen L.gives D.seen D.gives asked stops script.now log store result }
+    ensures entered { AreOf log store result.log result.store }
+{
+    one_reading();
+    one_answer();
+    formatted_is_openable();
+    let opened = match ready(alloc, script, log_only, stops, log, store) {
+        Ok(opened) => opened,
+        Err(ran) => return ran,
+    };
+    let start = opened.start;
+    match drive_in_threads(rt, alloc, opened, script, log_only, gate) {
+        Ok(driven) => close(start, driven),
+        Err((_, log, store)) => without_memory(log, store),
+    }
 }

@@ -1,19 +1,17 @@
 // The command `run`.
-ghost use Rattle.std.specs.Prelude.{ℕ, List};
-ghost use Rattle.std.specs.List.{AllByRecursion};
+ghost use Rattle.std.specs.Prelude.{ℕ, List, None};
 ghost use Rattle.model_command.specs.declared.asked.Command.TheVariants.{Run};
 ghost use Rattle.model_command.specs.declared.asked.Drive.{Drive as Asked};
-ghost use Rattle.model_script.specs.{IsScriptLine};
 ghost use Rattle.redo_io.specs.{SourceSeen};
 ghost use Rattle.redo_lab.specs.Course.{ran_of};
 ghost use Rattle.redo_lab.specs.Handed.{AreOf};
 ghost use Rattle.redo_lab.specs.Outcome.{EndsWith, call_of};
-ghost use Rattle.redo_lab.specs.Playing.{Serves};
+ghost use Rattle.redo_lab.specs.Playing.{IsRanBy, stops_of};
 ghost use Rattle.redo_lab.specs.Reported.{IsRunPrinted};
 ghost use Rattle.redo_lab.specs.Script.{IsScriptRead};
 
 use crate::outcome::{Done, Outcome};
-use crate::playing::{Course, Played, Ran, Stops, run_lines};
+use crate::playing::{Course, Played, Ran};
 use crate::reporting::report_of;
 use model_opening::{formatted_is_openable, openable_reads};
 use model_report::Fault;
@@ -21,7 +19,6 @@ use model_run::{closed_run_is_safe, held_run_is_opened, held_run_reads};
 use model_script::{Script, unfit_is_misfit};
 use model_store::{one_answer, one_reading};
 use redo_disk::Sectors;
-use redo_drive::Drive;
 use std::alloc::Global;
 
 /// What there is to print of lines that were run: the report, and behind it the fault of the device that ended the run.
@@ -35,19 +32,16 @@ fn print_run(alloc: Global, script: &Script, played: &Played, fault: Option<Faul
     }
 }
 
-/// Runs the script by this drive, and reports the run.
-pub(crate) fn run_command<L: Sectors + Send, D: Sectors + Send, V: Drive>(
+/// Reports a run of the script on devices that weren't to stop.
+pub(crate) fn run_command<L: Sectors, D: Sectors>(
     alloc: Global,
     script: &Script,
-    drive: &V,
-    log: L,
-    store: D,
+    ran: Ran<L, D>,
 ) -> Done<L, D>
-    requires lines { AllByRecursion IsScriptLine script.now }
-    ensures ends { (asked : Asked) (words : List (List ℕ)) (source source_now : SourceSeen)
-        → Serves L.seen L.gives D.seen D.gives V.alone V.says drive.now asked → IsScriptRead source source_now script.now
+    ensures ends { (asked : Asked) (words : List (List ℕ)) (source source_now : SourceSeen) (log : L) (store : D)
+        → IsRanBy L.seen L.gives D.seen D.gives asked (stops_of None) script.now log store ran → IsScriptRead source source_now script.now
         → EndsWith (call_of L.seen L.gives D.seen D.gives words source source_now log store result) (Run asked) result.outcome }
-    ensures entered { AreOf log store result.log result.store }
+    ensures entered { (log : L) (store : D) → AreOf log store ran.log ran.store → AreOf log store result.log result.store }
 {
     one_answer();
     one_reading();
@@ -57,11 +51,7 @@ pub(crate) fn run_command<L: Sectors + Send, D: Sectors + Send, V: Drive>(
     held_run_is_opened();
     closed_run_is_safe();
     unfit_is_misfit();
-    let stops = Stops {
-        log: None,
-        store: None,
-    };
-    let Ran { course, log, store } = run_lines(alloc, script, drive, stops, log, store);
+    let Ran { course, log, store } = ran;
     let outcome = match course {
         Course::Ended(fault) | Course::Stopped(fault) => Outcome::Fault(fault),
         Course::Played(played, fault) => print_run(alloc, script, &played, fault),

@@ -9,7 +9,7 @@ use Rattle.redo_lab.proofs.gen_command.run_script.Goals as goal
 use Rattle.redo_lab.proofs.gen_command.run_script.Goals.{in-Ended2, in-None, in-Played, in-Some}
 
 pub returns-clause-ends : goal.returns-clause-ends
-returns-clause-ends g c = λ words source seed users groups max is serves.
+returns-clause-ends g c = λ words source seed users groups max is turns_are.
     let laws : RunLaws = record {
       one = c.one_answer.ensures.read;
       same = c.one_reading.ensures;
@@ -18,7 +18,7 @@ returns-clause-ends g c = λ words source seed users groups max is serves.
       closed = record { safe = c.closed_run_is_safe.ensures; reads = c.held_run_reads.ensures.read; opened = c.held_run_is_opened.ensures.opened };
       unfit = c.unfit_is_misfit.ensures;
     } in
-    let comes_to = c.run_lines-course.ensures.comes_to (drive_of_seed seed max) serves in
+    let comes_to = c.by_turns-course.ensures.comes_to (drive_of_seed seed max) turns_are refl in
     elim c.match-course.branch [
       | in-Ended2 w ↦ rw (w.outcome-is, w.log-is, w.store-is) (elim w.in-Ended.is [
         | inl ended ↦ ended-early _ (Gen seed users groups true max) (drive_of_seed seed max) no_stops c.args.script.now
@@ -43,9 +43,9 @@ returns-clause-ends g c = λ words source seed users groups max is serves.
 pub returns-clause-entered : goal.returns-clause-entered
 returns-clause-entered g c =
     elim c.match-course.branch [
-      | in-Ended2 w ↦ rw (w.log-is, w.store-is) c.run_lines-course.ensures.entered
+      | in-Ended2 w ↦ rw (w.log-is, w.store-is) c.by_turns-course.ensures.entered
       | in-Played w ↦ rw (w.log-is, w.store-is) (elim w.match-ended.branch [
-        | in-Some cut ↦ rw (cut.log-is, cut.store-is) c.run_lines-course.ensures.entered
-        | in-None done ↦ rw (done.log-is, done.store-is) (entries-then c.run_lines-course.ensures.entered done.read_after.ensures.entered)
+        | in-Some cut ↦ rw (cut.log-is, cut.store-is) c.by_turns-course.ensures.entered
+        | in-None done ↦ rw (done.log-is, done.store-is) (entries-then c.by_turns-course.ensures.entered done.read_after.ensures.entered)
       ])
     ]

@@ -7,7 +7,7 @@ use Rattle.redo_lab.proofs.run_command.run_command.Goals as goal
 use Rattle.redo_lab.proofs.run_command.run_command.Goals.{in-Ended2, in-Played}
 
 pub returns-clause-ends : goal.returns-clause-ends
-returns-clause-ends g c = λ asked words source source_now serves read.
+returns-clause-ends g c = λ asked words source source_now log store ran read.
     let laws : RunLaws = record {
       one = c.one_answer.ensures.read;
       same = c.one_reading.ensures;
@@ -20,15 +20,15 @@ returns-clause-ends g c = λ asked words source source_now serves read.
       | in-Ended2 w ↦ rw w.outcome-is (elim w.in-Ended.is [
         | inl ended ↦ ended-early _ (Run asked) asked no_stops c.args.script.now (running-run _ asked c.args.script.now read) laws
             (spends-turns g.L.Sectors.seen g.L.Sectors.gives g.D.Sectors.seen g.D.Sectors.gives asked) w.in-Ended.fault
-            (rw ended at c.run_lines-course.ensures.comes_to asked serves)
+            (rw ended at ran)
         | inr stopped ↦ ended-stopped _ (Run asked) asked c.args.script.now (running-run _ asked c.args.script.now read)
             (uncrashing-run _ asked) laws w.in-Ended.fault
-            (rw stopped at c.run_lines-course.ensures.comes_to asked serves)
+            (rw stopped at ran)
       ])
       | in-Played w ↦ rw w.outcome-is (run-played _ asked c.args.script.now w.in-Played.played read laws w.in-Played.fault _
-          (rw w.in-Played.is at c.run_lines-course.ensures.comes_to asked serves)
+          (rw w.in-Played.is at ran)
           w.print_run-outcome.ensures)
     ]
 
 pub returns-clause-entered : goal.returns-clause-entered
-returns-clause-entered g c = c.run_lines-course.ensures.entered
+returns-clause-entered g c = λ log store entered. entered
