@@ -34,11 +34,8 @@ none_below actors i a l at = absurd (omega arith)
 pub one_more : (actors : List Actor) (n : ℕ) (b : Actor) → EndBelow n actors → AtEnd (view_of b) → EndBelow (n + 1) (set actors n b)
 one_more actors n b below ends i a l at = ⊎_elim
     (λ t. subst (λ (z : Actor). AtEnd (view_of z)) t.1 ends)
-    (λ t. let far = t.0 in below i a (below_n i n l far) t.1)
+    (λ t. let far = t.0 in below i a (omega arith) t.1)
     (at_set actors n i b a at)
-  where
-    below_n : (i n : ℕ) → i < n + 1 → (i ≡ n → ⊥) → i < n
-    below_n i n l far = grind arith
 
 past : (l : List Actor) (i : ℕ) (a : Actor) → get_elem? l i ≡ maybe.some a → i < length l
 past [] i a at = absurd (maybe.some-ne-none a (sym at))

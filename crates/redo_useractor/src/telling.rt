@@ -14,13 +14,6 @@ impl UserActor {
         self.user
     }
 
-    /// Its step.
-    pub fn step(&self) -> UserStep
-        ensures { result ≡ self.now.step }
-    {
-        self.step
-    }
-
     /// Whether its last commit is answered, or it has ended by a failure.
     pub fn has_ended(&self) -> bool
         ensures { result ≡ has_ended self.now.step }
