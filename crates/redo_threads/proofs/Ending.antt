@@ -12,10 +12,10 @@ use Rattle.model_logcore.specs.LogFits.{UserAt}
 use Rattle.model_running.specs.Schedule.{HasEnded, HaveEnded}
 use Rattle.redo_disk.specs.{Call}
 use Rattle.redo_disk.specs.Seen.{Seen}
-use Rattle.redo_machine.specs.Leaving.{LeavesRun}
-use Rattle.redo_machine.specs.Playing.{log_of}
-use Rattle.redo_machine.specs.Views.{view_of, views_of}
-use Rattle.redo_machine.specs.declared.actor.Actor.{Actor}
+use Rattle.redo_drive.specs.Leaving.{LeavesRun}
+use Rattle.redo_drive.specs.Playing.{log_of}
+use Rattle.redo_drive.specs.Views.{view_of, views_of}
+use Rattle.redo_drive.specs.declared.actor.Actor.{Actor}
 use Rattle.redo_pageactors.specs.declared.closed.Closed.{Closed}
 use Rattle.redo_pageactors.specs.declared.opened.Opened.{Opened}
 use Rattle.model_script.specs.declared.script.ScriptLine.{ScriptLine}

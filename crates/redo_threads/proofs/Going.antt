@@ -7,8 +7,8 @@ use mathlib.Core.Option as maybe
 use Rattle.atomic_table.proofs.Lists.{at_last, at_longer}
 use Rattle.atomic_table.specs.Seated.{TableId}
 use Rattle.atomic_table.specs.declared.shared.Seat.{Seat}
-use Rattle.redo_machine.specs.Views.{view_of}
-use Rattle.redo_machine.specs.declared.actor.Actor.{Actor}
+use Rattle.redo_drive.specs.Views.{view_of}
+use Rattle.redo_drive.specs.declared.actor.Actor.{Actor}
 use Rattle.redo_rule.proofs.AtRest.{turned}
 use Rattle.redo_rule.proofs.Seated.{at_end}
 use Rattle.redo_rule.specs.Mine.{number_of}

@@ -9,8 +9,8 @@ use Rattle.model_core.specs.declared.ops.Step.{Step}
 use Rattle.model_core.specs.declared.steps.UserStep.{UserStep}
 use Rattle.model_core.specs.declared.steps.UserStep.TheVariants as user_step
 use Rattle.redo_disk.specs.Seen.{Seen}
-use Rattle.redo_machine.specs.Views.{view_of}
-use Rattle.redo_machine.specs.declared.actor.Actor.{Actor as Own}
+use Rattle.redo_drive.specs.Views.{view_of}
+use Rattle.redo_drive.specs.declared.actor.Actor.{Actor as Own}
 use Rattle.redo_rule.specs.Mine.{HasGone}
 use Rattle.redo_threads.specs.Later.{IsLater}
 

@@ -6,9 +6,9 @@ use mathlib.Core.Option.{some}
 use Rattle.model_core.specs.Actors as model
 use Rattle.model_core.specs.States.{UserState}
 use Rattle.model_running.specs.Schedule.{HaveEnded}
-use Rattle.redo_machine.specs.History.{ListsInOrder}
-use Rattle.redo_machine.specs.Views.{view_of, views_of}
-use Rattle.redo_machine.specs.declared.actor.Actor.{Actor}
+use Rattle.redo_drive.specs.History.{ListsInOrder}
+use Rattle.redo_drive.specs.Views.{view_of, views_of}
+use Rattle.redo_drive.specs.declared.actor.Actor.{Actor}
 use Rattle.redo_pageactors.specs.declared.closed.Closed.{Closed}
 use Rattle.redo_threads.specs.Later.{IsLater}
 

@@ -6,7 +6,7 @@ ghost use Rattle.redo_threads.specs.Working.{AreAtEnd, GoOn};
 use crate::gate::Gate;
 use crate::work::{turn_if_open, work};
 use redo_disk::Sectors;
-use redo_machine::Actor;
+use redo_drive::Actor;
 use redo_rule::{Ring, Seat};
 use redo_words::Step;
 use std::sync::Wait;

@@ -1,6 +1,6 @@
 // A run of all actors, and what is left at its end.
 ghost use Rattle.std.specs.Prelude.{◌≡◌};
-ghost use Rattle.redo_machine.specs.Leaving.{LeavesRun};
+ghost use Rattle.redo_drive.specs.Leaving.{LeavesRun};
 ghost use Rattle.redo_rule.specs.Closing.{IsOwedRun};
 ghost use Rattle.redo_rule.specs.Sharing.{IsUnseated, opened_of, script_of};
 ghost use Rattle.redo_threads.specs.Ended.{HaveRun};
@@ -9,7 +9,7 @@ use crate::crew::Crew;
 use crate::gate::Gate;
 use crate::starting::play_all;
 use redo_disk::Sectors;
-use redo_machine::Actor;
+use redo_drive::Actor;
 use redo_pageactors::Closed;
 use redo_rule::Shared;
 use std::sync::Wait;

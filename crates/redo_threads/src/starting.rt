@@ -1,6 +1,6 @@
 // A thread for each actor, where one can be started.
 ghost use Rattle.std.specs.Prelude.{◌≡◌};
-ghost use Rattle.redo_machine.specs.Views.{view_of};
+ghost use Rattle.redo_drive.specs.Views.{view_of};
 ghost use Rattle.redo_rule.specs.Seating.{IsSeatOf};
 ghost use Rattle.redo_rule.specs.Sharing.{AreSeatsOf};
 ghost use Rattle.redo_threads.specs.Working.{AreAtEnd, GoOn, GoesOn};

@@ -1,7 +1,7 @@
 // One actor in its seat, played up to its end.
 ghost use Rattle.std.specs.Prelude.{true, ◌≡◌};
 ghost use Rattle.model_running.specs.Schedule.{HasEnded};
-ghost use Rattle.redo_machine.specs.Views.{view_of};
+ghost use Rattle.redo_drive.specs.Views.{view_of};
 ghost use Rattle.redo_rule.specs.Hands.{IsFreeToCheck};
 ghost use Rattle.redo_rule.specs.Seating.{IsSeatOf};
 ghost use Rattle.redo_threads.specs.Working.{AtEnd, GoesOn};
@@ -10,7 +10,7 @@ use crate::gate::{Gate, point_after};
 use crate::pace::Pace;
 use model_core::UserStep;
 use redo_disk::Sectors;
-use redo_machine::Actor;
+use redo_drive::Actor;
 use redo_rule::{Ring, Seat, holds_nothing, play};
 use redo_useractor::UserActor;
 use redo_words::{Op, Step};
