@@ -1,9 +1,9 @@
 use Rattle.std.proofs.Common.{List, Some, ap, arith, refl, subst, sym, ◌∙◌, length}
 use Rattle.std.specs.Prelude.{vec_capacity}
 use Rattle.model_core.specs.{word_count}
-use Rattle.redo_machine.specs.Lists.{AreLists}
-use Rattle.redo_machine.specs.declared.actor.Actor.{Actor}
-use Rattle.redo_machine.specs.declared.parts.Parts.{Parts}
+use Rattle.redo_drive.specs.Lists.{AreLists}
+use Rattle.redo_drive.specs.declared.actor.Actor.{Actor}
+use Rattle.redo_drive.specs.declared.parts.Parts.{Parts}
 use Rattle.redo_rule.proofs.Opens.{opens_ok, slots_of}
 use Rattle.redo_rule.proofs.Unseated.{about_begins, about_may, unseated}
 use Rattle.redo_rule.specs.Sharing.{IsUnseated}

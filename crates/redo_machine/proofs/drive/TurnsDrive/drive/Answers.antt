@@ -1,0 +1,44 @@
+-- The machine begins the run, its turns lead to the end, and what `finish` tells of that end is what the run comes to.
+use Rattle.std.proofs.Common.{arith, rules}
+use Rattle.redo_drive.proofs.LogCount.{log_within_script}
+use Rattle.redo_machine.proofs.RunLeft.{TurnsLead, by_turns, owes}
+use Rattle.redo_machine.proofs.drive.TurnsDrive.drive.Given as given
+use Rattle.redo_machine.proofs.drive.TurnsDrive.drive.Goals as goal
+
+pub run-ended-requires : goal.run-ended-requires
+run-ended-requires g c = let B = c.in_ok-machine.ensures.begins in record { run = B.run; runs = B.runs }
+
+pub finish-closed-requires : goal.finish-closed-requires
+finish-closed-requires g c = let B = c.in_ok-machine.ensures.begins in record { run = B.run; runs = c.run-ended.ensures.runs B.run B.runs }
+
+leads : (g : given.Over) (c : goal.After-finish-closed g) → TurnsLead g.L.Sectors.seen g.L.Sectors.gives g.D.Sectors.seen g.D.Sectors.gives c.args.opened c.args.script.now c.args.self.now (record { ended = c.run-ended.result; closed = c.finish-closed.result })
+leads g c =
+    let B = c.in_ok-machine.ensures.begins in
+    let R = c.run-ended.ensures.runs B.run B.runs in
+    let E = c.run-ended.ensures.ends B.run B.runs in
+    let within = log_within_script B.run.setup c.args.script.now c.args.opened.shape.space R.running.shared.sn R.running.log_ghost.log R.running.log_ghost.place R.running.both.logged.global.tiled B.is_run.of_script in
+    record {
+      first = record { parts = c.in_ok-machine.machine.parts; actors = c.in_ok-machine.machine.actors; entries = c.in_ok-machine.machine.entries };
+      begins = B;
+      last = c.run-ended.new.self.parts;
+      actors = c.run-ended.new.self.actors.items;
+      runs = R;
+      ends = E.ends;
+      asked = E.asked;
+      calls = c.run-ended.ensures.calls;
+      log = c.finish-closed.ensures.log;
+      data_part = c.finish-closed.ensures.data_part;
+      marks = c.finish-closed.ensures.marks;
+      code = c.finish-closed.ensures.code;
+      history = c.finish-closed.ensures.history B.run R (rw c.run-ended.ensures.entries B.no_entries) (rw c.run-ended.ensures.entries (omega arith));
+      listed = c.finish-closed.ensures.listed B.run R (rw c.run-ended.ensures.entries B.no_entries) (rw c.run-ended.ensures.entries (omega arith));
+    }
+
+pub returns-in_err-machine : goal.returns-in_err-machine
+returns-in_err-machine g c = search rules
+
+pub returns-clause-owed : goal.returns-clause-owed
+returns-clause-owed g c = owes g.L.Sectors.seen g.L.Sectors.gives g.D.Sectors.seen g.D.Sectors.gives c.args.opened c.args.script.now c.args.self.now _ (leads g c) c.requires
+
+pub returns-clause-says : goal.returns-clause-says
+returns-clause-says g c = by_turns g.L.Sectors.seen g.L.Sectors.gives g.D.Sectors.seen g.D.Sectors.gives c.args.opened c.args.script.now c.args.self.now _ (leads g c)
