@@ -1,5 +1,5 @@
 // Where a test may hold a user.
-use model_core::UserStep;
+use redo_words::{Op, Word};
 
 /// A point in each group of a user, right after the step that it is named for.
 #[derive(Clone, Copy, Debug, PartialEq, Eq)]
@@ -23,13 +23,15 @@ impl Gate for NoGate {
     fn pass(&self, _who: u32, _point: Point) {}
 }
 
-/// The point that a user has come to by an Op of one step, if it stands at another now.
-pub(crate) fn point_after(done: UserStep, now: UserStep) -> Option<Point> {
+/// The point that a user has come to by an Op, if it asks for another now.
+pub(crate) fn point_after(done: Op, now: Op) -> Option<Point> {
     match (done, now) {
-        (UserStep::Reserve, UserStep::LoadWrite) => Some(Point::Reserved),
-        (UserStep::AddCell | UserStep::StoreFirst, UserStep::LoadWtail) => Some(Point::Copied),
-        (UserStep::StoreLink, _) => Some(Point::Linked),
-        (UserStep::StoreClosedLink, _) => Some(Point::Closed),
+        (Op::Add(Word::Sn, _), _) => Some(Point::Reserved),
+        (Op::Add(Word::Cell(_), _) | Op::Store(Word::First(_), _), Op::Load(Word::Wtail)) => {
+            Some(Point::Copied)
+        }
+        (Op::Store(Word::Wlink(_), _), _) => Some(Point::Linked),
+        (Op::Store(Word::Clink(_), _), _) => Some(Point::Closed),
         _ => None,
     }
 }

@@ -5,11 +5,13 @@
 #![tactic(auto)]
 
 mod crew;
+mod drive;
 mod gate;
 mod pace;
 mod run;
 mod starting;
 mod work;
 
+pub use drive::InThreads;
 pub use gate::{Gate, NoGate, Point};
 pub use run::run_threads;

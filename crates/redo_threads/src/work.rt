@@ -8,7 +8,6 @@ ghost use Rattle.redo_threads.specs.Working.{AtEnd, GoesOn};
 
 use crate::gate::{Gate, point_after};
 use crate::pace::Pace;
-use model_core::UserStep;
 use redo_disk::Sectors;
 use redo_drive::Actor;
 use redo_rule::{Ring, Seat, holds_nothing, play};
@@ -36,17 +35,17 @@ fn is_at_end(actor: &Actor, running: &AtomicU64) -> bool
         && (running.load(Ordering::SeqCst) == 0 || matches!(actor.next(), Op::Rest))
 }
 
-/// The step of a user.
-fn user_step(actor: &Actor) -> Option<UserStep> {
+/// What a user asks for.
+fn user_op(actor: &Actor) -> Option<Op> {
     match actor {
-        Actor::User(user) => Some(user.step()),
+        Actor::User(user) => Some(user.next()),
         _ => None,
     }
 }
 
 /// What follows an Op of a user: it passes the gate where it has come to a point, and is counted down by its last Op.
-fn leave<G: Gate>(user: &UserActor, done: UserStep, running: &AtomicU64, gate: &G) {
-    if let Some(point) = point_after(done, user.step()) {
+fn leave<G: Gate>(user: &UserActor, done: Op, running: &AtomicU64, gate: &G) {
+    if let Some(point) = point_after(done, user.next()) {
         gate.pass(user.number(), point);
     }
     if user.has_ended() {
@@ -65,7 +64,7 @@ fn turn<L: Sectors, D: Sectors, G: Gate>(
     requires { IsSeatOf table.now.table_id seat.old (view_of actor.old) }
     ensures { GoesOn table.now.table_id seat.old actor.old seat.new actor.new }
 {
-    let done = user_step(actor);
+    let done = user_op(actor);
     let step = play(table, seat, actor);
     if let Some(done) = done {
         if let Actor::User(user) = &*actor {

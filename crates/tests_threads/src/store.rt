@@ -2,18 +2,18 @@
 ghost use Rattle.std.specs.Prelude.{IfOk, ◌<◌, ◌^◌, ◌≡◌, ◌≤◌};
 ghost use Rattle.model_base.specs.{IsWithinLimits};
 ghost use Rattle.model_log.specs.declared.layout.TheConstants.{BLOCK_HEADER};
-ghost use Rattle.redo_machine.specs.{room_from};
+ghost use Rattle.redo_drive.specs.Beginning.{room_from};
 ghost use Rattle.redo_pageactors.specs.{IsRunnable};
 
 use model_base::{BLOCK_SIZE, Shape};
 use model_log::BLOCK_HEADER;
 use model_script::{Script, fitting_script, read_lines_are_ranged};
+use redo_drive::{Drive, Driven, RunEnd};
 use redo_memdisk::{Fused, MemDisk};
 use redo_open::{format, open_store};
 use redo_pageactors::{Closed, Opened};
-use redo_rule::Shared;
 use redo_script::{judge, parse};
-use redo_threads::{Gate, run_threads};
+use redo_threads::{Gate, InThreads};
 use std::alloc::Global;
 use std::process::Abort;
 use std::sync::Wait;
@@ -82,9 +82,10 @@ pub fn left_by<R: Abort + Threads + Wait + Sync, G: Gate>(
     let Ok(()) = judge(alloc, &opened.shape, opened.start, end, &script) else {
         panic!(rt; "no fit");
     };
-    match Shared::new(alloc, opened, &script, log_only) {
-        Ok((shared, actors)) => {
-            let (closed, _actors) = run_threads(rt, shared, actors, gate);
+    let drive = InThreads { rt, gate, log_only };
+    match drive.drive(alloc, opened, &script) {
+        Ok(Driven { ended, closed }) => {
+            assert_eq!(rt; ended, RunEnd::Done);
             Ok(closed)
         }
         Err(_) => panic!(rt; "no memory"),
