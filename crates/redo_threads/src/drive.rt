@@ -17,6 +17,7 @@ use std::sync::Wait;
 use std::thread::Threads;
 
 /// The drive in threads: one for each actor, with the log alone or with the pages.
+#[derive(Drop)]
 pub struct InThreads<'a, R, G> {
     pub rt: &'a R,
     pub gate: &'a G,

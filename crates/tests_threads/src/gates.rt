@@ -7,6 +7,7 @@ use std::test::Fail;
 use std::thread::yield_now;
 
 /// How often each point was passed.
+#[derive(Drop)]
 struct Counts {
     reserved: AtomicU64,
     copied: AtomicU64,
@@ -72,6 +73,7 @@ fn each_group_passes_each_point(rt: HostRuntime) -> Result<(), Fail> {
 }
 
 /// Holds user 1 at its first reservation until user 2 has linked a group.
+#[derive(Drop)]
 struct First {
     reserved: AtomicU64,
     linked: AtomicU64,
