@@ -7,7 +7,7 @@ ghost use Rattle.redo_machine.specs.ByTurns.{RunsByTurns};
 use crate::machine::Machine;
 use model_script::Script;
 use redo_disk::Sectors;
-use redo_drive::{Drive, Driven};
+use redo_drive::Driven;
 use redo_lsn::NoMemory;
 use redo_pageactors::Opened;
 use std::alloc::Global;
@@ -20,31 +20,20 @@ pub struct Turns {
     pub log_only: bool,
 }
 
-impl<L: Sectors, D: Sectors> Drive<L, D> for Turns {
-    ghost alone = { λ turns. turns.log_only };
-
-    ghost says = { λ turns opened script driven. RunsByTurns L.seen L.gives D.seen D.gives opened script turns driven };
-
-    fn log_only(&self) -> bool
-        ensures { result ≡ self.now.log_only }
-    {
-        self.log_only
-    }
-
-    fn drive(
-        &self,
-        alloc: Global,
-        opened: Opened<L, D>,
-        script: &Script,
-    ) -> Result<Driven<L, D>, (NoMemory, L, D)>
-        requires { MayBegin opened script.now self.now.log_only }
-        ensures err { IfErr result (λ error. (error.1 ≡ opened.log.dev) × (error.2 ≡ opened.store.dev)) }
-        ensures owed { IfOk result (Owes L.seen L.gives D.seen D.gives opened script.now) }
-        ensures says { IfOk result (RunsByTurns L.seen L.gives D.seen D.gives opened script.now self.now) }
-    {
-        let mut machine = Machine::new(alloc, opened, script, self.log_only)?;
-        let ended = machine.run(self.seed, self.max);
-        let closed = machine.finish();
-        Ok(Driven { ended, closed })
-    }
+/// Runs a script on an opened store by turns. Where there is no memory it gives both devices back as they were.
+pub fn run_by_turns<L: Sectors, D: Sectors>(
+    alloc: Global,
+    opened: Opened<L, D>,
+    script: &Script,
+    turns: &Turns,
+) -> Result<Driven<L, D>, (NoMemory, L, D)>
+    requires { MayBegin opened script.now turns.now.log_only }
+    ensures err { IfErr result (λ error. (error.1 ≡ opened.log.dev) × (error.2 ≡ opened.store.dev)) }
+    ensures owed { IfOk result (Owes L.seen L.gives D.seen D.gives opened script.now) }
+    ensures turns { IfOk result (RunsByTurns L.seen L.gives D.seen D.gives opened script.now turns.now) }
+{
+    let mut machine = Machine::new(alloc, opened, script, turns.log_only)?;
+    let ended = machine.run(turns.seed, turns.max);
+    let closed = machine.finish();
+    Ok(Driven { ended, closed })
 }

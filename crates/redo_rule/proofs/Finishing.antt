@@ -187,7 +187,7 @@ module _ {L D : Type 0} (log_seen : L → Seen) (log_gives : L → Call → L �
         → IsOwedRun log_seen log_gives data_seen data_gives about.opened.value about.script.value actors closed
     is_owed may closed by = record {
       holds = left_run.holds_run log_seen log_gives data_seen data_gives about.opened.value about.script.value about.log_only actors (done_with closed) by may;
-      comes_to = λ ended. left_run.comes_to_run log_seen log_gives data_seen data_gives about.opened.value about.script.value about.log_only actors (done_with closed) by may (λ e. ended) (λ user e. absurd (cc));
+      comes_to = λ ended. left_run.comes_to_run log_seen log_gives data_seen data_gives about.opened.value about.script.value about.log_only actors (done_with closed) by may (λ e. ended) (λ turns user e. absurd (cc));
       owed = λ ended. left_run.is_owed log_seen log_gives data_seen data_gives about.opened.value about.script.value about.log_only actors (done_with closed) by may (λ e. ended);
       owed_synced = λ ended. left_run.is_owed_synced log_seen log_gives data_seen data_gives about.opened.value about.script.value about.log_only actors (done_with closed) by may (λ e. ended);
     }

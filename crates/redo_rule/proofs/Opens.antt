@@ -1,4 +1,4 @@
--- The rule holds of a table that was made of a start at the beginning of its run.
+-- The rule holds of a table that was made of parts and actors at the beginning of a run.
 use Rattle.std.proofs.Common.{Bool, List, None, Option, Some, [], ap, arith, cond, false, length, map, refl, subst, suc, sym, true, zero, ℕ, ◌+◌, ◌<◌, ◌==◌, ◌∙◌, ◌∷◌, ◌≡◌}
 use Rattle.std.specs.Prelude.{slice_index}
 use lib.ListN.{get_elem?}

@@ -2,8 +2,8 @@
 use Rattle.std.proofs.Common.{arith, rules}
 use Rattle.redo_drive.proofs.LogCount.{log_within_script}
 use Rattle.redo_machine.proofs.RunLeft.{TurnsLead, by_turns, owes}
-use Rattle.redo_machine.proofs.drive.TurnsDrive.drive.Given as given
-use Rattle.redo_machine.proofs.drive.TurnsDrive.drive.Goals as goal
+use Rattle.redo_machine.proofs.drive.run_by_turns.Given as given
+use Rattle.redo_machine.proofs.drive.run_by_turns.Goals as goal
 
 pub run-ended-requires : goal.run-ended-requires
 run-ended-requires g c = let B = c.in_ok-machine.ensures.begins in record { run = B.run; runs = B.runs }
@@ -11,7 +11,7 @@ run-ended-requires g c = let B = c.in_ok-machine.ensures.begins in record { run 
 pub finish-closed-requires : goal.finish-closed-requires
 finish-closed-requires g c = let B = c.in_ok-machine.ensures.begins in record { run = B.run; runs = c.run-ended.ensures.runs B.run B.runs }
 
-leads : (g : given.Over) (c : goal.After-finish-closed g) → TurnsLead g.L.Sectors.seen g.L.Sectors.gives g.D.Sectors.seen g.D.Sectors.gives c.args.opened c.args.script.now c.args.self.now (record { ended = c.run-ended.result; closed = c.finish-closed.result })
+leads : (g : given.Over) (c : goal.After-finish-closed g) → TurnsLead g.L.Sectors.seen g.L.Sectors.gives g.D.Sectors.seen g.D.Sectors.gives c.args.opened c.args.script.now c.args.turns.now (record { ended = c.run-ended.result; closed = c.finish-closed.result })
 leads g c =
     let B = c.in_ok-machine.ensures.begins in
     let R = c.run-ended.ensures.runs B.run B.runs in
@@ -38,7 +38,7 @@ pub returns-in_err-machine : goal.returns-in_err-machine
 returns-in_err-machine g c = search rules
 
 pub returns-clause-owed : goal.returns-clause-owed
-returns-clause-owed g c = owes g.L.Sectors.seen g.L.Sectors.gives g.D.Sectors.seen g.D.Sectors.gives c.args.opened c.args.script.now c.args.self.now _ (leads g c) c.requires
+returns-clause-owed g c = owes g.L.Sectors.seen g.L.Sectors.gives g.D.Sectors.seen g.D.Sectors.gives c.args.opened c.args.script.now c.args.turns.now _ (leads g c) c.requires
 
-pub returns-clause-says : goal.returns-clause-says
-returns-clause-says g c = by_turns g.L.Sectors.seen g.L.Sectors.gives g.D.Sectors.seen g.D.Sectors.gives c.args.opened c.args.script.now c.args.self.now _ (leads g c)
+pub returns-clause-turns : goal.returns-clause-turns
+returns-clause-turns g c = by_turns g.L.Sectors.seen g.L.Sectors.gives g.D.Sectors.seen g.D.Sectors.gives c.args.opened c.args.script.now c.args.turns.now _ (leads g c)
