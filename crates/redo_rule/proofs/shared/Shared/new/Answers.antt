@@ -11,22 +11,22 @@ pub lay_out-requires : goal.lay_out-requires
 lay_out-requires g c = c.are_lists.ensures
 
 pub make_board-requires : goal.make_board-requires
-make_board-requires g c = opens_ok g.L.Sectors.seen g.L.Sectors.gives g.D.Sectors.seen g.D.Sectors.gives (record { opened = c.of-opened_is.result; script = c.of.result; actors = c.of-2.result; log_only = c.args.log_only }) _ (about_begins g.L.Sectors.seen g.D.Sectors.seen (record { opened = c.of-opened_is.result; script = c.of.result; actors = c.of-2.result; log_only = c.args.log_only }) c.args.opened c.args.script.now c.args.log_only c.of-opened_is.ensures c.of.ensures refl (record { parts = c.in_ok-parts.parts; actors = c.in_ok-parts.actors; entries = c.in_ok-parts.entries }) c.in_ok-parts.ensures.begins) c.are_lists.ensures
+make_board-requires g c = opens_ok g.L.Sectors.seen g.L.Sectors.gives g.D.Sectors.seen g.D.Sectors.gives (record { opened = c.of-opened_is.result; script = c.of.result; actors = c.of-2.result; log_only = c.args.log_only }) _ (about_begins g.L.Sectors.seen g.D.Sectors.seen (record { opened = c.of-opened_is.result; script = c.of.result; actors = c.of-2.result; log_only = c.args.log_only }) c.args.opened c.args.script.now c.args.log_only c.of-opened_is.ensures c.of.ensures refl c.in_ok-parts.field-0 c.in_ok-parts.ensures.begins) c.are_lists.ensures
     (ap (λ v. v.items) c.of-2.ensures) _ _ c.as_slice.ensures.words c.in-Ok.ensures.slots
 
 pub parts_in-log-requires : goal.parts_in-log-requires
-parts_in-log-requires g c = (c.in_ok-parts.parts.log, c.in_ok-parts.parts.lists, c.in_ok-parts.parts.store, c.in-Err-make_board.ensures.err ∙ c.in-Ok.ensures.slots)
+parts_in-log-requires g c = (c.in_ok-parts.field-0.parts.log, c.in_ok-parts.field-0.parts.lists, c.in_ok-parts.field-0.parts.store, c.in-Err-make_board.ensures.err ∙ c.in-Ok.ensures.slots)
 
 pub returns-in-Ok-make_board-clause-new : goal.returns-in-Ok-make_board-clause-new
 returns-in-Ok-make_board-clause-new g c = record {
   opened_is = ap (λ (z : About _ _). z.opened.value) c.in-Ok-make_board.ensures.key ∙ c.of-opened_is.ensures;
   script_is = ap (λ (z : About _ _). z.script.value) c.in-Ok-make_board.ensures.key ∙ c.of.ensures;
   log_only_is = ap (λ (z : About _ _). z.log_only) c.in-Ok-make_board.ensures.key;
-  unseated = unseated g.L.Sectors.seen g.D.Sectors.seen (record { opened = c.of-opened_is.result; script = c.of.result; actors = c.of-2.result; log_only = c.args.log_only }) (record { parts = c.in_ok-parts.parts; actors = c.in_ok-parts.actors; entries = c.in_ok-parts.entries })
-      (about_begins g.L.Sectors.seen g.D.Sectors.seen (record { opened = c.of-opened_is.result; script = c.of.result; actors = c.of-2.result; log_only = c.args.log_only }) c.args.opened c.args.script.now c.args.log_only c.of-opened_is.ensures c.of.ensures refl (record { parts = c.in_ok-parts.parts; actors = c.in_ok-parts.actors; entries = c.in_ok-parts.entries }) c.in_ok-parts.ensures.begins)
+  unseated = unseated g.L.Sectors.seen g.D.Sectors.seen (record { opened = c.of-opened_is.result; script = c.of.result; actors = c.of-2.result; log_only = c.args.log_only }) c.in_ok-parts.field-0
+      (about_begins g.L.Sectors.seen g.D.Sectors.seen (record { opened = c.of-opened_is.result; script = c.of.result; actors = c.of-2.result; log_only = c.args.log_only }) c.args.opened c.args.script.now c.args.log_only c.of-opened_is.ensures c.of.ensures refl c.in_ok-parts.field-0 c.in_ok-parts.ensures.begins)
       (ap (λ v. v.items) c.of-2.ensures)
       (about_may g.L.Sectors.seen g.D.Sectors.seen (record { opened = c.of-opened_is.result; script = c.of.result; actors = c.of-2.result; log_only = c.args.log_only }) c.args.opened c.args.script.now c.args.log_only c.of-opened_is.ensures c.of.ensures refl c.requires)
-      (record { board = c.in-Ok-make_board.board; first = c.in-Ok-make_board.first; room = Some c.in-Ok.room; entries = c.in_ok-parts.entries })
+      (record { board = c.in-Ok-make_board.board; first = c.in-Ok-make_board.first; room = Some c.in-Ok.room; entries = c.in_ok-parts.field-0.entries })
       c.in-Ok-make_board.ensures.key
       c.in-Ok-make_board.ensures.ids
       (c.in-Ok-make_board.ensures.slots ∙ ap length c.in-Ok.ensures.slots)
@@ -40,7 +40,7 @@ returns-in-Ok-make_board-clause-new g c = record {
 
 pub returns-in-Err-make_board-clause-err : goal.returns-in-Err-make_board-clause-err
 returns-in-Err-make_board-clause-err g c =
-    let p = c.in_ok-parts.parts in
+    let p = c.in_ok-parts.field-0.parts in
     let both = c.parts_in-log.ensures p.log p.lists p.store (c.in-Err-make_board.ensures.err ∙ c.in-Ok.ensures.slots) in
     let B = c.in_ok-parts.ensures.begins in (
       c.into_dev-in-Err-make_board.ensures ∙ ap (λ z. z.dev) (both.0 ∙ B.log),
