@@ -1,5 +1,5 @@
 -- Actors in their seats, and how they go on to their ends.
-use Rattle.std.specs.Prelude.{List, None, Unit, vec_capacity, ℕ, ◌≡◌, ◌≤◌}
+use Rattle.std.specs.Prelude.{List, None, vec_capacity, ℕ, ◌≡◌, ◌≤◌}
 use Rattle.std.specs.List.{AllZip}
 use lib.ListN.{get_elem?}
 use mathlib.Core.Option.{some}
@@ -33,9 +33,9 @@ AreAtEnd actors = (i : ℕ) (a : Actor) → get_elem? actors i ≡ some a → At
 
 module _ {L D : Type 0} where
   -- the same actor, later, in the same seat of this table
-  pub record GoesOn (table : TableId) (seat : Seat (Slot L D) (View L D)) (a : Actor) (after : Seat (Slot L D) (View L D)) (b : Actor) : Type 0 where
+  pub record GoesOn (table : TableId) (before : Seat (Slot L D) (View L D)) (a : Actor) (after : Seat (Slot L D) (View L D)) (b : Actor) : Type 0 where
     pub seat : IsSeatOf table after (view_of b)
-    pub number : number_of after.me.0 ≡ number_of seat.me.0
+    pub number : number_of after.me.0 ≡ number_of before.me.0
     pub actor : IsLater (view_of a) (view_of b)
 
   -- the same actors, later, in their seats, with room for as many as they were
