@@ -1,0 +1,4 @@
+pub mod Ending
+pub mod Going
+pub mod Later
+pub mod Scripted
