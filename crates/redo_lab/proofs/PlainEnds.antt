@@ -1,6 +1,6 @@
 -- What the commands that run no script come to.
 use Rattle.std.proofs.lemmas.Bool.{false≢true}
-use Rattle.std.proofs.Common.{ℕ, ◌≡◌, ◌<◌, true, false, List, Result, Ok, Err, IfOk, arith}
+use Rattle.std.proofs.Common.{ℕ, ◌≡◌, ◌<◌, Bool, true, false, List, Result, Ok, Err, IfOk, arith}
 use Rattle.model_base.specs.{HasRisen}
 use Rattle.model_command.specs.declared.asked.Command.{Command}
 use Rattle.model_command.specs.declared.asked.Command.TheVariants.{Recover, Dump, Gen}
@@ -79,8 +79,8 @@ pub record ReadsOff (call : Call) (command : Command) (text_of : Reading → Lis
   pub unfailed : AreUnfailedFor command call → Each IsUnfailed call
   pub reads : IsPossible call command → CanRead call
 
-pub recovers-off : (call : Call) → call.source_now ≡ call.source → ReadsOff call Recover recover_text
-recovers-off call unread = record {
+pub recovers-off : (call : Call) (workers : ℕ) → call.source_now ≡ call.source → ReadsOff call (Recover workers) recover_text
+recovers-off call workers unread = record {
   unread = unread;
   past = λ reads. absurd (false≢true reads);
   runs = λ runs. false≢true runs;
@@ -92,8 +92,8 @@ recovers-off call unread = record {
   reads = λ possible. possible;
 }
 
-pub dumps-off : (call : Call) → call.source_now ≡ call.source → ReadsOff call Dump dump_text
-dumps-off call unread = record {
+pub dumps-off : (call : Call) (why : Bool) → call.source_now ≡ call.source → ReadsOff call (Dump why) dump_text
+dumps-off call why unread = record {
   unread = unread;
   past = λ reads. absurd (false≢true reads);
   runs = λ runs. false≢true runs;

@@ -81,9 +81,9 @@ running-run call drive script read = record {
   refused = λ refusal refused. refused;
 }
 
-pub running-crash : (call : Call) (drive : Drive) (stop_log stop_data : Option ℕ) (pick : ℕ) (script : List ScriptLine) → IsScriptRead call.source call.source_now script
-    → IsRunning call (Crash drive stop_log stop_data pick) drive script
-running-crash call drive stop_log stop_data pick script read = record {
+pub running-crash : (call : Call) (drive : Drive) (stop_log stop_data : Option ℕ) (pick workers : ℕ) (script : List ScriptLine) → IsScriptRead call.source call.source_now script
+    → IsRunning call (Crash drive stop_log stop_data pick workers) drive script
+running-crash call drive stop_log stop_data pick workers script read = record {
   asked = refl;
   is_script = read;
   past = λ reads. (script, read);

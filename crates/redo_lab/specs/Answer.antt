@@ -73,10 +73,10 @@ pub record IsCrashedAs (limit : Option ℕ) (pick : ℕ) (fuse : Fuse) : Type 0 
   pub unchanged_since : fuse.late_changes ≡ 0
 
 -- `crash`: an account of the call, of the drive's run, which the crash met as the run left it; and the theorem of that account.
-pub record IsCrashText (call : Call) (drive : Drive) (stop_log stop_data : Option ℕ) (pick : ℕ) (text : List ℕ) : Type 0 where
+pub record IsCrashText (call : Call) (drive : Drive) (stop_log stop_data : Option ℕ) (pick workers : ℕ) (text : List ℕ) : Type 0 where
   pub account : Account
   pub opened : Opened
-  pub told : IsAccount call (Crash drive stop_log stop_data pick) drive opened account.script account.run account.left
+  pub told : IsAccount call (Crash drive stop_log stop_data pick workers) drive opened account.script account.run account.left
       call.log.now.crashed_from call.store.now.crashed_from
   pub text_is : text ≡ account.printed
   pub log_crashed : IsCrashedAs stop_log pick call.log.fuse
@@ -91,9 +91,9 @@ pub record IsCrashText (call : Call) (drive : Drive) (stop_log stop_data : Optio
 abbrev pub IsAnswer : Call → Command → List ℕ → Type 0
 IsAnswer call (Format pages space log_blocks) text = IsFormatted call (shape_of pages space log_blocks) text
 IsAnswer call (Run drive) text = IsRunText call (Run drive) drive IsReportText text
-IsAnswer call (Crash drive stop_log stop_data pick) text = IsCrashText call drive stop_log stop_data pick text
-IsAnswer call Recover text = IsReadOff call recover_text text
-IsAnswer call Dump text = IsReadOff call dump_text text
+IsAnswer call (Crash drive stop_log stop_data pick workers) text = IsCrashText call drive stop_log stop_data pick workers text
+IsAnswer call (Recover workers) text = IsReadOff call recover_text text
+IsAnswer call (Dump why) text = IsReadOff call dump_text text
 IsAnswer call (Gen seed users groups true max) text =
     IsRunText call (Gen seed users groups true max) (drive_of_seed seed max) (IsSummaryText call) text
 IsAnswer call (Gen seed users groups false max) text = text ≡ generated_text seed users groups

@@ -75,7 +75,7 @@ IsUnfailedAside device = (device.fuse.early ≡ 0) × (device.fuse.late ≡ 0)
 
 -- In a crash a failure from the arming to the crash is no reason not to be done.
 abbrev pub AreUnfailedFor : Command → Call → Type 0
-AreUnfailedFor (Crash drive stop_log stop_data pick) call = Each IsUnfailedAside call
+AreUnfailedFor (Crash drive stop_log stop_data pick workers) call = Each IsUnfailedAside call
 AreUnfailedFor command call = Each IsUnfailed call
 
 -- how many calls failed from the arming to the crash

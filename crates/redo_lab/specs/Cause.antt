@@ -32,7 +32,7 @@ IsPastSource call command = reads_script command ≡ true → (script : List Scr
 -- A call of the device failed, and so its count rose; in a crash one before its fuse was armed, or behind the crash, since a
 -- failure between ends the run and not the call.
 abbrev pub IsDeviceFault : Command → Guarded → Type 0
-IsDeviceFault (Crash drive stop_log stop_data pick) device =
+IsDeviceFault (Crash drive stop_log stop_data pick workers) device =
     HasRisen device.entry.faults device.now.faults × (0 < device.fuse.early + device.fuse.late)
 IsDeviceFault command device =
     HasRisen device.entry.faults device.now.faults × (0 < device.fuse.early + (device.fuse.mid + device.fuse.late))
@@ -56,11 +56,11 @@ abbrev pub IsRefused : Call → Command → Refusal → Type 0
 IsRefused call (Format pages space log_blocks) refusal =
     IsTooShort (shape_of pages space log_blocks) call.log.entry.size call.store.entry.size refusal
 IsRefused call (Run drive) refusal = IsRefusedAtEntry call refusal
-IsRefused call (Crash drive stop_log stop_data pick) refusal =
+IsRefused call (Crash drive stop_log stop_data pick workers) refusal =
     IsRefusedAtEntry call refusal
     ⊎ (Each (λ device. device.fuse.pick ≡ Some pick) call × WhereToldNow call (AreRefused refusal))
-IsRefused call Recover refusal = WhereToldAtEntry call (AreRefused refusal)
-IsRefused call Dump refusal = WhereToldAtEntry call (AreRefused refusal)
+IsRefused call (Recover workers) refusal = WhereToldAtEntry call (AreRefused refusal)
+IsRefused call (Dump why) refusal = WhereToldAtEntry call (AreRefused refusal)
 IsRefused call (Gen seed users groups true max) refusal = IsRefusedAtEntry call refusal ⊎ WhereToldNow call (AreRefused refusal)
 IsRefused call (Gen seed users groups false max) refusal = ⊥
 

@@ -62,9 +62,9 @@ abbrev pub IsPossible : Call → Command → Type 0
 IsPossible call (Format pages space log_blocks) =
     AreLongEnough (shape_of pages space log_blocks) call.log.entry.size call.store.entry.size
 IsPossible call (Run drive) = CanRun call drive.log_only
-IsPossible call (Crash drive stop_log stop_data pick) = CanRun call drive.log_only
-IsPossible call Recover = CanRead call
-IsPossible call Dump = CanRead call
+IsPossible call (Crash drive stop_log stop_data pick workers) = CanRun call drive.log_only
+IsPossible call (Recover workers) = CanRead call
+IsPossible call (Dump why) = CanRead call
 IsPossible call (Gen seed users groups true max) = CanPlay call false (generated_lines seed users groups)
 IsPossible call (Gen seed users groups false max) = ⊤
 

@@ -35,7 +35,10 @@ fn is_served(command: &Command) -> bool
     match command {
         Command::Run { drive } => is_by_turns(drive),
         Command::Crash { drive, .. } => is_by_turns(drive),
-        Command::Format { .. } | Command::Recover | Command::Dump | Command::Gen { .. } => true,
+        Command::Format { .. }
+        | Command::Recover { .. }
+        | Command::Dump { .. }
+        | Command::Gen { .. } => true,
     }
 }
 

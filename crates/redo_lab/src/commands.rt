@@ -55,9 +55,9 @@ fn crash_source<S: Source, L: Sectors, D: Sectors>(
     store: D,
 ) -> Done<L, D>
     requires { is_by_turns drive.now ≡ true }
-    ensures ends { (words : List (List ℕ))
+    ensures ends { (words : List (List ℕ)) (workers : ℕ)
         → EndsWith (call_of L.seen L.gives D.seen D.gives words (S.seen src.old) (S.seen src.new) log store result)
-        (Crash drive.now stops.log stops.store pick) result.outcome }
+        (Crash drive.now stops.log stops.store pick workers) result.outcome }
     ensures entered { AreOf log store result.log result.store }
     ensures taken { TakesAtMost (MAX_SCRIPT + PIECE) (S.seen src.old).left (S.seen src.new).left }
 {
@@ -96,6 +96,7 @@ pub(crate) fn done<S: Source, L: Sectors, D: Sectors>(
             stop_log,
             stop_data,
             pick,
+            ..
         } => {
             let stops = Stops {
                 log: stop_log,
@@ -103,8 +104,8 @@ pub(crate) fn done<S: Source, L: Sectors, D: Sectors>(
             };
             crash_source(alloc, src, &drive, stops, pick, log, store)
         }
-        Command::Recover => print_pages(alloc, log, store),
-        Command::Dump => print_store(alloc, log, store),
+        Command::Recover { .. } => print_pages(alloc, log, store),
+        Command::Dump { .. } => print_store(alloc, log, store),
         Command::Gen {
             seed,
             users,

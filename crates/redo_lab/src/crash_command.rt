@@ -85,8 +85,8 @@ pub(crate) fn crash_command<L: Sectors, D: Sectors>(
 ) -> Done<L, D>
     requires lines { AllByRecursion IsScriptLine script.now }
     requires by_turns { is_by_turns drive.now ≡ true }
-    ensures ends { (words : List (List ℕ)) (source source_now : SourceSeen) → IsScriptRead source source_now script.now
-        → EndsWith (call_of L.seen L.gives D.seen D.gives words source source_now log store result) (Crash drive.now stops.log stops.store pick) result.outcome }
+    ensures ends { (words : List (List ℕ)) (source source_now : SourceSeen) (workers : ℕ) → IsScriptRead source source_now script.now
+        → EndsWith (call_of L.seen L.gives D.seen D.gives words source source_now log store result) (Crash drive.now stops.log stops.store pick workers) result.outcome }
     ensures entered { AreOf log store result.log result.store }
 {
     one_answer();

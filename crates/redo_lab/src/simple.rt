@@ -1,5 +1,5 @@
 // The commands that take no script.
-ghost use Rattle.std.specs.Prelude.{ℕ, List};
+ghost use Rattle.std.specs.Prelude.{ℕ, Bool, List};
 ghost use Rattle.model_base.specs.{IsWithinLimits};
 ghost use Rattle.model_command.specs.declared.asked.Command.TheVariants.{Format, Recover, Dump};
 ghost use Rattle.redo_io.specs.{SourceSeen};
@@ -50,8 +50,8 @@ pub(crate) fn format_devices<L: Sectors, D: Sectors>(
 
 /// Reads the store, and prints its pages.
 pub(crate) fn print_pages<L: Sectors, D: Sectors>(alloc: Global, log: L, store: D) -> Done<L, D>
-    ensures ends { (words : List (List ℕ)) (source : SourceSeen)
-        → EndsWith (call_of L.seen L.gives D.seen D.gives words source source log store result) (Recover) result.outcome }
+    ensures ends { (words : List (List ℕ)) (source : SourceSeen) (workers : ℕ)
+        → EndsWith (call_of L.seen L.gives D.seen D.gives words source source log store result) (Recover workers) result.outcome }
     ensures entered { AreOf log store result.log result.store }
 {
     one_answer();
@@ -70,8 +70,8 @@ pub(crate) fn print_pages<L: Sectors, D: Sectors>(alloc: Global, log: L, store: 
 
 /// Reads the store, and lists what stands on its devices.
 pub(crate) fn print_store<L: Sectors, D: Sectors>(alloc: Global, log: L, store: D) -> Done<L, D>
-    ensures ends { (words : List (List ℕ)) (source : SourceSeen)
-        → EndsWith (call_of L.seen L.gives D.seen D.gives words source source log store result) (Dump) result.outcome }
+    ensures ends { (words : List (List ℕ)) (source : SourceSeen) (why : Bool)
+        → EndsWith (call_of L.seen L.gives D.seen D.gives words source source log store result) (Dump why) result.outcome }
     ensures entered { AreOf log store result.log result.store }
 {
     one_answer();

@@ -8,13 +8,13 @@ pub returns-in-Run-clause-ends : goal.returns-in-Run-clause-ends
 returns-in-Run-clause-ends g c = λ words. rw c.in-Run.is (c.run_source.ensures.ends words)
 
 pub returns-in-Crash-clause-ends : goal.returns-in-Crash-clause-ends
-returns-in-Crash-clause-ends g c = λ words. rw c.in-Crash.is (c.crash_source.ensures.ends words)
+returns-in-Crash-clause-ends g c = λ words. rw c.in-Crash.is (c.crash_source.ensures.ends words _)
 
 pub returns-in-Recover-clause-ends : goal.returns-in-Recover-clause-ends
-returns-in-Recover-clause-ends g c = λ words. rw c.in-Recover.is (c.print_pages.ensures.ends words _)
+returns-in-Recover-clause-ends g c = λ words. rw c.in-Recover.is (c.print_pages.ensures.ends words _ _)
 
 pub returns-in-Dump-clause-ends : goal.returns-in-Dump-clause-ends
-returns-in-Dump-clause-ends g c = λ words. rw c.in-Dump.is (c.print_store.ensures.ends words _)
+returns-in-Dump-clause-ends g c = λ words. rw c.in-Dump.is (c.print_store.ensures.ends words _ _)
 
 pub returns-in-Gen-clause-ends : goal.returns-in-Gen-clause-ends
 returns-in-Gen-clause-ends g c = λ words. rw c.in-Gen.is (c.gen_command.ensures.ends words _)
