@@ -17,7 +17,7 @@ use Rattle.redo_memdisk.specs.declared.fuse.Fuse.{Fuse}
 use Rattle.redo_memdisk.specs.declared.fuse.Stage.{Stage}
 use Rattle.redo_memdisk.specs.declared.fuse.Stage.TheVariants.{Before, Stopping, Crashed}
 use Rattle.redo_memdisk.specs.declared.fused.Fused.{Fused}
-use Rattle.redo_recover.specs.{data_error, data_error_of, HasCauseIn, log_error, log_error_of, OnContents, ReadsLog, ReadsPages}
+use Rattle.redo_recover.specs.{data_error, data_error_of, HasCauseIn, log_error, log_error_of, OnContents, ReadsLog}
 use Rattle.redo_recover.specs.declared.recovered.Recovered.{Recovered}
 use Rattle.redo_recover.specs.declared.fault.RecFault.{RecFault}
 use Rattle.redo_recover.specs.declared.fault.RecFault.TheVariants.{SmallLog, NotFormatted, BadFormat, SmallData, NoCheckpoint, BadRecord, PageLost, PageAhead, LogDev, DataDev, NoMemory}
@@ -56,16 +56,11 @@ crashed-since {seen = seen} {gives = gives} {crash_gives = crash_gives} {pick = 
           crashed-reads stage (crashed-now seen crash_gives limit pick entry found failed old met armed crash) made;
     }
 
--- the same of recovery's reads
-pub log-crashed : {D : Type 0} {seen : D → Seen} {gives : D → Call → D → Type 0} {crash_gives : D → ℕ → D → Type 0} {pick : ℕ} {old met new : Fused D} {log : Seen} {data_size : ℕ} {result : Result Recovered RecFault}
-    → CrashesThrough seen crash_gives old pick met → MakesCalls (CallsThrough seen gives) met new (ReadsLog log data_size result)
-    → IsCrashedSince pick (failures (log_error_of result)) (shown seen old) (shown seen new)
-log-crashed {result = result} crash made = crashed-since crash (weaker_calls (λ calls log. reads-of-pieces (log_error_of result) calls log.reads) made)
-
-pub data-crashed : {D : Type 0} {seen : D → Seen} {gives : D → Call → D → Type 0} {crash_gives : D → ℕ → D → Type 0} {pick : ℕ} {old met new : Fused D} {log_told : Option Disk} {result : Result Recovered RecFault}
-    → CrashesThrough seen crash_gives old pick met → MakesCalls (CallsThrough seen gives) met new (ReadsPages log_told result)
-    → IsCrashedSince pick (failures (data_error_of result)) (shown seen old) (shown seen new)
-data-crashed {result = result} crash made = crashed-since crash (weaker_calls (λ calls pages. reads-of-pieces (data_error_of result) calls pages.reads) made)
+-- the same of recovery's reads of the log
+pub log-crashed : {D : Type 0} {seen : D → Seen} {gives : D → Call → D → Type 0} {crash_gives : D → ℕ → D → Type 0} {pick : ℕ} {old met new : Fused D} {size : ℕ} {error : Option DevError}
+    → CrashesThrough seen crash_gives old pick met → MakesCalls (CallsThrough seen gives) met new (ReadsLog size error)
+    → IsCrashedSince pick (failures error) (shown seen old) (shown seen new)
+log-crashed crash made = crashed-since crash (weaker_calls (λ calls log. log.reads) made)
 
 -- the device tells what the reads behind the crash met
 abbrev pub IsAsMet : Seen → Seen → Type 0

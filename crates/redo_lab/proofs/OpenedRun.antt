@@ -23,7 +23,7 @@ use Rattle.redo_disk.specs.declared.error.DevError.{DevError}
 use Rattle.redo_disk.specs.declared.error.DevError.TheVariants as device
 use Rattle.redo_memdisk.specs.{CallsThrough, seen_through}
 use Rattle.redo_memdisk.specs.declared.fused.Fused.{Fused}
-use Rattle.redo_open.specs.{IsOpenedReady, IsOpeningOf, WhereBothTell}
+use Rattle.redo_open.specs.{IsOpenedReady, IsOpeningOf, WhereBothTell, OpensLog}
 use Rattle.redo_pageactors.specs.{IsRunnable}
 use Rattle.redo_pageactors.specs.declared.opened.Opened.{Opened}
 use Rattle.redo_recover.specs.{OnContents}
@@ -43,7 +43,7 @@ use Rattle.redo_lab.specs.declared.playing.Played.{Played}
 use Rattle.redo_lab.specs.declared.playing.Stops.{Stops}
 use Rattle.redo_lab.proofs.Telling.{calls-go_on}
 use Rattle.redo_lab.proofs.Told.{both-told, on-contents}
-use Rattle.redo_lab.proofs.UnderWay.{AreCounted, HeaderFirst, ReadingLaws, counted-more, counted-opening, formatted-read, goes-on, keeps-found, same-both, told-some, way-of}
+use Rattle.redo_lab.proofs.UnderWay.{AreCounted, ReadingLaws, counted-more, counted-opening, formatted-read, goes-on, keeps-found, same-both, told-some, way-of}
 use Rattle.redo_lab.specs.Course.{AreMisfitted, ArePlayed, AreUnstarted, ByTurns, CameSoFar, ClosesRun, ComesTo, Driving, HoldsRun, ran_of}
 use Rattle.redo_lab.specs.Playing.{AreArmed, AreDriven, AreLeftOpened, course_done, course_of, ended_by, played_of}
 use Rattle.redo_lab.specs.Prepared.{ArePrepared, WhereTold}
@@ -135,7 +135,7 @@ pub record IsOpened {L D : Type 0} (log_seen : L → Seen) (log_gives : L → Ca
       IsOpenable reading log_disk data_disk → IsOpenedReady (seen_through log_seen) (seen_through data_seen) reading store)
   pub read : OnContents (log_seen log.inner).tells (data_seen data_device.inner).tells (λ log_bytes data_bytes. IsOpeningOf log_bytes data_bytes store)
   pub runnable : IsRunnable store
-  pub log_calls : MakesCalls (CallsThrough log_seen log_gives) log store.log.dev (HeaderFirst (log_seen log.inner).size None)
+  pub log_calls : MakesCalls (CallsThrough log_seen log_gives) log store.log.dev (OpensLog (log_seen log.inner).size None)
   pub data_calls : MakesCalls (CallsThrough data_seen data_gives) data_device store.store.dev (MayEndWith None)
 
 -- one failure at the most is counted

@@ -1,6 +1,6 @@
 -- What the commands that run no script come to.
 use Rattle.std.proofs.lemmas.Bool.{false≢true}
-use Rattle.std.proofs.Common.{ℕ, ◌≡◌, ◌<◌, Bool, true, false, List, Result, Ok, Err, IfOk, arith}
+use Rattle.std.proofs.Common.{ℕ, ◌≡◌, ◌<◌, Bool, true, false, List, None, Result, Ok, Err, IfOk, arith}
 use Rattle.model_base.specs.{HasRisen}
 use Rattle.model_command.specs.declared.asked.Command.{Command}
 use Rattle.model_command.specs.declared.asked.Command.TheVariants.{Recover, Dump, Gen}
@@ -92,7 +92,7 @@ recovers-off call workers unread = record {
   reads = λ possible. possible;
 }
 
-pub dumps-off : (call : Call) (why : Bool) → call.source_now ≡ call.source → ReadsOff call (Dump why) dump_text
+pub dumps-off : (call : Call) (why : Bool) → call.source_now ≡ call.source → ReadsOff call (Dump why) (dump_text None)
 dumps-off call why unread = record {
   unread = unread;
   past = λ reads. absurd (false≢true reads);

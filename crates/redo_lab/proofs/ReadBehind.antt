@@ -11,7 +11,7 @@ use Rattle.redo_disk.proofs.Made.{weaker_calls}
 use Rattle.redo_memdisk.specs.{CallsThrough}
 use Rattle.redo_memdisk.specs.declared.fused.Fused.{Fused}
 use Rattle.redo_memdisk.proofs.Behind.{counts-calls}
-use Rattle.redo_recover.specs.{data_error, data_error_of, HasCauseIn, log_error, log_error_of, OnContents, ReadsLog, ReadsPages}
+use Rattle.redo_recover.specs.{data_error, data_error_of, HasCauseIn, log_error, log_error_of, OnContents, ReadsLog}
 use Rattle.redo_recover.specs.declared.recovered.Recovered.{Recovered}
 use Rattle.redo_recover.specs.declared.fault.RecFault.{RecFault}
 use Rattle.redo_lab.specs.declared.outcome.Outcome.TheVariants as outcome
@@ -26,7 +26,7 @@ use Rattle.redo_lab.specs.Reported.{summary_of}
 use Rattle.redo_lab.specs.Stages.{Shown, shown}
 
 -- a device that was only read
-read-since : {D : Type 0} {seen : D → Seen} {gives : D → Call → D → Type 0} {old new : Fused D} {error : Option DevError}
+pub read-since : {D : Type 0} {seen : D → Seen} {gives : D → Call → D → Type 0} {old new : Fused D} {error : Option DevError}
     → MakesCalls (CallsThrough seen gives) old new (ReadsMayEndWith error) → IsReadSince (failures error) (shown seen old) (shown seen new)
 read-since {seen = seen} {gives = gives} {old = old} {new = new} made =
     let counts = counts-calls seen gives old new made.calls made.made in
@@ -37,13 +37,9 @@ read-since {seen = seen} {gives = gives} {old = old} {new = new} made =
     }
 
 -- by recovery
-pub log-read : {D : Type 0} {seen : D → Seen} {gives : D → Call → D → Type 0} {old new : Fused D} {log : Seen} {data_size : ℕ} {result : Result Recovered RecFault}
-    → MakesCalls (CallsThrough seen gives) old new (ReadsLog log data_size result) → IsReadSince (failures (log_error_of result)) (shown seen old) (shown seen new)
-log-read {result = result} made = read-since (weaker_calls (λ calls log. reads-of-pieces (log_error_of result) calls log.reads) made)
-
-pub data-read : {D : Type 0} {seen : D → Seen} {gives : D → Call → D → Type 0} {old new : Fused D} {log_told : Option Disk} {result : Result Recovered RecFault}
-    → MakesCalls (CallsThrough seen gives) old new (ReadsPages log_told result) → IsReadSince (failures (data_error_of result)) (shown seen old) (shown seen new)
-data-read {result = result} made = read-since (weaker_calls (λ calls pages. reads-of-pieces (data_error_of result) calls pages.reads) made)
+pub log-read : {D : Type 0} {seen : D → Seen} {gives : D → Call → D → Type 0} {old new : Fused D} {size : ℕ} {error : Option DevError}
+    → MakesCalls (CallsThrough seen gives) old new (ReadsLog size error) → IsReadSince (failures error) (shown seen old) (shown seen new)
+log-read made = read-since (weaker_calls (λ calls log. log.reads) made)
 
 -- THE STORE WAS READ.
 pub behind-read : {E : Type 0} (run : Ran) (reading : Reading) (log_old data_old log_now data_now : Shown) (log_met data_met : Seen) (r : Result (List ℕ) E)

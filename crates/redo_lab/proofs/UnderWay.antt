@@ -16,8 +16,8 @@ use Rattle.redo_disk.proofs.Made.{weaker_calls}
 use Rattle.redo_memdisk.specs.{CallsThrough, seen_through, while_stopping}
 use Rattle.redo_memdisk.specs.declared.fused.Fused.{Fused}
 use Rattle.redo_memdisk.proofs.Behind.{counts-calls}
-use Rattle.redo_open.specs.{HasFaultCause, HasSameCheckpoint, WhereBothTell}
-use Rattle.redo_recover.specs.{BeginWithHeader, data_error, log_error, OnContents, refusal_of}
+use Rattle.redo_open.specs.{HasFaultCause, HasSameCheckpoint, WhereBothTell, OpensLog}
+use Rattle.redo_recover.specs.{data_error, log_error, OnContents, refusal_of}
 use Rattle.redo_recover.specs.declared.fault.RecFault.{RecFault}
 use Rattle.redo_recover.specs.declared.fault.RecFault.TheVariants.{SmallLog, NotFormatted, BadFormat, SmallData, NoCheckpoint, BadRecord, PageLost, PageAhead, LogDev, DataDev, NoMemory}
 use Rattle.redo_machine.specs.declared.drive.Turns.{Turns}
@@ -49,32 +49,17 @@ way-of log_found data_found prepared are = record {
   counted = are.counted;
 }
 
--- of the calls of the log device while a store is opened: how they end, and that the first reads the header
-pub record HeaderFirst (size : ℕ) (error : Option DevError) (calls : List Call) : Type 0 where
-  pub ends : MayEndWith error calls
-  pub header : HEADER_BYTES ≤ size → BeginWithHeader calls
-
-pub header-first : {size : ℕ} {error : Option DevError} {calls : List Call} → MayEndWith error calls → (HEADER_BYTES ≤ size → BeginWithHeader calls)
-    → HeaderFirst size error calls
-header-first ends header = record { ends = ends; header = header }
-
-begun : (calls : List Call) → BeginWithHeader calls → 0 < length calls
-begun [] header = absurd header
-begun (Reads at before answer after ∷ calls) header = omega arith
-begun (Writes write answer ∷ calls) header = absurd header
-begun (Syncs answer ∷ calls) header = absurd header
-
 -- the calls of opening
 pub counted-opening : {L D : Type 0} {log_seen : L → Seen} {log_gives : L → Call → L → Type 0} {data_seen : D → Seen} {data_gives : D → Call → D → Type 0}
     {log_entry data_entry : Seen} {stops : Stops} {log_found data_found : Shown} {log_old log_new : Fused L} {data_old data_new : Fused D} {log_err data_err : Option DevError}
     → AreArmed log_entry data_entry stops log_found data_found (shown log_seen log_old) (shown data_seen data_old)
-    → MakesCalls (CallsThrough log_seen log_gives) log_old log_new (HeaderFirst (log_seen log_old.inner).size log_err)
+    → MakesCalls (CallsThrough log_seen log_gives) log_old log_new (OpensLog (log_seen log_old.inner).size log_err)
     → MakesCalls (CallsThrough data_seen data_gives) data_old data_new (MayEndWith data_err)
     → AreCounted log_entry data_entry stops log_found data_found (failures log_err) (failures data_err) (shown log_seen log_new) (shown data_seen data_new)
 counted-opening {log_seen = log_seen} {log_gives = log_gives} {log_old = log_old} {log_new = log_new} armed log_made data_made =
     let counts = counts-calls log_seen log_gives log_old log_new log_made.calls log_made.made in
     let header : HEADER_BYTES ≤ (log_seen log_old.inner).size = omega (arith, armed.prepared.header, armed.log_device.same.size) in
-    let some : 0 < length log_made.calls = begun log_made.calls (log_made.are.header header) in
+    let some : 0 < length log_made.calls = log_made.are.begun header in
     record {
       log_device = armed-calls armed.log_device (weaker_calls (λ calls opens. opens.ends) log_made);
       data_device = armed-calls armed.data_device data_made;
@@ -191,7 +176,7 @@ pub record IsUnopened {L D : Type 0} (log_seen : L → Seen) (log_gives : L → 
   pub unmoved : (reading : Reading) → WhereBothTell (log_seen log.inner).tells (data_seen data_device.inner).tells (λ log_disk data_disk.
       IsOpenable reading log_disk data_disk → f ≢ NoMemory → IfSome (log_seen log_now.inner).tells (HasSameCheckpoint reading))
   pub cause : HasFaultCause (seen_through log_seen log) (seen_through data_seen data_device) (seen_through log_seen log_now) (seen_through data_seen data_now) f
-  pub log_calls : MakesCalls (CallsThrough log_seen log_gives) log log_now (HeaderFirst (log_seen log.inner).size (log_error f))
+  pub log_calls : MakesCalls (CallsThrough log_seen log_gives) log log_now (OpensLog (log_seen log.inner).size (log_error f))
   pub data_calls : MakesCalls (CallsThrough data_seen data_gives) data_device data_now (MayEndWith (data_error f))
 
 -- a device failed

@@ -93,7 +93,7 @@ IsAnswer call (Format pages space log_blocks) text = IsFormatted call (shape_of 
 IsAnswer call (Run drive) text = IsRunText call (Run drive) drive IsReportText text
 IsAnswer call (Crash drive stop_log stop_data pick workers) text = IsCrashText call drive stop_log stop_data pick workers text
 IsAnswer call (Recover workers) text = IsReadOff call recover_text text
-IsAnswer call (Dump why) text = IsReadOff call dump_text text
+IsAnswer call (Dump why) text = IsReadOff call (dump_text None) text
 IsAnswer call (Gen seed users groups true max) text =
     IsRunText call (Gen seed users groups true max) (drive_of_seed seed max) (IsSummaryText call) text
 IsAnswer call (Gen seed users groups false max) text = text ≡ generated_text seed users groups

@@ -1,9 +1,8 @@
 -- A store is opened on armed fuses, and a script is run on it.
 use Rattle.std.proofs.Common.{⊎_elim}
-use Rattle.redo_disk.proofs.Made.{weaker_calls}
 use Rattle.redo_lab.proofs.Entered.{both-entries, driven-entries, entries-then, unplayed-entries}
 use Rattle.redo_lab.proofs.OpenedRun.{IsOpenedUnderWay, driven-comes, unplayed-comes}
-use Rattle.redo_lab.proofs.UnderWay.{header-first, unopened-comes}
+use Rattle.redo_lab.proofs.UnderWay.{unopened-comes}
 use Rattle.redo_lab.specs.Course.{ByTurns}
 use Rattle.redo_lab.proofs.playing.open_and_play.Goals as goal
 
@@ -18,8 +17,8 @@ returns-in-Ok-clause-comes_to g c = λ log_entry data_entry stops log_found data
         ready = c.in-Ok.ensures.ready;
         read = c.in-Ok.ensures.read;
         runnable = c.in-Ok.ensures.runnable;
-        log_calls = weaker_calls (λ calls opens. header-first opens.ends opens.header) c.in-Ok.ensures.log_calls;
-        data_calls = weaker_calls (λ calls opens. opens.ends) c.in-Ok.ensures.data_calls;
+        log_calls = c.in-Ok.ensures.log_calls;
+        data_calls = c.in-Ok.ensures.data_calls;
       };
     } in
     ⊎_elim
@@ -36,8 +35,8 @@ returns-in-Err-clause-comes_to g c = λ log_entry data_entry stops log_found dat
       keeps = c.in-Err.ensures.keeps;
       unmoved = c.in-Err.ensures.unmoved;
       cause = c.in-Err.ensures.cause;
-      log_calls = weaker_calls (λ calls opens. header-first opens.ends opens.header) c.in-Err.ensures.log_calls;
-      data_calls = weaker_calls (λ calls opens. opens.ends) c.in-Err.ensures.data_calls;
+      log_calls = c.in-Err.ensures.log_calls;
+      data_calls = c.in-Err.ensures.data_calls;
     }))
 
 pub returns-in-Ok-clause-entered : goal.returns-in-Ok-clause-entered
