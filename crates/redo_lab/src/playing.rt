@@ -116,10 +116,7 @@ fn course_done(played: Played, fault: Option<Fault>) -> Course
 }
 
 /// What a run comes to that was driven.
-fn close<L: Sectors, D: Sectors>(
-    start: u64,
-    driven: Driven<Fused<L>, Fused<D>>,
-) -> Ran<L, D>
+fn close<L: Sectors, D: Sectors>(start: u64, driven: Driven<Fused<L>, Fused<D>>) -> Ran<L, D>
     ensures course { result.course ≡ course_of driven.ended (played_of start driven.closed)
         (ended_by driven.closed.log.failed driven.closed.store.failed) }
     ensures log { result.log ≡ driven.closed.log.dev }
