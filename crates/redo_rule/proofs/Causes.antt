@@ -27,13 +27,13 @@ use Rattle.model_core.specs.declared.words.Word.TheVariants as word
 use Rattle.model_logcore.proofs.Frame.{set_at}
 use Rattle.model_running.proofs.SeatsKeep.{SameActor, took_keeps}
 use Rattle.redo_disk.specs.Seen.{Seen}
-use Rattle.redo_logside.specs.{has_failed}
-use Rattle.redo_machine.specs.Lists.{lists_of}
-use Rattle.redo_machine.specs.Playing.{data_of, log_of}
-use Rattle.redo_machine.specs.Running.{code_in}
-use Rattle.redo_machine.specs.Views.{view_of, views_of}
-use Rattle.redo_machine.specs.declared.actor.Actor.{Actor}
-use Rattle.redo_machine.specs.declared.actor.Actor.TheVariants as own
+use Rattle.redo_drive.specs.{has_failed}
+use Rattle.redo_drive.specs.Lists.{lists_of}
+use Rattle.redo_drive.specs.Playing.{data_of, log_of}
+use Rattle.redo_drive.specs.Turning.{code_in}
+use Rattle.redo_drive.specs.Views.{view_of, views_of}
+use Rattle.redo_drive.specs.declared.actor.Actor.{Actor}
+use Rattle.redo_drive.specs.declared.actor.Actor.TheVariants as own
 use Rattle.redo_rule.proofs.Failing.{caused}
 use Rattle.redo_rule.proofs.Fails.{turn_fails}
 use Rattle.redo_rule.proofs.Rests.{rests}

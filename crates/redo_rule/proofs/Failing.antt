@@ -2,12 +2,12 @@
 use Rattle.std.proofs.Common.{Bool, None, Option, Some, ap, arith, cond, false, inl, inr, refl, sym, true, ℕ, ⊎_elim, ◌<◌, ◌==◌, ◌∙◌, ◌≡◌, ◌≤◌, ◌⊎◌}
 use native.Mathlib.Decide.{dec_le}
 use Rattle.model_core.specs.{data_device_code, log_device_code, no_memory_code}
-use Rattle.redo_dataside.specs.DataPartSide as data_part
+use Rattle.redo_drive.specs.DataPartSide as data_part
 use Rattle.redo_disk.specs.Seen.{Seen}
 use Rattle.redo_disk.specs.declared.error.DevError.{DevError}
 use Rattle.redo_disk.specs.declared.error.DevError.TheVariants.{Failed, NoMemory}
 use Rattle.redo_logdev.specs.Part as log
-use Rattle.redo_logside.specs.LogPartSide as log_part
+use Rattle.redo_drive.specs.LogPartSide as log_part
 use Rattle.redo_rule.specs.Failing.{CodeHasCause}
 use Rattle.redo_store.specs.Part as store
 

@@ -12,17 +12,18 @@ use Rattle.model_history.specs.declared.entry.Marks.{Marks}
 use Rattle.model_logcore.specs.{HasMetFailure}
 use Rattle.model_running.proofs.Watermarks.{has_watermarks}
 use Rattle.model_running.specs.Watermarks.{HasWatermarks}
-use Rattle.redo_dataside.specs.DataPartSide as data_part
+use Rattle.redo_drive.specs.DataPartSide as data_part
 use Rattle.redo_disk.specs.{Call}
 use Rattle.redo_disk.specs.Seen.{Seen}
-use Rattle.redo_logside.specs.LogPartSide as log_part
+use Rattle.redo_drive.specs.LogPartSide as log_part
 use Rattle.redo_logdev.specs.Part as log
-use Rattle.redo_machine.specs.Leaving.{LeavesRun}
-use Rattle.redo_machine.specs.Playing.{RunOf, data_of, log_of}
-use Rattle.redo_machine.specs.Running.{core_of, RunsOn}
-use Rattle.redo_machine.specs.Views.{view_of, views_of}
-use Rattle.redo_machine.specs.declared.actor.Actor.{Actor}
-use Rattle.redo_machine.specs.declared.parts.Parts.{Parts}
+use Rattle.redo_drive.specs.Leaving.{LeavesRun}
+use Rattle.redo_drive.specs.Playing.{RunOf, data_of, log_of}
+use Rattle.redo_drive.specs.Running.{RunsOn}
+use Rattle.redo_drive.specs.Turning.{core_of}
+use Rattle.redo_drive.specs.Views.{view_of, views_of}
+use Rattle.redo_drive.specs.declared.actor.Actor.{Actor}
+use Rattle.redo_drive.specs.declared.parts.Parts.{Parts}
 use Rattle.redo_pageactors.specs.declared.closed.Closed.{Closed}
 use Rattle.redo_pageactors.specs.declared.opened.Opened.{Opened}
 use Rattle.redo_rule.proofs.Kept.{laws_of_data, laws_of_log}

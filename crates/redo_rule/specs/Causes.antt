@@ -9,7 +9,7 @@ use Rattle.model_core.specs.declared.ops.Step.TheVariants as step
 use Rattle.model_core.specs.declared.steps.UserStep.TheVariants as user_step
 use Rattle.model_core.specs.declared.words.Word.TheVariants as word
 use Rattle.redo_disk.specs.Seen.{Seen}
-use Rattle.redo_machine.specs.Running.{code_in}
+use Rattle.redo_drive.specs.Turning.{code_in}
 use Rattle.redo_rule.specs.Failing.{CodeHasCause, GivesFailed, StoresFailed}
 use Rattle.redo_rule.specs.Plays.{Shown}
 

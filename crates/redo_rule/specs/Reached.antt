@@ -5,8 +5,8 @@ use mathlib.Core.Option.{some}
 use Rattle.model_core.specs.Actors as model
 use Rattle.model_history.specs.declared.entry.Marks.{Marks}
 use Rattle.model_logcore.specs.{HasMetFailure}
-use Rattle.redo_machine.specs.Views.{view_of}
-use Rattle.redo_machine.specs.declared.actor.Actor.{Actor}
+use Rattle.redo_drive.specs.Views.{view_of}
+use Rattle.redo_drive.specs.declared.actor.Actor.{Actor}
 use Rattle.redo_pageactors.specs.declared.closed.Closed.{Closed}
 
 -- each mark that an actor has loaded last, and its own that it has stored last, is at most the one that is left

@@ -4,7 +4,7 @@ ghost use Rattle.std.specs.Prelude.{◌≡◌};
 use super::store::{Playing, begin};
 use crate::{Ring, Seat, all_hold_nothing};
 use redo_disk::Sectors;
-use redo_machine::Actor;
+use redo_drive::Actor;
 use std::process::Abort;
 use std::test::Fail;
 
