@@ -14,7 +14,7 @@ use Rattle.model_command.specs.declared.words.Expected.TheVariants.{Any}
 use Rattle.model_command.specs.declared.words.Given.{Given}
 use Rattle.model_command.specs.declared.words.Name.{Name}
 use Rattle.model_command.specs.declared.words.Name.TheVariants as name
-use Rattle.model_command.specs.declared.words.TheConstants.{DEFAULT_TURNS, MAX_GENERATED, MAX_TURNS}
+use Rattle.model_command.specs.declared.words.TheConstants.{DEFAULT_TURNS, MAX_GENERATED, MAX_TURNS, MAX_WORKERS}
 
 -- the option has this name
 abbrev pub is_named : Name → Given → Bool
@@ -68,10 +68,14 @@ format_of options =
     (number_or 0 (2 ^ 32 - 1) DEFAULT_SPACE (given_number name.Space options)))
     (number_or 1 MAX_PAGES DEFAULT_PAGES (given_number name.Pages options))
 
+-- how many workers apply the groups of the log: one where nothing else is asked
+abbrev pub workers_of : List Given → Option ℕ
+workers_of options = number_or 1 MAX_WORKERS 1 (given_number name.Workers options)
+
 abbrev pub crash_of : List Given → Option Command
 crash_of options =
-    option_map (λ drive. Crash drive (given_number name.StopLog options) (given_number name.StopData options)
-    (unwrap_or (given_number name.Pick options) 0)) (drive_of options)
+    option_and_then (λ drive. option_map (λ workers. Crash drive (given_number name.StopLog options) (given_number name.StopData options)
+    (unwrap_or (given_number name.Pick options) 0) workers) (workers_of options)) (drive_of options)
 
 -- the seed, the number of users and the number of groups
 abbrev pub gen_of : List Given → List ℕ → Option Command
@@ -90,9 +94,9 @@ abbrev pub plain_command : List ℕ → List Given → Option Command
 plain_command text options =
     if bytes_eq text (codes "format") then where_allowed (name.Pages ∷ name.Space ∷ name.LogBlocks ∷ []) options (format_of options)
     else (if bytes_eq text (codes "run") then where_allowed drive_names options (option_map Run (drive_of options))
-    else (if bytes_eq text (codes "crash") then where_allowed (name.StopLog ∷ name.StopData ∷ name.Pick ∷ drive_names) options (crash_of options)
-    else (if bytes_eq text (codes "recover") then where_allowed [] options (Some Recover)
-    else (if bytes_eq text (codes "dump") then where_allowed [] options (Some Dump) else None))))
+    else (if bytes_eq text (codes "crash") then where_allowed (name.StopLog ∷ name.StopData ∷ name.Pick ∷ name.Workers ∷ drive_names) options (crash_of options)
+    else (if bytes_eq text (codes "recover") then where_allowed (name.Workers ∷ []) options (option_map Recover (workers_of options))
+    else (if bytes_eq text (codes "dump") then where_allowed (name.Why ∷ []) options (Some (Dump (is_given name.Why options))) else None))))
 
 -- the command of this name with these options and these numbers by themselves
 abbrev pub command_of : List ℕ → List Given → List ℕ → Option Command

@@ -26,11 +26,13 @@ spelling name.StopData = codes "--stop-data"
 spelling name.StopLog = codes "--stop-log"
 spelling name.Threads = codes "--threads"
 spelling name.Turns = codes "--turns"
+spelling name.Why = codes "--why"
+spelling name.Workers = codes "--workers"
 
 abbrev pub every_name : List Name
 every_name =
     name.Files ∷ name.LogBlocks ∷ name.LogOnly ∷ name.Max ∷ name.Pages ∷ name.Pick ∷ name.Run ∷ name.Space ∷ name.StopData
-    ∷ name.StopLog ∷ name.Threads ∷ name.Turns ∷ []
+    ∷ name.StopLog ∷ name.Threads ∷ name.Turns ∷ name.Why ∷ name.Workers ∷ []
 
 -- the option that is spelled so
 unfoldable pub name_of : List ℕ → Option Name
@@ -42,6 +44,7 @@ is_flag name.Files = true
 is_flag name.LogOnly = true
 is_flag name.Run = true
 is_flag name.Threads = true
+is_flag name.Why = true
 is_flag name.LogBlocks = false
 is_flag name.Max = false
 is_flag name.Pages = false
@@ -50,6 +53,7 @@ is_flag name.Space = false
 is_flag name.StopData = false
 is_flag name.StopLog = false
 is_flag name.Turns = false
+is_flag name.Workers = false
 
 -- every number of a call is below 2^64; most have a lower limit besides
 abbrev pub word_number : List ℕ → Option ℕ

@@ -35,11 +35,19 @@ pub enum Command {
         stop_data: Option<u64>,
         /// Which sector writes outlive the crash: the i-th does where bit `i mod 64` is 1.
         pick: u64,
+        /// How many workers apply the groups of the log.
+        workers: u32,
     },
     /// Reads the store and prints its pages.
-    Recover,
+    Recover {
+        /// How many workers apply the groups of the log.
+        workers: u32,
+    },
     /// Reads the store and prints its header, blocks, groups and records.
-    Dump,
+    Dump {
+        /// Whether it says why the blocks end where they do.
+        why: bool,
+    },
     /// Prints a script; where `run` is asked runs it and prints a summary.
     Gen {
         seed: u64,

@@ -6,4 +6,6 @@ mod asked;
 mod words;
 
 pub use asked::{Asked, Command, Drive};
-pub use words::{DEFAULT_TURNS, Expected, Given, MAX_GENERATED, MAX_TURNS, Name, Word};
+pub use words::{
+    DEFAULT_TURNS, Expected, Given, MAX_GENERATED, MAX_TURNS, MAX_WORKERS, Name, Word,
+};

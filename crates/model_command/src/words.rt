@@ -6,6 +6,8 @@ pub const DEFAULT_TURNS: u64 = 100_000_000;
 pub const MAX_TURNS: u64 = 1_000_000_000_000_000_000;
 /// The greatest number of groups that `gen` makes.
 pub const MAX_GENERATED: u64 = 1_000_000;
+/// The greatest number of workers that apply the groups of a log.
+pub const MAX_WORKERS: u32 = 16;
 
 /// An option of some command.
 #[derive(Clone, Copy, Debug, PartialEq, Eq)]
@@ -22,6 +24,8 @@ pub enum Name {
     StopLog,
     Threads,
     Turns,
+    Why,
+    Workers,
 }
 
 /// An option that was given, with its number if it takes one.

@@ -1,6 +1,6 @@
--- What `dump` prints of a store that was read: its shape, the newest checkpoint, each scanned block, each group with
--- its records, and where the log ends. And the lines of `format`, `recover` and `gen --run`.
-use Rattle.std.specs.Prelude.{ℕ, ◌≡◌, ◌+◌, List, [], ◌∷◌, ◌++◌, codes, length, Some}
+-- What `dump` prints of a store that was read: its shape, the newest checkpoint, each scanned block, where it is asked why
+-- no further one was read, each group with its records, and where the log ends. And the lines of `format`, `recover` and `gen --run`.
+use Rattle.std.specs.Prelude.{ℕ, ◌≡◌, ◌+◌, List, [], ◌∷◌, ◌++◌, codes, length, Option, None, Some}
 use Rattle.std.specs.Int.{bytes_high_first}
 use Rattle.std.specs.List.{flat_map}
 use Rattle.std.specs.Fmt.{decimal}
@@ -13,6 +13,10 @@ use Rattle.model_record.specs.declared.rec.Rec.{Rec}
 use Rattle.model_record.specs.declared.rec.Rec.TheVariants as rec
 use Rattle.model_log.specs.{block_number}
 use Rattle.model_log.specs.declared.block.BlockView.{BlockView}
+use Rattle.model_stop.specs.declared.cause.Cause.{Cause}
+use Rattle.model_stop.specs.declared.cause.Cause.TheVariants.{Partial, Round, End, Misfit}
+use Rattle.model_stop.specs.declared.fit.Fit.{Fit}
+use Rattle.model_stop.specs.declared.fit.Fit.TheVariants as fit
 use Rattle.model_page.specs.declared.content.Content.{Content}
 use Rattle.model_store.specs.Reading.{Reading}
 use Rattle.model_script.specs.{item_of, item_text, words_of}
@@ -38,6 +42,31 @@ abbrev pub block_lines : ℕ → List BlockView → List ℕ
 block_lines lsn [] = []
 block_lines lsn (view ∷ views) = block_line lsn view ++ block_lines (lsn + BLOCK_SIZE) views
 
+-- what of a block that wasn't read doesn't fit; of one that fits in all no line is printed
+abbrev pub fit_word : Fit → List ℕ
+fit_word fit.Number = codes "number"
+fit_word fit.Length = codes "length"
+fit_word fit.First = codes "first"
+fit_word fit.Checksum = codes "checksum"
+fit_word fit.Whole = codes "whole"
+
+-- why no further block was read: the last one isn't full, they are as many as the log has, the next one's lsn is the limit or
+-- above, or what stands in its place doesn't fit
+abbrev pub cause_word : Cause → List ℕ
+cause_word Partial = codes "partial"
+cause_word Round = codes "round"
+cause_word End = codes "end"
+cause_word (Misfit misfit) = fit_word misfit
+
+-- the lsn at which no further block was read, and why
+abbrev pub stop_line : ℕ × Cause → List ℕ
+stop_line (lsn, cause) = line_text (codes "stop" ∷ decimal lsn ∷ cause_word cause ∷ [])
+
+-- this line, where it is asked for
+abbrev pub stop_lines : Option (ℕ × Cause) → List ℕ
+stop_lines None = []
+stop_lines (Some stop) = stop_line stop
+
 -- the operation of a script that logs the record
 abbrev pub item_of_record : Rec → Item
 item_of_record (rec.Num width space page offset value) = Num width page offset value
@@ -62,20 +91,20 @@ whole_lines whole =
 abbrev pub end_line : ℕ → List ℕ
 end_line lsn = line_text (codes "end" ∷ decimal lsn ∷ [])
 
--- The listing of a store: its shape, the number and the lsn of the newest checkpoint, the blocks from there on, the
--- groups, and the log's end.
-unfoldable pub listing_text : (shape : Shape) (number ckpt : ℕ) → List BlockView → List Whole → (end : ℕ) → List ℕ
-listing_text shape number ckpt views wholes end =
-    store_line shape ++ checkpoint_line number ckpt ++ block_lines ckpt views ++ flat_map whole_lines wholes ++ end_line end
+-- The listing of a store: its shape, the number and the lsn of the newest checkpoint, the blocks from there on, where it is
+-- asked why they end, the groups, and the log's end.
+unfoldable pub listing_text : (shape : Shape) (number ckpt : ℕ) → List BlockView → Option (ℕ × Cause) → List Whole → (end : ℕ) → List ℕ
+listing_text shape number ckpt views stop wholes end =
+    store_line shape ++ checkpoint_line number ckpt ++ block_lines ckpt views ++ stop_lines stop ++ flat_map whole_lines wholes ++ end_line end
 
 -- how many groups were scanned, and where the log ends
 abbrev pub read_line : ℕ → ℕ → List ℕ
 read_line count end = line_text (codes "read" ∷ decimal count ∷ decimal end ∷ [])
 
--- The text of `dump`.
-abbrev pub dump_text : Reading → List ℕ
-dump_text reading =
-    listing_text reading.shape reading.number reading.ckpt reading.views reading.wholes reading.end
+-- The text of `dump`, with the stop of the blocks where that is asked for.
+abbrev pub dump_text : Option (ℕ × Cause) → Reading → List ℕ
+dump_text stop reading =
+    listing_text reading.shape reading.number reading.ckpt reading.views stop reading.wholes reading.end
 
 -- The text of `recover`: the scanned groups, the log's end, and the pages.
 abbrev pub recover_text : Reading → List ℕ

@@ -194,16 +194,8 @@ gen_bad rows0 (inl b) = go b.0 b.1 b.2 b.3 b.4 b.5
     go : (n : Name) (t : Text) → is_member gen_names n ≡ true → is_flag n ≡ false → first_of (id n) rows0 ≡ Some t → word_number t ≡ None → read (codes "gen") gen_names true zero_read rows0 ≡ None
     go name.Max t m f e none = then_none rows0 (no_max rows0 (or_bad 0 MAX_TURNS DEFAULT_TURNS (at rows0 (codes "max")) t (number_kept (codes "max") gen_rules rows0 refl ∙ e) none))
     go name.Files t m f e none = absurd (true≢false f)
-    go name.LogOnly t m f e none = absurd (true≢false f)
     go name.Run t m f e none = absurd (true≢false f)
-    go name.Threads t m f e none = absurd (true≢false f)
-    go name.Turns t m f e none = absurd (true≢false (sym m))
-    go name.Pages t m f e none = absurd (true≢false (sym m))
-    go name.Space t m f e none = absurd (true≢false (sym m))
-    go name.LogBlocks t m f e none = absurd (true≢false (sym m))
-    go name.Pick t m f e none = absurd (true≢false (sym m))
-    go name.StopData t m f e none = absurd (true≢false (sym m))
-    go name.StopLog t m f e none = absurd (true≢false (sym m))
+    go _ t m f e none = absurd (true≢false (sym m))
 
 abbrev gen_answer : Bool → Bool → Bool → Option Command → Option Asked
 gen_answer files members different command = as_asked files (if members && different then command else None)

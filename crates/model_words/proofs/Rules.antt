@@ -26,6 +26,8 @@ id name.StopData = codes "stop-data"
 id name.StopLog = codes "stop-log"
 id name.Threads = codes "threads"
 id name.Turns = codes "turns"
+id name.Why = codes "why"
+id name.Workers = codes "workers"
 
 abbrev pub width : ℕ → ValueRange
 width n = record { start_inclusive = n; end_inclusive = n }
@@ -92,7 +94,13 @@ run_names = name.Files ∷ name.Turns ∷ name.Max ∷ name.Threads ∷ name.Log
 
 abbrev pub crash_names : List Name
 crash_names =
-    name.Files ∷ name.StopLog ∷ name.StopData ∷ name.Pick ∷ name.Turns ∷ name.Max ∷ name.Threads ∷ name.LogOnly ∷ []
+    name.Files ∷ name.StopLog ∷ name.StopData ∷ name.Pick ∷ name.Workers ∷ name.Turns ∷ name.Max ∷ name.Threads ∷ name.LogOnly ∷ []
+
+abbrev pub recover_names : List Name
+recover_names = name.Files ∷ name.Workers ∷ []
+
+abbrev pub dump_names : List Name
+dump_names = name.Files ∷ name.Why ∷ []
 
 abbrev pub gen_names : List Name
 gen_names = name.Files ∷ name.Run ∷ name.Max ∷ []
@@ -100,7 +108,7 @@ gen_names = name.Files ∷ name.Run ∷ name.Max ∷ []
 abbrev pub leaves : List Shape
 leaves =
     leaf (codes "format") format_names false ∷ leaf (codes "run") run_names false ∷ leaf (codes "crash") crash_names false
-    ∷ leaf (codes "recover") (name.Files ∷ []) false ∷ leaf (codes "dump") (name.Files ∷ []) false ∷ leaf (codes "gen") gen_names true ∷ []
+    ∷ leaf (codes "recover") recover_names false ∷ leaf (codes "dump") dump_names false ∷ leaf (codes "gen") gen_names true ∷ []
 
 abbrev pub built_app : App
 built_app = record {

@@ -16,10 +16,12 @@ use Rattle.model_command.specs.declared.words.Name.TheVariants as name
 use Rattle.model_words.specs.Found.{asked_with, walked_asked}
 use Rattle.model_words.proofs.Asked.{command_reads, finish}
 use Rattle.model_words.proofs.Asked.{Command as Reads}
-use Rattle.model_words.proofs.Commands.{crash_is, dump_is, format_is, recover_is, run_is}
+use Rattle.model_words.proofs.Format.{format_is}
+use Rattle.model_words.proofs.Reading.{dump_is, recover_is}
+use Rattle.model_words.proofs.Running.{crash_is, run_is}
 use Rattle.model_words.proofs.Gen.{gen_is}
 use Rattle.model_words.proofs.Leaf.{claims, outcome}
-use Rattle.model_words.proofs.Rules.{built_app, crash_names, format_names, gen_names, leaf, plain, run_names, zero_read}
+use Rattle.model_words.proofs.Rules.{built_app, crash_names, dump_names, format_names, gen_names, leaf, plain, recover_names, run_names, zero_read}
 use Rattle.model_words.proofs.Spelled.{bytes_sym}
 use Rattle.model_words.proofs.Top.{named_asked, nothing_asked, unnamed_asked}
 
@@ -52,11 +54,11 @@ crash_same ts = plain_same (codes "crash") crash_names crash_is ts (named_asked 
 
 recover_same : (ts : List Text) → Same (codes "recover" ∷ ts)
 unfolding clap_on_literals
-recover_same ts = plain_same (codes "recover") (name.Files ∷ []) recover_is ts (named_asked (codes "recover") (name.Files ∷ []) false ts refl refl refl)
+recover_same ts = plain_same (codes "recover") recover_names recover_is ts (named_asked (codes "recover") recover_names false ts refl refl refl)
 
 dump_same : (ts : List Text) → Same (codes "dump" ∷ ts)
 unfolding clap_on_literals
-dump_same ts = plain_same (codes "dump") (name.Files ∷ []) dump_is ts (named_asked (codes "dump") (name.Files ∷ []) false ts refl refl refl)
+dump_same ts = plain_same (codes "dump") dump_names dump_is ts (named_asked (codes "dump") dump_names false ts refl refl refl)
 
 -- ---- where no command is named
 

@@ -33,6 +33,9 @@ abbrev pub with_drive : App → App
 with_drive app =
     with_rule (with_rule (with_rule (with_rule app (number_rule (codes "turns"))) (number_rule (codes "max"))) (flag_rule (codes "threads"))) (flag_rule (codes "log-only"))
 
+abbrev pub with_workers : App → App
+with_workers app = with_rule app (number_rule (codes "workers"))
+
 abbrev pub format_app : App
 format_app =
     with_rule (with_rule (with_rule (plain_app (codes "format")) (number_rule (codes "pages"))) (number_rule (codes "space"))) (number_rule (codes "log-blocks"))
@@ -42,7 +45,13 @@ run_app = with_drive (plain_app (codes "run"))
 
 abbrev pub crash_app : App
 crash_app =
-    with_drive (with_rule (with_rule (with_rule (plain_app (codes "crash")) (number_rule (codes "stop-log"))) (number_rule (codes "stop-data"))) (number_rule (codes "pick")))
+    with_drive (with_workers (with_rule (with_rule (with_rule (plain_app (codes "crash")) (number_rule (codes "stop-log"))) (number_rule (codes "stop-data"))) (number_rule (codes "pick"))))
+
+abbrev pub recover_app : App
+recover_app = with_workers (plain_app (codes "recover"))
+
+abbrev pub dump_app : App
+dump_app = with_rule (plain_app (codes "dump")) (flag_rule (codes "why"))
 
 abbrev pub with_values : App → App
 with_values app = with_rule (with_rule (with_rule app (value_rule (codes "seed"))) (value_rule (codes "users"))) (value_rule (codes "groups"))
@@ -67,7 +76,7 @@ abbrev pub with_runs : App → App
 with_runs app = with_subcommand (with_subcommand (with_subcommand app format_app.top) run_app.top) crash_app.top
 
 abbrev pub with_others : App → App
-with_others app = with_subcommand (with_subcommand (with_subcommand app (plain_app (codes "recover")).top) (plain_app (codes "dump")).top) gen_app.top
+with_others app = with_subcommand (with_subcommand (with_subcommand app recover_app.top) dump_app.top) gen_app.top
 
 abbrev pub redolab_app : App
 redolab_app = with_others (with_runs top_app)

@@ -11,7 +11,7 @@ use Rattle.model_command.specs.declared.asked.Asked.{Asked}
 use Rattle.model_command.specs.declared.asked.Command.{Command}
 use Rattle.model_command.specs.declared.asked.Command.TheVariants.{Format, Run, Crash, Recover, Dump, Gen}
 use Rattle.model_command.specs.declared.asked.Drive.{Drive}
-use Rattle.model_command.specs.declared.words.TheConstants.{DEFAULT_TURNS, MAX_GENERATED, MAX_TURNS}
+use Rattle.model_command.specs.declared.words.TheConstants.{DEFAULT_TURNS, MAX_GENERATED, MAX_TURNS, MAX_WORKERS}
 use Rattle.model_words.specs.App.{redolab_app}
 
 -- a flag's text is `true` where it was given
@@ -51,9 +51,13 @@ format_from rows =
     (text_number_or 0 (2 ^ 32 - 1) DEFAULT_SPACE (first_of (codes "space") rows)))
     (text_number_or 1 MAX_PAGES DEFAULT_PAGES (first_of (codes "pages") rows))
 
+abbrev pub workers_from : List Row → Option ℕ
+workers_from rows = text_number_or 1 MAX_WORKERS 1 (first_of (codes "workers") rows)
+
 abbrev pub crash_from : List Row → Option Command
 crash_from rows =
-    option_and_then (λ drive. option_and_then (λ stop_log. option_and_then (λ stop_data. option_map (λ pick. Crash drive stop_log stop_data pick)
+    option_and_then (λ drive. option_and_then (λ stop_log. option_and_then (λ stop_data. option_and_then (λ pick. option_map (λ workers. Crash drive stop_log stop_data pick workers)
+    (workers_from rows))
     (text_number_or 0 (2 ^ 64 - 1) 0 (first_of (codes "pick") rows)))
     (text_number (first_of (codes "stop-data") rows)))
     (text_number (first_of (codes "stop-log") rows)))
@@ -73,8 +77,8 @@ command_from name rows =
     if bytes_eq name (codes "format") then format_from rows
     else (if bytes_eq name (codes "run") then option_map Run (drive_from rows)
     else (if bytes_eq name (codes "crash") then crash_from rows
-    else (if bytes_eq name (codes "recover") then Some Recover
-    else (if bytes_eq name (codes "dump") then Some Dump
+    else (if bytes_eq name (codes "recover") then option_map Recover (workers_from rows)
+    else (if bytes_eq name (codes "dump") then Some (Dump (is_true (first_of (codes "why") rows)))
     else (if bytes_eq name (codes "gen") then gen_from rows else None)))))
 
 abbrev pub asked_with : Text → List Row → Option Asked

@@ -1,7 +1,7 @@
 // The application whose words `clap` reads.
 ghost use Rattle.std.specs.Prelude.{◌≡◌, false, IfOk, codes};
 ghost use Rattle.clap.specs.Words.{rule_of, with_rule, with_subcommand, app_of};
-ghost use Rattle.model_words.specs.App.{IsApp, IsLocal, crash_app, flag_rule, format_app, gen_app, number_rule, plain_app, redolab_app, run_app, top_app, value_rule, with_drive, with_others, with_runs, with_values};
+ghost use Rattle.model_words.specs.App.{IsApp, IsLocal, crash_app, dump_app, flag_rule, format_app, gen_app, number_rule, plain_app, recover_app, redolab_app, run_app, top_app, value_rule, with_drive, with_others, with_runs, with_values, with_workers};
 
 use clap::{Arg, ArgAction, Command};
 use std::alloc::{AllocError, Global};
@@ -58,6 +58,14 @@ fn with_drive<'a>(alloc: Global, command: Command<'a>) -> Result<Command<'a>, Al
         .arg(flag(alloc, "log-only"))
 }
 
+// With the number of those that apply the groups of the log.
+fn with_workers<'a>(alloc: Global, command: Command<'a>) -> Result<Command<'a>, AllocError>
+    requires { IsLocal command }
+    ensures { IfOk result (IsApp (with_workers (app_of command.entry))) }
+{
+    command.arg(number(alloc, "workers"))
+}
+
 fn run_command<'a>(alloc: Global) -> Result<Command<'a>, AllocError>
     ensures { IfOk result (IsApp run_app) }
 {
@@ -71,7 +79,19 @@ fn crash_command<'a>(alloc: Global) -> Result<Command<'a>, AllocError>
         .arg(number(alloc, "stop-log"))?
         .arg(number(alloc, "stop-data"))?
         .arg(number(alloc, "pick"))?;
-    with_drive(alloc, command)
+    with_drive(alloc, with_workers(alloc, command)?)
+}
+
+fn recover_command<'a>(alloc: Global) -> Result<Command<'a>, AllocError>
+    ensures { IfOk result (IsApp recover_app) }
+{
+    with_workers(alloc, plain(alloc, "recover")?)
+}
+
+fn dump_command<'a>(alloc: Global) -> Result<Command<'a>, AllocError>
+    ensures { IfOk result (IsApp dump_app) }
+{
+    plain(alloc, "dump")?.arg(flag(alloc, "why"))
 }
 
 // With the three numbers of a script.
@@ -123,8 +143,8 @@ fn with_others<'a>(alloc: Global, command: Command<'a>) -> Result<Command<'a>, A
     ensures { IfOk result (IsApp (with_others (app_of command.entry))) }
 {
     command
-        .subcommand(plain(alloc, "recover")?)?
-        .subcommand(plain(alloc, "dump")?)?
+        .subcommand(recover_command(alloc)?)?
+        .subcommand(dump_command(alloc)?)?
         .subcommand(gen_command(alloc)?)
 }
 

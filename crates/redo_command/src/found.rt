@@ -3,13 +3,13 @@ ghost use Rattle.std.specs.Prelude.{◌≡◌, codes, option_and_then, option_ma
 ghost use Rattle.clap.specs.Words.{first_of, found_of, rows_of};
 ghost use Rattle.model_base.specs.declared.limits.TheConstants.{DEFAULT_LOG_BLOCKS, DEFAULT_PAGES, DEFAULT_SPACE, MAX_LOG_BLOCKS, MAX_PAGES, MIN_LOG_BLOCKS};
 ghost use Rattle.model_command.specs.{number_within, word_number};
-ghost use Rattle.model_words.specs.Found.{asked_with, command_from, crash_from, drive_from, format_from, gen_from, is_true, text_number, text_number_or, text_number_within};
+ghost use Rattle.model_words.specs.Found.{asked_with, command_from, crash_from, drive_from, format_from, gen_from, is_true, text_number, text_number_or, text_number_within, workers_from};
 
 use clap::ArgMatches;
 use model_base::{
     DEFAULT_LOG_BLOCKS, DEFAULT_PAGES, DEFAULT_SPACE, MAX_LOG_BLOCKS, MAX_PAGES, MIN_LOG_BLOCKS,
 };
-use model_command::{Asked, Command, DEFAULT_TURNS, Drive, MAX_GENERATED, MAX_TURNS};
+use model_command::{Asked, Command, DEFAULT_TURNS, Drive, MAX_GENERATED, MAX_TURNS, MAX_WORKERS};
 use model_script::MAX_USERS;
 use redo_script::number_up_to;
 
@@ -137,6 +137,13 @@ fn read_format(found: &ArgMatches<'_>) -> Option<Command>
     })
 }
 
+fn read_workers(found: &ArgMatches<'_>) -> Option<u32>
+    ensures { result ≡ workers_from (rows_of (found_of found.now)) }
+{
+    let workers = number_or(found, "workers", 1, u64::from(MAX_WORKERS), 1)?;
+    Some(workers as u32)
+}
+
 fn read_crash(found: &ArgMatches<'_>) -> Option<Command>
     ensures { result ≡ crash_from (rows_of (found_of found.now)) }
 {
@@ -144,11 +151,13 @@ fn read_crash(found: &ArgMatches<'_>) -> Option<Command>
     let stop_log = number_of(found, "stop-log")?;
     let stop_data = number_of(found, "stop-data")?;
     let pick = number_or(found, "pick", 0, u64::MAX, 0)?;
+    let workers = read_workers(found)?;
     Some(Command::Crash {
         drive,
         stop_log,
         stop_data,
         pick,
+        workers,
     })
 }
 
@@ -177,8 +186,12 @@ fn read_command(name: &str, found: &ArgMatches<'_>) -> Option<Command>
             drive: read_drive(found)?,
         }),
         "crash" => read_crash(found),
-        "recover" => Some(Command::Recover),
-        "dump" => Some(Command::Dump),
+        "recover" => Some(Command::Recover {
+            workers: read_workers(found)?,
+        }),
+        "dump" => Some(Command::Dump {
+            why: is_given(found, "why"),
+        }),
         "gen" => read_gen(found),
         _ => None,
     }

@@ -4,17 +4,18 @@ use Rattle.std.specs.Option.{option_map, option_and_then}
 use Rattle.std.specs.Str.{bytes_eq}
 use Rattle.model_base.specs.declared.limits.TheConstants.{DEFAULT_LOG_BLOCKS, DEFAULT_PAGES, DEFAULT_SPACE, MAX_LOG_BLOCKS, MAX_PAGES, MIN_LOG_BLOCKS}
 use Rattle.model_command.specs.Commands as commands
-use Rattle.model_command.specs.{are_among, are_different, asked_of, crash_of, drive_names, drive_of, format_of, gen_of, given_number, number_or, number_within, plain_command, said_from, where_allowed}
+use Rattle.model_command.specs.{are_among, are_different, asked_of, crash_of, drive_names, drive_of, format_of, gen_of, given_number, number_or, number_within, is_given, plain_command, said_from, where_allowed, workers_of}
 use Rattle.model_command.specs.declared.asked.Asked.{Asked}
 use Rattle.model_command.specs.declared.asked.Command.{Command}
 use Rattle.model_command.specs.declared.asked.Command.TheVariants.{Run, Recover, Dump}
 use Rattle.model_command.specs.declared.words.Given.{Given}
+use Rattle.model_command.specs.declared.words.TheConstants.{MAX_WORKERS}
 use Rattle.model_command.specs.declared.words.Name.{Name}
 use Rattle.model_command.specs.declared.words.Name.TheVariants as name
 use Rattle.model_command.specs.declared.words.Expected.TheVariants.{Any}
 use Rattle.model_script.specs.declared.misfit.TheConstants.{MAX_USERS}
 use borrow.Author.Tests.{leb-true}
-use Rattle.redo_lab.specs.Asked.{IsWithin, command_of, is_served, where_served}
+use Rattle.redo_lab.specs.Asked.{IsWithin, command_of}
 
 -- the number is between these
 abbrev IsBetween : ℕ → ℕ → ℕ → Type 0
@@ -70,14 +71,22 @@ format-within options command is =
 run-within : (options : List Given) (command : Command) → option_map Run (drive_of options) ≡ Some command → IsWithin command
 run-within options command is = let run = map-some Run (drive_of options) command is in subst IsWithin run.2 tt
 
+workers-within : (options : List Given) (workers : ℕ) → workers_of options ≡ Some workers → IsBetween 1 MAX_WORKERS workers
+workers-within options workers is = or-between 1 MAX_WORKERS 1 workers (given_number name.Workers options) (lit≤ tt, lit≤ tt) is
+
 crash-within : (options : List Given) (command : Command) → crash_of options ≡ Some command → IsWithin command
-crash-within options command is = let crash = map-some _ (drive_of options) command is in subst IsWithin crash.2 tt
+crash-within options command is =
+    let drive = and_then-some _ (drive_of options) command is in
+    let workers = map-some _ (workers_of options) command drive.2 in
+    subst IsWithin workers.2 (workers-within options workers.0 workers.1)
 
-recover-within : (command : Command) → Some Recover ≡ Some command → IsWithin command
-recover-within command is = let same : Recover ≡ command = cc in subst IsWithin same tt
+recover-within : (options : List Given) (command : Command) → option_map Recover (workers_of options) ≡ Some command → IsWithin command
+recover-within options command is =
+    let workers = map-some Recover (workers_of options) command is in
+    subst IsWithin workers.2 (workers-within options workers.0 workers.1)
 
-dump-within : (command : Command) → Some Dump ≡ Some command → IsWithin command
-dump-within command is = let same : Dump ≡ command = cc in subst IsWithin same tt
+dump-within : (why : Bool) (command : Command) → Some (Dump why) ≡ Some command → IsWithin command
+dump-within why command is = let same : Dump why ≡ command = cc in subst IsWithin same tt
 
 gen-within : (options : List Given) (values : List ℕ) (command : Command) → gen_of options values ≡ Some command → IsWithin command
 gen-within options [] command is = cc
@@ -107,7 +116,7 @@ abbrev format_names : List Name
 format_names = name.Pages ∷ name.Space ∷ name.LogBlocks ∷ []
 
 abbrev crash_names : List Name
-crash_names = name.StopLog ∷ name.StopData ∷ name.Pick ∷ drive_names
+crash_names = name.StopLog ∷ name.StopData ∷ name.Pick ∷ name.Workers ∷ drive_names
 
 command-within : (text : List ℕ) (options : List Given) (values : List ℕ) (is_gen : Bool) (command : Command)
     → (if is_gen then where_allowed (name.Run ∷ name.Max ∷ []) options (gen_of options values)
@@ -116,12 +125,13 @@ command-within text options values true command is = gen-within options values c
 command-within text options [] false command is = plain-within
     (bytes_eq text (codes "format")) (bytes_eq text (codes "run")) (bytes_eq text (codes "crash")) (bytes_eq text (codes "recover")) (bytes_eq text (codes "dump"))
     (where_allowed format_names options (format_of options)) (where_allowed drive_names options (option_map Run (drive_of options)))
-    (where_allowed crash_names options (crash_of options)) (where_allowed [] options (Some Recover)) (where_allowed [] options (Some Dump)) command
+    (where_allowed crash_names options (crash_of options)) (where_allowed (name.Workers ∷ []) options (option_map Recover (workers_of options)))
+    (where_allowed (name.Why ∷ []) options (Some (Dump (is_given name.Why options)))) command
     (λ is. format-within options command (allowed-command format_names options (format_of options) command is))
     (λ is. run-within options command (allowed-command drive_names options (option_map Run (drive_of options)) command is))
     (λ is. crash-within options command (allowed-command crash_names options (crash_of options) command is))
-    (λ is. recover-within command (allowed-command [] options (Some Recover) command is))
-    (λ is. dump-within command (allowed-command [] options (Some Dump) command is))
+    (λ is. recover-within options command (allowed-command (name.Workers ∷ []) options (option_map Recover (workers_of options)) command is))
+    (λ is. dump-within (is_given name.Why options) command (allowed-command (name.Why ∷ []) options (Some (Dump (is_given name.Why options))) command is))
     is
 command-within text options (value ∷ others) false command is = cc
 
@@ -134,21 +144,7 @@ asked-within (text ∷ texts) asked is =
     let command = map-some _ (commands.command_of text said.0.options said.0.values) asked said.2 in
     subst (λ (asked : Asked). IsWithin asked.command) command.2 (command-within text said.0.options said.0.values _ command.0 command.1)
 
-where-served : (served : Bool) (command found : Command) → (if served then Some command else None) ≡ Some found → command ≡ found
-where-served true command found is = cc
-where-served false command found is = cc
-
 pub command-of-within : (words : List (List ℕ)) (command : Command) → command_of words ≡ Some command → IsWithin command
 command-of-within words command is =
-    let asked = and_then-some where_served (asked_of words) command is in
-    subst IsWithin (where-served _ asked.0.command command asked.2) (asked-within words asked.0 asked.1)
-
-served-some : (served : Bool) (command found : Command) → (if served then Some command else None) ≡ Some found → served ≡ true
-served-some true command found is = refl
-served-some false command found is = cc
-
-pub command-of-served : (words : List (List ℕ)) (command : Command) → command_of words ≡ Some command → is_served command ≡ true
-command-of-served words command is =
-    let asked = and_then-some where_served (asked_of words) command is in
-    subst (λ (found : Command). is_served found ≡ true) (where-served _ asked.0.command command asked.2)
-    (served-some (is_served asked.0.command) asked.0.command command asked.2)
+    let asked = map-some (λ (asked : Asked). asked.command) (asked_of words) command is in
+    subst IsWithin asked.2 (asked-within words asked.0 asked.1)

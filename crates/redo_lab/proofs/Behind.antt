@@ -13,22 +13,13 @@ use Rattle.redo_memdisk.proofs.Behind.{counts-calls}
 use Rattle.redo_disk.proofs.Calls.{changing_calls-reads}
 use Rattle.redo_memdisk.specs.declared.fused.Fused.{Fused}
 use Rattle.redo_open.specs.{FormatCalls}
-use Rattle.redo_recover.specs.{IsPieceRead, ReadsLog, ReadsPages, ReadsPieces, data_error_of, log_error_of}
+use Rattle.redo_recover.specs.{ReadsLog}
 use Rattle.redo_recover.specs.declared.fault.RecFault.{RecFault}
 use Rattle.redo_recover.specs.declared.recovered.Recovered.{Recovered}
 use Rattle.redo_recover.specs.declared.fault.RecFault.TheVariants.{SmallLog, NotFormatted, BadFormat, SmallData, NoCheckpoint, BadRecord, PageLost, PageAhead, LogDev, DataDev, NoMemory}
 use Rattle.redo_lab.proofs.Stages.{unarmed-calls, unarmed-fresh}
 use Rattle.redo_lab.proofs.Telling.{reads-keep}
 use Rattle.redo_lab.specs.Stages.{IsLeftAlone, IsUnarmed, Shown, shown}
-
-pieces-are-reads : (calls : List Call) → AllByRecursion IsPieceRead calls → AreReads calls
-pieces-are-reads [] pieces = tt
-pieces-are-reads (Reads at before answer after ∷ calls) pieces = (tt, pieces-are-reads calls pieces.1)
-pieces-are-reads (Writes write answer ∷ calls) pieces = absurd pieces.0
-pieces-are-reads (Syncs answer ∷ calls) pieces = absurd pieces.0
-
-pub reads-of-pieces : (error : Option DevError) (calls : List Call) → ReadsPieces error calls → ReadsMayEndWith error calls
-reads-of-pieces error calls pieces = record { reads = pieces-are-reads calls pieces.pieces; ends = pieces.ends }
 
 -- after reads it means what it meant
 pub kept-behind : {D : Type 0} {seen : D → Seen} {gives : D → Call → D → Type 0} {device : D} {old new : Fused D} {error : Option DevError}
@@ -56,23 +47,17 @@ pub ends-behind : {D : Type 0} {seen : D → Seen} {gives : D → Call → D →
     → IsUnarmed (seen device) (failures error) (shown seen new)
 ends-behind {error = error} inner fuse made = unarmed-behind inner fuse (weaker_calls (MayEndWith-ends error) made)
 
-pub pieces-behind : {D : Type 0} {seen : D → Seen} {gives : D → Call → D → Type 0} {device : D} {old new : Fused D} {error : Option DevError}
-    → inner_of old ≡ device → fuse_of old ≡ fresh → MakesCalls (CallsThrough seen gives) old new (ReadsPieces error)
+-- the data device after recovery read it
+pub pages-behind : {D : Type 0} {seen : D → Seen} {gives : D → Call → D → Type 0} {device : D} {old new : Fused D} {error : Option DevError}
+    → inner_of old ≡ device → fuse_of old ≡ fresh → MakesCalls (CallsThrough seen gives) old new (ReadsMayEndWith error)
     → IsUnarmed (seen device) (failures error) (shown seen new) × IsUnwrittenBehind (seen device) (shown seen new)
-pieces-behind {error = error} inner fuse made = (
-  unarmed-behind inner fuse (weaker_calls (λ calls pieces. pieces.ends) made),
-  (kept-behind inner (weaker_calls (reads-of-pieces error) made), unchanged-behind fuse (weaker_calls (reads-of-pieces error) made)),
-)
+pages-behind inner fuse made = (unarmed-behind inner fuse (weaker_calls (λ calls reads. reads.ends) made), (kept-behind inner made, unchanged-behind fuse made))
 
-pub log-behind : {D : Type 0} {seen : D → Seen} {gives : D → Call → D → Type 0} {device : D} {old new : Fused D} {log : Seen} {data_size : ℕ} {result : Result Recovered RecFault}
-    → inner_of old ≡ device → fuse_of old ≡ fresh → MakesCalls (CallsThrough seen gives) old new (ReadsLog log data_size result)
-    → IsUnarmed (seen device) (failures (log_error_of result)) (shown seen new) × IsUnwrittenBehind (seen device) (shown seen new)
-log-behind inner fuse made = pieces-behind inner fuse (weaker_calls (λ calls log. log.reads) made)
-
-pub pages-behind : {D : Type 0} {seen : D → Seen} {gives : D → Call → D → Type 0} {device : D} {old new : Fused D} {log_told : Option Disk} {result : Result Recovered RecFault}
-    → inner_of old ≡ device → fuse_of old ≡ fresh → MakesCalls (CallsThrough seen gives) old new (ReadsPages log_told result)
-    → IsUnarmed (seen device) (failures (data_error_of result)) (shown seen new) × IsUnwrittenBehind (seen device) (shown seen new)
-pages-behind inner fuse made = pieces-behind inner fuse (weaker_calls (λ calls pages. pages.reads) made)
+-- and the log device
+pub log-behind : {D : Type 0} {seen : D → Seen} {gives : D → Call → D → Type 0} {device : D} {old new : Fused D} {size : ℕ} {error : Option DevError}
+    → inner_of old ≡ device → fuse_of old ≡ fresh → MakesCalls (CallsThrough seen gives) old new (ReadsLog size error)
+    → IsUnarmed (seen device) (failures error) (shown seen new) × IsUnwrittenBehind (seen device) (shown seen new)
+log-behind inner fuse made = pages-behind inner fuse (weaker_calls (λ calls log. log.reads) made)
 
 -- a device of which no call was made
 pub alone-behind : {D : Type 0} (seen : D → Seen) (device : D) (old new : Fused D) → inner_of old ≡ device → fuse_of old ≡ fresh → new ≡ old

@@ -31,10 +31,10 @@ use Rattle.redo_drive.specs.declared.drive.RunEnd.TheVariants.{Done}
 use Rattle.redo_lab.specs.Call.{Call, Each, IsUnfailedAside, WhereOpened, WhereToldNow}
 use Rattle.redo_lab.specs.Complete.{CanPlay}
 use Rattle.redo_lab.specs.Course.{IsPlayedBy, IsStoppedBy, ran_of}
-use Rattle.redo_lab.specs.Crashed.{AreCrashedSince, AreReadBack, ReadsBack}
 use Rattle.redo_lab.specs.Left.{LeavesStore}
 use Rattle.redo_lab.specs.Outcome.{EndsWith, IsDoneOrKeptFrom, IsOutcome}
-use Rattle.redo_lab.specs.Reread.{AreRefusedSince}
+use Rattle.redo_lab.specs.Reread.{AreBoth, AreRead, AreRefusedSince, IsCrashedSince, ReadsBack}
+use Rattle.redo_lab.specs.Reported.{IsReportOf}
 use Rattle.redo_lab.specs.Script.{IsScriptRead}
 use Rattle.redo_lab.specs.Stages.{IsCrashedWith, Shown, now_of}
 use Rattle.redo_lab.specs.Told.{IsOpenedFirst, IsRunOf}
@@ -44,10 +44,10 @@ pub record AreBothCrashed (call : Call) (stops : Stops) (pick log_failed data_fa
   pub log_device : IsCrashedWith stops.log pick call.log.entry log_found log_failed log_since (now_of call.log)
   pub data_device : IsCrashedWith stops.store pick call.store.entry data_found data_failed data_since (now_of call.store)
 
-module _ (call : Call) (drive : Drive) (stops : Stops) (pick : ℕ) (script : List ScriptLine) (run : Option Ran) (log_failed data_failed : ℕ) (log_old data_old : Shown)
-    (laws : CrashLaws) (before : IsBeforeCrash call (Crash drive stops.log stops.store pick) drive stops script run log_failed data_failed log_old data_old) where
+module _ (call : Call) (drive : Drive) (stops : Stops) (pick workers : ℕ) (script : List ScriptLine) (run : Option Ran) (log_failed data_failed : ℕ) (log_old data_old : Shown)
+    (laws : CrashLaws) (before : IsBeforeCrash call (Crash drive stops.log stops.store pick workers) drive stops script run log_failed data_failed log_old data_old) where
   abbrev Since : ℕ → ℕ → Type 0
-  Since log_since data_since = AreCrashedSince pick log_since data_since log_old data_old (now_of call.log) (now_of call.store)
+  Since log_since data_since = AreBoth (IsCrashedSince pick) log_since data_since log_old data_old (now_of call.log) (now_of call.store)
 
   abbrev Both : ℕ → ℕ → Type 0
   Both log_since data_since = AreBothCrashed call stops pick log_failed data_failed log_since data_since before.way.log_found before.way.data_found
@@ -107,17 +107,17 @@ module _ (call : Call) (drive : Drive) (stops : Stops) (pick : ℕ) (script : Li
 
   -- what the crash met, by what is told of it
   as-met : (log_met store_met : Option Disk) → log_met ≡ log_old.seen.tells → store_met ≡ data_old.seen.tells
-      → IfSome run (λ run. IsRunOf call (Crash drive stops.log stops.store pick) drive before.opened script run Done log_met store_met)
+      → IfSome run (λ run. IsRunOf call (Crash drive stops.log stops.store pick workers) drive before.opened script run Done log_met store_met)
   as-met log_met store_met log_is store_is =
       let Ran-so : Option Disk → Option Disk → Type 0 = λ log_met store_met.
-      IfSome run (λ run. IsRunOf call (Crash drive stops.log stops.store pick) drive before.opened script run Done log_met store_met) in
+      IfSome run (λ run. IsRunOf call (Crash drive stops.log stops.store pick workers) drive before.opened script run Done log_met store_met) in
       subst (λ (met : Option Disk). Ran-so log_met met) (sym store_is) (subst (λ (met : Option Disk). Ran-so met data_old.seen.tells) (sym log_is) before.took_place)
 
   -- an outcome of the crash
   ends-crash : (log_since data_since : ℕ) (o : Outcome) → IsScriptRead call.source call.source_now script → Since log_since data_since
-      → IsOutcome call (Crash drive stops.log stops.store pick) o
-      → (CanPlay call drive.log_only script → Each IsUnfailedAside call → IsDoneOrKeptFrom (Crash drive stops.log stops.store pick) o)
-      → EndsWith call (Crash drive stops.log stops.store pick) o
+      → IsOutcome call (Crash drive stops.log stops.store pick workers) o
+      → (CanPlay call drive.log_only script → Each IsUnfailedAside call → IsDoneOrKeptFrom (Crash drive stops.log stops.store pick workers) o)
+      → EndsWith call (Crash drive stops.log stops.store pick workers) o
   ends-crash log_since data_since o read since means complete =
       let both = both-crashed log_since data_since since in
       record {
@@ -136,27 +136,27 @@ module _ (call : Call) (drive : Drive) (stops : Stops) (pick : ℕ) (script : Li
 
   -- THE REPORT.
   crash-text : (text : List ℕ) → IsScriptRead call.source call.source_now script
-      → AreReadBack pick script run text log_old data_old (now_of call.log) (now_of call.store) → IsCrashText call drive stops.log stops.store pick text
+      → AreRead (Since 0 0) (λ reading. IsReportOf script run (Some (reading.end, reading.pages))) text (now_of call.log) (now_of call.store) → IsCrashText call drive stops.log stops.store pick workers text
   crash-text text read back =
-      let both = both-crashed 0 0 back.crashed in
-      let done : IsCrashDone call (Crash drive stops.log stops.store pick) drive stops pick script run text log_failed data_failed log_old data_old =
+      let both = both-crashed 0 0 back.since in
+      let done : IsCrashDone call (Crash drive stops.log stops.store pick workers) drive stops pick script run text log_failed data_failed log_old data_old =
       record { read = read; before = before; back = back } in
       let counted : log_failed + data_failed ≡ call.log.fuse.mid + call.store.fuse.mid = omega (arith, both.log_device.mid, both.data_device.mid) in
       record {
-        account = account_of call (Crash drive stops.log stops.store pick) drive stops pick script run text log_failed data_failed log_old data_old done;
+        account = account_of call (Crash drive stops.log stops.store pick workers) drive stops pick script run text log_failed data_failed log_old data_old done;
         opened = before.opened;
         told = record {
           is_script = read;
-          ran = as-met call.log.now.crashed_from call.store.now.crashed_from back.crashed.log_device.from back.crashed.data_device.from;
-          left_is = back.report.left_is;
-          loses = subst (λ (n : ℕ). LosesOnlyByFailure n run back.report.left) counted (before.loses back.report.left back.report.left_is);
-          opened_first = crash-first back.report.left back.report.left_is both.log_device.armed_from back.crashed.log_device.from;
+          ran = as-met call.log.now.crashed_from call.store.now.crashed_from back.since.log_device.from back.since.data_device.from;
+          left_is = back.text_is.left_is;
+          loses = subst (λ (n : ℕ). LosesOnlyByFailure n run back.text_is.left) counted (before.loses back.text_is.left back.text_is.left_is);
+          opened_first = crash-first back.text_is.left back.text_is.left_is both.log_device.armed_from back.since.log_device.from;
         };
         text_is = refl;
         log_crashed = record { limit_is = both.log_device.limit_is; pick_is = both.log_device.pick; unchanged_since = both.log_device.late_changes };
         data_crashed = record { limit_is = both.data_device.limit_is; pick_is = both.data_device.pick; unchanged_since = both.data_device.late_changes };
         is_read = back.is_read;
-        safe = crash-theorem call (Crash drive stops.log stops.store pick) drive stops pick script run text log_failed data_failed log_old data_old laws done;
+        safe = crash-theorem call (Crash drive stops.log stops.store pick workers) drive stops pick script run text log_failed data_failed log_old data_old laws done;
       }
 
   -- A STORE THAT CAN BE RUN ON is not refused behind the crash.
@@ -174,9 +174,9 @@ module _ (call : Call) (drive : Drive) (stops : Stops) (pick : ℕ) (script : Li
 
   -- WHAT A CRASH COMES TO that met this.
   pub crash-done : (o : Outcome) → IsScriptRead call.source call.source_now script
-      → ReadsBack pick script run o log_old data_old (now_of call.log) (now_of call.store) → EndsWith call (Crash drive stops.log stops.store pick) o
+      → ReadsBack pick script run o log_old data_old (now_of call.log) (now_of call.store) → EndsWith call (Crash drive stops.log stops.store pick workers) o
   crash-done (outcome.Text text) read back =
-      ends-crash 0 0 (outcome.Text text) read back.crashed (unfailed-aside back.crashed, crash-text text read back) (λ can unfailed. tt)
+      ends-crash 0 0 (outcome.Text text) read back.since (unfailed-aside back.since, crash-text text read back) (λ can unfailed. tt)
   crash-done (outcome.Report text f) read back = absurd back
   crash-done (outcome.Fault fault.Memory) read back = ends-crash 0 0 (outcome.Fault fault.Memory) read back tt (λ can unfailed. tt)
   crash-done (outcome.Fault fault.LogDevice) read back =
@@ -197,19 +197,19 @@ module _ (call : Call) (drive : Drive) (stops : Stops) (pick : ℕ) (script : Li
   crash-done (outcome.Fault f) read back = absurd back
 
 -- A CRASH BEHIND AN OPENING that a device stopped.
-pub crash-stopped : (call : Call) (stops : Stops) (drive : Drive) (pick : ℕ) (script : List ScriptLine) (f : Fault) (log_old data_old : Shown) (o : Outcome)
+pub crash-stopped : (call : Call) (stops : Stops) (drive : Drive) (pick workers : ℕ) (script : List ScriptLine) (f : Fault) (log_old data_old : Shown) (o : Outcome)
     → IsScriptRead call.source call.source_now script → CrashLaws → IsStoppedBy call.log.entry call.store.entry stops f log_old data_old
-    → ReadsBack pick script None o log_old data_old (now_of call.log) (now_of call.store) → EndsWith call (Crash drive stops.log stops.store pick) o
-crash-stopped call stops drive pick script f log_old data_old o read laws stopped back =
-    let met = met-stopped call (Crash drive stops.log stops.store pick) drive stops script f log_old data_old stopped in
-    crash-done call drive stops pick script None met.log_failed met.data_failed log_old data_old laws met.before o read back
+    → ReadsBack pick script None o log_old data_old (now_of call.log) (now_of call.store) → EndsWith call (Crash drive stops.log stops.store pick workers) o
+crash-stopped call stops drive pick workers script f log_old data_old o read laws stopped back =
+    let met = met-stopped call (Crash drive stops.log stops.store pick workers) drive stops script f log_old data_old stopped in
+    crash-done call drive stops pick workers script None met.log_failed met.data_failed log_old data_old laws met.before o read back
 
 -- A CRASH BEHIND A RUN.
-pub crash-played : (call : Call) (stops : Stops) (drive : Drive) (pick : ℕ) (script : List ScriptLine) (played : Played) (failed : Option Fault) (log_old data_old : Shown) (o : Outcome)
+pub crash-played : (call : Call) (stops : Stops) (drive : Drive) (pick workers : ℕ) (script : List ScriptLine) (played : Played) (failed : Option Fault) (log_old data_old : Shown) (o : Outcome)
     → IsScriptRead call.source call.source_now script → CrashLaws → ClosedLaws
     → IsPlayedBy (driving call drive script) call.log.entry call.store.entry stops drive.log_only script played failed log_old data_old
     → ReadsBack pick script (Some (ran_of played)) o log_old data_old (now_of call.log) (now_of call.store)
-    → EndsWith call (Crash drive stops.log stops.store pick) o
-crash-played call stops drive pick script played failed log_old data_old o read laws closed run back =
-    let met = met-played call (Crash drive stops.log stops.store pick) drive stops script played failed log_old data_old closed read run in
-    crash-done call drive stops pick script (Some (ran_of played)) met.log_failed met.data_failed log_old data_old laws met.before o read back
+    → EndsWith call (Crash drive stops.log stops.store pick workers) o
+crash-played call stops drive pick workers script played failed log_old data_old o read laws closed run back =
+    let met = met-played call (Crash drive stops.log stops.store pick workers) drive stops script played failed log_old data_old closed read run in
+    crash-done call drive stops pick workers script (Some (ran_of played)) met.log_failed met.data_failed log_old data_old laws met.before o read back

@@ -1,5 +1,5 @@
 -- Two devices from the arming of their fuses on, and a store that wasn't opened on them.
-use Rattle.std.proofs.Common.{ℕ, ◌≡◌, ◌≢◌, ◌≤◌, ◌<◌, ◌+◌, List, [], ◌∷◌, length, Option, Some, None, IfSome, refl, sym, ap, subst, ◌∙◌, inl, inr, ⊎_elim, arith, lit<, lit≤}
+use Rattle.std.proofs.Common.{ℕ, ◌≡◌, ◌≢◌, ◌≤◌, ◌<◌, ◌+◌, Bool, List, [], ◌∷◌, length, Option, Some, None, IfSome, refl, sym, ap, subst, ◌∙◌, inl, inr, ⊎_elim, arith, lit<, lit≤}
 use Rattle.model_base.specs.{default_shape, IsWithinLimits}
 use Rattle.model_device.specs.Disk.{Disk}
 use Rattle.model_log.specs.declared.layout.TheConstants.{HEADER_BYTES}
@@ -16,11 +16,10 @@ use Rattle.redo_disk.proofs.Made.{weaker_calls}
 use Rattle.redo_memdisk.specs.{CallsThrough, seen_through, while_stopping}
 use Rattle.redo_memdisk.specs.declared.fused.Fused.{Fused}
 use Rattle.redo_memdisk.proofs.Behind.{counts-calls}
-use Rattle.redo_open.specs.{HasFaultCause, HasSameCheckpoint, WhereBothTell}
-use Rattle.redo_recover.specs.{BeginWithHeader, data_error, log_error, OnContents, refusal_of}
+use Rattle.redo_open.specs.{HasFaultCause, HasSameCheckpoint, WhereBothTell, OpensLog}
+use Rattle.redo_recover.specs.{data_error, log_error, OnContents, refusal_of}
 use Rattle.redo_recover.specs.declared.fault.RecFault.{RecFault}
 use Rattle.redo_recover.specs.declared.fault.RecFault.TheVariants.{SmallLog, NotFormatted, BadFormat, SmallData, NoCheckpoint, BadRecord, PageLost, PageAhead, LogDev, DataDev, NoMemory}
-use Rattle.redo_machine.specs.declared.drive.Turns.{Turns}
 use Rattle.redo_lab.specs.declared.playing.Stops.{Stops}
 use Rattle.redo_lab.proofs.RunPlayed.{FormattedLaw}
 use Rattle.redo_lab.proofs.Stages.{armed-calls}
@@ -49,32 +48,17 @@ way-of log_found data_found prepared are = record {
   counted = are.counted;
 }
 
--- of the calls of the log device while a store is opened: how they end, and that the first reads the header
-pub record HeaderFirst (size : ℕ) (error : Option DevError) (calls : List Call) : Type 0 where
-  pub ends : MayEndWith error calls
-  pub header : HEADER_BYTES ≤ size → BeginWithHeader calls
-
-pub header-first : {size : ℕ} {error : Option DevError} {calls : List Call} → MayEndWith error calls → (HEADER_BYTES ≤ size → BeginWithHeader calls)
-    → HeaderFirst size error calls
-header-first ends header = record { ends = ends; header = header }
-
-begun : (calls : List Call) → BeginWithHeader calls → 0 < length calls
-begun [] header = absurd header
-begun (Reads at before answer after ∷ calls) header = omega arith
-begun (Writes write answer ∷ calls) header = absurd header
-begun (Syncs answer ∷ calls) header = absurd header
-
 -- the calls of opening
 pub counted-opening : {L D : Type 0} {log_seen : L → Seen} {log_gives : L → Call → L → Type 0} {data_seen : D → Seen} {data_gives : D → Call → D → Type 0}
     {log_entry data_entry : Seen} {stops : Stops} {log_found data_found : Shown} {log_old log_new : Fused L} {data_old data_new : Fused D} {log_err data_err : Option DevError}
     → AreArmed log_entry data_entry stops log_found data_found (shown log_seen log_old) (shown data_seen data_old)
-    → MakesCalls (CallsThrough log_seen log_gives) log_old log_new (HeaderFirst (log_seen log_old.inner).size log_err)
+    → MakesCalls (CallsThrough log_seen log_gives) log_old log_new (OpensLog (log_seen log_old.inner).size log_err)
     → MakesCalls (CallsThrough data_seen data_gives) data_old data_new (MayEndWith data_err)
     → AreCounted log_entry data_entry stops log_found data_found (failures log_err) (failures data_err) (shown log_seen log_new) (shown data_seen data_new)
 counted-opening {log_seen = log_seen} {log_gives = log_gives} {log_old = log_old} {log_new = log_new} armed log_made data_made =
     let counts = counts-calls log_seen log_gives log_old log_new log_made.calls log_made.made in
     let header : HEADER_BYTES ≤ (log_seen log_old.inner).size = omega (arith, armed.prepared.header, armed.log_device.same.size) in
-    let some : 0 < length log_made.calls = begun log_made.calls (log_made.are.header header) in
+    let some : 0 < length log_made.calls = log_made.are.begun header in
     record {
       log_device = armed-calls armed.log_device (weaker_calls (λ calls opens. opens.ends) log_made);
       data_device = armed-calls armed.data_device data_made;
@@ -191,7 +175,7 @@ pub record IsUnopened {L D : Type 0} (log_seen : L → Seen) (log_gives : L → 
   pub unmoved : (reading : Reading) → WhereBothTell (log_seen log.inner).tells (data_seen data_device.inner).tells (λ log_disk data_disk.
       IsOpenable reading log_disk data_disk → f ≢ NoMemory → IfSome (log_seen log_now.inner).tells (HasSameCheckpoint reading))
   pub cause : HasFaultCause (seen_through log_seen log) (seen_through data_seen data_device) (seen_through log_seen log_now) (seen_through data_seen data_now) f
-  pub log_calls : MakesCalls (CallsThrough log_seen log_gives) log log_now (HeaderFirst (log_seen log.inner).size (log_error f))
+  pub log_calls : MakesCalls (CallsThrough log_seen log_gives) log log_now (OpensLog (log_seen log.inner).size (log_error f))
   pub data_calls : MakesCalls (CallsThrough data_seen data_gives) data_device data_now (MayEndWith (data_error f))
 
 -- a device failed
@@ -252,18 +236,18 @@ refused-opened {log_seen = log_seen} {data_seen = data_seen} {log_entry = log_en
 
 pub unopened-comes : {L D : Type 0} {log_seen : L → Seen} {log_gives : L → Call → L → Type 0} {data_seen : D → Seen} {data_gives : D → Call → D → Type 0}
     {log_entry data_entry : Seen} {stops : Stops} {log_found data_found : Shown} {log : Fused L} {data_device : Fused D}
-    (by : Driving) (turns : Turns) (script : List ScriptLine) (f : RecFault) (log_now : Fused L) (data_now : Fused D)
+    (by : Driving) (log_only : Bool) (script : List ScriptLine) (f : RecFault) (log_now : Fused L) (data_now : Fused D)
     → IsUnopened log_seen log_gives data_seen data_gives log_entry data_entry stops log_found data_found log data_device f log_now data_now
-    → ComesTo by log_entry data_entry stops turns script (unopened f) (shown log_seen log_now) (shown data_seen data_now)
-unopened-comes by turns script LogDev log_now data_now is = stopped is (λ same. cc)
-unopened-comes by turns script DataDev log_now data_now is = stopped is (λ same. cc)
-unopened-comes by turns script NoMemory log_now data_now is =
+    → ComesTo by log_entry data_entry stops log_only script (unopened f) (shown log_seen log_now) (shown data_seen data_now)
+unopened-comes by log_only script LogDev log_now data_now is = stopped is (λ same. cc)
+unopened-comes by log_only script DataDev log_now data_now is = stopped is (λ same. cc)
+unopened-comes by log_only script NoMemory log_now data_now is =
     inr (inl (out-of-memory is))
-unopened-comes by turns script (SmallLog n) log_now data_now is = inr (refused-opened (refusal.SmallLog n) refl refl refl is)
-unopened-comes by turns script NotFormatted log_now data_now is = inr (refused-opened refusal.NotFormatted refl refl refl is)
-unopened-comes by turns script (BadFormat n) log_now data_now is = inr (refused-opened (refusal.BadFormat n) refl refl refl is)
-unopened-comes by turns script (SmallData n) log_now data_now is = inr (refused-opened (refusal.SmallData n) refl refl refl is)
-unopened-comes by turns script NoCheckpoint log_now data_now is = inr (refused-opened refusal.NoCheckpoint refl refl refl is)
-unopened-comes by turns script (BadRecord lsn) log_now data_now is = inr (refused-opened (refusal.BadRecord lsn) refl refl refl is)
-unopened-comes by turns script (PageLost p) log_now data_now is = inr (refused-opened (refusal.PageLost p) refl refl refl is)
-unopened-comes by turns script (PageAhead p lsn) log_now data_now is = inr (refused-opened (refusal.PageAhead p lsn) refl refl refl is)
+unopened-comes by log_only script (SmallLog n) log_now data_now is = inr (refused-opened (refusal.SmallLog n) refl refl refl is)
+unopened-comes by log_only script NotFormatted log_now data_now is = inr (refused-opened refusal.NotFormatted refl refl refl is)
+unopened-comes by log_only script (BadFormat n) log_now data_now is = inr (refused-opened (refusal.BadFormat n) refl refl refl is)
+unopened-comes by log_only script (SmallData n) log_now data_now is = inr (refused-opened (refusal.SmallData n) refl refl refl is)
+unopened-comes by log_only script NoCheckpoint log_now data_now is = inr (refused-opened refusal.NoCheckpoint refl refl refl is)
+unopened-comes by log_only script (BadRecord lsn) log_now data_now is = inr (refused-opened (refusal.BadRecord lsn) refl refl refl is)
+unopened-comes by log_only script (PageLost p) log_now data_now is = inr (refused-opened (refusal.PageLost p) refl refl refl is)
+unopened-comes by log_only script (PageAhead p lsn) log_now data_now is = inr (refused-opened (refusal.PageAhead p lsn) refl refl refl is)

@@ -101,7 +101,7 @@ pub run-unscripted : (call : Call) (drive : Drive) (f : Fault) → AreLeftAlone 
 run-unscripted call drive f alone cause law =
     script-fails call (Run drive) drive.log_only alone law refl (λ leaves. false≢true leaves) (λ possible. possible) f cause
 
-pub crash-unscripted : (call : Call) (drive : Drive) (stop_log stop_data : Option ℕ) (pick : ℕ) (f : Fault) → AreLeftAlone call → IsScriptFault call.source call.source_now f → OpenableLaw
-    → EndsWith call (Crash drive stop_log stop_data pick) (outcome.Fault f)
-crash-unscripted call drive stop_log stop_data pick f alone cause law =
-    script-fails call (Crash drive stop_log stop_data pick) drive.log_only alone law refl (λ leaves. false≢true leaves) (λ possible. possible) f cause
+pub crash-unscripted : (call : Call) (drive : Drive) (stop_log stop_data : Option ℕ) (pick workers : ℕ) (f : Fault) → AreLeftAlone call → IsScriptFault call.source call.source_now f → OpenableLaw
+    → EndsWith call (Crash drive stop_log stop_data pick workers) (outcome.Fault f)
+crash-unscripted call drive stop_log stop_data pick workers f alone cause law =
+    script-fails call (Crash drive stop_log stop_data pick workers) drive.log_only alone law refl (λ leaves. false≢true leaves) (λ possible. possible) f cause

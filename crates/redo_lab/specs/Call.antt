@@ -7,8 +7,8 @@ use Rattle.model_device.specs.Disk.{Disk}
 use Rattle.model_script.specs.declared.script.ScriptLine.{ScriptLine}
 use Rattle.model_store.specs.{IsFair, Opens}
 use Rattle.model_theorem.specs.{IsFresh, Opened, Ran}
-use Rattle.redo_disk.specs.Seen.{Seen}
 use Rattle.redo_drive.specs.declared.drive.RunEnd.{RunEnd}
+use Rattle.redo_disk.specs.Seen.{Seen}
 use Rattle.redo_io.specs.{SinkSeen, SourceSeen}
 use Rattle.redo_memdisk.specs.{armed_from, fuse_of, inner_of}
 use Rattle.redo_memdisk.specs.declared.fuse.Fuse.{Fuse}
@@ -75,7 +75,7 @@ IsUnfailedAside device = (device.fuse.early ≡ 0) × (device.fuse.late ≡ 0)
 
 -- In a crash a failure from the arming to the crash is no reason not to be done.
 abbrev pub AreUnfailedFor : Command → Call → Type 0
-AreUnfailedFor (Crash drive stop_log stop_data pick) call = Each IsUnfailedAside call
+AreUnfailedFor (Crash drive stop_log stop_data pick workers) call = Each IsUnfailedAside call
 AreUnfailedFor command call = Each IsUnfailed call
 
 -- how many calls failed from the arming to the crash

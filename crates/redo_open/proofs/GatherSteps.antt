@@ -11,7 +11,6 @@ use Rattle.redo_open.proofs.Gathers.{AreTopPages, added, fresh, gathered-added, 
 use Rattle.redo_open.proofs.Told.{cause-since}
 use Rattle.redo_open.proofs.Writings.{PageRead, live-ok, on-ok-both}
 use Rattle.redo_open.specs.Gather.{AreGathered, Gathered, GatherStep, IsGatheredTo}
-use Rattle.redo_open.specs.Needed.{HasChanged}
 use Rattle.redo_open.specs.Rewrite.{AreTop, IsWrittenTo, WriteStep}
 use Rattle.redo_recover.specs.declared.places.Found.{Found}
 use Rattle.redo_store.specs.{PartKeeps, PartStep, PartStores}
@@ -20,7 +19,7 @@ use Rattle.redo_store.specs.Part.{Part}
 -- the batch was given to `write_batch`
 pub wrote-step : {D : Type 0} (seen : D → Seen) (pages : List Content) (found : List Found) (count : ℕ) (old new : Part D) (batch after : Gathered) (pairs : List (ℕ × ℕ)) (users : List ℕ)
     (result : Result (Unit {0}) DevError) → pairs ≡ batch.pairs → users ≡ batch.users
-    → old.failed ≡ None → AreGathered old.shape pages found count batch → OnOk result (AreGathered old.shape pages found count after)
+    → old.failed ≡ None → AreGathered old.shape pages count batch → OnOk result (AreGathered old.shape pages count after)
     → ((top was : ℕ → Content) → PartStores seen top was [] old → IsLater top (batch_of pairs users) → PartKeeps seen top was (batch_of pairs users) new)
     → ((top was : ℕ → Content) → PartStores seen top was [] old → IsLater top (batch_of pairs users)
     → OnOk result (PartStores seen (after_batch (batch_of pairs users) top) (after_batch (batch_of pairs users) was) [] new))
@@ -55,7 +54,7 @@ wrote-step seen pages found count old new batch after pairs users result pairs_i
 
 -- nothing was written, and the pages up to this number are gathered
 pub kept-step : {D : Type 0} (seen : D → Seen) (shape : Shape) (pages : List Content) (found : List Found) (from to : ℕ) (part : Part D) (batch : Gathered)
-    → part.failed ≡ None → AreGathered shape pages found to batch
+    → part.failed ≡ None → AreGathered shape pages to batch
     → ((top start : ℕ → Content) → AreTop pages found top start → IsGatheredTo shape top start from batch (seen part.dev).tells → IsGatheredTo shape top start to batch (seen part.dev).tells)
     → GatherStep seen shape pages found from to part batch (Ok tt) part batch
 kept-step seen shape pages found from to part batch live gathered step = record {
@@ -83,12 +82,12 @@ failed-step seen shape pages found from to old new batch after error step = reco
 
 -- one more page is gathered
 pub added-step : {D : Type 0} (seen : D → Seen) (shape : Shape) (pages : List Content) (found : List Found) (page lsn : ℕ) (user : List ℕ) (old new : Part D) (batch after : Gathered)
-    → length after.pairs < shape.slots → PageRead pages page lsn user → HasChanged found pages page
+    → length after.pairs < shape.slots → PageRead pages page lsn user
     → GatherStep seen shape pages found page page old batch (Ok tt) new after → GatherStep seen shape pages found page (page + 1) old batch (Ok tt) new (added after page lsn user)
-added-step seen shape pages found page lsn user old new batch after room read changed step = record {
+added-step seen shape pages found page lsn user old new batch after room read step = record {
   keeps = step.keeps;
   ok = λ top start tops w. gathered-added shape top start page lsn user after (seen new.dev).tells (step.ok top start tops w);
-  gathered = gathered-with shape pages found page lsn user read.content after step.gathered changed room read.at read.same_lsn read.same_user read.long;
+  gathered = gathered-with shape pages page lsn user read.content after step.gathered room read.at read.same_lsn read.same_user read.long;
   live = step.live;
   shape_stays = step.shape_stays;
   size = step.size;

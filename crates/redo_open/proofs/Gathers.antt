@@ -16,7 +16,6 @@ use Rattle.model_page.specs.declared.content.Content.{Content}
 use Rattle.redo_disk.proofs.Told.{known-as}
 use Rattle.redo_open.proofs.Writings.{below-next}
 use Rattle.redo_open.specs.Gather.{AreGathered, Gathered, IsAmong, IsGatheredTo}
-use Rattle.redo_open.specs.Needed.{HasChanged}
 use Rattle.redo_open.specs.Rewrite.{AreTop, IsWrittenTo, KeepsWritten}
 use Rattle.redo_recover.specs.declared.places.Found.{Found}
 
@@ -51,7 +50,7 @@ pub record AreTopPages (top : ℕ → Content) (batch : List Fresh) : Type 0 whe
   pub each : (p : ℕ) (content : Content) → IsNew batch p content → content ≡ top p
 
 pub gathered-top : (shape : Shape) (pages : List Content) (found : List Found) (top start : ℕ → Content) (count : ℕ) (batch : Gathered) → AreTop pages found top start
-    → AreGathered shape pages found count batch → AreTopPages top (fresh batch)
+    → AreGathered shape pages count batch → AreTopPages top (fresh batch)
 gathered-top shape pages found top start count batch tops gathered = record {
   each = λ p content new.
       let one : IsPairAt batch.pairs batch.users new.i (record { page = p; content = content }) = pair-at batch.pairs batch.users new.i (record { page = p; content = content }) new.at in
@@ -103,10 +102,10 @@ among-new batch p among = record { i = among.i; at = batch-at batch.pairs batch.
 
 -- A BATCH THAT IS WRITTEN.
 
-pub gathered-writable : (shape : Shape) (pages : List Content) (found : List Found) (count : ℕ) (batch : Gathered) → AreGathered shape pages found count batch
+pub gathered-writable : (shape : Shape) (pages : List Content) (count : ℕ) (batch : Gathered) → AreGathered shape pages count batch
     → ((p : ℕ) → p < count → p < shape.pages) → ((p : ℕ) (content : Content) → slice_get pages p ≡ Some content → content.lsn < 2 ^ 61)
     → IsWritable shape batch.pairs batch.users
-gathered-writable shape pages found count batch gathered within small = record {
+gathered-writable shape pages count batch gathered within small = record {
   few = gathered.few;
   count = gathered.joined;
   below = λ i pair at. within pair.0 (gathered.below i pair at);
@@ -178,25 +177,23 @@ gathered-added shape top start page lsn user batch told w = record {
       (inr (record { i = length batch.pairs; lsn = lsn; at = at-end batch.pairs (page, lsn) }));
 }
 
-pub gathered-more : (shape : Shape) (pages : List Content) (found : List Found) (count : ℕ) (batch : Gathered) → AreGathered shape pages found count batch
-    → AreGathered shape pages found (count + 1) batch
-gathered-more shape pages found count batch gathered = record {
+pub gathered-more : (shape : Shape) (pages : List Content) (count : ℕ) (batch : Gathered) → AreGathered shape pages count batch
+    → AreGathered shape pages (count + 1) batch
+gathered-more shape pages count batch gathered = record {
   few = gathered.few;
   joined = gathered.joined;
   below = λ i pair at. omega (arith, gathered.below i pair at);
   each = gathered.each;
   different = gathered.different;
-  changed = gathered.changed;
 }
 
-pub gathered-none : (shape : Shape) (pages : List Content) (found : List Found) (count : ℕ) → AreGathered shape pages found count (record { pairs = []; users = [] })
-gathered-none shape pages found count = record {
+pub gathered-none : (shape : Shape) (pages : List Content) (count : ℕ) → AreGathered shape pages count (record { pairs = []; users = [] })
+gathered-none shape pages count = record {
   few = omega arith;
   joined = refl;
   below = λ i pair at. absurd cc;
   each = λ i pair at. absurd cc;
   different = λ i j pair other at there same. absurd cc;
-  changed = λ i pair at. absurd cc;
 }
 
 user-front : (i : ℕ) (users user : List ℕ) → (i + 1) * 4050 ≤ length users → take 4050 (drop (i * 4050) (users ++ user)) ≡ take 4050 (drop (i * 4050) users)
@@ -207,11 +204,11 @@ user-front i users user within =
 user-end : (i : ℕ) (users user : List ℕ) → length users ≡ i * 4050 → length user ≡ 4050 → take 4050 (drop (i * 4050) (users ++ user)) ≡ user
 user-end i users user at long = ap (take 4050) (drop_at users user (i * 4050) at) ∙ take_all 4050 user (omega arith)
 
-pub gathered-with : (shape : Shape) (pages : List Content) (found : List Found) (page lsn : ℕ) (user : List ℕ) (content : Content) (batch : Gathered)
-    → AreGathered shape pages found page batch → HasChanged found pages page
+pub gathered-with : (shape : Shape) (pages : List Content) (page lsn : ℕ) (user : List ℕ) (content : Content) (batch : Gathered)
+    → AreGathered shape pages page batch
     → length batch.pairs < shape.slots → slice_get pages page ≡ Some content → lsn ≡ content.lsn → user ≡ content.user → length user ≡ 4050
-    → AreGathered shape pages found (page + 1) (added batch page lsn user)
-gathered-with shape pages found page lsn user content batch gathered page_changed room read same_lsn same_user long =
+    → AreGathered shape pages (page + 1) (added batch page lsn user)
+gathered-with shape pages page lsn user content batch gathered room read same_lsn same_user long =
     let one : ℕ × ℕ = (page, lsn) in
     let counted : length (batch.pairs ++ one ∷ []) ≡ length batch.pairs + 1 = length_push batch.pairs one in
     record {
@@ -232,8 +229,6 @@ gathered-with shape pages found page lsn user content batch gathered page_change
           (λ other_last. absurd (omega (arith, gathered.below i pair old, ap (λ (x : ℕ × ℕ). x.0) other_last.1))) (at-either batch.pairs one j other there))
           (λ last. ⊎_elim (λ other_old. absurd (omega (arith, gathered.below j other other_old, ap (λ (x : ℕ × ℕ). x.0) last.1)))
           (λ other_last. omega (arith, last.0, other_last.0)) (at-either batch.pairs one j other there)) (at-either batch.pairs one i pair at);
-      changed = λ i pair at. ⊎_elim (λ old. gathered.changed i pair old) (λ last. subst (λ (x : ℕ × ℕ). HasChanged found pages x.0) last.1 page_changed)
-          (at-either batch.pairs one i pair at);
     }
 
 -- a page that has still the lsn with which it was found is as it was

@@ -1,7 +1,6 @@
 pub mod Asked
 pub mod Blanks
 pub mod Both
-pub mod Called
 pub mod Causes
 pub mod Clears
 pub mod Endings
@@ -10,10 +9,8 @@ pub mod Formats
 pub mod Gathers
 pub mod Inside
 pub mod GatherSteps
-pub mod Lengths
 pub mod Marks
 pub mod Mends
-pub mod Needs
 pub mod Opens
 pub mod Puts
 pub mod Recovered
@@ -21,5 +18,4 @@ pub mod Rows
 pub mod Standing
 pub mod Stores
 pub mod Told
-pub mod Unmarked
 pub mod Writings

@@ -9,7 +9,6 @@ use Rattle.model_page.specs.declared.content.Content.{Content}
 use Rattle.redo_disk.specs.{HasCause}
 use Rattle.redo_disk.specs.Seen.{Seen}
 use Rattle.redo_disk.specs.declared.error.DevError.{DevError}
-use Rattle.redo_open.specs.Needed.{HasChanged}
 use Rattle.redo_open.specs.Rewrite.{AreTop, KeepsWritten}
 use Rattle.redo_recover.specs.declared.places.Found.{Found}
 use Rattle.redo_store.specs.Part.{Part}
@@ -30,9 +29,8 @@ pub record IsAmong (batch : Gathered) (p : ℕ) : Type 0 where
   pub lsn : ℕ
   pub at : slice_get batch.pairs i ≡ Some (p, lsn)
 
--- Some of the pages below this number, each once and as it was read, and no more of them than there are slots. Each has
--- changed since it was found.
-pub record AreGathered (shape : Shape) (pages : List Content) (found : List Found) (count : ℕ) (batch : Gathered) : Type 0 where
+-- Some of the pages below this number, each once and as it was read, and no more of them than there are slots.
+pub record AreGathered (shape : Shape) (pages : List Content) (count : ℕ) (batch : Gathered) : Type 0 where
   pub few : length batch.pairs ≤ shape.slots
   pub joined : length batch.users ≡ USER_BYTES * length batch.pairs
   pub below : (i : ℕ) (pair : ℕ × ℕ) → slice_get batch.pairs i ≡ Some pair → pair.0 < count
@@ -40,7 +38,6 @@ pub record AreGathered (shape : Shape) (pages : List Content) (found : List Foun
       → slice_get pages pair.0 ≡ Some (record { lsn = pair.1; user = take USER_BYTES (drop (i * USER_BYTES) batch.users) })
   pub different : (i j : ℕ) (pair other : ℕ × ℕ) → slice_get batch.pairs i ≡ Some pair → slice_get batch.pairs j ≡ Some other
       → pair.0 ≡ other.0 → i ≡ j
-  pub changed : (i : ℕ) (pair : ℕ × ℕ) → slice_get batch.pairs i ≡ Some pair → HasChanged found pages pair.0
 
 -- Each page below this number is written or one of the batch, each other one is written or as it was, and nothing is
 -- pending.
@@ -57,7 +54,7 @@ pub record GatherStep {D : Type 0} (seen : D → Seen) (shape : Shape) (pages : 
       → KeepsWritten shape top start (seen new.dev).tells
   pub ok : (top start : ℕ → Content) → AreTop pages found top start → IsGatheredTo shape top start from before (seen old.dev).tells
       → OnOk result (IsGatheredTo shape top start to after (seen new.dev).tells)
-  pub gathered : OnOk result (AreGathered shape pages found to after)
+  pub gathered : OnOk result (AreGathered shape pages to after)
   pub live : OnOk result (new.failed ≡ None)
   pub shape_stays : new.shape ≡ old.shape
   pub size : (seen new.dev).size ≡ (seen old.dev).size

@@ -1,5 +1,4 @@
 pub mod Blank
-pub mod Called
 pub mod Clear
 pub mod Devices
 pub mod Erase
@@ -7,14 +6,12 @@ pub mod Formatting
 pub mod Gather
 pub mod Mark
 pub mod Mend
-pub mod Needed
 pub mod Opening
 pub mod Places
 pub mod Puts
 pub mod Rewrite
 pub mod Store
 pub mod Zeros
-pub use Rattle.redo_open.specs.Called.{OpensData, OpensLog, RecoversFirst}
 pub use Rattle.redo_open.specs.Devices.{HasSameCheckpoint, WhereBothTell}
 pub use Rattle.redo_open.specs.Formatting.{FormatCalls, HasFormatCause, JudgesLengths, WritesInside}
-pub use Rattle.redo_open.specs.Opening.{HasFaultCause, IsOpenedReady, IsOpeningOf}
+pub use Rattle.redo_open.specs.Opening.{HasFaultCause, IsOpenedReady, IsOpeningOf, OpensLog}

@@ -1,12 +1,10 @@
 -- The log device while the next checkpoint is written.
-use Rattle.std.specs.Prelude.{ℕ, ◌≡◌, ◌≤◌, List, ◌++◌, length, None}
+use Rattle.std.specs.Prelude.{ℕ, ◌≡◌, ◌≤◌, List, length}
 use Rattle.model_base.specs.declared.shape.Shape.{Shape}
 use Rattle.model_device.specs.{IsImage, settled}
 use Rattle.model_device.specs.Disk.{Disk}
 use Rattle.model_log.specs.{log_device_length}
 use Rattle.model_opening.specs.{IsMarked, IsMarking}
-use Rattle.redo_disk.specs.{Call, put_requests, Serve}
-use Rattle.redo_logdev.specs.Calls.{checkpoint_write}
 
 -- nothing is pending on the device, which is as long as the shape asks
 pub record IsSettledLog (shape : Shape) (disk : Disk) : Type 0 where
@@ -21,10 +19,3 @@ MarksLog shape number lsn content disk = (image : List ℕ) → IsImage disk ima
 pub record HasMarked (shape : Shape) (number lsn : ℕ) (content : List ℕ) (disk : Disk) : Type 0 where
   pub nothing_pending : disk ≡ settled disk.base
   pub marked : IsMarked shape number lsn content disk.base
-
--- the last two of the calls write this checkpoint and sync behind it, and those two answered Ok
-pub record EndWithMark (shape : Shape) (number lsn : ℕ) (calls : List Call) : Type 0 where
-  pub before : List Call
-  pub last : List Call
-  pub all : calls ≡ before ++ last
-  pub puts : Serve (put_requests (checkpoint_write shape number lsn)) None last

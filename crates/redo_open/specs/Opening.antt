@@ -1,20 +1,19 @@
 -- Opening a store off two devices that are handed in: what is opened, and what is left of the devices.
-use Rattle.std.specs.Prelude.{ℕ, ◌≡◌, ◌≢◌, ◌<◌, ◌+◌, ◌-◌, List, Option, None, Result, Ok, Err, IfOk, IfErr, IfSome}
+use Rattle.std.specs.Prelude.{ℕ, ◌≡◌, ◌≢◌, ◌≤◌, ◌<◌, ◌+◌, List, length, Option, None, Result, Ok, Err, IfOk, IfErr, IfSome}
 use Rattle.model_base.specs.{HasRisen}
 use Rattle.model_base.specs.declared.limits.TheConstants.{LSN_LIMIT}
-use Rattle.model_log.specs.declared.layout.TheConstants.{BLOCK_HEADER}
 use Rattle.model_logdev.specs.{first_marks, next_number}
 use Rattle.model_device.specs.{settled}
 use Rattle.model_opening.specs.{IsReady, KeepsOpened, start_of}
 use Rattle.model_store.specs.{IsOrderly, IsReading, Refuses}
 use Rattle.model_store.specs.Reading.{Reading}
 use Rattle.model_store.specs.declared.refusal.Refusal.{Refusal}
-use Rattle.redo_disk.specs.{Call, MakesCalls}
+use Rattle.model_log.specs.declared.layout.TheConstants.{HEADER_BYTES}
+use Rattle.redo_disk.specs.{Call, MayEndWith}
 use Rattle.redo_disk.specs.Seen.{Seen}
 use Rattle.redo_disk.specs.declared.error.DevError.{DevError}
 use Rattle.redo_store.specs.Part.{Part}
 use Rattle.redo_open.specs.Devices.{HasSameCheckpoint, IsFrom, IsOpenFault, IsSameDevice, WhereBothTell}
-use Rattle.redo_open.specs.Mark.{EndWithMark}
 use Rattle.redo_pageactors.specs.{IsRunnable}
 use Rattle.redo_pageactors.specs.declared.opened.Opened.{Opened}
 use Rattle.redo_recover.specs.{data_error, HasCauseIn, HasLengthCause, log_error, OnContents}
@@ -109,6 +108,7 @@ abbrev pub data_error_in : {L D : Type 0} → Answer L D → Option DevError
 data_error_in (Ok store) = None
 data_error_in (Err error) = data_error error.0
 
--- The last calls of the log device wrote the checkpoint of the store's number where its run starts, and made it stay.
-abbrev pub MarksStart : {L D : Type 0} → (L → Call → L → Type 0) → L → Opened L D → Type 0
-MarksStart gives log store = MakesCalls gives log store.log.dev (EndWithMark store.shape store.log.marks.number (store.start - BLOCK_HEADER))
+-- The calls of a log device of this size: they end so, and where it has room for a header, there is at least one.
+pub record OpensLog (size : ℕ) (error : Option DevError) (calls : List Call) : Type 0 where
+  pub ends : MayEndWith error calls
+  pub begun : HEADER_BYTES ≤ size → 0 < length calls

@@ -1,9 +1,8 @@
--- The calls of opening behind recovery: writes and syncs, and no reads.
-use Rattle.std.specs.Prelude.{◌≤◌, List, Option}
+-- Calls that write and sync, and don't read.
+use Rattle.std.specs.Prelude.{List, Option}
 use Rattle.std.specs.List.{AllByRecursion}
 use Rattle.model_device.specs.declared.write.Write.{Write}
-use Rattle.model_log.specs.declared.layout.TheConstants.{HEADER_BYTES}
-use Rattle.redo_disk.specs.{Call, EndWith, MayEndWith, Reads, Syncs, Writes}
+use Rattle.redo_disk.specs.{Call, EndWith, Reads, Syncs, Writes}
 use Rattle.redo_disk.specs.declared.error.DevError.{DevError}
 
 -- the call is such a write, or a sync
@@ -17,23 +16,6 @@ pub record PutsWhere (IsSuch : Write → Type 0) (error : Option DevError) (call
   pub puts : AllByRecursion (IsPut IsSuch) calls
   pub ends : EndWith error calls
 
--- the same of code that may run out of memory by itself
-pub record MayPutWhere (IsSuch : Write → Type 0) (error : Option DevError) (calls : List Call) : Type 0 where
-  pub puts : AllByRecursion (IsPut IsSuch) calls
-  pub ends : MayEndWith error calls
-
 -- none of the calls is a read, and each write is such a one
 abbrev pub ArePuts : (Write → Type 0) → List Call → Type 0
 ArePuts IsSuch = AllByRecursion (IsPut IsSuch)
-
--- the write is any
-abbrev pub IsAnyWrite : Write → Type 0
-IsAnyWrite write = Unit {0}
-
--- the write is behind the header
-abbrev pub IsBlockWrite : Write → Type 0
-IsBlockWrite write = HEADER_BYTES ≤ write.at
-
--- none of the calls is a read, and they end so
-abbrev pub PutsMayEndWith : Option DevError → List Call → Type 0
-PutsMayEndWith = MayPutWhere IsAnyWrite

@@ -1,18 +1,13 @@
 // Opening both devices.
-ghost use Rattle.std.specs.Prelude.{◌≡◌, ◌≤◌, ◌<◌, ◌-◌, ◌^◌, ℕ, None, Some, IfSome, OnOk, slice_get};
+ghost use Rattle.std.specs.Prelude.{◌≡◌, ◌≤◌, ◌<◌, ◌^◌, ℕ, None, Some, IfSome, OnOk, slice_get};
 ghost use Rattle.model_log.specs.{log_device_length, start_after};
-ghost use Rattle.model_logdev.specs.{next_number};
 ghost use Rattle.model_page.specs.declared.content.Content.{Content};
 ghost use Rattle.redo_apply.specs.{ArePagesOf};
-ghost use Rattle.redo_disk.specs.{MakesCalls};
-ghost use Rattle.redo_open.specs.Called.{PutsLogOf};
+ghost use Rattle.redo_disk.specs.{MakesCalls, MayEndWith};
 ghost use Rattle.redo_open.specs.Clear.{MayStart};
 ghost use Rattle.redo_open.specs.Devices.{DevicesStep};
-ghost use Rattle.redo_open.specs.Mark.{EndWithMark};
 ghost use Rattle.redo_open.specs.Mend.{IsSettledData};
-ghost use Rattle.redo_open.specs.Needed.{IsNeededWrite};
-ghost use Rattle.redo_open.specs.Puts.{MayPutWhere};
-ghost use Rattle.redo_recover.specs.{AreFoundOn, ArePlacesOf, data_error_of, reading_of};
+ghost use Rattle.redo_recover.specs.{AreFoundOn, ArePlacesOf, data_error_of, log_error_of, reading_of};
 
 use crate::clear::clear;
 use crate::mark::mark;
@@ -47,11 +42,8 @@ pub(crate) fn open_devices<L: Sectors, D: Sectors>(
         result (L.seen log.new) (D.seen part.new.dev) }
     ensures shape { part.new.shape ≡ part.old.shape }
     ensures live { OnOk result (part.new.failed ≡ None) }
-    ensures log_calls { MakesCalls L.gives log.old log.new (PutsLogOf result) }
-    ensures data_calls { MakesCalls D.gives part.old.dev part.new.dev
-        (MayPutWhere (IsNeededWrite recovered.now) (data_error_of result)) }
-    ensures marks { OnOk result (MakesCalls L.gives log.old log.new
-        (EndWithMark recovered.now.shape (next_number recovered.now.number) (start - BLOCK_HEADER))) }
+    ensures log_calls { MakesCalls L.gives log.old log.new (MayEndWith (log_error_of result)) }
+    ensures data_calls { MakesCalls D.gives part.old.dev part.new.dev (MayEndWith (data_error_of result)) }
 {
     match clear(log, &recovered.shape, recovered.ckpt, start) {
         Ok(()) => {}

@@ -4,13 +4,10 @@ ghost use Rattle.model_base.specs.declared.limits.TheConstants.{FIRST_DATA_LSN, 
 ghost use Rattle.model_log.specs.{IsAtDataStart, log_device_length};
 ghost use Rattle.model_opening.specs.{IsOpenable, KeepsOpened};
 ghost use Rattle.model_store.specs.Reading.{Reading};
-ghost use Rattle.redo_disk.specs.{MakesCalls};
-ghost use Rattle.redo_open.specs.Called.{OpensData, OpensLog, PutsLogIn, RecoversFirst};
+ghost use Rattle.redo_disk.specs.{MakesCalls, MayEndWith};
 ghost use Rattle.redo_open.specs.Devices.{HasSameCheckpoint, IsSameDevice, WhereBothTell};
 ghost use Rattle.redo_open.specs.Mend.{IsSettledData};
-ghost use Rattle.redo_open.specs.Needed.{IsNeededWrite};
-ghost use Rattle.redo_open.specs.Opening.{log_left, data_left, data_error_in, HasFaultCause, IsOpeningOf, IsOpenedReady, IsStarted, MarksStart, OpensRecovered};
-ghost use Rattle.redo_open.specs.Puts.{MayPutWhere};
+ghost use Rattle.redo_open.specs.Opening.{log_left, data_left, log_error_in, data_error_in, HasFaultCause, IsOpeningOf, IsOpenedReady, IsStarted, OpensLog, OpensRecovered};
 ghost use Rattle.redo_pageactors.specs.{IsRunnable};
 ghost use Rattle.redo_recover.specs.{AreFoundOn, IsOfDevices, OnContents, reading_of};
 
@@ -69,10 +66,8 @@ fn open_recovered<L: Sectors, D: Sectors>(
     requires found { IfSome (D.seen data_device).tells
         (λ disk. AreFoundOn recovered.shape recovered.places recovered.pages disk.base) }
     ensures step { OpensRecovered L.seen D.seen (reading_of recovered) (L.seen log) (D.seen data_device) result }
-    ensures log_calls { MakesCalls L.gives log (log_left result) (PutsLogIn result) }
-    ensures data_calls { MakesCalls D.gives data_device (data_left result)
-        (MayPutWhere (IsNeededWrite recovered) (data_error_in result)) }
-    ensures marks { IfOk result (MarksStart L.gives log) }
+    ensures log_calls { MakesCalls L.gives log (log_left result) (MayEndWith (log_error_in result)) }
+    ensures data_calls { MakesCalls D.gives data_device (data_left result) (MayEndWith (data_error_in result)) }
 {
     let mut store = match DataPart::new(alloc, data_device, &recovered.shape) {
         Ok(store) => store,
@@ -88,8 +83,7 @@ fn open_recovered<L: Sectors, D: Sectors>(
 
 /// Opens the store on two devices, so that a run can start on it: reads it, clears away what stands on the log behind its
 /// end, repairs the places of pages that don't pass, writes each page as it was read where that isn't in its place then,
-/// and moves the checkpoint. No byte of a device is read twice, no place is written that holds its page already, and a
-/// store that is refused is as it was.
+/// and moves the checkpoint. A store that is refused is as it was.
 ///
 /// Wherever it ends, whatever a crash leaves of the two devices is read with the same pages. The devices of a store that
 /// isn't opened are handed back beside the fault.
@@ -113,10 +107,8 @@ pub fn open_store<L: Sectors, D: Sectors>(
         (L.seen error.1) (D.seen error.2) error.0) }
     ensures log { IsSameDevice (L.seen log) (L.seen (log_left result)) }
     ensures data_device { IsSameDevice (D.seen data_device) (D.seen (data_left result)) }
-    ensures log_calls { MakesCalls L.gives log (log_left result) (OpensLog (L.seen log).size (D.seen data_device).size result) }
-    ensures data_calls { MakesCalls D.gives data_device (data_left result) (OpensData (L.seen log).tells (D.seen data_device).tells result) }
-    ensures marks { IfOk result (MarksStart L.gives log) }
-    ensures recovers { RecoversFirst L.seen L.gives D.seen D.gives log data_device result }
+    ensures log_calls { MakesCalls L.gives log (log_left result) (OpensLog (L.seen log).size (log_error_in result)) }
+    ensures data_calls { MakesCalls D.gives data_device (data_left result) (MayEndWith (data_error_in result)) }
 {
     let recovered = match recover(alloc, &mut log, &mut data_device) {
         Ok(recovered) => recovered,

@@ -3,11 +3,9 @@ ghost use Rattle.std.specs.Prelude.{◌≡◌, ◌<◌, ◌^◌, ℕ, None, Some
 ghost use Rattle.model_base.specs.{IsWithinLimits};
 ghost use Rattle.model_page.specs.declared.content.Content.{Content};
 ghost use Rattle.redo_apply.specs.{ArePagesOf};
-ghost use Rattle.redo_disk.specs.{MakesCalls};
+ghost use Rattle.redo_disk.specs.{MakesCalls, MayEndWith};
 ghost use Rattle.redo_open.specs.Mend.{IsSettledData};
-ghost use Rattle.redo_open.specs.Needed.{IsWriteFor, NeedsPlace};
 ghost use Rattle.redo_open.specs.Places.{PlacesStep};
-ghost use Rattle.redo_open.specs.Puts.{MayPutWhere};
 ghost use Rattle.redo_recover.specs.{AreFoundOn, ArePlacesOf, data_error_of};
 
 use crate::batch::Batch;
@@ -38,8 +36,7 @@ pub(crate) fn open_places<D: Sectors>(
     requires found { IfSome (D.seen part.old.dev).tells (λ disk. AreFoundOn shape.now places.now pages.now disk.base) }
     requires small { (p : ℕ) (content : Content) → slice_get pages.now p ≡ Some content → content.lsn < 2 ^ 61 }
     ensures step { PlacesStep D.seen shape.now pages.now part.old result part.new }
-    ensures calls { MakesCalls D.gives part.old.dev part.new.dev
-        (MayPutWhere (IsWriteFor shape.now (NeedsPlace places.now.found.items pages.now)) (data_error_of result)) }
+    ensures calls { MakesCalls D.gives part.old.dev part.new.dev (MayEndWith (data_error_of result)) }
 {
     let mut batch = match Batch::new(alloc) {
         Ok(batch) => batch,

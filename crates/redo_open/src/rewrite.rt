@@ -5,10 +5,8 @@ ghost use Rattle.model_base.specs.declared.limits.TheConstants.{PAGE_SIZE, SLOTS
 ghost use Rattle.model_datadev.specs.{IsWritable};
 ghost use Rattle.model_page.specs.declared.content.Content.{Content};
 ghost use Rattle.redo_apply.specs.{ArePagesOf};
-ghost use Rattle.redo_disk.specs.{error_of, MakesCalls};
-ghost use Rattle.redo_open.specs.Gather.{AreGathered, GatherStep, IsAmong};
-ghost use Rattle.redo_open.specs.Needed.{HasChanged, IsWriteFor};
-ghost use Rattle.redo_open.specs.Puts.{PutsWhere};
+ghost use Rattle.redo_disk.specs.{EndWith, error_of, MakesCalls};
+ghost use Rattle.redo_open.specs.Gather.{AreGathered, GatherStep};
 ghost use Rattle.redo_open.specs.Rewrite.{WriteStep};
 ghost use Rattle.redo_recover.specs.declared.places.Found.{Found};
 
@@ -24,11 +22,10 @@ fn write_gathered<D: Sectors>(part: &mut DataPart<D>, batch: &mut Batch) -> Resu
     requires live { part.old.failed ≡ None }
     requires sizes { part.old.shape.page_size ≡ PAGE_SIZE }
     requires writable { IsWritable part.old.shape batch.old.pairs batch.old.users }
-    ensures step { (pages : List Content) (found : List Found) (count : ℕ) → AreGathered part.old.shape pages found count batch.old
+    ensures step { (pages : List Content) (found : List Found) (count : ℕ) → AreGathered part.old.shape pages count batch.old
         → GatherStep D.seen part.old.shape pages found count count part.old batch.old result part.new batch.new }
     ensures emptied { OnOk result (length batch.new.pairs ≡ 0) }
-    ensures calls { MakesCalls D.gives part.old.dev part.new.dev
-        (PutsWhere (IsWriteFor part.old.shape (IsAmong batch.old)) (error_of result)) }
+    ensures calls { MakesCalls D.gives part.old.dev part.new.dev (EndWith (error_of result)) }
 {
     if batch.pairs().is_empty() {
         return Ok(());
@@ -44,11 +41,10 @@ fn make_room<D: Sectors>(part: &mut DataPart<D>, batch: &mut Batch) -> Result<()
     requires sizes { part.old.shape.page_size ≡ PAGE_SIZE }
     requires slots { part.old.shape.slots ≡ SLOTS }
     requires writable { IsWritable part.old.shape batch.old.pairs batch.old.users }
-    ensures step { (pages : List Content) (found : List Found) (count : ℕ) → AreGathered part.old.shape pages found count batch.old
+    ensures step { (pages : List Content) (found : List Found) (count : ℕ) → AreGathered part.old.shape pages count batch.old
         → GatherStep D.seen part.old.shape pages found count count part.old batch.old result part.new batch.new }
     ensures room { OnOk result (length batch.new.pairs < SLOTS) }
-    ensures calls { MakesCalls D.gives part.old.dev part.new.dev
-        (PutsWhere (IsWriteFor part.old.shape (IsAmong batch.old)) (error_of result)) }
+    ensures calls { MakesCalls D.gives part.old.dev part.new.dev (EndWith (error_of result)) }
 {
     if batch.pairs().len() < SLOTS as usize {
         Ok(())
@@ -71,11 +67,10 @@ fn gather_page<D: Sectors>(
     requires pages { ArePagesOf part.old.shape pages.now }
     requires small { (p : ℕ) (content : Content) → slice_get pages.now p ≡ Some content → content.lsn < 2 ^ 61 }
     requires found { length places.now.found.items ≡ part.old.shape.pages }
-    requires gathered { AreGathered part.old.shape pages.now places.now.found.items page batch.old }
+    requires gathered { AreGathered part.old.shape pages.now page batch.old }
     ensures step { GatherStep D.seen part.old.shape pages.now places.now.found.items page (page + 1)
         part.old batch.old result part.new batch.new }
-    ensures calls { MakesCalls D.gives part.old.dev part.new.dev
-        (PutsWhere (IsWriteFor part.old.shape (HasChanged places.now.found.items pages.now)) (error_of result)) }
+    ensures calls { MakesCalls D.gives part.old.dev part.new.dev (EndWith (error_of result)) }
 {
     let lsn = pages.lsn(page);
     if places.found[page as usize].lsn == lsn {
@@ -103,8 +98,7 @@ pub(crate) fn rewrite<D: Sectors>(
     requires found { length places.now.found.items ≡ shape.now.pages }
     requires none { batch.old ≡ record { pairs = []; users = [] } }
     ensures step { WriteStep D.seen shape.now pages.now places.now.found.items 0 shape.now.pages part.old result part.new }
-    ensures calls { MakesCalls D.gives part.old.dev part.new.dev
-        (PutsWhere (IsWriteFor shape.now (HasChanged places.now.found.items pages.now)) (error_of result)) }
+    ensures calls { MakesCalls D.gives part.old.dev part.new.dev (EndWith (error_of result)) }
 {
     for page in 0..shape.pages {
         gather_page(part, pages, page, places, batch)?;

@@ -1,10 +1,11 @@
--- What a scan's fault and a page's fault say of a store whose log and header were read.
+-- What a scan's fault and a page's fault say of a store whose header and log were read, and what it is read as.
 use Rattle.std.proofs.Common.{ℕ, List, Option, Some, None}
 use Rattle.std.specs.Prelude.{IfSome}
 use Rattle.model_device.specs.Disk.{Disk}
 use Rattle.model_log.specs.declared.block.BlockView.{BlockView}
 use Rattle.model_record.specs.declared.group.Whole.{Whole}
-use Rattle.model_store.specs.{IsScan, Refuses}
+use Rattle.model_page.specs.declared.content.Content.{Content}
+use Rattle.model_store.specs.{AreReadPages, IsReading, IsScan, Refuses}
 use Rattle.model_store.specs.declared.refusal.Refusal.{Refusal}
 use Rattle.redo_disk.specs.Seen.{Seen}
 use Rattle.redo_recover.specs.Devices.{HasCauseIn, IsUnchanged, OnContent, OnContents, refusal_of}
@@ -45,6 +46,15 @@ scan-cause old middle data_told start fault same starts bad =
 record IsStartScanned (start : Start) (views : List BlockView) (wholes : List Whole) (end : ℕ) (log_bytes data_bytes : List ℕ) : Type 0 where
   pub starts : IsStart log_bytes data_bytes start
   pub scan : IsScan start.shape log_bytes start.ckpt views wholes end
+
+started-scanned : (old middle : Seen) (data_told : Option Disk) (start : Start) (views : List BlockView) (wholes : List Whole) (end : ℕ) → IsUnchanged old middle
+    → OnContents old.tells data_told (λ log_bytes data_bytes. IsStart log_bytes data_bytes start)
+    → OnContent middle.tells (λ content. IsScan start.shape content start.ckpt views wholes end) → OnContents old.tells data_told (IsStartScanned start views wholes end)
+started-scanned old middle data_told start views wholes end same starts scan =
+    contents-more old.tells data_told (λ log_bytes data_bytes. IsStart log_bytes data_bytes start)
+    (λ content. IsScan start.shape content start.ckpt views wholes end) (IsStartScanned start views wholes end)
+    (λ log_bytes data_bytes first scanned. record { starts = first; scan = scanned }) starts
+    (content-before old middle (λ content. IsScan start.shape content start.ckpt views wholes end) same scan)
 
 page-refused : (log_bytes data_bytes : List ℕ) (start : Start) (views : List BlockView) (wholes : List Whole) (end : ℕ) (fault : RecFault)
     → IsStartScanned start views wholes end log_bytes data_bytes → HasPageCause start.shape end fault data_bytes
@@ -93,7 +103,22 @@ page-cause old middle data_told start views wholes end fault same starts scan ca
     (contents-other old.tells data_told (IsStartScanned start views wholes end) (HasPageCause start.shape end fault)
     (λ log_bytes data_bytes. IfSome (refusal_of fault) (λ refusal. Refuses log_bytes data_bytes refusal))
     (λ log_bytes data_bytes. page-refused log_bytes data_bytes start views wholes end fault)
-    (contents-more old.tells data_told (λ log_bytes data_bytes. IsStart log_bytes data_bytes start)
-    (λ content. IsScan start.shape content start.ckpt views wholes end) (IsStartScanned start views wholes end)
-    (λ log_bytes data_bytes first scanned. record { starts = first; scan = scanned }) starts
-    (content-before old middle (λ content. IsScan start.shape content start.ckpt views wholes end) same scan)) cause)
+    (started-scanned old middle data_told start views wholes end same starts scan) cause)
+
+-- THE READING of a store that was started, scanned and whose pages were read.
+pub reading-of : (old middle : Seen) (data_told : Option Disk) (start : Start) (views : List BlockView) (wholes : List Whole) (end : ℕ) (pages : List Content)
+    → IsUnchanged old middle → OnContents old.tells data_told (λ log_bytes data_bytes. IsStart log_bytes data_bytes start)
+    → OnContent middle.tells (λ content. IsScan start.shape content start.ckpt views wholes end)
+    → OnContent data_told (λ content. AreReadPages start.shape content wholes end pages)
+    → OnContents old.tells data_told (λ log_bytes data_bytes. IsReading log_bytes data_bytes
+    (record { shape = start.shape; number = start.number; ckpt = start.ckpt; views = views; wholes = wholes; end = end; pages = pages }))
+reading-of old middle data_told start views wholes end pages same starts scan read =
+    contents-other old.tells data_told (IsStartScanned start views wholes end) (λ content. AreReadPages start.shape content wholes end pages)
+    (λ log_bytes data_bytes. IsReading log_bytes data_bytes
+    (record { shape = start.shape; number = start.number; ckpt = start.ckpt; views = views; wholes = wholes; end = end; pages = pages }))
+    (λ log_bytes data_bytes known all. record {
+      scan = record { devices = known.starts.devices; checkpoint = known.starts.newest; scan = known.scan };
+      count = all.count;
+      each = all.each;
+    })
+    (started-scanned old middle data_told start views wholes end same starts scan) read

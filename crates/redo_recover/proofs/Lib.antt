@@ -1,14 +1,11 @@
-mod Begins
 mod Bounds
 mod Causing
 mod Contents
 mod Starting
 mod Unchanged
 mod Grouping
-mod Judging
 pub mod Keeping
 mod Fronts
-mod Naming
 mod Paging
 mod Parsing
 mod Placing
@@ -16,7 +13,5 @@ mod Rising
 mod Scanning
 mod Stopping
 mod Setting
-mod Making
-mod Once
-mod OneRound
-mod Ordering
+mod Only
+mod Owning

@@ -12,7 +12,6 @@ use Rattle.model_store.proofs.Places.{has_place, push_place, place_push}
 use Rattle.model_store.proofs.Taking.{view_at-is, data_at-some}
 use Rattle.redo_recover.specs.Blocks.{AreBlocksOf}
 use Rattle.redo_recover.specs.Piece.{IsPieceOf, HasSector}
-use Rattle.redo_recover.specs.Reach.{IsReached}
 use Rattle.redo_recover.specs.declared.piece.Piece.{Piece}
 use Rattle.redo_recover.proofs.Starting.{sector-part}
 
@@ -107,12 +106,6 @@ taken-at shape ckpt count i piece at block found image same has at_is block_is f
 pub length-data_of : (view : BlockView) (block : List ℕ) → length (data_of view block) ≤ BLOCK_DATA
 length-data_of view block =
     omega (arith, length-take (min view.length 508 - 12) (drop 12 block))
-
--- so the scan comes to the block behind them
-pub so_far-reached : (shape : Shape) (ckpt : ℕ) (views : List BlockView) (bytes : List ℕ) (count : ℕ) (image : List ℕ)
-    → AreBlocksSoFar shape ckpt views bytes count image → IsReached shape ckpt count image
-so_far-reached shape ckpt views bytes count image a i below =
-    let here = has_place views i (omega (arith, a.many)) in (here.0, a.each i here.0 here.1, a.full i here.0 here.1)
 
 -- behind full blocks none is taken
 pub read-stopped : (shape : Shape) (ckpt : ℕ) (views : List BlockView) (bytes : List ℕ) (count : ℕ) (image : List ℕ)

@@ -13,7 +13,6 @@ use Rattle.model_store.specs.{HasDevices, HasHead, Refuses}
 use Rattle.model_store.specs.declared.refusal.Refusal.TheVariants as refusal
 use Rattle.redo_disk.specs.{HasSize, part}
 use Rattle.redo_recover.specs.Devices.{OnContent, OnContents, HasCauseIn}
-use Rattle.redo_recover.specs.Order.{IsLogStart}
 use Rattle.redo_recover.specs.Start.{IsHeadFault, IsLengthFault, IsStart}
 use Rattle.redo_recover.specs.declared.fault.RecFault.{RecFault}
 use Rattle.redo_recover.specs.declared.fault.RecFault.TheVariants.{SmallLog, NotFormatted, BadFormat, SmallData, NoCheckpoint, BadRecord, PageLost, PageAhead, LogDev, DataDev, NoMemory}
@@ -68,15 +67,7 @@ head-cause log data_told size header (BadFormat n) known long is =
     (λ log_bytes data_bytes. (HEADER_BYTES ≤ length log_bytes) × (read_head (header_block 0 log_bytes) ≡ OtherFormat n))
     (λ log_bytes data_bytes of any. (omega (arith, of.sized), ap read_head (sym (header-front 0 header log_bytes (omega arith) of.front)) ∙ is))
     known (content-any data_told (λ content. Unit {0}) (λ content. tt))
-head-cause log data_told size header (SmallLog n) known long none = absurd none
-head-cause log data_told size header (SmallData n) known long none = absurd none
-head-cause log data_told size header NoCheckpoint known long none = absurd none
-head-cause log data_told size header (BadRecord lsn) known long none = absurd none
-head-cause log data_told size header (PageLost p) known long none = absurd none
-head-cause log data_told size header (PageAhead p lsn) known long none = absurd none
-head-cause log data_told size header LogDev known long none = absurd none
-head-cause log data_told size header DataDev known long none = absurd none
-head-cause log data_told size header NoMemory known long none = absurd none
+head-cause log data_told size header _ known long none = absurd none
 
 -- what a header that names a shape says of the device
 has_head : (size : ℕ) (header log_bytes : List ℕ) (shape : Shape) → HEADER_BYTES ≤ size → IsHeaderOf size header log_bytes
@@ -99,15 +90,7 @@ length-cause log data_told log_size data_size header shape (SmallData n) known o
     (λ log_bytes data_bytes. Refuses log_bytes data_bytes (refusal.SmallData n))
     (λ log_bytes data_bytes of same. (shape, has_head log_size header log_bytes shape long of head, omega (arith, of.sized, is.0), omega (arith, same, is.1), is.2))
     known other
-length-cause log data_told log_size data_size header shape NotFormatted known other long head none = absurd none
-length-cause log data_told log_size data_size header shape (BadFormat n) known other long head none = absurd none
-length-cause log data_told log_size data_size header shape NoCheckpoint known other long head none = absurd none
-length-cause log data_told log_size data_size header shape (BadRecord lsn) known other long head none = absurd none
-length-cause log data_told log_size data_size header shape (PageLost p) known other long head none = absurd none
-length-cause log data_told log_size data_size header shape (PageAhead p lsn) known other long head none = absurd none
-length-cause log data_told log_size data_size header shape LogDev known other long head none = absurd none
-length-cause log data_told log_size data_size header shape DataDev known other long head none = absurd none
-length-cause log data_told log_size data_size header shape NoMemory known other long head none = absurd none
+length-cause log data_told log_size data_size header shape _ known other long head none = absurd none
 
 -- WHERE A SCAN STARTS
 
@@ -146,14 +129,3 @@ starts log data_told log_size data_size header start known other sound newest =
       newest = sym (newest-front start.shape header log_bytes of.front) ∙ newest;
     })
     known other
-
-pub log-starts : (log : Option Disk) (log_size data_size : ℕ) (header : List ℕ) (start : Start) → OnContent log (IsHeaderOf log_size header)
-    → IsSound log_size data_size header start.shape → newest_checkpoint start.shape header ≡ Some (start.number, start.ckpt)
-    → OnContent log (λ log_bytes. IsLogStart log_bytes start)
-log-starts log log_size data_size header start known sound newest =
-    content-weaker log (IsHeaderOf log_size header) (λ log_bytes. IsLogStart log_bytes start)
-    (λ log_bytes of. record {
-      head = has_head log_size header log_bytes start.shape sound.long of sound.head;
-      log_long = omega (arith, of.sized, sound.log_long);
-      newest = sym (newest-front start.shape header log_bytes of.front) ∙ newest;
-    }) known

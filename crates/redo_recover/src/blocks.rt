@@ -1,17 +1,15 @@
 // The blocks of a log from a checkpoint on, read off the log device.
-ghost use Rattle.std.specs.Prelude.{◌≡◌, ◌≤◌, ◌<◌, ◌+◌, ◌*◌, ◌%◌, ◌^◌, length, IfOk, IfSome, IsErrOf, None, nat_lt, if◌then◌else◌};
-ghost use Rattle.model_base.specs.{HasRisen, IsWithinLimits};
+ghost use Rattle.std.specs.Prelude.{◌≡◌, ◌≤◌, ◌<◌, ◌+◌, ◌*◌, ◌%◌, ◌^◌, length, IfOk, IfSome, None, nat_lt, if◌then◌else◌};
+ghost use Rattle.model_base.specs.{IsWithinLimits};
 ghost use Rattle.model_base.specs.declared.limits.TheConstants.{MAX_LOG_BLOCKS, START_LSN};
-ghost use Rattle.model_log.specs.{is_full, log_device_length, offset_of, read_block};
+ghost use Rattle.model_log.specs.{is_full, log_device_length, read_block};
 ghost use Rattle.model_log.specs.declared.layout.TheConstants.{BLOCK_HEADER};
 ghost use Rattle.model_stop.specs.{IsStop, cause_at};
 ghost use Rattle.model_store.specs.{groups_start};
-ghost use Rattle.redo_disk.specs.{error_of, MakesCalls};
-ghost use Rattle.redo_disk.specs.declared.error.DevError.{DevError};
+ghost use Rattle.redo_disk.specs.{error_of};
 ghost use Rattle.redo_recover.specs.Blocks.{AreBlocksOf, AreFew, HasFirst, HaveFirsts};
-ghost use Rattle.redo_recover.specs.Calls.{ReadsFrom};
-ghost use Rattle.redo_recover.specs.Devices.{IsUnchanged, OnContent};
-ghost use Rattle.redo_recover.specs.Reach.{BeginsBlock, IsOfScan};
+ghost use Rattle.redo_recover.specs.Devices.{OnContent};
+ghost use Rattle.redo_recover.specs.Reads.{IsOnlyRead};
 
 use crate::piece::Piece;
 use model_base::{BLOCK_SIZE, LSN_LIMIT, Shape};
@@ -51,7 +49,6 @@ fn readable_end(shape: &Shape, at: u64, left: u32) -> u64
     ensures sectors { result % BLOCK_SIZE ≡ 0 }
     ensures some { at < result }
     ensures within { result ≤ log_device_length shape.now }
-    ensures up_to { result ≤ at + BLOCK_SIZE * left }
 {
     let log_end = HEADER_BYTES + BLOCK_SIZE * u64::from(shape.log_blocks);
     (at + BLOCK_SIZE * u64::from(left)).min(log_end)
@@ -74,10 +71,7 @@ pub(crate) fn read_blocks<L: Sectors>(
     ensures few { IfOk result (λ blocks. AreFew shape.now blocks.views.items blocks.joined.items) }
     ensures firsts { IfOk result (λ blocks. HaveFirsts blocks.views.items) }
     ensures stop { IfOk result (λ blocks. OnContent (L.seen log.old).tells (IsStop shape.now ckpt blocks.views.items blocks.stop)) }
-    ensures unchanged { IsUnchanged (L.seen log.old) (L.seen log.new) }
-    ensures failed { IsErrOf result DevError.Failed → HasRisen (L.seen log.old).faults (L.seen log.new).faults }
-    ensures calls { MakesCalls L.gives log.old log.new (ReadsFrom (BeginsBlock shape.now ckpt (L.seen log.old).tells)
-        (IsOfScan shape.now ckpt (L.seen log.old).tells) (error_of result)) }
+    ensures reads { IsOnlyRead L.seen L.gives log.old (error_of result) log.new }
 {
     let mut views = Vec::new(alloc);
     let mut joined = Vec::new(alloc);

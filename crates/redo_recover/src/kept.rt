@@ -1,13 +1,12 @@
 // Kept pages, read off the data device place by place.
-ghost use Rattle.std.specs.Prelude.{List, ℕ, ◌≡◌, ◌≤◌, ◌<◌, ◌+◌, ◌*◌, length, take, OnOk, IfOk, IfErr, IfSome, IsErrOf, MatchOption};
-ghost use Rattle.model_base.specs.{HasRisen, IsWithinLimits};
+ghost use Rattle.std.specs.Prelude.{List, ℕ, ◌≡◌, ◌≤◌, ◌<◌, ◌+◌, ◌*◌, length, take, OnOk, IfOk, IfErr, IfSome, MatchOption};
+ghost use Rattle.model_base.specs.{IsWithinLimits};
 ghost use Rattle.model_page.specs.{data_device_length, IsKept, IsLost, place_bytes, user_length};
 ghost use Rattle.redo_apply.specs.{ArePagesOf};
-ghost use Rattle.redo_disk.specs.{MakesCalls};
-ghost use Rattle.redo_recover.specs.Calls.{IsOfPlace, IsOfPlaces, ReadsWhere, data_error_of};
-ghost use Rattle.redo_recover.specs.Devices.{IsUnchanged, OnContent};
+ghost use Rattle.redo_recover.specs.Devices.{OnContent};
 ghost use Rattle.redo_recover.specs.Pages.{AreKept, HoldsSlots, IsFirstLostFault, IsLostFault, PutsKept};
 ghost use Rattle.redo_recover.specs.Places.{AreFoundAt, AreFoundWith, HasItsSlot, IsFoundAt, PutsFound};
+ghost use Rattle.redo_recover.specs.Reads.{IsOnlyRead, data_error_of};
 
 use crate::errors::data_fault;
 use crate::piece::read_part;
@@ -73,9 +72,7 @@ fn keep_page<D: Sectors>(
     ensures slot { IfOk result (HasItsSlot shape.now) }
     ensures lsn { IfOk result (PutsFound page pages.old pages.new) }
     ensures fault { IfErr result (IsLostFault shape.now page (D.seen device.old).tells) }
-    ensures unchanged { IsUnchanged (D.seen device.old) (D.seen device.new) }
-    ensures failed { IsErrOf result RecFault.DataDev → HasRisen (D.seen device.old).faults (D.seen device.new).faults }
-    ensures calls { MakesCalls D.gives device.old device.new (ReadsWhere (IsOfPlace shape.now page) (data_error_of result)) }
+    ensures reads { IsOnlyRead D.seen D.gives device.old (data_error_of result) device.new }
 {
     let size = shape.page_size as usize;
     let at = u64::from(shape.slots + page) * u64::from(shape.page_size);
@@ -106,9 +103,7 @@ pub(crate) fn keep_pages<D: Sectors>(
     ensures found { IfOk result (λ kept. OnContent (D.seen device.old).tells (AreFoundAt shape.now kept.1.items)) }
     ensures lsns { IfOk result (λ kept. AreFoundWith shape.now shape.now.pages kept.1.items kept.0) }
     ensures fault { IfErr result (IsFirstLostFault shape.now (D.seen device.old).tells) }
-    ensures unchanged { IsUnchanged (D.seen device.old) (D.seen device.new) }
-    ensures failed { IsErrOf result RecFault.DataDev → HasRisen (D.seen device.old).faults (D.seen device.new).faults }
-    ensures calls { MakesCalls D.gives device.old device.new (ReadsWhere (IsOfPlaces shape.now shape.now.pages) (data_error_of result)) }
+    ensures reads { IsOnlyRead D.seen D.gives device.old (data_error_of result) device.new }
 {
     let mut pages = Pages::blank(alloc, shape)?;
     let mut found = Vec::with_capacity(alloc, shape.pages as usize)?;

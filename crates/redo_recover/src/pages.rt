@@ -1,6 +1,6 @@
 // The pages of a store: as they are kept, judged, and with the scanned groups applied.
-ghost use Rattle.std.specs.Prelude.{ℕ, ◌≤◌, ◌<◌, length, All, IfOk, IfErr, IsErrOf};
-ghost use Rattle.model_base.specs.{HasRisen, IsWithinLimits};
+ghost use Rattle.std.specs.Prelude.{ℕ, ◌≤◌, ◌<◌, length, All, IfOk, IfErr};
+ghost use Rattle.model_base.specs.{IsWithinLimits};
 ghost use Rattle.model_base.specs.declared.limits.TheConstants.{MAX_PAGES};
 ghost use Rattle.model_page.specs.{data_device_length};
 ghost use Rattle.model_record.specs.{GroupFits};
@@ -8,13 +8,11 @@ ghost use Rattle.model_record.specs.declared.group.Whole.{Whole};
 ghost use Rattle.std.specs.List.{AllByRecursion};
 ghost use Rattle.model_store.specs.{AreReadPages};
 ghost use Rattle.redo_apply.specs.{ArePagesOf};
-ghost use Rattle.redo_disk.specs.{MakesCalls};
-ghost use Rattle.redo_recover.specs.Calls.{IsOfStore, ReadsWhere, data_error_of};
-ghost use Rattle.redo_recover.specs.Devices.{HasLengthCause, IsUnchanged, OnContent};
+ghost use Rattle.redo_recover.specs.Devices.{HasLengthCause, OnContent};
 ghost use Rattle.redo_recover.specs.Groups.{EndBehindStarts};
-ghost use Rattle.redo_recover.specs.Order.{IsOfPages};
 ghost use Rattle.redo_recover.specs.Pages.{AreNotAhead, IsAheadFault, HasPageCause};
 ghost use Rattle.redo_recover.specs.Places.{AreFoundOn, ArePlacesOf};
+ghost use Rattle.redo_recover.specs.Reads.{IsOnlyRead, MayBeOwn, data_error_of, log_error};
 
 use crate::errors::data_fault;
 use crate::kept::keep_pages;
@@ -74,11 +72,8 @@ pub(crate) fn read_pages<D: Sectors, P: Replay>(
     ensures not_ahead { IfOk result (λ placed. AreNotAhead placed.pages end) }
     ensures lengths { (log_size data_size : ℕ) → IfErr result (HasLengthCause log_size data_size) }
     ensures cause { IfErr result (λ fault. OnContent (D.seen device.old).tells (HasPageCause shape.now end fault)) }
-    ensures unchanged { IsUnchanged (D.seen device.old) (D.seen device.new) }
-    ensures failed { IsErrOf result RecFault.DataDev → HasRisen (D.seen device.old).faults (D.seen device.new).faults }
-    ensures calls { MakesCalls D.gives device.old device.new (ReadsWhere (IsOfStore shape.now) (data_error_of result)) }
-    ensures apart { IsErrOf result RecFault.LogDev → ⊥ }
-    ensures of_pages { IfErr result IsOfPages }
+    ensures reads { IsOnlyRead D.seen D.gives device.old (data_error_of result) device.new }
+    ensures apart { IfErr result (λ fault. MayBeOwn (log_error fault)) }
 {
     let slots_length = shape.slots as usize * shape.page_size as usize;
     let slots = match read_part(alloc, device, 0, slots_length) {

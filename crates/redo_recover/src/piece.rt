@@ -1,12 +1,10 @@
 // Stretches of a device, read in pieces.
-ghost use Rattle.std.specs.Prelude.{◌≡◌, ◌≤◌, ◌<◌, ◌+◌, ◌-◌, ◌%◌, length, take, IfOk, IsErrOf, IsTrue, ◌↔◌};
-ghost use Rattle.model_base.specs.{HasRisen};
+ghost use Rattle.std.specs.Prelude.{◌≡◌, ◌≤◌, ◌<◌, ◌+◌, ◌-◌, ◌%◌, length, take, IfOk, IsTrue, ◌↔◌};
 ghost use Rattle.model_log.specs.{sector_at};
-ghost use Rattle.redo_disk.specs.{error_of, IsRange, MakesCalls, part};
-ghost use Rattle.redo_disk.specs.declared.error.DevError.{DevError};
-ghost use Rattle.redo_recover.specs.Calls.{IsInStretch, ReadsFrom};
-ghost use Rattle.redo_recover.specs.Devices.{IsUnchanged, OnContent};
-ghost use Rattle.redo_recover.specs.Piece.{IsPieceFor, IsPieceOf, IsReadFor, HasSector};
+ghost use Rattle.redo_disk.specs.{error_of, IsRange, part};
+ghost use Rattle.redo_recover.specs.Devices.{OnContent};
+ghost use Rattle.redo_recover.specs.Piece.{IsPieceOf, HasSector};
+ghost use Rattle.redo_recover.specs.Reads.{IsOnlyRead};
 
 use model_base::BLOCK_SIZE;
 use redo_disk::{DevError, Sectors};
@@ -55,10 +53,7 @@ impl Piece {
         ensures has { IfOk result (λ piece. HasSector piece at) }
         ensures content { IfOk result (λ piece. OnContent (D.seen device.old).tells (IsPieceOf self)
             → OnContent (D.seen device.old).tells (IsPieceOf piece)) }
-        ensures unchanged { IsUnchanged (D.seen device.old) (D.seen device.new) }
-        ensures failed { IsErrOf result DevError.Failed → HasRisen (D.seen device.old).faults (D.seen device.new).faults }
-        ensures piece { IfOk result (IsPieceFor self at end) }
-        ensures calls { MakesCalls D.gives device.old device.new (ReadsFrom (λ from. from ≡ at) (IsReadFor self at end) (error_of result)) }
+        ensures reads { IsOnlyRead D.seen D.gives device.old (error_of result) device.new }
     {
         if self.has_sector(at) {
             return Ok(self);
@@ -88,12 +83,9 @@ pub(crate) fn read_part<D: Sectors>(
     count: usize,
 ) -> Result<Vec<u8>, DevError>
     requires range { IsRange (D.seen device.old).size at count }
-    requires few { count ≤ PIECE }
     ensures content { IfOk result (λ bytes. OnContent (D.seen device.old).tells (λ content. bytes.items ≡ part content at count)) }
     ensures count { IfOk result (λ bytes. length bytes.items ≡ count) }
-    ensures unchanged { IsUnchanged (D.seen device.old) (D.seen device.new) }
-    ensures failed { IsErrOf result DevError.Failed → HasRisen (D.seen device.old).faults (D.seen device.new).faults }
-    ensures calls { MakesCalls D.gives device.old device.new (ReadsFrom (λ from. from ≡ at) (IsInStretch at count) (error_of result)) }
+    ensures reads { IsOnlyRead D.seen D.gives device.old (error_of result) device.new }
 {
     let mut bytes = vec![in alloc; 0u8; count]?;
     device.read(at, bytes.as_mut_slice())?;

@@ -1,15 +1,7 @@
 // Recovery.
-ghost use Rattle.std.specs.Prelude.{◌≡◌, ◌≤◌, IfOk, IfErr, IfSome, IsErrOf};
-ghost use Rattle.model_base.specs.{HasRisen};
-ghost use Rattle.model_stop.specs.{IsStop};
-ghost use Rattle.model_store.specs.{IsReading};
-ghost use Rattle.redo_disk.specs.{HasSize, MakesCalls};
+ghost use Rattle.std.specs.Prelude.{◌≤◌};
 ghost use Rattle.redo_papply.specs.declared.apply.TheConstants.{MAX_WORKERS};
-ghost use Rattle.redo_recover.specs.Devices.{HasCauseIn, HasLengthCause, IsUnchanged, OnContent, OnContents};
-ghost use Rattle.redo_recover.specs.Order.{ReadsBehindLog};
-ghost use Rattle.redo_recover.specs.Places.{AreFoundOn};
-ghost use Rattle.redo_recover.specs.Reach.{ReadsLog, ReadsPages};
-ghost use Rattle.redo_recover.specs.Reading.{IsOfDevices, reading_of};
+ghost use Rattle.redo_recover.specs.Recovery.{Recovers};
 
 use crate::pages::{Placed, read_pages};
 use crate::replay::{OneWorker, Replay, Workers};
@@ -28,24 +20,7 @@ fn recover_by<L: Sectors, D: Sectors, P: Replay>(
     replay: &P,
 ) -> Result<Recovered, RecFault>
     requires { P.is_ready replay.now }
-    ensures read { IfOk result (λ recovered. OnContents (L.seen log.old).tells (D.seen data_device.old).tells
-        (λ log_bytes data_bytes. IsReading log_bytes data_bytes (reading_of recovered))) }
-    ensures found { IfOk result (λ recovered. OnContent (D.seen data_device.old).tells
-        (AreFoundOn recovered.shape recovered.places recovered.pages)) }
-    ensures stop { IfOk result (λ recovered. OnContent (L.seen log.old).tells
-        (IsStop recovered.shape recovered.ckpt recovered.views.items recovered.stop)) }
-    ensures sized { IfOk result (λ _. IfSome (D.seen data_device.old).tells (HasSize (D.seen data_device.old).size)) }
-    ensures of_devices { IfOk result (IsOfDevices (L.seen log.old).size (D.seen data_device.old).size) }
-    ensures lengths { IfErr result (HasLengthCause (L.seen log.old).size (D.seen data_device.old).size) }
-    ensures cause { IfErr result (HasCauseIn (L.seen log.old).tells (D.seen data_device.old).tells) }
-    ensures log { IsUnchanged (L.seen log.old) (L.seen log.new) }
-    ensures data_device { IsUnchanged (D.seen data_device.old) (D.seen data_device.new) }
-    ensures log_calls { MakesCalls L.gives log.old log.new (ReadsLog (L.seen log.old) (D.seen data_device.old).size result) }
-    ensures data_calls { MakesCalls D.gives data_device.old data_device.new (ReadsPages (L.seen log.old).tells result) }
-    ensures order { ReadsBehindLog (L.seen log.old).tells (D.seen data_device.old).size data_device.old data_device.new result }
-    ensures log_failed { IsErrOf result RecFault.LogDev → HasRisen (L.seen log.old).faults (L.seen log.new).faults }
-    ensures data_failed { IsErrOf result RecFault.DataDev
-        → HasRisen (D.seen data_device.old).faults (D.seen data_device.new).faults }
+    ensures { Recovers L.seen L.gives D.seen D.gives log.old log.new data_device.old data_device.new result }
 {
     let Start {
         shape,
@@ -82,32 +57,14 @@ fn recover_by<L: Sectors, D: Sectors, P: Replay>(
 /// Reads a store off its two devices: the file header, the newest checkpoint, the log's blocks and groups from there on,
 /// and the pages as they are kept, to which each group is applied that starts at or above a page's lsn.
 ///
-/// It writes nothing, and reads no byte twice: of the log the header, and then blocks in pieces of at most 65,536 bytes, none
-/// of them so far behind the block at which the scan ends; and then the slots and places of the data device, in pieces of that
-/// size too. A device's failure ends it at once.
+/// It writes nothing. It reads the log's header, its blocks in pieces of at most 65,536 bytes, and then the slots and places of
+/// the data device. A device's failure ends it at once.
 pub fn recover<L: Sectors, D: Sectors>(
     alloc: Global,
     log: &mut L,
     data_device: &mut D,
 ) -> Result<Recovered, RecFault>
-    ensures read { IfOk result (λ recovered. OnContents (L.seen log.old).tells (D.seen data_device.old).tells
-        (λ log_bytes data_bytes. IsReading log_bytes data_bytes (reading_of recovered))) }
-    ensures found { IfOk result (λ recovered. OnContent (D.seen data_device.old).tells
-        (AreFoundOn recovered.shape recovered.places recovered.pages)) }
-    ensures stop { IfOk result (λ recovered. OnContent (L.seen log.old).tells
-        (IsStop recovered.shape recovered.ckpt recovered.views.items recovered.stop)) }
-    ensures sized { IfOk result (λ _. IfSome (D.seen data_device.old).tells (HasSize (D.seen data_device.old).size)) }
-    ensures of_devices { IfOk result (IsOfDevices (L.seen log.old).size (D.seen data_device.old).size) }
-    ensures lengths { IfErr result (HasLengthCause (L.seen log.old).size (D.seen data_device.old).size) }
-    ensures cause { IfErr result (HasCauseIn (L.seen log.old).tells (D.seen data_device.old).tells) }
-    ensures log { IsUnchanged (L.seen log.old) (L.seen log.new) }
-    ensures data_device { IsUnchanged (D.seen data_device.old) (D.seen data_device.new) }
-    ensures log_calls { MakesCalls L.gives log.old log.new (ReadsLog (L.seen log.old) (D.seen data_device.old).size result) }
-    ensures data_calls { MakesCalls D.gives data_device.old data_device.new (ReadsPages (L.seen log.old).tells result) }
-    ensures order { ReadsBehindLog (L.seen log.old).tells (D.seen data_device.old).size data_device.old data_device.new result }
-    ensures log_failed { IsErrOf result RecFault.LogDev → HasRisen (L.seen log.old).faults (L.seen log.new).faults }
-    ensures data_failed { IsErrOf result RecFault.DataDev
-        → HasRisen (D.seen data_device.old).faults (D.seen data_device.new).faults }
+    ensures { Recovers L.seen L.gives D.seen D.gives log.old log.new data_device.old data_device.new result }
 {
     recover_by(alloc, log, data_device, &OneWorker)
 }
@@ -121,24 +78,7 @@ pub fn recover_with<R: Threads + Sync, L: Sectors, D: Sectors>(
     workers: u32,
 ) -> Result<Recovered, RecFault>
     requires { (1 ≤ workers) × (workers ≤ MAX_WORKERS) }
-    ensures read { IfOk result (λ recovered. OnContents (L.seen log.old).tells (D.seen data_device.old).tells
-        (λ log_bytes data_bytes. IsReading log_bytes data_bytes (reading_of recovered))) }
-    ensures found { IfOk result (λ recovered. OnContent (D.seen data_device.old).tells
-        (AreFoundOn recovered.shape recovered.places recovered.pages)) }
-    ensures stop { IfOk result (λ recovered. OnContent (L.seen log.old).tells
-        (IsStop recovered.shape recovered.ckpt recovered.views.items recovered.stop)) }
-    ensures sized { IfOk result (λ _. IfSome (D.seen data_device.old).tells (HasSize (D.seen data_device.old).size)) }
-    ensures of_devices { IfOk result (IsOfDevices (L.seen log.old).size (D.seen data_device.old).size) }
-    ensures lengths { IfErr result (HasLengthCause (L.seen log.old).size (D.seen data_device.old).size) }
-    ensures cause { IfErr result (HasCauseIn (L.seen log.old).tells (D.seen data_device.old).tells) }
-    ensures log { IsUnchanged (L.seen log.old) (L.seen log.new) }
-    ensures data_device { IsUnchanged (D.seen data_device.old) (D.seen data_device.new) }
-    ensures log_calls { MakesCalls L.gives log.old log.new (ReadsLog (L.seen log.old) (D.seen data_device.old).size result) }
-    ensures data_calls { MakesCalls D.gives data_device.old data_device.new (ReadsPages (L.seen log.old).tells result) }
-    ensures order { ReadsBehindLog (L.seen log.old).tells (D.seen data_device.old).size data_device.old data_device.new result }
-    ensures log_failed { IsErrOf result RecFault.LogDev → HasRisen (L.seen log.old).faults (L.seen log.new).faults }
-    ensures data_failed { IsErrOf result RecFault.DataDev
-        → HasRisen (D.seen data_device.old).faults (D.seen data_device.new).faults }
+    ensures { Recovers L.seen L.gives D.seen D.gives log.old log.new data_device.old data_device.new result }
 {
     recover_by(alloc, log, data_device, &Workers { rt, count: workers })
 }

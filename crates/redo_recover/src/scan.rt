@@ -1,18 +1,14 @@
 // The scan of a log from a checkpoint on.
-ghost use Rattle.std.specs.Prelude.{ℕ, ◌≡◌, ◌≤◌, ◌<◌, ◌%◌, length, All, IfOk, IfErr, IsErrOf};
-ghost use Rattle.model_base.specs.{HasRisen, IsWithinLimits};
+ghost use Rattle.std.specs.Prelude.{ℕ, ◌≡◌, ◌≤◌, ◌<◌, ◌%◌, length, All, IfOk, IfErr};
+ghost use Rattle.model_base.specs.{IsWithinLimits};
 ghost use Rattle.model_base.specs.declared.limits.TheConstants.{BLOCK_SIZE, LSN_LIMIT, START_LSN};
 ghost use Rattle.model_log.specs.{log_device_length};
 ghost use Rattle.model_record.specs.{GroupFits};
 ghost use Rattle.model_stop.specs.{IsStop};
 ghost use Rattle.model_store.specs.{IsScan};
-ghost use Rattle.redo_disk.specs.{MakesCalls};
-ghost use Rattle.redo_recover.specs.Calls.{ReadsFrom, log_error_of};
-ghost use Rattle.redo_recover.specs.Devices.{HasLengthCause, IsUnchanged, OnContent};
+ghost use Rattle.redo_recover.specs.Devices.{HasLengthCause, OnContent};
 ghost use Rattle.redo_recover.specs.Groups.{EndBehindStarts, IsEndOf, IsScanFault};
-ghost use Rattle.redo_recover.specs.Header.{IsOfHead};
-ghost use Rattle.redo_recover.specs.Order.{IsOfLog};
-ghost use Rattle.redo_recover.specs.Reach.{BeginsBlock, IsOfScan};
+ghost use Rattle.redo_recover.specs.Reads.{IsOnlyRead, MayBeOwn, data_error, log_error_of};
 
 use crate::RecFault;
 use crate::blocks::{Blocks, read_blocks};
@@ -56,13 +52,8 @@ pub(crate) fn scan_log<L: Sectors>(
     ensures rise { IfOk result (λ scanned. EndBehindStarts scanned.groups.items) }
     ensures fault { IfErr result (λ fault. OnContent (L.seen log.old).tells (λ content. IsScanFault shape.now ckpt content fault)) }
     ensures lengths { (log_size data_size : ℕ) → IfErr result (HasLengthCause log_size data_size) }
-    ensures unchanged { IsUnchanged (L.seen log.old) (L.seen log.new) }
-    ensures failed { IsErrOf result RecFault.LogDev → HasRisen (L.seen log.old).faults (L.seen log.new).faults }
-    ensures calls { MakesCalls L.gives log.old log.new (ReadsFrom (BeginsBlock shape.now ckpt (L.seen log.old).tells)
-        (IsOfScan shape.now ckpt (L.seen log.old).tells) (log_error_of result)) }
-    ensures apart { IsErrOf result RecFault.DataDev → ⊥ }
-    ensures of_log { IfErr result IsOfLog }
-    ensures behind_head { IfErr result (λ fault. IsOfHead fault → ⊥) }
+    ensures reads { IsOnlyRead L.seen L.gives log.old (log_error_of result) log.new }
+    ensures apart { IfErr result (λ fault. MayBeOwn (data_error fault)) }
 {
     let blocks = match read_blocks(alloc, log, shape, ckpt) {
         Ok(blocks) => blocks,

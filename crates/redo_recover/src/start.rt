@@ -1,12 +1,11 @@
 // Where recovery starts: the sizes of the store and its newest checkpoint, off the header of the log device.
-ghost use Rattle.std.specs.Prelude.{◌≡◌, ◌≤◌, ◌<◌, ◌*◌, length, None, Some, IfOk, IfErr, IfSome, IsErrOf, MatchOption};
-ghost use Rattle.model_base.specs.{HasRisen, IsWithinLimits};
+ghost use Rattle.std.specs.Prelude.{◌≡◌, ◌≤◌, ◌<◌, ◌*◌, length, None, Some, IfOk, IfErr, IfSome, MatchOption};
+ghost use Rattle.model_base.specs.{IsWithinLimits};
 ghost use Rattle.model_log.specs.{header_block, log_device_length, newest_checkpoint, read_head};
 ghost use Rattle.model_page.specs.{data_device_length};
-ghost use Rattle.redo_disk.specs.{HasSize, MakesCalls};
-ghost use Rattle.redo_recover.specs.Devices.{HasCauseIn, HasLengthCause, IsUnchanged, OnContent, OnContents};
-ghost use Rattle.redo_recover.specs.Header.{ReadsHeader};
-ghost use Rattle.redo_recover.specs.Order.{IsLogStart, IsOfLog};
+ghost use Rattle.redo_disk.specs.{HasSize};
+ghost use Rattle.redo_recover.specs.Devices.{HasCauseIn, HasLengthCause, OnContents};
+ghost use Rattle.redo_recover.specs.Reads.{IsLogRead, MayBeOwn, data_error, log_error_of};
 ghost use Rattle.redo_recover.specs.Start.{IsHeadFault, IsLengthFault, IsStart, IsUsable};
 
 use crate::RecFault;
@@ -78,16 +77,12 @@ fn newest_in(header: &[u8], shape: &Shape) -> Option<(u64, u64)>
 pub(crate) fn read_start<L: Sectors, D: Sectors>(log: &mut L, device: &D) -> Result<Start, RecFault>
     ensures start { IfOk result (λ start. OnContents (L.seen log.old).tells (D.seen device.now).tells
         (λ log_bytes data_bytes. IsStart log_bytes data_bytes start)) }
-    ensures log_start { IfOk result (λ start. OnContent (L.seen log.old).tells (λ log_bytes. IsLogStart log_bytes start)) }
     ensures sized { IfOk result (λ _. IfSome (D.seen device.now).tells (HasSize (D.seen device.now).size)) }
     ensures usable { IfOk result (IsUsable (L.seen log.old).size (D.seen device.now).size) }
     ensures lengths { IfErr result (HasLengthCause (L.seen log.old).size (D.seen device.now).size) }
     ensures cause { IfErr result (HasCauseIn (L.seen log.old).tells (D.seen device.now).tells) }
-    ensures unchanged { IsUnchanged (L.seen log.old) (L.seen log.new) }
-    ensures failed { IsErrOf result RecFault.LogDev → HasRisen (L.seen log.old).faults (L.seen log.new).faults }
-    ensures calls { MakesCalls L.gives log.old log.new (ReadsHeader (L.seen log.old).size (D.seen device.now).size result) }
-    ensures apart { IsErrOf result RecFault.DataDev → ⊥ }
-    ensures of_log { IfErr result IsOfLog }
+    ensures reads { IsLogRead L.seen L.gives log.old (log_error_of result) log.new }
+    ensures apart { IfErr result (λ fault. MayBeOwn (data_error fault)) }
 {
     let log_len = log.len();
     if log_len < HEADER_BYTES {

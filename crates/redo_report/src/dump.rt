@@ -1,13 +1,14 @@
 // The listing of a store.
-ghost use Rattle.std.specs.Prelude.{◌≡◌, ◌≤◌, ◌<◌, ◌+◌, ◌*◌, ◌^◌, ◌++◌, length, OnOk, IfOk};
+ghost use Rattle.std.specs.Prelude.{◌≡◌, ◌≤◌, ◌<◌, ◌+◌, ◌*◌, ◌^◌, ◌++◌, if◌then◌else◌, length, None, Some, OnOk, IfOk};
 ghost use Rattle.std.specs.List.{flat_map};
 ghost use Rattle.std.specs.String.{string_bytes};
 ghost use Rattle.model_base.specs.declared.limits.TheConstants.{BLOCK_SIZE};
-ghost use Rattle.model_report.specs.{block_line, block_lines, checkpoint_line, listing_text, record_line, store_line, whole_lines};
+ghost use Rattle.model_report.specs.{block_line, block_lines, cause_word, checkpoint_line, fit_word, listing_text, record_line, stop_lines, store_line, whole_lines};
 
 use model_base::{BLOCK_SIZE, Shape};
 use model_log::BlockView;
 use model_record::{Rec, Whole};
+use model_stop::{Cause, Fit};
 use redo_io::Text;
 use redo_lsn::{NoMemory, number_of};
 use redo_script::{push_init, push_number, push_string};
@@ -24,6 +25,8 @@ pub struct Listed<'a> {
     pub ckpt: u64,
     /// The log blocks that were scanned from there on.
     pub views: &'a [BlockView],
+    /// The lsn at which no further block was read, and why.
+    pub stop: (u64, Cause),
     /// The groups that were scanned.
     pub groups: &'a [Whole],
     /// The lsn at which the log ends.
@@ -71,6 +74,44 @@ fn push_blocks(text: &mut String, first: u64, views: &[BlockView]) -> Result<(),
         lsn += BLOCK_SIZE;
     }
     Ok(())
+}
+
+// What of a block doesn't fit, as one word.
+fn fit_word(fit: Fit) -> &'static str
+    ensures { result.now ≡ fit_word fit }
+{
+    match fit {
+        Fit::Number => "number",
+        Fit::Length => "length",
+        Fit::First => "first",
+        Fit::Checksum => "checksum",
+        Fit::Whole => "whole",
+    }
+}
+
+// Why no further block was read, as one word.
+fn cause_word(cause: Cause) -> &'static str
+    ensures { result.now ≡ cause_word cause }
+{
+    match cause {
+        Cause::Partial => "partial",
+        Cause::Round => "round",
+        Cause::End => "end",
+        Cause::Misfit(fit) => fit_word(fit),
+    }
+}
+
+// Where and why the blocks end, if that is asked.
+fn push_stop(text: &mut String, stop: Option<(u64, Cause)>) -> Result<(), AllocError>
+    ensures { OnOk result (string_bytes text.new ≡ string_bytes text.old ++ stop_lines stop) }
+{
+    match stop {
+        None => Ok(()),
+        Some((lsn, cause)) => {
+            let word = cause_word(cause);
+            writeln!(text, "stop {lsn} {word}")
+        }
+    }
 }
 
 fn push_record(alloc: Global, text: &mut String, rec: &Rec) -> Result<(), AllocError>
@@ -126,18 +167,19 @@ fn push_wholes(alloc: Global, text: &mut String, wholes: &[Whole]) -> Result<(),
     Ok(())
 }
 
-/// The listing of a store: its shape, the newest checkpoint, each block with its number, each group with its records in
-/// the spelling of a script, and the log's end.
+/// The listing of a store: its shape, the newest checkpoint, each block with its number, where asked why they end, each
+/// group with its records in the spelling of a script, and the log's end.
 #[tactic(auto, unfolding(model_report::specs::Listing::listing_text))]
-pub fn listing(alloc: Global, listed: &Listed) -> Result<Text, NoMemory>
+pub fn listing(alloc: Global, listed: &Listed, why: bool) -> Result<Text, NoMemory>
     requires { listed.now.ckpt + BLOCK_SIZE * length listed.now.views.now < 2 ^ 64 }
     ensures { IfOk result (λ text. text ≡ listing_text listed.now.shape.now listed.now.number listed.now.ckpt
-        listed.now.views.now listed.now.groups.now listed.now.end) }
+        listed.now.views.now (if why then Some listed.now.stop else None) listed.now.groups.now listed.now.end) }
 {
     let mut text = String::new(alloc);
     push_store(&mut text, listed.shape)?;
     push_checkpoint(&mut text, listed.number, listed.ckpt)?;
     push_blocks(&mut text, listed.ckpt, listed.views)?;
+    push_stop(&mut text, why.then_some(listed.stop))?;
     push_wholes(alloc, &mut text, listed.groups)?;
     writeln!(text, "end {}", listed.end)?;
     Ok(Text::new(text.into_bytes()))

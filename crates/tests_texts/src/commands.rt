@@ -28,25 +28,38 @@ run --turns 1 --                 | 1                    100000000           fals
 ";
 
 const CRASH: &str =
-    "Ok(Asked { command: Crash { drive: Drive { seed: *, max: *, threads: *, log_only: * }, stop_log: *, stop_data: *, pick: * }, files: * })";
+    "Ok(Asked { command: Crash { drive: Drive { seed: *, max: *, threads: *, log_only: * }, stop_log: *, stop_data: *, pick: *, workers: * }, files: * })";
 
 const CRASHES: &str = "\
-crash                                                                                    | 0 100000000 false false None                       None    0                    false
-crash --stop-log 0                                                                       | 0 100000000 false false Some(0)                    None    0                    false
-crash --stop-data 3                                                                      | 0 100000000 false false None                       Some(3) 0                    false
-crash --pick 18446744073709551615                                                        | 0 100000000 false false None                       None    18446744073709551615 false
-crash --stop-log 18446744073709551615                                                    | 0 100000000 false false Some(18446744073709551615) None    0                    false
-crash --pick=5 --stop-log=1 --stop-data=2 --turns=3 --max=4 --threads --log-only --files | 3 4         true  true  Some(1)                    Some(2) 5                    true
+crash                                                                                                | 0 100000000 false false None                       None    0                    1  false
+crash --stop-log 0                                                                                   | 0 100000000 false false Some(0)                    None    0                    1  false
+crash --stop-data 3                                                                                  | 0 100000000 false false None                       Some(3) 0                    1  false
+crash --pick 18446744073709551615                                                                    | 0 100000000 false false None                       None    18446744073709551615 1  false
+crash --stop-log 18446744073709551615                                                                | 0 100000000 false false Some(18446744073709551615) None    0                    1  false
+crash --workers 16                                                                                   | 0 100000000 false false None                       None    0                    16 false
+crash --pick=5 --stop-log=1 --stop-data=2 --workers=6 --turns=3 --max=4 --threads --log-only --files | 3 4         true  true  Some(1)                    Some(2) 5                    6  true
 ";
 
-const PLAIN: &str = "Ok(Asked { command: *, files: * })";
+const RECOVER: &str = "Ok(Asked { command: Recover { workers: * }, files: * })";
 
-const PLAIN_ONES: &str = "\
-recover         | Recover false
-recover --files | Recover true
-recover --      | Recover false
-dump            | Dump    false
-dump --files -- | Dump    true
+const RECOVERS: &str = "\
+recover                                | 1  false
+recover --files                        | 1  true
+recover --                             | 1  false
+recover --workers 1                    | 1  false
+recover --workers 16                   | 16 false
+recover --files --workers=5            | 5  true
+recover --workers 00000000000000000016 | 16 false
+";
+
+const DUMP: &str = "Ok(Asked { command: Dump { why: * }, files: * })";
+
+const DUMPS: &str = "\
+dump               | false false
+dump --files --    | false true
+dump --why         | true  false
+dump --why --files | true  true
+dump --files --why | true  true
 ";
 
 const FORMAT: &str =
@@ -113,7 +126,8 @@ fn expect_asked(rt: &(impl Abort + AllocGlobal), text: &str, table: &str) -> Res
 fn words_that_are_a_command(rt: HostRuntime) -> Result<(), Fail> {
     expect_asked(&rt, RUN, RUNS)?;
     expect_asked(&rt, CRASH, CRASHES)?;
-    expect_asked(&rt, PLAIN, PLAIN_ONES)?;
+    expect_asked(&rt, RECOVER, RECOVERS)?;
+    expect_asked(&rt, DUMP, DUMPS)?;
     expect_asked(&rt, FORMAT, FORMATS)?;
     expect_asked(&rt, GEN, GENS)
 }
@@ -130,6 +144,9 @@ run --threads --files --                  | run --files --threads
 recover --                                | recover
 recover --files --                        | recover --files
 dump --                                   | dump
+dump --why --                             | dump --why
+recover --workers=5 --                    | recover --workers 5
+crash --workers=2 --pick 1                | crash --pick 1 --workers 2
 crash --                                  | crash
 crash --pick=1 --stop-log=2 --stop-data=3 | crash --stop-log 2 --stop-data 3 --pick 1
 crash --log-only --pick=1 --turns 2       | crash --turns 2 --pick 1 --log-only

@@ -76,7 +76,21 @@ crash --stop-data 1 --stop-data 1
 crash --stop 1
 crash 1
 crash --run
+crash --why
+crash --workers 0
+crash --workers 17
+crash --workers 1 --workers 1
 recover 1
+recover --workers
+recover --workers 0
+recover --workers 17
+recover --workers -1
+recover --workers +1
+recover --workers x
+recover --workers 000000000000000000016
+recover --workers 1 --workers 1
+recover --workers=1 --workers 2
+recover --why
 recover --threads
 recover --turns 1
 recover --files --files
@@ -84,6 +98,10 @@ recover -- 1
 dump 1
 dump --run
 dump --pages 8
+dump --why 1
+dump --why=1
+dump --why --why
+dump --workers 1
 dump dump
 format 1
 format --pages 0

@@ -4,6 +4,7 @@ use model_history::{Entry, Marks, State};
 use model_log::BlockView;
 use model_page::Content;
 use model_record::{Group, Rec, Whole};
+use model_stop::{Cause, Fit};
 use redo_io::Text;
 use redo_lsn::NoMemory;
 use redo_report::{Listed, formatted, listing, pages_text, recovery, report, summary};
@@ -100,9 +101,11 @@ fn listing_of_one(alloc: Global, recs: Vec<Rec>, end: u64, length: u32) -> Resul
             number: 1,
             ckpt: 8192,
             views: &[view],
+            stop: (8192, Cause::Partial),
             groups: &groups,
             end,
         },
+        false,
     )
 }
 
@@ -127,6 +130,48 @@ fn listings(rt: HostRuntime) -> Result<(), Fail> {
     let want =
         "store 4096 8 1 2048 8\ncheckpoint 1 8192\nblock 8192 17 25 12 1\ngroup 8204 8217 2\nrec b1 3 100 7\nrec b1 4 100 8\nend 8217\n";
     expect_text(&rt, listing_of_one(alloc, recs, 8217, 25)?, want);
+    Ok(())
+}
+
+// Each cause for which no further block is read, with the lsn at which that is, and what is printed of it.
+const STOPS: [(u64, Cause, &str); 7] = [
+    (8192, Cause::Partial, "stop 8192 partial"),
+    (1_056_768, Cause::Round, "stop 1056768 round"),
+    (
+        1_152_921_504_606_846_976,
+        Cause::End,
+        "stop 1152921504606846976 end",
+    ),
+    (8192, Cause::Misfit(Fit::Number), "stop 8192 number"),
+    (8192, Cause::Misfit(Fit::Length), "stop 8192 length"),
+    (8704, Cause::Misfit(Fit::First), "stop 8704 first"),
+    (9216, Cause::Misfit(Fit::Checksum), "stop 9216 checksum"),
+];
+
+// The listing of a store whose log holds no block, with why no further one was read.
+fn listing_of_none(alloc: Global, stop: (u64, Cause)) -> Result<Text, NoMemory> {
+    let listed = Listed {
+        shape: &DEFAULT,
+        number: 1,
+        ckpt: 8192,
+        views: &[],
+        stop,
+        groups: &[],
+        end: 8204,
+    };
+    listing(alloc, &listed, true)
+}
+
+#[test]
+fn stops_of_listings(rt: HostRuntime) -> Result<(), Fail> {
+    let alloc = rt.alloc();
+    for (lsn, cause, line) in STOPS {
+        let text = listing_of_none(alloc, (lsn, cause))?;
+        let want = format!(in alloc;
+            "store 4096 8 1 2048 8\ncheckpoint 1 8192\n{line}\nend 8204\n"
+        )?;
+        expect_text(&rt, text, want.as_str());
+    }
     Ok(())
 }
 

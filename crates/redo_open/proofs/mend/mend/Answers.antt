@@ -8,8 +8,7 @@ use Rattle.redo_open.specs.Mend.{IsSettledData, IsMended, AreMended, StandFrom}
 use Rattle.redo_open.specs.Store.{MendStep}
 use Rattle.redo_open.proofs.Endings.{mend-behind}
 use Rattle.redo_open.proofs.Mends.{settled-keeps, mended-none, mended-more, keeps-behind, settled-behind}
-use Rattle.redo_open.proofs.Needs.{for_shape}
-use Rattle.redo_open.proofs.Puts.{put_nothing, puts_then}
+use Rattle.redo_disk.proofs.Made.{ends_then, none_ends}
 use Rattle.redo_open.proofs.Standing.{stand-behind}
 use Rattle.redo_disk.proofs.Told.{OnTold-then, OnTold-weaker, told-as, told-step}
 use Rattle.redo_open.proofs.Told.{told-known}
@@ -54,7 +53,7 @@ loop-page-init g c = record {
   size = refl;
   later = omega arith;
   told = told-known _ _ (IsSettledData c.args.shape.now) (AreMended c.args.shape.now 0) (mended-none c.args.shape.now) c.requires.settled refl;
-  calls = put_nothing g.D.Sectors.gives c.args.part.now.dev;
+  calls = none_ends g.D.Sectors.gives c.args.part.now.dev;
 }
 
 pub loop-page-preserved : goal.loop-page-preserved
@@ -73,8 +72,7 @@ loop-page-preserved g c =
           (λ a b d first second. subst (λ (n : ℕ). AreMended shape n a d) (sym (add-one c.loop-page.page))
           (mended-more shape c.loop-page.page a b d c.loop-page-test.true first second))
           c.loop-page.invariant.told one.ok;
-      calls = puts_then c.loop-page.invariant.calls
-          (for_shape c.loop-page.part.shape c.args.shape.now (c.loop-page.invariant.shape ∙ sym c.requires.shape) c.in_ok-mend_page.ensures.calls);
+      calls = ends_then c.loop-page.invariant.calls c.in_ok-mend_page.ensures.calls;
     }
 
 pub returns-clause-step : goal.returns-clause-step
@@ -97,6 +95,5 @@ returns-clause-step g c =
 
 pub returns-in_err-mend_page-clause-calls : goal.returns-in_err-mend_page-clause-calls
 returns-in_err-mend_page-clause-calls g c =
-    let made = puts_then c.loop-page.invariant.calls
-    (for_shape c.loop-page.part.shape c.args.shape.now (c.loop-page.invariant.shape ∙ sym c.requires.shape) c.in_err-mend_page.ensures.calls) in
+    let made = ends_then c.loop-page.invariant.calls c.in_err-mend_page.ensures.calls in
     let p = err_from_is_err_and c.from_residual.result c.from_residual.ensures.1 in rw (p.1, p.2) made

@@ -1,9 +1,7 @@
 -- The places of all pages so far pass, and no call has failed.
 use Rattle.std.proofs.Common.{◌≡◌, ◌≤◌, None}
-use Rattle.redo_disk.specs.{MakesCalls, OnTold}
+use Rattle.redo_disk.specs.{EndWith, MakesCalls, OnTold}
 use Rattle.redo_open.specs.Mend.{AreMended}
-use Rattle.redo_open.specs.Needed.{IsWriteFor, WasBroken}
-use Rattle.redo_open.specs.Puts.{PutsWhere}
 use Rattle.redo_open.proofs.mend.mend.Given as goal
 
 abbrev pub invariant-loop-page : goal.invariant-loop-page
@@ -13,5 +11,5 @@ invariant-loop-page g l = record {
   size : (g.D.Sectors.seen l.part.dev).size ≡ (g.D.Sectors.seen l.fn.part.dev).size;
   later : (g.D.Sectors.seen l.fn.part.dev).faults ≤ (g.D.Sectors.seen l.part.dev).faults;
   told : OnTold (g.D.Sectors.seen l.fn.part.dev).tells (g.D.Sectors.seen l.part.dev).tells (AreMended l.shape l.page);
-  calls : MakesCalls g.D.Sectors.gives l.fn.part.dev l.part.dev (PutsWhere (IsWriteFor l.shape (WasBroken l.places.found.items)) None);
+  calls : MakesCalls g.D.Sectors.gives l.fn.part.dev l.part.dev (EndWith None);
 }

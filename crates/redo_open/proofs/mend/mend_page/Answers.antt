@@ -7,14 +7,12 @@ use Rattle.std.specs.List.{slice_get}
 use Rattle.model_datadev.specs.{HasNothingPending, IsRepaired, KeepsAll}
 use Rattle.redo_disk.proofs.Told.{known-as, known-both}
 use Rattle.redo_disk.specs.{OnTold}
-use Rattle.redo_open.proofs.Lengths.{copy-long}
 use Rattle.redo_open.proofs.Mends.{mended-repaired, mended-same, settled-keeps}
-use Rattle.redo_open.proofs.Puts.{put_nothing, put_served}
+use Rattle.redo_disk.proofs.Made.{none_ends, serves_end}
 use Rattle.redo_open.proofs.Standing.{slot-below, slot-room, stands-in_place, stands-in_slot}
 use Rattle.redo_open.proofs.Told.{told-both, told-known}
 use Rattle.redo_open.proofs.Writings.{live-ok}
 use Rattle.redo_open.specs.Mend.{IsMended, IsSettledData, StandFrom}
-use Rattle.redo_open.specs.Needed.{WasBroken}
 use Rattle.redo_store.specs.{IsCopyToPut}
 use Rattle.redo_open.proofs.mend.mend_page.Goals as goal
 
@@ -75,20 +73,7 @@ returns-in-Some-clause-step g c =
     }
 
 pub returns-in-Some-clause-calls : goal.returns-in-Some-clause-calls
-returns-in-Some-clause-calls g c =
-    let shape = c.args.part.now.shape in
-    let places = c.args.places.now in
-    let slot = c.in-Some.slot in
-    let broken : WasBroken places.found.items c.args.page = record {
-      one = c.index.result.now;
-      at = slice_get_read places.found.items shape.pages c.args.page c.index.result.now (sym c.requires.slots.count) c.requires.page c.index.ensures;
-      slot = slot;
-      in_slot = c.in-Some.is;
-    } in
-    let below : slot < shape.slots = slot-below shape places c.args.page slot c.index.result.now c.requires.slots broken.at c.in-Some.is in
-    let long : length (take (slot * 4096 + 4096 - slot * 4096) (drop (slot * 4096) c.deref.result.now)) ≡ shape.page_size =
-    copy-long slot shape.slots shape.page_size c.deref.result.now below c.requires.sizes (ap length c.deref.ensures.value ∙ c.requires.slots.room) in
-    put_served (inr (record { page = c.args.page; such = broken; at = refl; long = long })) c.put_copy.ensures.calls
+returns-in-Some-clause-calls g c = serves_end c.put_copy.ensures.calls
 
 pub returns-in-None-clause-calls : goal.returns-in-None-clause-calls
-returns-in-None-clause-calls g c = put_nothing g.D.Sectors.gives c.args.part.now.dev
+returns-in-None-clause-calls g c = none_ends g.D.Sectors.gives c.args.part.now.dev

@@ -1,18 +1,15 @@
 -- The steps, and then the run.
 use Rattle.std.proofs.Common.{◌≡◌, ◌∙◌, Some, None, Ok, Err, sym, ap, subst}
 use Rattle.model_store.specs.Reading.{Reading}
-use Rattle.redo_disk.specs.{MakesCalls}
+use Rattle.redo_disk.specs.{MakesCalls, MayEndWith}
 use Rattle.redo_disk.specs.Seen.{Seen}
 use Rattle.redo_disk.specs.declared.error.DevError.TheVariants as device
-use Rattle.redo_open.proofs.Asked.{started_log, started_data, started_marks}
-use Rattle.redo_open.proofs.Puts.{may_put, put_nothing, puts_no_memory}
-use Rattle.redo_open.proofs.Unmarked.{handed_back, unmarked_of}
+use Rattle.redo_open.proofs.Asked.{started_log, started_data}
+use Rattle.redo_disk.proofs.Made.{none_may_end, out_of_memory}
 use Rattle.redo_recover.specs.{AreNotAhead, data_error, reading_of}
 use Rattle.redo_open.specs.Clear.{MayStart}
 use Rattle.redo_open.specs.Devices.{DevicesStep}
-use Rattle.redo_open.specs.Needed.{IsNeededWrite}
 use Rattle.redo_open.specs.Opening.{OpensRecovered}
-use Rattle.redo_open.specs.Puts.{MayPutWhere}
 use Rattle.redo_open.proofs.Recovered.{IsStartable, may-start, not-ahead-of-start, recovered-none, recovered-failed, recovered-started}
 use Rattle.redo_recover.specs.declared.fault.RecFault.TheVariants.{NoMemory}
 use Rattle.redo_store.specs.Part.{Part}
@@ -58,22 +55,21 @@ returns-clause-step g c =
     c.open_devices.new.log c.open_devices.new.part c.start_run.result facts step c.start_run.ensures
 
 pub returns-in-Err-clause-log_calls : goal.returns-in-Err-clause-log_calls
-returns-in-Err-clause-log_calls g c =
-    handed_back NoMemory c.in-Err.data_device (unmarked_of NoMemory (puts_no_memory (may_put (put_nothing g.L.Sectors.gives c.args.log))))
+returns-in-Err-clause-log_calls g c = out_of_memory (none_may_end g.L.Sectors.gives c.args.log)
 
 pub returns-in-Err-clause-data_calls : goal.returns-in-Err-clause-data_calls
 returns-in-Err-clause-data_calls g c =
-    subst (λ dev. MakesCalls g.D.Sectors.gives c.args.data_device dev (MayPutWhere (IsNeededWrite c.args.recovered) (Some device.NoMemory))) (sym c.in-Err.ensures.dev)
-    (puts_no_memory (may_put (put_nothing g.D.Sectors.gives c.args.data_device)))
+    subst (λ dev. MakesCalls g.D.Sectors.gives c.args.data_device dev (MayEndWith (Some device.NoMemory))) (sym c.in-Err.ensures.dev)
+    (out_of_memory (none_may_end g.D.Sectors.gives c.args.data_device))
 
 pub returns-in-Err-open_devices-clause-log_calls : goal.returns-in-Err-open_devices-clause-log_calls
-returns-in-Err-open_devices-clause-log_calls g c = handed_back c.in-Err-open_devices.fault c.into_dev.result c.in-Err-open_devices.ensures.log_calls
+returns-in-Err-open_devices-clause-log_calls g c = c.in-Err-open_devices.ensures.log_calls
 
 pub returns-in-Err-open_devices-clause-data_calls : goal.returns-in-Err-open_devices-clause-data_calls
 returns-in-Err-open_devices-clause-data_calls g c =
     let before = ap (λ (part : Part _). part.dev) c.in-Ok.ensures.part in
-    subst (λ dev. MakesCalls g.D.Sectors.gives c.args.data_device dev (MayPutWhere (IsNeededWrite c.args.recovered) (data_error c.in-Err-open_devices.fault))) (sym c.into_dev.ensures)
-    (subst (λ dev. MakesCalls g.D.Sectors.gives dev c.open_devices.new.part.dev (MayPutWhere (IsNeededWrite c.args.recovered) (data_error c.in-Err-open_devices.fault))) before
+    subst (λ dev. MakesCalls g.D.Sectors.gives c.args.data_device dev (MayEndWith (data_error c.in-Err-open_devices.fault))) (sym c.into_dev.ensures)
+    (subst (λ dev. MakesCalls g.D.Sectors.gives dev c.open_devices.new.part.dev (MayEndWith (data_error c.in-Err-open_devices.fault))) before
     c.in-Err-open_devices.ensures.data_calls)
 
 pub returns-clause-log_calls : goal.returns-clause-log_calls
@@ -83,7 +79,4 @@ pub returns-clause-data_calls : goal.returns-clause-data_calls
 returns-clause-data_calls g c =
     let before = ap (λ (part : Part _). part.dev) c.in-Ok.ensures.part in
     started_data c.open_devices.new.log c.open_devices.new.part c.args.recovered c.start_after-start.result c.start_run.result c.start_run.ensures
-    (subst (λ dev. MakesCalls g.D.Sectors.gives dev c.open_devices.new.part.dev (MayPutWhere (IsNeededWrite c.args.recovered) None)) before c.in-Ok-open_devices.ensures.data_calls)
-
-pub returns-clause-marks : goal.returns-clause-marks
-returns-clause-marks g c = started_marks c.open_devices.new.part c.args.recovered c.start_after-start.result c.start_run.result c.start_run.ensures c.in-Ok-open_devices.ensures.marks
+    (subst (λ dev. MakesCalls g.D.Sectors.gives dev c.open_devices.new.part.dev (MayEndWith None)) before c.in-Ok-open_devices.ensures.data_calls)

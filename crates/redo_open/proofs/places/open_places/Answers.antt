@@ -10,9 +10,8 @@ use Rattle.redo_disk.specs.Seen.{Seen}
 use Rattle.redo_disk.specs.declared.error.DevError.{DevError}
 use Rattle.redo_open.proofs.Asked.{data_ends}
 use Rattle.redo_open.proofs.Endings.{device-own, device-failed}
-use Rattle.redo_open.proofs.Needs.{for_broken, for_changed}
 use Rattle.redo_open.proofs.Opens.{repair-keeps, mended-may_write, unchanged-keeps, write-keeps, all-written}
-use Rattle.redo_open.proofs.Puts.{may_put, put_nothing, puts_no_memory, puts_then}
+use Rattle.redo_disk.proofs.Made.{ends_then, may_end, none_may_end, out_of_memory}
 use Rattle.redo_open.proofs.Standing.{stand-first}
 use Rattle.redo_open.proofs.Told.{risen-since}
 use Rattle.redo_open.specs.Mend.{IsSettledData, StandFrom}
@@ -115,17 +114,14 @@ returns-clause-step g c =
     subst (λ (fault : RecFault). PlacesStep g.D.Sectors.seen shape pages c.args.part.now (Err fault) c.rewrite.new.part) (sym c.data_fault-in-Err-rewrite.ensures) step
 
 pub returns-in-Err-clause-calls : goal.returns-in-Err-clause-calls
-returns-in-Err-clause-calls g c = puts_no_memory (may_put (put_nothing g.D.Sectors.gives c.args.part.now.dev))
+returns-in-Err-clause-calls g c = out_of_memory (none_may_end g.D.Sectors.gives c.args.part.now.dev)
 
 pub returns-in-Err-mend-clause-calls : goal.returns-in-Err-mend-clause-calls
-returns-in-Err-mend-clause-calls g c =
-    may_put (data_ends c.in-Err-mend.error c.data_fault.result c.data_fault.ensures (for_broken c.args.shape.now c.args.pages.now c.in-Err-mend.ensures.calls))
+returns-in-Err-mend-clause-calls g c = data_ends c.in-Err-mend.error c.data_fault.result c.data_fault.ensures c.in-Err-mend.ensures.calls
 
 pub returns-in-Ok-rewrite-clause-calls : goal.returns-in-Ok-rewrite-clause-calls
-returns-in-Ok-rewrite-clause-calls g c =
-    may_put (puts_then (for_broken c.args.shape.now c.args.pages.now c.in-Ok-mend.ensures.calls) (for_changed c.args.shape.now c.in-Ok-rewrite.ensures.calls))
+returns-in-Ok-rewrite-clause-calls g c = may_end (ends_then c.in-Ok-mend.ensures.calls c.in-Ok-rewrite.ensures.calls)
 
 pub returns-clause-calls : goal.returns-clause-calls
 returns-clause-calls g c =
-    may_put (data_ends c.in-Err-rewrite.error c.data_fault-in-Err-rewrite.result c.data_fault-in-Err-rewrite.ensures
-    (puts_then (for_broken c.args.shape.now c.args.pages.now c.in-Ok-mend.ensures.calls) (for_changed c.args.shape.now c.in-Err-rewrite.ensures.calls)))
+    data_ends c.in-Err-rewrite.error c.data_fault-in-Err-rewrite.result c.data_fault-in-Err-rewrite.ensures (ends_then c.in-Ok-mend.ensures.calls c.in-Err-rewrite.ensures.calls)

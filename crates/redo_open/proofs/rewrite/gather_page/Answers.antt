@@ -4,8 +4,7 @@ use Rattle.std.proofs.lemmas.Option.{slice_get_read}
 use Rattle.std.proofs.lemmas.Result.{err_from_is_err_and}
 use Rattle.redo_open.proofs.Gathers.{added, gathered-more, gathered-writable, same-gathered}
 use Rattle.redo_open.proofs.GatherSteps.{added-step, failed-step, kept-step}
-use Rattle.redo_open.proofs.Needs.{among_changed, changed-page}
-use Rattle.redo_open.proofs.Puts.{put_nothing}
+use Rattle.redo_disk.proofs.Made.{none_ends}
 use Rattle.redo_open.proofs.Writings.{PageRead, lsn-read, page-read}
 use Rattle.redo_open.specs.Gather.{Gathered, GatherStep}
 use Rattle.redo_open.proofs.rewrite.gather_page.Goals as goal
@@ -17,13 +16,13 @@ returns-then-index-lsn-clause-step g c =
     let found = c.args.places.now.found.items in
     let read = lsn-read shape pages c.args.page c.lsn-lsn.result c.requires.pages c.requires.page c.lsn-lsn.ensures in
     kept-step g.D.Sectors.seen shape pages found c.args.page (c.args.page + 1) c.args.part.now c.args.batch.now c.requires.live
-    (gathered-more shape pages found c.args.page c.args.batch.now c.requires.gathered)
+    (gathered-more shape pages c.args.page c.args.batch.now c.requires.gathered)
     (λ top start tops w. same-gathered shape pages found top start c.args.page c.index.result.now read.0 c.args.batch.now _ tops
     (slice_get_read c.args.places.now.found.items c.args.part.now.shape.pages c.args.page c.index.result.now (sym c.requires.found) c.requires.page c.index.ensures) read.1 (c.if-index-lsn.true ∙ read.2) w)
 
 pub make_room-requires-clause-writable : goal.make_room-requires-clause-writable
 make_room-requires-clause-writable g c =
-    gathered-writable c.args.part.now.shape c.args.pages.now c.args.places.now.found.items c.args.page c.args.batch.now c.requires.gathered (λ p below. omega (arith, c.requires.page)) c.requires.small
+    gathered-writable c.args.part.now.shape c.args.pages.now c.args.page c.args.batch.now c.requires.gathered (λ p below. omega (arith, c.requires.page)) c.requires.small
 
 pub returns-in_err-make_room-clause-step : goal.returns-in_err-make_room-clause-step
 returns-in_err-make_room-clause-step g c =
@@ -56,19 +55,9 @@ returns-clause-step g c =
     let step : GatherStep g.D.Sectors.seen shape pages found c.args.page (c.args.page + 1) c.args.part.now batch (Ok tt) c.make_room.new.part
     (added c.make_room.new.batch c.args.page c.lsn-lsn.result c.user_bytes.result.now) =
     added-step g.D.Sectors.seen shape pages found c.args.page c.lsn-lsn.result c.user_bytes.result.now c.args.part.now c.make_room.new.part batch c.make_room.new.batch
-    (omega (arith, c.in_ok-make_room.ensures.room, c.requires.limits.slots)) read (changed-page found pages c.args.page c.index.result.now c.lsn-lsn.result c.user_bytes.result.now
-    (slice_get_read found c.args.part.now.shape.pages c.args.page c.index.result.now (sym c.requires.found) c.requires.page c.index.ensures) read c.if-index-lsn.false)
+    (omega (arith, c.in_ok-make_room.ensures.room, c.requires.limits.slots)) read
     (c.in_ok-make_room.ensures.step pages found c.args.page c.requires.gathered) in
     subst (λ (b : Gathered). GatherStep g.D.Sectors.seen shape pages found c.args.page (c.args.page + 1) c.args.part.now batch (Ok tt) c.make_room.new.part b) (sym c.add.ensures) step
 
 pub returns-then-index-lsn-clause-calls : goal.returns-then-index-lsn-clause-calls
-returns-then-index-lsn-clause-calls g c = put_nothing g.D.Sectors.gives c.args.part.now.dev
-
-pub returns-in_err-make_room-clause-calls : goal.returns-in_err-make_room-clause-calls
-returns-in_err-make_room-clause-calls g c =
-    let made = among_changed c.args.part.now.shape c.args.pages.now c.args.places.now.found.items c.args.page c.args.batch.now c.requires.gathered c.in_err-make_room.ensures.calls in
-    let p = err_from_is_err_and c.from_residual.result c.from_residual.ensures.1 in rw (p.1, p.2) made
-
-pub returns-clause-calls : goal.returns-clause-calls
-returns-clause-calls g c =
-    among_changed c.args.part.now.shape c.args.pages.now c.args.places.now.found.items c.args.page c.args.batch.now c.requires.gathered c.in_ok-make_room.ensures.calls
+returns-then-index-lsn-clause-calls g c = none_ends g.D.Sectors.gives c.args.part.now.dev

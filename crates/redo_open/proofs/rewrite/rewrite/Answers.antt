@@ -5,20 +5,13 @@ use Rattle.model_base.specs.declared.shape.Shape.{Shape}
 use Rattle.model_datadev.specs.{IsWritable}
 use Rattle.redo_open.proofs.Gathers.{gathered-writable}
 use Rattle.redo_open.proofs.GatherSteps.{written-step}
-use Rattle.redo_open.proofs.Needs.{among_changed, for_shape}
-use Rattle.redo_open.proofs.Puts.{puts_then}
+use Rattle.redo_disk.proofs.Made.{ends_then}
 use Rattle.redo_open.specs.Gather.{AreGathered, GatherStep, IsGatheredTo}
 use Rattle.redo_open.proofs.rewrite.rewrite.Goals as goal
 
-pub returns-in_err-gather_page-clause-calls : goal.returns-in_err-gather_page-clause-calls
-returns-in_err-gather_page-clause-calls g c =
-    let made = puts_then c.loop-page.invariant.calls
-    (for_shape c.loop-page.part.shape c.args.shape.now (c.loop-page.invariant.shape ∙ sym c.requires.shape) c.in_err-gather_page.ensures.calls) in
-    let p = err_from_is_err_and c.from_residual.result c.from_residual.ensures.1 in rw (p.1, p.2) made
-
 pub gather_page-requires-clause-gathered : goal.gather_page-requires-clause-gathered
 gather_page-requires-clause-gathered g c =
-    subst (λ (s : Shape). AreGathered s c.args.pages.now c.args.places.now.found.items c.loop-page.page c.loop-page.batch) (c.requires.shape ∙ sym c.loop-page.invariant.shape) c.loop-page.invariant.gathered
+    subst (λ (s : Shape). AreGathered s c.args.pages.now c.loop-page.page c.loop-page.batch) (c.requires.shape ∙ sym c.loop-page.invariant.shape) c.loop-page.invariant.gathered
 
 pub loop-page-preserved : goal.loop-page-preserved
 loop-page-preserved g c =
@@ -35,8 +28,7 @@ loop-page-preserved g c =
       later = omega (arith, c.loop-page.invariant.later, step.cause.later);
       gathered = step.gathered;
       told = λ top start tops w. step.ok top start tops (c.loop-page.invariant.told top start tops w);
-      calls = puts_then c.loop-page.invariant.calls
-          (for_shape c.loop-page.part.shape c.args.shape.now (c.loop-page.invariant.shape ∙ sym c.requires.shape) c.in_ok-gather_page.ensures.calls);
+      calls = ends_then c.loop-page.invariant.calls c.in_ok-gather_page.ensures.calls;
     }
 
 pub write_gathered-requires-clause-sizes : goal.write_gathered-requires-clause-sizes
@@ -46,7 +38,7 @@ pub write_gathered-requires-clause-writable : goal.write_gathered-requires-claus
 write_gathered-requires-clause-writable g c =
     let batch = c.loop-page.batch in
     subst (λ (s : Shape). IsWritable s batch.pairs batch.users) (c.requires.shape ∙ sym c.loop-page.invariant.shape)
-    (gathered-writable c.args.shape.now c.args.pages.now c.args.places.now.found.items c.loop-page.page batch c.loop-page.invariant.gathered
+    (gathered-writable c.args.shape.now c.args.pages.now c.loop-page.page batch c.loop-page.invariant.gathered
     (λ p below. omega (arith, c.loop-page.auto.page-end)) c.requires.small)
 
 pub returns-clause-step : goal.returns-clause-step
@@ -58,17 +50,17 @@ returns-clause-step g c =
     let is : shape ≡ mid.shape = c.requires.shape ∙ sym c.loop-page.invariant.shape in
     let last : c.loop-page.page ≡ shape.pages = omega (arith, c.loop-page-test.false, c.loop-page.auto.page-end) in
     let found = c.args.places.now.found.items in
-    let gathered : AreGathered mid.shape pages found shape.pages batch =
-    subst (λ (s : Shape). AreGathered s pages found shape.pages batch) is (subst (λ n. AreGathered shape pages found n batch) last c.loop-page.invariant.gathered) in
+    let gathered : AreGathered mid.shape pages shape.pages batch =
+    subst (λ (s : Shape). AreGathered s pages shape.pages batch) is (subst (λ n. AreGathered shape pages n batch) last c.loop-page.invariant.gathered) in
     written-step g.D.Sectors.seen shape pages found shape.pages c.args.part.now mid c.write_gathered.new.part batch c.write_gathered.new.batch c.write_gathered.result
     is c.loop-page.invariant.shape c.loop-page.invariant.size c.loop-page.invariant.later
     (λ top start tops w. subst (λ n. IsGatheredTo shape top start n batch (g.D.Sectors.seen mid.dev).tells) last (c.loop-page.invariant.told top start tops w))
     (c.write_gathered.ensures.step pages found shape.pages gathered) c.write_gathered.ensures.emptied
 
+pub returns-in_err-gather_page-clause-calls : goal.returns-in_err-gather_page-clause-calls
+returns-in_err-gather_page-clause-calls g c =
+    let made = ends_then c.loop-page.invariant.calls c.in_err-gather_page.ensures.calls in
+    let p = err_from_is_err_and c.from_residual.result c.from_residual.ensures.1 in rw (p.1, p.2) made
+
 pub returns-clause-calls : goal.returns-clause-calls
-returns-clause-calls g c =
-    let found = c.args.places.now.found.items in
-    let is : c.loop-page.part.shape ≡ c.args.shape.now = c.loop-page.invariant.shape ∙ sym c.requires.shape in
-    puts_then c.loop-page.invariant.calls
-    (among_changed c.args.shape.now c.args.pages.now found c.loop-page.page c.loop-page.batch c.loop-page.invariant.gathered
-    (for_shape c.loop-page.part.shape c.args.shape.now is c.write_gathered.ensures.calls))
+returns-clause-calls g c = ends_then c.loop-page.invariant.calls c.write_gathered.ensures.calls

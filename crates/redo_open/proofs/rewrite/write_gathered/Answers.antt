@@ -3,7 +3,7 @@ use Rattle.std.proofs.Common.{Err, Ok, subst, sym}
 use Rattle.std.proofs.lemmas.Result.{err_from_is_err_and}
 use Rattle.redo_open.proofs.Gathers.{gathered-none}
 use Rattle.redo_open.proofs.GatherSteps.{wrote-step}
-use Rattle.redo_open.proofs.Needs.{gathered_served}
+use Rattle.redo_disk.proofs.Made.{serves_end}
 use Rattle.redo_open.specs.Gather.{AreGathered, Gathered, GatherStep}
 use Rattle.redo_open.proofs.rewrite.write_gathered.Goals as goal
 
@@ -19,16 +19,12 @@ pub returns-clause-step : goal.returns-clause-step
 returns-clause-step g c pages found count gathered =
     wrote-step g.D.Sectors.seen pages found count c.args.part.now c.write_batch.new.self c.args.batch.now c.clear.new.self c.pairs-2.result.now c.users.result.now
     (Ok c.in_ok-write_batch.field-0) c.pairs-2.ensures c.users.ensures c.requires.live gathered
-    (subst (λ (batch : Gathered). AreGathered c.args.part.now.shape pages found count batch) (sym c.clear.ensures) (gathered-none c.args.part.now.shape pages found count))
+    (subst (λ (batch : Gathered). AreGathered c.args.part.now.shape pages count batch) (sym c.clear.ensures) (gathered-none c.args.part.now.shape pages count))
     c.in_ok-write_batch.ensures.keeps c.in_ok-write_batch.ensures.ok c.in_ok-write_batch.ensures.step
 
 pub returns-in_err-write_batch-clause-calls : goal.returns-in_err-write_batch-clause-calls
 returns-in_err-write_batch-clause-calls g c =
-    let made = gathered_served c.args.part.now.shape c.args.batch.now c.pairs-2.result.now c.users.result.now c.pairs-2.ensures c.users.ensures c.requires.sizes c.requires.writable
-    c.in_err-write_batch.ensures.calls in
-    let p = err_from_is_err_and c.from_residual.result c.from_residual.ensures.1 in rw (p.1, p.2) made
+    let p = err_from_is_err_and c.from_residual.result c.from_residual.ensures.1 in rw (p.1, p.2) (serves_end c.in_err-write_batch.ensures.calls)
 
 pub returns-clause-calls : goal.returns-clause-calls
-returns-clause-calls g c =
-    gathered_served c.args.part.now.shape c.args.batch.now c.pairs-2.result.now c.users.result.now c.pairs-2.ensures c.users.ensures c.requires.sizes c.requires.writable
-    c.in_ok-write_batch.ensures.calls
+returns-clause-calls g c = serves_end c.in_ok-write_batch.ensures.calls

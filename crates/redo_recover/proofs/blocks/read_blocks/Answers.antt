@@ -5,51 +5,16 @@ use Rattle.model_base.specs.declared.limits.TheConstants.{BLOCK_SIZE}
 use Rattle.model_log.specs.declared.layout.TheConstants.{BLOCK_DATA}
 use Rattle.model_stop.specs.declared.cause.Cause.TheVariants.{Partial, Round}
 use Rattle.model_stop.specs.{IsStop}
-use Rattle.redo_disk.specs.{MakesCalls}
 use Rattle.redo_disk.specs.declared.error.DevError.TheVariants.{NoMemory}
 use Rattle.redo_recover.specs.Blocks.{AreBlocksOf}
-use Rattle.redo_recover.specs.Calls.{ReadsFrom}
-use Rattle.redo_recover.specs.Devices.{OnContent}
 use Rattle.redo_recover.specs.Piece.{IsPieceOf}
-use Rattle.redo_recover.specs.Reach.{BeginsBlock, IsOfScan, IsReached, block_place}
-use Rattle.redo_recover.proofs.Begins.{own_from}
 use Rattle.redo_recover.proofs.Bounds.{firsts-push}
 use Rattle.redo_recover.proofs.Contents.{content-both, content-weaker}
-use Rattle.redo_recover.proofs.OneRound.{IsReadable, reads-end, reads-end_at, reads-next}
-use Rattle.redo_recover.proofs.Scanning.{AreBlocksSoFar, IsTakenAt, taken-at, so_far-next, read-stopped, read-last, read-all, length-data_of, so_far-reached}
+use Rattle.redo_recover.proofs.Scanning.{AreBlocksSoFar, IsTakenAt, taken-at, so_far-next, read-stopped, read-last, read-all, length-data_of}
 use Rattle.redo_recover.proofs.Stopping.{stopped-part, stopped-round, stopped-unread}
-use Rattle.redo_recover.proofs.Unchanged.{IsUnchanged-then, content-before, content-after}
-use Rattle.redo_recover.proofs.blocks.read_blocks.Given.{Over}
-use Rattle.redo_recover.proofs.blocks.read_blocks.Goals.{After-readable_end-end, In_ok-piece}
+use Rattle.redo_recover.proofs.Only.{only-own, only-then}
+use Rattle.redo_recover.proofs.Unchanged.{content-before, content-after}
 use Rattle.redo_recover.proofs.blocks.read_blocks.Goals as goal
-
-readable : (g : Over) (c : After-readable_end-end g) → IsReadable c.args.shape.now c.args.ckpt c.loop-i.i c.offset_of-at.result c.readable_end-end.result
-readable g c = record {
-  start = record { aligned = c.requires.aligned; started = c.requires.started };
-  some = omega arith;
-  place = c.offset_of-at.ensures ∙ ap (block_place c.args.shape.now c.args.ckpt) c.from.ensures;
-  sectors = c.readable_end-end.ensures.sectors;
-  behind = c.readable_end-end.ensures.some;
-  up_to = omega (arith, c.readable_end-end.ensures.up_to);
-  within = c.readable_end-end.ensures.within;
-}
-
--- the scan comes to the block
-reached : (g : Over) (c : After-readable_end-end g) → OnContent (g.L.Sectors.seen c.args.log.now).tells (IsReached c.args.shape.now c.args.ckpt c.loop-i.i)
-reached g c =
-    content-weaker (g.L.Sectors.seen c.args.log.now).tells (AreBlocksSoFar c.args.shape.now c.args.ckpt c.loop-i.views.items c.loop-i.joined.items c.loop-i.i)
-    (IsReached c.args.shape.now c.args.ckpt c.loop-i.i)
-    (λ image a. so_far-reached c.args.shape.now c.args.ckpt c.loop-i.views.items c.loop-i.joined.items c.loop-i.i image a) c.loop-i.invariant.so_far
-
--- what was read up to this block is read once
-read_once : (g : Over) (c : In_ok-piece g)
-    → IsReadable c.args.shape.now c.args.ckpt c.loop-i.i c.offset_of-at.result c.readable_end-end.result
-    → OnContent (g.L.Sectors.seen c.args.log.now).tells (IsReached c.args.shape.now c.args.ckpt c.loop-i.i)
-    → MakesCalls g.L.Sectors.gives c.args.log.now c.with_sector.new.device (ReadsFrom (BeginsBlock c.args.shape.now c.args.ckpt (g.L.Sectors.seen c.args.log.now).tells)
-    (IsOfScan c.args.shape.now c.args.ckpt (g.L.Sectors.seen c.args.log.now).tells) None)
-read_once g c may here =
-    reads-end_at (g.L.Sectors.seen c.args.log.now).tells c.args.shape.now c.args.ckpt c.loop-i.i c.offset_of-at.result c.readable_end-end.result c.loop-i.piece
-    here may c.loop-i.invariant.read c.in_ok-piece.ensures.calls
 
 pub returns-in_default-clause-blocks : goal.returns-in_default-clause-blocks
 returns-in_default-clause-blocks g c =
@@ -57,8 +22,8 @@ returns-in_default-clause-blocks g c =
     let middle = g.L.Sectors.seen c.loop-i.log in
     let shape = c.args.shape.now in
     let piece = c.in_ok-piece.piece in
-    let of = content-before old middle (IsPieceOf piece) c.loop-i.invariant.unchanged
-    (c.in_ok-piece.ensures.content (content-after old middle (IsPieceOf c.loop-i.piece) c.loop-i.invariant.unchanged c.loop-i.invariant.piece)) in
+    let of = content-before old middle (IsPieceOf piece) c.loop-i.invariant.reads.unchanged
+    (c.in_ok-piece.ensures.content (content-after old middle (IsPieceOf c.loop-i.piece) c.loop-i.invariant.reads.unchanged c.loop-i.invariant.piece)) in
     let here = content-weaker old.tells (IsPieceOf piece) (IsTakenAt shape c.args.ckpt c.loop-i.i c.taken.result c.sector-block.result.now)
     (λ image is. taken-at shape c.args.ckpt c.loop-i.i c.from.result piece c.offset_of-at.result c.sector-block.result.now c.taken.result image c.from.ensures
     c.in_ok-piece.ensures.has c.offset_of-at.ensures c.sector-block.ensures c.taken.ensures.view is) of in
@@ -74,8 +39,8 @@ returns-then-not-is_full-clause-blocks g c =
     let middle = g.L.Sectors.seen c.loop-i.log in
     let shape = c.args.shape.now in
     let piece = c.in_ok-piece.piece in
-    let of = content-before old middle (IsPieceOf piece) c.loop-i.invariant.unchanged
-    (c.in_ok-piece.ensures.content (content-after old middle (IsPieceOf c.loop-i.piece) c.loop-i.invariant.unchanged c.loop-i.invariant.piece)) in
+    let of = content-before old middle (IsPieceOf piece) c.loop-i.invariant.reads.unchanged
+    (c.in_ok-piece.ensures.content (content-after old middle (IsPieceOf c.loop-i.piece) c.loop-i.invariant.reads.unchanged c.loop-i.invariant.piece)) in
     let here = content-weaker old.tells (IsPieceOf piece) (IsTakenAt shape c.args.ckpt c.loop-i.i c.taken.result c.sector-block.result.now)
     (λ image is. taken-at shape c.args.ckpt c.loop-i.i c.from.result piece c.offset_of-at.result c.sector-block.result.now c.taken.result image c.from.ensures
     c.in_ok-piece.ensures.has c.offset_of-at.ensures c.sector-block.ensures c.taken.ensures.view is) of in
@@ -93,8 +58,8 @@ loop-i-preserved g c =
     let middle = g.L.Sectors.seen c.loop-i.log in
     let shape = c.args.shape.now in
     let piece = c.in_ok-piece.piece in
-    let of = content-before old middle (IsPieceOf piece) c.loop-i.invariant.unchanged
-    (c.in_ok-piece.ensures.content (content-after old middle (IsPieceOf c.loop-i.piece) c.loop-i.invariant.unchanged c.loop-i.invariant.piece)) in
+    let of = content-before old middle (IsPieceOf piece) c.loop-i.invariant.reads.unchanged
+    (c.in_ok-piece.ensures.content (content-after old middle (IsPieceOf c.loop-i.piece) c.loop-i.invariant.reads.unchanged c.loop-i.invariant.piece)) in
     let here = content-weaker old.tells (IsPieceOf piece) (IsTakenAt shape c.args.ckpt c.loop-i.i c.taken.result c.sector-block.result.now)
     (λ image is. taken-at shape c.args.ckpt c.loop-i.i c.from.result piece c.offset_of-at.result c.sector-block.result.now c.taken.result image c.from.ensures
     c.in_ok-piece.ensures.has c.offset_of-at.ensures c.sector-block.ensures c.taken.ensures.view is) of in
@@ -104,10 +69,8 @@ loop-i-preserved g c =
     ap length c.in_ok-extend_from_slice.ensures.items ∙ length-append c.loop-i.joined.items c.block_data.result.now in
     let room : length c.block_data.result.now ≤ BLOCK_DATA = omega (arith, ap length c.block_data.ensures, length-data_of c.in-Some.view c.sector-block.result.now) in
     record {
-      unchanged = IsUnchanged-then old middle (g.L.Sectors.seen c.with_sector.new.device) c.loop-i.invariant.unchanged c.with_sector.ensures.unchanged;
+      reads = only-then c.args.log.now c.loop-i.log c.with_sector.new.device None c.loop-i.invariant.reads c.in_ok-piece.ensures.reads;
       piece = of;
-      read = reads-next shape c.args.ckpt c.loop-i.i c.offset_of-at.result c.readable_end-end.result c.loop-i.piece piece
-          (readable g (goal.at.loop-i-preserved g c).After-readable_end-end) c.loop-i.invariant.read c.in_ok-piece.ensures.piece c.in_ok-piece.ensures.calls;
       many = omega (arith, views, c.loop-i.invariant.many);
       firsts = firsts-push c.loop-i.views.items c.push.new.self.items c.in-Some.view c.loop-i.invariant.firsts c.in-Some.ensures.first c.in_ok-push.ensures.items;
       short = omega (arith, bytes, room, c.loop-i.invariant.short);
@@ -125,8 +88,8 @@ returns-in_default-clause-stop g c =
     let middle = g.L.Sectors.seen c.loop-i.log in
     let shape = c.args.shape.now in
     let piece = c.in_ok-piece.piece in
-    let of = content-before old middle (IsPieceOf piece) c.loop-i.invariant.unchanged
-    (c.in_ok-piece.ensures.content (content-after old middle (IsPieceOf c.loop-i.piece) c.loop-i.invariant.unchanged c.loop-i.invariant.piece)) in
+    let of = content-before old middle (IsPieceOf piece) c.loop-i.invariant.reads.unchanged
+    (c.in_ok-piece.ensures.content (content-after old middle (IsPieceOf c.loop-i.piece) c.loop-i.invariant.reads.unchanged c.loop-i.invariant.piece)) in
     let here = content-weaker old.tells (IsPieceOf piece) (IsTakenAt shape c.args.ckpt c.loop-i.i c.taken.result c.sector-block.result.now)
     (λ image is. taken-at shape c.args.ckpt c.loop-i.i c.from.result piece c.offset_of-at.result c.sector-block.result.now c.taken.result image c.from.ensures
     c.in_ok-piece.ensures.has c.offset_of-at.ensures c.sector-block.ensures c.taken.ensures.view is) of in
@@ -177,42 +140,28 @@ returns-clause-blocks g c =
     (AreBlocksOf c.args.shape.now c.args.ckpt c.loop-i.views.items c.loop-i.joined.items)
     (λ image a. read-all c.args.shape.now c.args.ckpt c.loop-i.views.items c.loop-i.joined.items c.loop-i.i image a (omega arith)) c.loop-i.invariant.so_far
 
-pub returns-in_err-piece-clause-calls : goal.returns-in_err-piece-clause-calls
-returns-in_err-piece-clause-calls g c =
-    let at = goal.at.returns-in_err-piece-clause-calls g c in
-    let made = reads-end_at (g.L.Sectors.seen c.args.log.now).tells c.args.shape.now c.args.ckpt c.loop-i.i c.offset_of-at.result c.readable_end-end.result
-    c.loop-i.piece (reached g at.After-readable_end-end) (readable g at.After-readable_end-end) c.loop-i.invariant.read c.in_err-piece.ensures.calls in
-    let p = err_from_is_err_and c.from_residual.result c.from_residual.ensures.1 in rw (p.1, p.2) made
+pub returns-in_err-piece-clause-reads : goal.returns-in_err-piece-clause-reads
+returns-in_err-piece-clause-reads g c =
+    let p = err_from_is_err_and c.from_residual.result c.from_residual.ensures.1 in
+    rw (p.1, p.2) (only-then c.args.log.now c.loop-i.log c.with_sector.new.device _ c.loop-i.invariant.reads c.in_err-piece.ensures.reads)
 
-pub returns-in_default-clause-calls : goal.returns-in_default-clause-calls
-returns-in_default-clause-calls g c =
-    let at = goal.at.returns-in_default-clause-calls g c in
-    read_once g at.In_ok-piece (readable g at.After-readable_end-end) (reached g at.After-readable_end-end)
+pub returns-in_err-push-clause-reads : goal.returns-in_err-push-clause-reads
+returns-in_err-push-clause-reads g c =
+    let p = err_from_is_err_and c.from_residual-in_err-push.result c.from_residual-in_err-push.ensures.1 in
+    rw (p.1, p.2) (only-own c.args.log.now c.with_sector.new.device (Some NoMemory) tt
+    (only-then c.args.log.now c.loop-i.log c.with_sector.new.device None c.loop-i.invariant.reads c.in_ok-piece.ensures.reads))
 
-pub returns-in_err-push-clause-calls : goal.returns-in_err-push-clause-calls
-returns-in_err-push-clause-calls g c =
-    let at = goal.at.returns-in_err-push-clause-calls g c in
-    let made = own_from (BeginsBlock c.args.shape.now c.args.ckpt (g.L.Sectors.seen c.args.log.now).tells)
-    (IsOfScan c.args.shape.now c.args.ckpt (g.L.Sectors.seen c.args.log.now).tells) (Some NoMemory) tt (read_once g at.In_ok-piece (readable g at.After-readable_end-end) (reached g at.After-readable_end-end)) in
-    let p = err_from_is_err_and c.from_residual-in_err-push.result c.from_residual-in_err-push.ensures.1 in rw (p.1, p.2) made
+pub returns-in_err-extend_from_slice-clause-reads : goal.returns-in_err-extend_from_slice-clause-reads
+returns-in_err-extend_from_slice-clause-reads g c =
+    let p = err_from_is_err_and c.from_residual-in_err-extend_from_slice.result c.from_residual-in_err-extend_from_slice.ensures.1 in
+    rw (p.1, p.2) (only-own c.args.log.now c.with_sector.new.device (Some NoMemory) tt
+    (only-then c.args.log.now c.loop-i.log c.with_sector.new.device None c.loop-i.invariant.reads c.in_ok-piece.ensures.reads))
 
-pub returns-in_err-extend_from_slice-clause-calls : goal.returns-in_err-extend_from_slice-clause-calls
-returns-in_err-extend_from_slice-clause-calls g c =
-    let at = goal.at.returns-in_err-extend_from_slice-clause-calls g c in
-    let made = own_from (BeginsBlock c.args.shape.now c.args.ckpt (g.L.Sectors.seen c.args.log.now).tells)
-    (IsOfScan c.args.shape.now c.args.ckpt (g.L.Sectors.seen c.args.log.now).tells) (Some NoMemory) tt (read_once g at.In_ok-piece (readable g at.After-readable_end-end) (reached g at.After-readable_end-end)) in
-    let p = err_from_is_err_and c.from_residual-in_err-extend_from_slice.result c.from_residual-in_err-extend_from_slice.ensures.1 in rw (p.1, p.2) made
+pub returns-in_default-clause-reads : goal.returns-in_default-clause-reads
+returns-in_default-clause-reads g c = only-then c.args.log.now c.loop-i.log c.with_sector.new.device None c.loop-i.invariant.reads c.in_ok-piece.ensures.reads
 
-pub returns-then-not-is_full-clause-calls : goal.returns-then-not-is_full-clause-calls
-returns-then-not-is_full-clause-calls g c =
-    let at = goal.at.returns-then-not-is_full-clause-calls g c in
-    read_once g at.In_ok-piece (readable g at.After-readable_end-end) (reached g at.After-readable_end-end)
+pub returns-then-not-is_full-clause-reads : goal.returns-then-not-is_full-clause-reads
+returns-then-not-is_full-clause-reads g c = only-then c.args.log.now c.loop-i.log c.with_sector.new.device None c.loop-i.invariant.reads c.in_ok-piece.ensures.reads
 
-pub returns-clause-calls : goal.returns-clause-calls
-returns-clause-calls g c =
-    let told = (g.L.Sectors.seen c.args.log.now).tells in
-    reads-end told c.args.shape.now c.args.ckpt c.loop-i.i c.loop-i.piece
-    (content-weaker told (AreBlocksSoFar c.args.shape.now c.args.ckpt c.loop-i.views.items c.loop-i.joined.items c.loop-i.i)
-    (IsReached c.args.shape.now c.args.ckpt c.loop-i.i)
-    (λ image a. so_far-reached c.args.shape.now c.args.ckpt c.loop-i.views.items c.loop-i.joined.items c.loop-i.i image a) c.loop-i.invariant.so_far)
-    c.loop-i.invariant.read
+pub returns-clause-reads : goal.returns-clause-reads
+returns-clause-reads g c = c.loop-i.invariant.reads

@@ -1,18 +1,18 @@
 use Rattle.std.proofs.Common.{◌≡◌, ◌≤◌, ◌*◌, length}
 use Rattle.model_log.specs.declared.layout.TheConstants.{BLOCK_DATA}
 use Rattle.redo_recover.specs.Blocks.{HaveFirsts}
-use Rattle.redo_recover.specs.Devices.{IsUnchanged, OnContent}
+use Rattle.std.specs.Prelude.{None}
+use Rattle.redo_recover.specs.Devices.{OnContent}
 use Rattle.redo_recover.specs.Piece.{IsPieceOf}
-use Rattle.redo_recover.proofs.OneRound.{HasReadBlocks}
+use Rattle.redo_recover.specs.Reads.{IsOnlyRead}
 use Rattle.redo_recover.proofs.Scanning.{AreBlocksSoFar}
 use Rattle.redo_recover.proofs.blocks.read_blocks.Given as goal
 
 -- the first blocks are read, all of them full
 abbrev pub invariant-loop-i : goal.invariant-loop-i
 invariant-loop-i g l = record {
-  unchanged : IsUnchanged (g.L.Sectors.seen l.fn.log) (g.L.Sectors.seen l.log);
+  reads : IsOnlyRead g.L.Sectors.seen g.L.Sectors.gives l.fn.log None l.log;
   piece : OnContent (g.L.Sectors.seen l.fn.log).tells (IsPieceOf l.piece);
-  read : HasReadBlocks g.L.Sectors.gives l.fn.log l.log l.shape l.ckpt l.i l.piece;
   many : length l.views.items ≡ l.i;
   firsts : HaveFirsts l.views.items;
   short : length l.joined.items ≤ BLOCK_DATA * l.i;

@@ -2,11 +2,9 @@
 use Rattle.std.proofs.Common.{◌≡◌, ◌∙◌, ◌*◌, ◌+◌, refl}
 use Rattle.model_page.specs.{IsLost}
 use Rattle.redo_disk.specs.{part}
-use Rattle.redo_recover.proofs.Begins.{where_read}
 use Rattle.redo_recover.proofs.Contents.{content-both}
 use Rattle.redo_recover.proofs.Keeping.{part-is}
-use Rattle.redo_recover.proofs.Making.{data_fault_made}
-use Rattle.redo_recover.specs.Calls.{IsOfPlace, ReadsWhere}
+use Rattle.redo_recover.proofs.Only.{only-data}
 use Rattle.redo_recover.specs.Pages.{HoldsSlots, PutsKept}
 use Rattle.redo_recover.specs.Places.{IsFoundAt}
 use Rattle.redo_recover.proofs.kept.keep_page.Goals as goal
@@ -46,21 +44,8 @@ returns-clause-found g c =
     (λ content slots place. c.in-Some.ensures.found content slots (c.as_slice.ensures.value ∙ place ∙ part-is shape content c.args.page at at_is))
     c.requires.slots c.in-Ok.ensures.content
 
-pub returns-in-Err-clause-calls : goal.returns-in-Err-clause-calls
-returns-in-Err-clause-calls g c =
-    let shape = c.args.shape.now in
-    let at_is : c.from.result * c.from-2.result ≡ (shape.slots + c.args.page) * shape.page_size = cc in
-    data_fault_made (ReadsWhere (IsOfPlace shape c.args.page)) c.in-Err.error c.data_fault.result c.data_fault.ensures (where_read (rw at_is at c.in-Err.ensures.calls))
-
-pub returns-in_default-clause-calls : goal.returns-in_default-clause-calls
-returns-in_default-clause-calls g c =
-    let at_is : c.from.result * c.from-2.result ≡ (c.args.shape.now.slots + c.args.page) * c.args.shape.now.page_size = cc in
-    where_read (rw at_is at c.in-Ok.ensures.calls)
-
-pub returns-clause-calls : goal.returns-clause-calls
-returns-clause-calls g c =
-    let at_is : c.from.result * c.from-2.result ≡ (c.args.shape.now.slots + c.args.page) * c.args.shape.now.page_size = cc in
-    where_read (rw at_is at c.in-Ok.ensures.calls)
-
 pub returns-clause-its_pages : goal.returns-clause-its_pages
 returns-clause-its_pages g c = c.put.ensures.its_pages c.args.shape.now c.requires.its_pages
+
+pub returns-in-Err-clause-reads : goal.returns-in-Err-clause-reads
+returns-in-Err-clause-reads g c = only-data _ _ c.in-Err.error _ c.data_fault.ensures c.in-Err.ensures.reads

@@ -1,16 +1,19 @@
 -- One read.
-use Rattle.std.proofs.Common.{◌≡◌, length, arith}
 use Rattle.std.proofs.lemmas.Result.{err_from_is_err_and}
-use Rattle.redo_recover.proofs.Begins.{piece_read}
+use Rattle.std.proofs.Common.{Some}
+use Rattle.redo_disk.specs.declared.error.DevError.TheVariants.{NoMemory}
+use Rattle.redo_recover.proofs.Only.{only-none, only-one, only-own}
 use Rattle.redo_recover.proofs.piece.read_part.Goals as goal
 
-pub returns-in_err-read-clause-calls : goal.returns-in_err-read-clause-calls
-returns-in_err-read-clause-calls g c =
-    let long : length c.as_mut_slice.result.now ≡ c.args.count = omega (arith, c.as_mut_slice.ensures.len, c.in_ok-bytes.ensures.len) in
-    let made = piece_read c.args.count long c.requires.few c.in_err-read.ensures.gives in
-    let p = err_from_is_err_and c.from_residual-in_err-read.result c.from_residual-in_err-read.ensures.1 in rw (p.1, p.2) made
+pub returns-in_err-bytes-clause-reads : goal.returns-in_err-bytes-clause-reads
+returns-in_err-bytes-clause-reads g c =
+    let p = err_from_is_err_and c.from_residual.result c.from_residual.ensures.1 in
+    rw (p.1, p.2) (only-own c.args.device.now c.args.device.now (Some NoMemory) tt (only-none c.args.device.now))
 
-pub returns-clause-calls : goal.returns-clause-calls
-returns-clause-calls g c =
-    let long : length c.as_mut_slice.result.now ≡ c.args.count = omega (arith, c.as_mut_slice.ensures.len, c.in_ok-bytes.ensures.len) in
-    piece_read c.args.count long c.requires.few c.in_ok-read.ensures.gives
+pub returns-in_err-read-clause-reads : goal.returns-in_err-read-clause-reads
+returns-in_err-read-clause-reads g c =
+    let p = err_from_is_err_and c.from_residual-in_err-read.result c.from_residual-in_err-read.ensures.1 in
+    rw (p.1, p.2) (only-one _ _ _ _ _ _ _ c.in_err-read.ensures.step c.in_err-read.ensures.gives)
+
+pub returns-clause-reads : goal.returns-clause-reads
+returns-clause-reads g c = only-one _ _ _ _ _ _ _ c.in_ok-read.ensures.step c.in_ok-read.ensures.gives

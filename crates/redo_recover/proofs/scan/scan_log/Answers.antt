@@ -1,9 +1,10 @@
 use Rattle.std.proofs.Common.{length, rules, subst, sym}
 use Rattle.model_store.specs.{groups_start}
-use Rattle.redo_recover.specs.Header.{IsOfHead}
-use Rattle.redo_recover.specs.Order.{IsOfLog}
+use Rattle.std.proofs.lemmas.Result.{err_from_is_err_and}
+use Rattle.redo_recover.specs.Reads.{MayBeOwn, data_error, log_error}
 use Rattle.redo_recover.specs.declared.fault.RecFault.{RecFault}
-use Rattle.redo_recover.proofs.Ordering.{log_fault-behind, log_fault-of_log, parse-behind, parse-of_log}
+use Rattle.redo_recover.proofs.Only.{only-log, only-own}
+use Rattle.redo_recover.proofs.Owning.{log-apart, parse-own}
 use Rattle.redo_recover.proofs.Parsing.{parsed-behind, parsed-fit}
 use Rattle.redo_recover.proofs.scan.scan_log.Goals as goal
 
@@ -17,22 +18,21 @@ returns-clause-rise g c =
     parsed-behind c.args.ckpt (length c.in-Ok.blocks.views.items) c.args.shape.now c.in-Ok.blocks.joined.items (groups_start c.args.ckpt c.in-Ok.blocks.views.items)
     c.in_ok-groups.groups.items c.in_ok-groups.end c.in_ok-groups.ensures.parsed
 
-pub returns-in-Err-clause-of_log : goal.returns-in-Err-clause-of_log
-returns-in-Err-clause-of_log g c = subst IsOfLog (sym c.log_fault.ensures) (log_fault-of_log c.in-Err.error)
+pub returns-in-Err-clause-reads : goal.returns-in-Err-clause-reads
+returns-in-Err-clause-reads g c = only-log _ _ c.in-Err.error _ c.log_fault.ensures c.in-Err.ensures.reads
 
-pub returns-in_err-groups-clause-of_log : goal.returns-in_err-groups-clause-of_log
-returns-in_err-groups-clause-of_log g c =
+pub returns-in_err-groups-clause-reads : goal.returns-in_err-groups-clause-reads
+returns-in_err-groups-clause-reads g c =
     let fault = c.in_err-groups.field-0.0 in
-    let own : IsOfLog fault =
-    parse-of_log c.args.ckpt c.args.shape.now c.in-Ok.blocks.joined.items (groups_start c.args.ckpt c.in-Ok.blocks.views.items) fault c.in_err-groups.ensures.fault in
-    search rules
+    let own = parse-own c.args.ckpt c.args.shape.now c.in-Ok.blocks.joined.items (groups_start c.args.ckpt c.in-Ok.blocks.views.items) fault c.in_err-groups.ensures.fault in
+    let p = err_from_is_err_and c.from_residual.result c.from_residual.ensures.1 in rw (p.1, p.2) (only-own _ _ (log_error fault) own.0 c.in-Ok.ensures.reads)
 
-pub returns-in-Err-clause-behind_head : goal.returns-in-Err-clause-behind_head
-returns-in-Err-clause-behind_head g c = subst (λ (f : RecFault). IsOfHead f → ⊥) (sym c.log_fault.ensures) (log_fault-behind c.in-Err.error)
+pub returns-in-Err-clause-apart : goal.returns-in-Err-clause-apart
+returns-in-Err-clause-apart g c = subst (λ (f : RecFault). MayBeOwn (data_error f)) (sym c.log_fault.ensures) (log-apart c.in-Err.error)
 
-pub returns-in_err-groups-clause-behind_head : goal.returns-in_err-groups-clause-behind_head
-returns-in_err-groups-clause-behind_head g c =
+pub returns-in_err-groups-clause-apart : goal.returns-in_err-groups-clause-apart
+returns-in_err-groups-clause-apart g c =
     let fault = c.in_err-groups.field-0.0 in
-    let own : IsOfHead fault → ⊥ =
-    parse-behind c.args.ckpt c.args.shape.now c.in-Ok.blocks.joined.items (groups_start c.args.ckpt c.in-Ok.blocks.views.items) fault c.in_err-groups.ensures.fault in
+    let own : MayBeOwn (data_error fault) =
+    (parse-own c.args.ckpt c.args.shape.now c.in-Ok.blocks.joined.items (groups_start c.args.ckpt c.in-Ok.blocks.views.items) fault c.in_err-groups.ensures.fault).1 in
     search rules
