@@ -6,7 +6,7 @@ pub returns-in_default : goal.returns-in_default
 returns-in_default g t c = go_same c.args.table.now.table_id c.args.crew c.pop.new.self c.requires c.in_default.ensures.seats c.in_default.ensures.actors c.in_default.ensures.room.0 c.in_default.ensures.room.1
 
 pub spawn_with-requires-clause-runs : goal.spawn_with-requires-clause-runs
-spawn_with-requires-clause-runs g t c κs within = ((last_taken c.args.table.now.table_id c.args.crew.seats.items c.pop.new.self.seats.items c.in-Some.worker.seat c.args.crew.actors.items c.pop.new.self.actors.items c.in-Some.worker.actor c.in-Some.ensures.seats c.in-Some.ensures.actors c.requires).1, search rules, search rules, search rules, search rules)
+spawn_with-requires-clause-runs g t c κs within = ((last_taken c.args.table.now.table_id c.args.crew.seats.items c.pop.new.self.seats.items c.in-Some.worker.seat c.args.crew.actors.items c.pop.new.self.actors.items c.in-Some.worker.actor c.in-Some.ensures.seats c.in-Some.ensures.actors c.requires).1, (search rules, search rules, search rules, search rules))
 
 pub spawn_with-requires-clause-keeps : goal.spawn_with-requires-clause-keeps
 spawn_with-requires-clause-keeps g t c κs within =
