@@ -17,7 +17,7 @@ use Rattle.redo_open.specs.Called.{PutsLogIn, PutsLogOf}
 use Rattle.redo_open.specs.Mark.{EndWithMark}
 use Rattle.redo_open.specs.Opening.{Answer, IsStarted, MarksStart, log_left, data_left, data_error_in}
 use Rattle.redo_open.specs.Places.{IsPageFault}
-use Rattle.redo_open.specs.Puts.{MayPutWhere, PutsMayEndWith, PutsWhere}
+use Rattle.redo_open.specs.Puts.{MayPutWhere, PutsInLog, PutsWhere}
 use Rattle.redo_recover.specs.{data_error, data_fault_of, log_error, log_fault_of}
 use Rattle.redo_recover.specs.declared.fault.RecFault.{RecFault}
 use Rattle.redo_recover.specs.declared.fault.RecFault.TheVariants.{SmallLog, NotFormatted, BadFormat, SmallData, NoCheckpoint, BadRecord, PageLost, PageAhead, LogDev, DataDev, NoMemory}
@@ -66,16 +66,17 @@ beside_pages (PageAhead p lsn) own made = absurd own
 
 -- a run that was started makes no call
 pub started_log : {L D : Type 0} {gives : L → Call → L → Type 0} {old log : L} (store : Part D) (recovered : Recovered) (start : ℕ) (result : Answer L D)
-    → IsStarted log store recovered start result → MakesCalls gives old log (PutsLogOf (Ok tt)) → MakesCalls gives old (log_left result) (PutsLogIn result)
+    → IsStarted log store recovered start result → MakesCalls gives old log (PutsLogOf recovered.shape (Ok tt))
+    → MakesCalls gives old (log_left result) (PutsLogIn recovered.shape result)
 started_log {gives = gives} {old = old} store recovered start (Ok run) is made =
     weaker_calls (λ calls are. record { puts = are.puts; unmarked = tt })
-    (subst (λ dev. MakesCalls gives old dev (PutsLogOf (Ok tt))) (sym (ap (λ (part : Log _). part.dev) is.log_part)) made)
+    (subst (λ dev. MakesCalls gives old dev (PutsLogOf recovered.shape (Ok tt))) (sym (ap (λ (part : Log _). part.dev) is.log_part)) made)
 started_log {gives = gives} {old = old} store recovered start (Err error) (none, log_is, data_is) made =
     weaker_calls (λ calls are. record {
-      puts = subst (λ (f : RecFault). PutsMayEndWith (log_error f) calls) (sym none) (record { puts = are.puts.puts; ends = MayEndWith-no_memory calls are.puts.ends });
+      puts = subst (λ (f : RecFault). PutsInLog recovered.shape (log_error f) calls) (sym none) (record { puts = are.puts.puts; ends = MayEndWith-no_memory calls are.puts.ends });
       unmarked = λ other. absurd (other none);
     })
-    (subst (λ dev. MakesCalls gives old dev (PutsLogOf (Ok tt))) (sym log_is) made)
+    (subst (λ dev. MakesCalls gives old dev (PutsLogOf recovered.shape (Ok tt))) (sym log_is) made)
 
 pub started_data : {L D : Type 0} {gives : D → Call → D → Type 0} {old : D} {IsSuch : Write → Type 0} (log : L) (store : Part D) (recovered : Recovered) (start : ℕ) (result : Answer L D)
     → IsStarted log store recovered start result → MakesCalls gives old store.dev (MayPutWhere IsSuch None) → MakesCalls gives old (data_left result) (MayPutWhere IsSuch (data_error_in result))

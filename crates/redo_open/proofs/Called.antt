@@ -4,26 +4,31 @@ use Rattle.std.specs.Prelude.{IfErr, IfOk, IfSome}
 use Rattle.std.specs.List.{AllByRecursion, slice_get}
 use Rattle.model_base.specs.{IsWithinLimits}
 use Rattle.model_base.specs.declared.shape.Shape.{Shape}
+use Rattle.model_device.specs.{IsWithin}
 use Rattle.model_device.specs.Disk.{Disk}
 use Rattle.model_device.specs.declared.write.Write.{Write}
+use Rattle.model_log.specs.{log_device_length}
 use Rattle.model_opening.proofs.Pages.{read-page}
+use Rattle.model_page.specs.{data_device_length}
 use Rattle.model_record.proofs.Several.{one_group}
 use Rattle.model_store.specs.{IsReading}
 use Rattle.model_store.specs.Reading.{Reading}
 use Rattle.model_store.proofs.OneReading.{same_reading}
 use Rattle.redo_disk.specs.{Answer, AreReads, Call, MakesCalls, MayEndWith, Reads, Syncs, Writes}
 use Rattle.redo_disk.specs.Seen.{Seen}
+use Rattle.redo_disk.specs.declared.error.DevError.{DevError}
 use Rattle.redo_disk.proofs.Calls.{MayEndWith-append}
 use Rattle.redo_disk.proofs.Made.{joined_calls, weaker_calls}
 use Rattle.redo_open.proofs.Needs.{for-pages, held-spared}
-use Rattle.redo_open.proofs.Puts.{once-then}
+use Rattle.redo_open.proofs.Inside.{page-within}
+use Rattle.redo_open.proofs.Puts.{once-then, put-weaker}
 use Rattle.redo_open.proofs.Stores.{unrefused}
 use Rattle.redo_open.proofs.Unmarked.{marks_nothing-behind, marks_nothing-spared, reads-spare}
 use Rattle.redo_open.specs.Called.{OpensByHeader, OpensData, OpensLog, PutsLogIn, RefusesUnwritten, SparesHeld, WritesWithin}
 use Rattle.redo_open.specs.Devices.{IsOpenFault}
 use Rattle.redo_open.specs.Needed.{IsNeededWrite, IsWriteFor}
 use Rattle.redo_open.specs.Opening.{Answer as Opens, IsOpenedAs, data_error_in, data_left, log_error_in, log_left}
-use Rattle.redo_open.specs.Puts.{IsAnyWrite, IsPut, MayPutWhere}
+use Rattle.redo_open.specs.Puts.{IsPut, MayPutWhere}
 use Rattle.redo_pageactors.specs.declared.opened.Opened.{Opened}
 use Rattle.redo_recover.specs.{AnswersBy, AreFoundOn, ArePlacesOf, BeginWithHeader, IsPieceRead, IsStartIn, JudgesHeader, OnContents, ReadsLog, ReadsPages, reading_of, refusal_of}
 use Rattle.redo_recover.specs.Devices.{OnContent}
@@ -143,11 +148,11 @@ opened-by log_size data_size recovered store (Writes write answer ∷ xs) ys ope
 opened-by log_size data_size recovered store (Syncs answer ∷ xs) ys opened ends judged = absurd judged
 
 log-joined : {L D : Type 0} {seen : Seen} {data_size : ℕ} {recovered : Recovered} (result : Opens L D) → IfOk result (IsOpenedAs (reading_of recovered))
-    → IfErr result (λ error. IsOpenFault error.0) → (xs ys : List Call) → ReadsLog seen data_size (Ok recovered) xs → PutsLogIn result ys
+    → IfErr result (λ error. IsOpenFault error.0) → (xs ys : List Call) → ReadsLog seen data_size (Ok recovered) xs → PutsLogIn recovered.shape result ys
     → OpensLog seen.size data_size result (xs ++ ys)
 log-joined {seen = seen} {data_size = data_size} {recovered = recovered} (Ok store) opened own xs ys front back = record {
   ends = MayEndWith-append None xs ys front.reads.ends back.puts.ends;
-  once = once-then IsAnyWrite xs ys front.reads.once back.puts.puts;
+  once = once-then (IsWithin (log_device_length recovered.shape)) xs ys front.reads.once back.puts.puts;
   header = λ long. header-append xs ys (front.header long);
   judged = tt;
   by_header = opened-by seen.size data_size recovered store xs ys opened front.reads.ends front.judged;
@@ -156,7 +161,7 @@ log-joined {seen = seen} {data_size = data_size} {recovered = recovered} (Ok sto
 }
 log-joined {seen = seen} {data_size = data_size} {recovered = recovered} (Err error) opened own xs ys front back = record {
   ends = MayEndWith-append (log_error_in (Err error)) xs ys front.reads.ends back.puts.ends;
-  once = once-then IsAnyWrite xs ys front.reads.once back.puts.puts;
+  once = once-then (IsWithin (log_device_length recovered.shape)) xs ys front.reads.once back.puts.puts;
   header = λ long. header-append xs ys (front.header long);
   judged = judged-behind seen.size data_size recovered error.0 xs ys own front.judged;
   by_header = tt;
@@ -166,7 +171,7 @@ log-joined {seen = seen} {data_size = data_size} {recovered = recovered} (Err er
 
 pub log_opened : {L D : Type 0} {gives : L → Call → L → Type 0} {old middle : L} {seen : Seen} {data_size : ℕ} {recovered : Recovered} (result : Opens L D)
     → IfOk result (IsOpenedAs (reading_of recovered)) → IfErr result (λ error. IsOpenFault error.0)
-    → MakesCalls gives old middle (ReadsLog seen data_size (Ok recovered)) → MakesCalls gives middle (log_left result) (PutsLogIn result)
+    → MakesCalls gives old middle (ReadsLog seen data_size (Ok recovered)) → MakesCalls gives middle (log_left result) (PutsLogIn recovered.shape result)
     → MakesCalls gives old (log_left result) (OpensLog seen.size data_size result)
 log_opened result opened own = joined_calls (log-joined result opened own)
 
@@ -230,4 +235,15 @@ data_opened {recovered = recovered} log_told data_told result opened own limits 
   within = within-opened recovered result (xs ++ ys) places opened (such-behind (IsNeededWrite recovered) xs ys front.reads.pieces back.puts);
   spares = spares-where recovered log_told data_told (xs ++ ys) limits reads found
       (such-behind (IsNeededWrite recovered) xs ys front.reads.pieces back.puts);
+})
+
+-- what is written for a store that was recovered lies within the data device
+pub needed_inside : {D : Type 0} {gives : D → Call → D → Type 0} {old new : D} {error : Option DevError} (recovered : Recovered) → IsWithinLimits recovered.shape
+    → ArePlacesOf recovered.shape recovered.places recovered.pages → MakesCalls gives old new (MayPutWhere (IsNeededWrite recovered) error)
+    → MakesCalls gives old new (MayPutWhere (IsWithin (data_device_length recovered.shape)) error)
+needed_inside recovered limits places = weaker_calls (λ calls are. record {
+  puts = put-weaker (IsNeededWrite recovered) (IsWithin (data_device_length recovered.shape))
+      (λ write needed. page-within recovered.shape limits write
+      (for-pages recovered.shape recovered.places.found.items recovered.pages places.have_slots.count write needed)) calls are.puts;
+  ends = are.ends;
 })

@@ -28,10 +28,6 @@ has-blocks shape ckpt start may = record { some = omega (arith, may.limits.many_
 abbrev pub zeros_at : Shape → ℕ → ℕ → Write
 zeros_at shape at count = record { at = offset_of at shape.log_blocks; bytes = replicate count 0 }
 
--- it is behind the header
-pub block-write : (shape : Shape) (at place : ℕ) → place ≡ offset_of at shape.log_blocks → 2048 ≤ place
-block-write shape at place is = omega (arith, is, place-from shape at)
-
 -- a sector that it covers is that of a block outside the kept range, and becomes zero
 record IsOf (shape : Shape) (ckpt start at count k : ℕ) : Type 0 where
   b : ℕ

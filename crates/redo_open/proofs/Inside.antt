@@ -1,6 +1,7 @@
 -- Writes that lie within the lengths of a store.
-use Rattle.std.proofs.Common.{◌≡◌, ◌≤◌, ◌+◌, ℕ, List, ◌++◌, length, replicate, Option, ap, ◌∙◌, arith}
+use Rattle.std.proofs.Common.{◌≡◌, ◌≤◌, ◌<◌, ◌+◌, ◌*◌, ℕ, List, ◌++◌, length, replicate, Option, ap, subst, sym, ⊎_elim, ◌∙◌, arith}
 use Rattle.std.specs.Int.{bytes_high_first}
+use Rattle.model_base.specs.{IsWithinLimits}
 use Rattle.model_base.specs.declared.shape.Shape.{Shape}
 use Rattle.model_device.specs.{IsWithin}
 use Rattle.model_device.specs.declared.write.Write.{Write}
@@ -8,14 +9,17 @@ use Rattle.model_log.specs.{checkpoint_text, log_device_length, offset_of, place
 use Rattle.model_log.specs.declared.layout.TheConstants.{RING_SIZE}
 use Rattle.model_log.proofs.Sealed.{length-padded, length-sealed}
 use Rattle.model_number.specs.{padded_to}
+use Rattle.model_page.specs.{data_device_length}
+use Rattle.model_logdev.proofs.Places.{place-from}
 use Rattle.redo_disk.proofs.Made.{weaker_calls}
-use Rattle.redo_disk.specs.{Call, EndWith, MakesCalls}
+use Rattle.redo_disk.specs.{Call, EndWith, MakesCalls, MayEndWith}
 use Rattle.redo_disk.specs.declared.error.DevError.{DevError}
 use Rattle.redo_logdev.specs.Calls.{checkpoint_write}
 use Rattle.redo_open.proofs.Erases.{zeros_write}
 use Rattle.redo_open.proofs.Marks.{header-place}
 use Rattle.redo_open.proofs.Rows.{length-zeros}
-use Rattle.redo_open.specs.Puts.{ArePuts, PutsWhere}
+use Rattle.redo_open.specs.Needed.{IsPlaceWrite, IsSlotsWrite, IsWriteFor}
+use Rattle.redo_open.specs.Puts.{ArePuts, IsBlockWrite, MayPutWhere, PutsWhere}
 
 -- what lies within some bytes lies within more
 pub within-longer : (few many : ℕ) → few ≤ many → (write : Write) → IsWithin few write → IsWithin many write
@@ -46,3 +50,38 @@ puts_of = weaker_calls (λ calls are. are.puts)
 pub ends_of : {D : Type 0} {gives : D → Call → D → Type 0} {old new : D} {IsSuch : Write → Type 0} {error : Option DevError}
     → MakesCalls gives old new (PutsWhere IsSuch error) → MakesCalls gives old new (EndWith error)
 ends_of = weaker_calls (λ calls are. are.ends)
+
+-- the same of calls that may run out of memory
+pub may_puts_of : {D : Type 0} {gives : D → Call → D → Type 0} {old new : D} {IsSuch : Write → Type 0} {error : Option DevError}
+    → MakesCalls gives old new (MayPutWhere IsSuch error) → MakesCalls gives old new (ArePuts IsSuch)
+may_puts_of = weaker_calls (λ calls are. are.puts)
+
+pub may_ends_of : {D : Type 0} {gives : D → Call → D → Type 0} {old new : D} {IsSuch : Write → Type 0} {error : Option DevError}
+    → MakesCalls gives old new (MayPutWhere IsSuch error) → MakesCalls gives old new (MayEndWith error)
+may_ends_of = weaker_calls (λ calls are. are.ends)
+
+-- zeros for log blocks that stand side by side
+pub block-write : (shape : Shape) (at place count : ℕ) → place ≡ offset_of at shape.log_blocks → offset_of at shape.log_blocks + count ≤ log_device_length shape
+    → IsBlockWrite shape (zeros_write place count)
+block-write shape at place count is side = record {
+  behind = omega (arith, is, place-from shape at);
+  within = zeros-within (log_device_length shape) place count (omega (arith, is, side));
+}
+
+-- slots and places end with the data device
+slots-within : (shape : Shape) → IsWithinLimits shape → (write : Write) → IsSlotsWrite shape write → IsWithin (data_device_length shape) write
+slots-within shape limits write is =
+    let size : shape.page_size ≡ 4096 = limits.page_size in
+    let slots : shape.slots ≡ 8 = limits.slots in
+    let long : length write.bytes ≤ 8 * 4096 = subst (λ n. length write.bytes ≤ n * 4096) slots (subst (λ n. length write.bytes ≤ shape.slots * n) size is.within) in
+    subst (λ n. write.at + length write.bytes ≤ (shape.slots + shape.pages) * n) (sym size) (omega (arith, is.at, long, slots))
+
+place-within : (shape : Shape) → IsWithinLimits shape → (write : Write) → IsPlaceWrite shape (λ p. p < shape.pages) write → IsWithin (data_device_length shape) write
+place-within shape limits write is =
+    let size : shape.page_size ≡ 4096 = limits.page_size in
+    let at : write.at ≡ (shape.slots + is.page) * 4096 = subst (λ n. write.at ≡ (shape.slots + is.page) * n) size is.at in
+    let long : length write.bytes ≡ 4096 = is.long ∙ size in
+    subst (λ n. write.at + length write.bytes ≤ (shape.slots + shape.pages) * n) (sym size) (omega (arith, at, long, is.such))
+
+pub page-within : (shape : Shape) → IsWithinLimits shape → (write : Write) → IsWriteFor shape (λ p. p < shape.pages) write → IsWithin (data_device_length shape) write
+page-within shape limits write = ⊎_elim (slots-within shape limits write) (place-within shape limits write)

@@ -1,7 +1,10 @@
 -- Calls that make no checkpoint stay.
-use Rattle.std.proofs.Common.{◌≡◌, ◌≢◌, ◌<◌, ◌++◌, ℕ, zero, suc, List, [], ◌∷◌, Option, Some, None, Ok, Err, refl, sym, subst, arith}
+use Rattle.std.proofs.Common.{◌≡◌, ◌≢◌, ◌≤◌, ◌<◌, ◌++◌, ℕ, zero, suc, List, [], ◌∷◌, Option, Some, None, Ok, Err, refl, sym, subst, arith}
 use Rattle.std.specs.List.{AllByRecursion, slice_get}
+use Rattle.model_base.specs.declared.shape.Shape.{Shape}
+use Rattle.model_device.specs.{IsWithin}
 use Rattle.model_device.specs.declared.write.Write.{Write}
+use Rattle.model_log.specs.{log_device_length}
 use Rattle.redo_disk.specs.{Answer, Call, MakesCalls, EndWith, put_requests, Reads, Serve, Syncs, Writes}
 use Rattle.redo_disk.specs.Calls.{first_error}
 use Rattle.redo_disk.specs.declared.error.DevError.{DevError}
@@ -10,7 +13,7 @@ use Rattle.redo_disk.proofs.Calls.{EndWith-append, MayEndWith-ends}
 use Rattle.redo_disk.proofs.Made.{joined_calls, weaker_calls}
 use Rattle.redo_open.proofs.Puts.{put-puts, put-weaker, puts-append}
 use Rattle.redo_open.specs.Called.{MarksNothing, PutsLogIn, PutsLogOf}
-use Rattle.redo_open.specs.Puts.{IsAnyWrite, IsBlockWrite, IsPut, MayPutWhere, PutsWhere}
+use Rattle.redo_open.specs.Puts.{IsBlockWrite, IsPut, MayPutWhere, PutsWhere}
 use Rattle.redo_recover.specs.{IsPieceRead, log_error, log_fault_of}
 use Rattle.redo_recover.specs.declared.fault.RecFault.{RecFault}
 use Rattle.redo_recover.specs.declared.fault.RecFault.TheVariants.{LogDev, NoMemory}
@@ -20,7 +23,7 @@ use Rattle.redo_recover.specs.declared.fault.RecFault.TheVariants.{LogDev, NoMem
 -- the call writes no byte of the header
 abbrev pub SparesHeader : Call → Type 0
 SparesHeader (Reads at before answer after) = Unit {0}
-SparesHeader (Writes write answer) = IsBlockWrite write
+SparesHeader (Writes write answer) = 2048 ≤ write.at
 SparesHeader (Syncs answer) = Unit {0}
 
 pub reads-spare : (calls : List Call) → AllByRecursion IsPieceRead calls → AllByRecursion SparesHeader calls
@@ -29,17 +32,17 @@ reads-spare (Reads at before answer after ∷ calls) pieces = (tt, reads-spare c
 reads-spare (Writes write answer ∷ calls) pieces = absurd pieces.0
 reads-spare (Syncs answer ∷ calls) pieces = absurd pieces.0
 
-puts-spare : (calls : List Call) → AllByRecursion (IsPut IsBlockWrite) calls → AllByRecursion SparesHeader calls
-puts-spare [] puts = tt
-puts-spare (Reads at before answer after ∷ calls) puts = absurd puts.0
-puts-spare (Writes write answer ∷ calls) puts = (puts.0, puts-spare calls puts.1)
-puts-spare (Syncs answer ∷ calls) puts = (tt, puts-spare calls puts.1)
+puts-spare : (shape : Shape) (calls : List Call) → AllByRecursion (IsPut (IsBlockWrite shape)) calls → AllByRecursion SparesHeader calls
+puts-spare shape [] puts = tt
+puts-spare shape (Reads at before answer after ∷ calls) puts = absurd puts.0
+puts-spare shape (Writes write answer ∷ calls) puts = (puts.0.behind, puts-spare shape calls puts.1)
+puts-spare shape (Syncs answer ∷ calls) puts = (tt, puts-spare shape calls puts.1)
 
 -- such a call in front of others
 not-header : {P : Type 0} (call : Call) (write : Write) (answer : Answer) → SparesHeader call → Some call ≡ Some (Writes write answer) → write.at < 2048 → P
 not-header call write answer spares at below =
     let same : call ≡ Writes write answer = cc in
-    let behind : IsBlockWrite write = subst SparesHeader same spares in
+    let behind : 2048 ≤ write.at = subst SparesHeader same spares in
     absurd (omega (arith, behind, below))
 
 written-in_front : (fault : RecFault) (call : Call) (calls : List Call) → SparesHeader call → MarksNothing fault calls
@@ -79,30 +82,30 @@ marks_nothing-spared fault (call ∷ calls) spares =
     }
 
 -- as the log device's calls end behind recovery
-any-puts : (calls : List Call) → AllByRecursion (IsPut IsBlockWrite) calls → AllByRecursion (IsPut IsAnyWrite) calls
-any-puts calls puts = put-weaker IsBlockWrite IsAnyWrite (λ write behind. tt) calls puts
+puts-inside : (shape : Shape) (calls : List Call) → AllByRecursion (IsPut (IsBlockWrite shape)) calls → AllByRecursion (IsPut (IsWithin (log_device_length shape))) calls
+puts-inside shape calls puts = put-weaker (IsBlockWrite shape) (IsWithin (log_device_length shape)) (λ write is. is.within) calls puts
 
-pub unmarked_of : {L : Type 0} {gives : L → Call → L → Type 0} {old new : L} (fault : RecFault) → MakesCalls gives old new (MayPutWhere IsBlockWrite (log_error fault))
-    → MakesCalls gives old new (PutsLogOf (Err fault))
-unmarked_of fault = weaker_calls (λ calls are. record {
-  puts = record { puts = any-puts calls are.puts; ends = are.ends };
-  unmarked = λ other. marks_nothing-spared fault calls (puts-spare calls are.puts);
+pub unmarked_of : {L : Type 0} {gives : L → Call → L → Type 0} {old new : L} (shape : Shape) (fault : RecFault)
+    → MakesCalls gives old new (MayPutWhere (IsBlockWrite shape) (log_error fault)) → MakesCalls gives old new (PutsLogOf shape (Err fault))
+unmarked_of shape fault = weaker_calls (λ calls are. record {
+  puts = record { puts = puts-inside shape calls are.puts; ends = are.ends };
+  unmarked = λ other. marks_nothing-spared fault calls (puts-spare shape calls are.puts);
 })
 
 -- the same where the devices are handed back
-pub handed_back : {L D : Type 0} {gives : L → Call → L → Type 0} {old new : L} (fault : RecFault) (data_device : D)
-    → MakesCalls gives old new (PutsLogOf (Err fault)) → MakesCalls gives old new (PutsLogIn {L = L} {D = D} (Err (fault, new, data_device)))
+pub handed_back : {L D : Type 0} {gives : L → Call → L → Type 0} {old new : L} {shape : Shape} (fault : RecFault) (data_device : D)
+    → MakesCalls gives old new (PutsLogOf shape (Err fault)) → MakesCalls gives old new (PutsLogIn {L = L} {D = D} shape (Err (fault, new, data_device)))
 handed_back fault data_device = weaker_calls (λ calls are. record { puts = are.puts; unmarked = are.unmarked })
 
 -- THE CHECKPOINT, behind such calls.
 
 -- it stays
-pub mark_stays : {L : Type 0} {gives : L → Call → L → Type 0} {old middle new : L} {write : Write}
-    → MakesCalls gives old middle (PutsWhere IsBlockWrite None) → MakesCalls gives middle new (Serve (put_requests write) None)
-    → MakesCalls gives old new (PutsLogOf (Ok tt))
-mark_stays {write = write} = joined_calls (λ xs ys front back. record {
+pub mark_stays : {L : Type 0} {gives : L → Call → L → Type 0} {old middle new : L} (shape : Shape) (write : Write) → IsWithin (log_device_length shape) write
+    → MakesCalls gives old middle (PutsWhere (IsBlockWrite shape) None) → MakesCalls gives middle new (Serve (put_requests write) None)
+    → MakesCalls gives old new (PutsLogOf shape (Ok tt))
+mark_stays shape write inside = joined_calls (λ xs ys front back. record {
   puts = record {
-    puts = puts-append IsAnyWrite xs ys (any-puts xs front.puts) (put-puts IsAnyWrite write None ys tt back).puts;
+    puts = puts-append (IsWithin (log_device_length shape)) xs ys (puts-inside shape xs front.puts) (put-puts (IsWithin (log_device_length shape)) write None ys inside back).puts;
     ends = MayEndWith-ends None (xs ++ ys) (EndWith-append None xs ys front.ends back.ends);
   };
   unmarked = tt;
@@ -141,14 +144,15 @@ log-error device.Failed fault is = subst (λ (f : RecFault). Some device.Failed 
 log-error device.NoMemory fault is = subst (λ (f : RecFault). Some device.NoMemory ≡ log_error f) (sym is) refl
 
 -- it failed
-pub mark_failed : {L : Type 0} {gives : L → Call → L → Type 0} {old middle new : L} {write : Write} (error : DevError) (fault : RecFault) → fault ≡ log_fault_of error
-    → MakesCalls gives old middle (PutsWhere IsBlockWrite None) → MakesCalls gives middle new (Serve (put_requests write) (Some error))
-    → MakesCalls gives old new (PutsLogOf (Err fault))
-mark_failed {write = write} error fault is = joined_calls (λ xs ys front back. record {
+pub mark_failed : {L : Type 0} {gives : L → Call → L → Type 0} {old middle new : L} (shape : Shape) (write : Write) → IsWithin (log_device_length shape) write
+    → (error : DevError) (fault : RecFault) → fault ≡ log_fault_of error
+    → MakesCalls gives old middle (PutsWhere (IsBlockWrite shape) None) → MakesCalls gives middle new (Serve (put_requests write) (Some error))
+    → MakesCalls gives old new (PutsLogOf shape (Err fault))
+mark_failed shape write inside error fault is = joined_calls (λ xs ys front back. record {
   puts = record {
-    puts = puts-append IsAnyWrite xs ys (any-puts xs front.puts) (put-puts IsAnyWrite write (Some error) ys tt back).puts;
+    puts = puts-append (IsWithin (log_device_length shape)) xs ys (puts-inside shape xs front.puts) (put-puts (IsWithin (log_device_length shape)) write (Some error) ys inside back).puts;
     ends = MayEndWith-ends (log_error fault) (xs ++ ys)
         (subst (λ (e : Option DevError). EndWith e (xs ++ ys)) (log-error error fault is) (EndWith-append (Some error) xs ys front.ends back.ends));
   };
-  unmarked = λ other. marks_nothing-behind fault xs ys (puts-spare xs front.puts) (failed-marks_nothing write error fault ys is other back);
+  unmarked = λ other. marks_nothing-behind fault xs ys (puts-spare shape xs front.puts) (failed-marks_nothing write error fault ys is other back);
 })

@@ -15,7 +15,8 @@ use Rattle.redo_disk.specs.declared.error.DevError.{DevError}
 use Rattle.redo_open.specs.Devices.{IsOpenFault}
 use Rattle.redo_open.specs.Needed.{IsNeededWrite, IsWriteFor}
 use Rattle.redo_open.specs.Opening.{Answer, IsOpenedAs, data_error_in, data_left, log_error_in, log_left}
-use Rattle.redo_open.specs.Puts.{MayPutWhere, PutsMayEndWith}
+use Rattle.redo_open.specs.Formatting.{WritesInside}
+use Rattle.redo_open.specs.Puts.{MayPutWhere, PutsInLog}
 use Rattle.redo_pageactors.specs.declared.opened.Opened.{Opened}
 use Rattle.redo_recover.specs.{BeginWithHeader, IsStartIn, JudgesHeader, OnContents, ReadOnce, ReadsBehindLog, ReadsLog, ReadsPages, log_error_of, reading_of, refusal_of}
 use Rattle.redo_recover.specs.declared.fault.RecFault.{RecFault}
@@ -27,12 +28,14 @@ abbrev pub AnswersFault : {L D : Type 0} → RecFault → Answer L D → L → D
 AnswersFault fault answer log_read data_read = answer ≡ Err (fault, log_read, data_read)
 
 -- Where it recovered a store, that is opened, or the answer is a device's fault or want of memory. None of the calls since is a
--- read, and each write of the data device is of slots, or of a place that has to be written.
+-- read, and no write reaches beyond the lengths that the header asks for. Each write of the data device is of slots, or of a place
+-- that has to be written.
 pub record OpensRecoveredBy {L D : Type 0} (log_gives : L → Call → L → Type 0) (data_gives : D → Call → D → Type 0) (recovered : Recovered)
     (answer : Answer L D) (log_read : L) (data_read : D) : Type 0 where
   pub opened : IfOk answer (IsOpenedAs (reading_of recovered))
   pub own_fault : IfErr answer (λ error. IsOpenFault error.0)
-  pub log_puts : MakesCalls log_gives log_read (log_left answer) (PutsMayEndWith (log_error_in answer))
+  pub inside : WritesInside log_gives data_gives recovered.shape log_read (log_left answer) data_read (data_left answer)
+  pub log_ends : MakesCalls log_gives log_read (log_left answer) (MayEndWith (log_error_in answer))
   pub data_puts : MakesCalls data_gives data_read (data_left answer) (MayPutWhere (IsNeededWrite recovered) (data_error_in answer))
 
 abbrev pub LeadsTo : {L D : Type 0} → (L → Call → L → Type 0) → (D → Call → D → Type 0) → Result Recovered RecFault → Answer L D → L → D → Type 0
@@ -77,15 +80,15 @@ pub record MarksNothing (fault : RecFault) (calls : List Call) : Type 0 where
   pub unsynced : (i j : ℕ) (write : Write) (answer : Result (Unit {0}) DevError) (done : Unit {0}) → i < j
       → slice_get calls i ≡ Some (Writes write answer) → write.at < HEADER_BYTES → slice_get calls j ≡ Some (Syncs (Ok done)) → ⊥
 
--- The calls of the log device behind recovery: none is a read, and they end so. Behind a fault other than want of memory
--- no checkpoint was made to stay.
-pub record PutsLogOf (result : Result (Unit {0}) RecFault) (calls : List Call) : Type 0 where
-  pub puts : PutsMayEndWith (log_error_of result) calls
+-- The calls of the log device of a store that was recovered: none is a read, each write lies within its length, and they end so.
+-- Behind a fault other than want of memory no checkpoint was made to stay.
+pub record PutsLogOf (shape : Shape) (result : Result (Unit {0}) RecFault) (calls : List Call) : Type 0 where
+  pub puts : PutsInLog shape (log_error_of result) calls
   pub unmarked : IfErr result (λ fault. fault ≢ NoMemory → MarksNothing fault calls)
 
 -- the same where the devices are handed on or back
-pub record PutsLogIn {L D : Type 0} (result : Answer L D) (calls : List Call) : Type 0 where
-  pub puts : PutsMayEndWith (log_error_in result) calls
+pub record PutsLogIn {L D : Type 0} (shape : Shape) (result : Answer L D) (calls : List Call) : Type 0 where
+  pub puts : PutsInLog shape (log_error_in result) calls
   pub unmarked : IfErr result (λ error. error.0 ≢ NoMemory → MarksNothing error.0 calls)
 
 -- The calls of a log device of this size, beside a data device of that size. All but the last answered Ok, and the last one

@@ -1,7 +1,10 @@
 -- The calls of opening behind recovery: writes and syncs, and no reads.
 use Rattle.std.specs.Prelude.{◌≤◌, List, Option}
 use Rattle.std.specs.List.{AllByRecursion}
+use Rattle.model_base.specs.declared.shape.Shape.{Shape}
+use Rattle.model_device.specs.{IsWithin}
 use Rattle.model_device.specs.declared.write.Write.{Write}
+use Rattle.model_log.specs.{log_device_length}
 use Rattle.model_log.specs.declared.layout.TheConstants.{HEADER_BYTES}
 use Rattle.redo_disk.specs.{Call, EndWith, MayEndWith, Reads, Syncs, Writes}
 use Rattle.redo_disk.specs.declared.error.DevError.{DevError}
@@ -26,14 +29,11 @@ pub record MayPutWhere (IsSuch : Write → Type 0) (error : Option DevError) (ca
 abbrev pub ArePuts : (Write → Type 0) → List Call → Type 0
 ArePuts IsSuch = AllByRecursion (IsPut IsSuch)
 
--- the write is any
-abbrev pub IsAnyWrite : Write → Type 0
-IsAnyWrite write = Unit {0}
+-- the write lies within the log blocks of a store of this shape
+pub record IsBlockWrite (shape : Shape) (write : Write) : Type 0 where
+  pub behind : HEADER_BYTES ≤ write.at
+  pub within : IsWithin (log_device_length shape) write
 
--- the write is behind the header
-abbrev pub IsBlockWrite : Write → Type 0
-IsBlockWrite write = HEADER_BYTES ≤ write.at
-
--- none of the calls is a read, and they end so
-abbrev pub PutsMayEndWith : Option DevError → List Call → Type 0
-PutsMayEndWith = MayPutWhere IsAnyWrite
+-- none of the calls is a read, each write lies within the log device of a store of this shape, and they end so
+abbrev pub PutsInLog : Shape → Option DevError → List Call → Type 0
+PutsInLog shape = MayPutWhere (IsWithin (log_device_length shape))

@@ -51,7 +51,7 @@ pub(crate) fn clear<L: Sectors>(
         (λ old new. IsClearable shape.now old → HasCleared shape.now ckpt start old.reads new)) }
     ensures size { (L.seen log.new).size ≡ (L.seen log.old).size }
     ensures cause { HasCause (L.seen log.old).faults (L.seen log.new).faults result }
-    ensures calls { MakesCalls L.gives log.old log.new (PutsWhere IsBlockWrite (error_of result)) }
+    ensures calls { MakesCalls L.gives log.old log.new (PutsWhere (IsBlockWrite shape.now) (error_of result)) }
 {
     let end = ckpt + BLOCK_SIZE * u64::from(shape.log_blocks);
     let mut at = block_of(start);

@@ -47,7 +47,7 @@ pub(crate) fn open_devices<L: Sectors, D: Sectors>(
         result (L.seen log.new) (D.seen part.new.dev) }
     ensures shape { part.new.shape ≡ part.old.shape }
     ensures live { OnOk result (part.new.failed ≡ None) }
-    ensures log_calls { MakesCalls L.gives log.old log.new (PutsLogOf result) }
+    ensures log_calls { MakesCalls L.gives log.old log.new (PutsLogOf recovered.now.shape result) }
     ensures data_calls { MakesCalls D.gives part.old.dev part.new.dev
         (MayPutWhere (IsNeededWrite recovered.now) (data_error_of result)) }
     ensures marks { OnOk result (MakesCalls L.gives log.old log.new

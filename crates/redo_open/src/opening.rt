@@ -69,7 +69,7 @@ fn open_recovered<L: Sectors, D: Sectors>(
     requires found { IfSome (D.seen data_device).tells
         (λ disk. AreFoundOn recovered.shape recovered.places recovered.pages disk.base) }
     ensures step { OpensRecovered L.seen D.seen (reading_of recovered) (L.seen log) (D.seen data_device) result }
-    ensures log_calls { MakesCalls L.gives log (log_left result) (PutsLogIn result) }
+    ensures log_calls { MakesCalls L.gives log (log_left result) (PutsLogIn recovered.shape result) }
     ensures data_calls { MakesCalls D.gives data_device (data_left result)
         (MayPutWhere (IsNeededWrite recovered) (data_error_in result)) }
     ensures marks { IfOk result (MarksStart L.gives log) }
@@ -88,8 +88,8 @@ fn open_recovered<L: Sectors, D: Sectors>(
 
 /// Opens the store on two devices, so that a run can start on it: reads it, clears away what stands on the log behind its
 /// end, repairs the places of pages that don't pass, writes each page as it was read where that isn't in its place then,
-/// and moves the checkpoint. No byte of a device is read twice, no place is written that holds its page already, and a
-/// store that is refused is as it was.
+/// and moves the checkpoint. No byte of a device is read twice, no place is written that holds its page already, no write
+/// reaches beyond the lengths that the header asks for, and a store that is refused is as it was.
 ///
 /// Wherever it ends, whatever a crash leaves of the two devices is read with the same pages. The devices of a store that
 /// isn't opened are handed back beside the fault.

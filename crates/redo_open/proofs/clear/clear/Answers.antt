@@ -9,7 +9,8 @@ use Rattle.model_log.specs.{block_of}
 use Rattle.model_logdev.proofs.Places.{sector-place}
 use Rattle.redo_disk.specs.{HasCause, write_at}
 use Rattle.redo_open.specs.Clear.{IsPiece, IsClearable, IsClearingTo, ClearsBlocks, HasCleared}
-use Rattle.redo_open.proofs.Clears.{zeros_at, block-write, cleared-clears, clearing-begins, clearing-goes_on, clearing-fails, clearing-synced, clears-blocks}
+use Rattle.redo_open.proofs.Clears.{zeros_at, cleared-clears, clearing-begins, clearing-goes_on, clearing-fails, clearing-synced, clears-blocks}
+use Rattle.redo_open.proofs.Inside.{block-write}
 use Rattle.redo_open.proofs.Puts.{put_nothing, put_one, puts_then}
 use Rattle.redo_disk.proofs.Told.{OnTold-then, told-same}
 use Rattle.redo_open.proofs.Told.{cause-since, either-way}
@@ -90,7 +91,7 @@ loop-at-preserved g c =
           (λ a b d so_far is_written is. subst (λ (disk : Disk). IsClearingTo shape c.args.ckpt c.args.start (at + count) a.reads disk) (sym (is_written ∙ ap (written b) same))
           (clearing-goes_on shape c.args.ckpt c.args.start at count a.reads b c.requires.start piece is.long (so_far is)))
           c.loop-at.invariant.told c.in_ok-write_zeros.ensures.step.ok;
-      calls = puts_then c.loop-at.invariant.calls (put_one (block-write shape at c.offset_of.result c.offset_of.ensures) c.in_ok-write_zeros.ensures.gives);
+      calls = puts_then c.loop-at.invariant.calls (put_one (block-write shape at c.offset_of.result count c.offset_of.ensures c.piece_length-count.ensures.side_by_side) c.in_ok-write_zeros.ensures.gives);
     }
 
 pub returns-clause-keeps : goal.returns-clause-keeps
@@ -129,8 +130,8 @@ returns-clause-cause g c = cause-since _ _ _ c.sync.result c.loop-at.invariant.l
 
 pub returns-in_err-write_zeros-clause-calls : goal.returns-in_err-write_zeros-clause-calls
 returns-in_err-write_zeros-clause-calls g c =
-    let behind = block-write c.args.shape.now c.loop-at.at c.offset_of.result c.offset_of.ensures in
-    let made = puts_then c.loop-at.invariant.calls (put_one behind c.in_err-write_zeros.ensures.gives) in
+    let inside = block-write c.args.shape.now c.loop-at.at c.offset_of.result c.piece_length-count.result c.offset_of.ensures c.piece_length-count.ensures.side_by_side in
+    let made = puts_then c.loop-at.invariant.calls (put_one inside c.in_err-write_zeros.ensures.gives) in
     let p = err_from_is_err_and c.from_residual.result c.from_residual.ensures.1 in rw (p.1, p.2) made
 
 pub returns-clause-calls : goal.returns-clause-calls

@@ -15,7 +15,7 @@ invariant-loop-at g l = record {
   later : (g.L.Sectors.seen l.fn.log).faults ≤ (g.L.Sectors.seen l.log).faults;
   told : OnTold (g.L.Sectors.seen l.fn.log).tells (g.L.Sectors.seen l.log).tells
       (λ old new. IsClearable l.shape old → IsClearingTo l.shape l.ckpt l.start l.at old.reads new);
-  calls : MakesCalls g.L.Sectors.gives l.fn.log l.log (PutsWhere IsBlockWrite None);
+  calls : MakesCalls g.L.Sectors.gives l.fn.log l.log (PutsWhere (IsBlockWrite l.shape) None);
 }
 
 abbrev pub decreases-loop-at : goal.decreases-loop-at

@@ -8,6 +8,8 @@ use Rattle.redo_open.proofs.Asked.{log_ends, beside_log, beside_pages, marks_beh
 use Rattle.redo_open.proofs.Both.{log-clears, log-cleared, cleared-known, rewriting-both, marking-both, ready-both, unmoved-clears, unmoved-marks}
 use Rattle.redo_open.proofs.Causes.{log-cause, places-cause, log-risen, log-not_data, places-not_log}
 use Rattle.redo_open.proofs.Opens.{unchanged-keeps}
+use Rattle.redo_logdev.specs.Calls.{checkpoint_write}
+use Rattle.redo_open.proofs.Inside.{mark-within}
 use Rattle.redo_open.proofs.Puts.{may_put, put_nothing}
 use Rattle.redo_open.proofs.Told.{cause-since}
 use Rattle.redo_open.proofs.Unmarked.{mark_failed, mark_stays, unmarked_of}
@@ -97,27 +99,34 @@ returns-in-Err-mark-clause-step g c =
     }
 
 pub returns-in-Err-clause-log_calls : goal.returns-in-Err-clause-log_calls
-returns-in-Err-clause-log_calls g c = unmarked_of c.log_fault.result (may_put (log_ends c.in-Err.error c.log_fault.result c.log_fault.ensures c.in-Err.ensures.calls))
+returns-in-Err-clause-log_calls g c = unmarked_of c.args.recovered.now.shape c.log_fault.result (may_put (log_ends c.in-Err.error c.log_fault.result c.log_fault.ensures c.in-Err.ensures.calls))
 
 pub returns-in-Err-clause-data_calls : goal.returns-in-Err-clause-data_calls
 returns-in-Err-clause-data_calls g c = beside_log c.in-Err.error c.log_fault.result c.log_fault.ensures (may_put (put_nothing g.D.Sectors.gives c.args.part.now.dev))
 
 pub returns-in-Err-open_places-clause-log_calls : goal.returns-in-Err-open_places-clause-log_calls
 returns-in-Err-open_places-clause-log_calls g c =
-    unmarked_of c.in-Err-open_places.fault (beside_pages c.in-Err-open_places.fault c.in-Err-open_places.ensures.step.own (may_put c.in-Ok.ensures.calls))
+    unmarked_of c.args.recovered.now.shape c.in-Err-open_places.fault (beside_pages c.in-Err-open_places.fault c.in-Err-open_places.ensures.step.own (may_put c.in-Ok.ensures.calls))
 
 pub returns-in-Err-open_places-clause-data_calls : goal.returns-in-Err-open_places-clause-data_calls
 returns-in-Err-open_places-clause-data_calls g c = c.in-Err-open_places.ensures.calls
 
 pub returns-in-Ok-mark-clause-log_calls : goal.returns-in-Ok-mark-clause-log_calls
-returns-in-Ok-mark-clause-log_calls g c = mark_stays c.in-Ok.ensures.calls c.in-Ok-mark.ensures.calls
+returns-in-Ok-mark-clause-log_calls g c =
+    let shape = c.args.recovered.now.shape in
+    let number : ℕ = (c.args.recovered.now.number + 1) % 18446744073709551616 in
+    let lsn : ℕ = c.args.start - 12 in
+    mark_stays shape (checkpoint_write shape number lsn) (mark-within shape number lsn) c.in-Ok.ensures.calls c.in-Ok-mark.ensures.calls
 
 pub returns-in-Ok-mark-clause-data_calls : goal.returns-in-Ok-mark-clause-data_calls
 returns-in-Ok-mark-clause-data_calls g c = c.in-Ok-open_places.ensures.calls
 
 pub returns-in-Err-mark-clause-log_calls : goal.returns-in-Err-mark-clause-log_calls
 returns-in-Err-mark-clause-log_calls g c =
-    mark_failed c.in-Err-mark.error c.log_fault-in-Err-mark.result c.log_fault-in-Err-mark.ensures c.in-Ok.ensures.calls c.in-Err-mark.ensures.calls
+    let shape = c.args.recovered.now.shape in
+    let number : ℕ = (c.args.recovered.now.number + 1) % 18446744073709551616 in
+    let lsn : ℕ = c.args.start - 12 in
+    mark_failed shape (checkpoint_write shape number lsn) (mark-within shape number lsn) c.in-Err-mark.error c.log_fault-in-Err-mark.result c.log_fault-in-Err-mark.ensures c.in-Ok.ensures.calls c.in-Err-mark.ensures.calls
 
 pub returns-in-Err-mark-clause-data_calls : goal.returns-in-Err-mark-clause-data_calls
 returns-in-Err-mark-clause-data_calls g c = beside_log c.in-Err-mark.error c.log_fault-in-Err-mark.result c.log_fault-in-Err-mark.ensures c.in-Ok-open_places.ensures.calls

@@ -59,7 +59,7 @@ returns-clause-step g c =
 
 pub returns-in-Err-clause-log_calls : goal.returns-in-Err-clause-log_calls
 returns-in-Err-clause-log_calls g c =
-    handed_back NoMemory c.in-Err.data_device (unmarked_of NoMemory (puts_no_memory (may_put (put_nothing g.L.Sectors.gives c.args.log))))
+    handed_back NoMemory c.in-Err.data_device (unmarked_of c.args.recovered.shape NoMemory (puts_no_memory (may_put (put_nothing g.L.Sectors.gives c.args.log))))
 
 pub returns-in-Err-clause-data_calls : goal.returns-in-Err-clause-data_calls
 returns-in-Err-clause-data_calls g c =

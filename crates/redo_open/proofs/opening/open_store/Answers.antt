@@ -1,6 +1,7 @@
 -- The store is read and opened.
 use Rattle.std.proofs.Common.{◌≢◌, ◌∙◌, Ok, Err, refl, sym, ap, subst, arith}
 use Rattle.std.specs.Prelude.{IfOk, IfErr, IfSome}
+use Rattle.model_device.specs.{IsWithin}
 use Rattle.model_opening.specs.{KeepsOpened}
 use Rattle.model_store.specs.Reading.{Reading}
 use Rattle.redo_disk.proofs.Made.{weaker_calls}
@@ -8,9 +9,10 @@ use Rattle.redo_open.specs.Devices.{HasSameCheckpoint, WhereBothTell}
 use Rattle.redo_open.specs.Opening.{log_left, data_left, IsOpenedReady}
 use Rattle.redo_open.specs.Places.{IsPageFault}
 use Rattle.redo_open.proofs.Asked.{beside_pages, data_ends, marks_read}
-use Rattle.redo_open.proofs.Called.{data_opened, data_refused, log_opened, log_refused}
+use Rattle.redo_open.proofs.Called.{data_opened, data_refused, log_opened, log_refused, needed_inside}
 use Rattle.redo_open.proofs.Causes.{places-cause}
 use Rattle.redo_open.proofs.Endings.{device-own}
+use Rattle.redo_open.proofs.Inside.{may_ends_of, may_puts_of, puts_of}
 use Rattle.redo_open.proofs.Puts.{may_put, may_put_then, put_nothing, put_one}
 use Rattle.redo_open.proofs.Stores.{also-refused, openable-same, opened-read, opening-cause, both-err, sync-cause, synced-holds}
 use Rattle.redo_open.proofs.Told.{cause-since}
@@ -86,7 +88,7 @@ returns-in-Err-sync-clause-log_calls g c =
     let own : IsPageFault c.data_fault.result = subst IsPageFault (sym c.data_fault.ensures) (device-own c.in-Err-sync.error) in
     log_opened (Err (c.data_fault.result, c.recover.new.log, c.sync.new.self)) tt (places-cause c.data_fault.result own) c.in-Ok.ensures.log_calls
     (handed_back c.data_fault.result c.sync.new.self
-    (unmarked_of c.data_fault.result (beside_pages c.data_fault.result own (may_put (put_nothing g.L.Sectors.gives c.recover.new.log)))))
+    (unmarked_of c.in-Ok.recovered.shape c.data_fault.result (beside_pages c.data_fault.result own (may_put (put_nothing g.L.Sectors.gives c.recover.new.log)))))
 
 pub returns-in-Err-sync-clause-data_calls : goal.returns-in-Err-sync-clause-data_calls
 returns-in-Err-sync-clause-data_calls g c =
@@ -132,7 +134,11 @@ returns-in-Err-sync-clause-recovers g c =
       leads = record {
         opened = tt;
         own_fault = places-cause c.data_fault.result own;
-        log_puts = beside_pages c.data_fault.result own (may_put (put_nothing g.L.Sectors.gives c.recover.new.log));
+        inside = record {
+          log = puts_of (put_nothing g.L.Sectors.gives c.recover.new.log);
+          data_device = puts_of (put_one tt c.in-Err-sync.ensures.gives);
+        };
+        log_ends = may_ends_of {IsSuch = IsWithin 0} (beside_pages c.data_fault.result own (may_put (put_nothing g.L.Sectors.gives c.recover.new.log)));
         data_puts = may_put (data_ends c.in-Err-sync.error c.data_fault.result c.data_fault.ensures (put_one tt c.in-Err-sync.ensures.gives));
       };
     }
@@ -148,7 +154,12 @@ returns-clause-recovers g c = record {
   leads = record {
     opened = c.open_recovered.ensures.step.opened_as;
     own_fault = c.open_recovered.ensures.step.fault;
-    log_puts = weaker_calls (λ calls is. is.puts) c.open_recovered.ensures.log_calls;
+    inside = record {
+      log = weaker_calls (λ calls is. is.puts.puts) c.open_recovered.ensures.log_calls;
+      data_device = may_puts_of (needed_inside c.in-Ok.recovered c.in-Ok.ensures.of_devices.limits c.in-Ok.ensures.of_devices.its_places
+          (may_put_then (put_one tt c.in-Ok-sync.ensures.gives) c.open_recovered.ensures.data_calls));
+    };
+    log_ends = weaker_calls (λ calls is. is.puts.ends) c.open_recovered.ensures.log_calls;
     data_puts = may_put_then (put_one tt c.in-Ok-sync.ensures.gives) c.open_recovered.ensures.data_calls;
   };
 }
