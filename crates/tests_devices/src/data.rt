@@ -23,14 +23,24 @@ fn read_all<D: Sectors>(alloc: Global, dev: &mut D) -> Result<Vec<u8>, Fail>
     Ok(image)
 }
 
-/// A device in memory on which the write of page 3 failed at its place. A crash kept four of the eight sectors.
+/// A part on a device in memory that fails its call of number 2.
+fn failing(rt: &impl Abort, alloc: Global) -> Result<DataPart<MemDisk>, Fail>
+    ensures live { IfOk result (λ part. part.failed ≡ None) }
+    ensures shape { IfOk result (λ part. part.shape ≡ default_shape) }
+    ensures size { IfOk result (λ part. (⟦<MemDisk as Sectors>⟧.seen part.dev).size ≡ DATA) }
+{
+    let dev = MemDisk::failing(alloc, DATA, vec![in alloc; 2]?)?;
+    Ok(data_part_on(rt, alloc, dev))
+}
+
+/// What the write of page 3 leaves that fails at its place, of whose eight sectors a crash keeps four.
 fn torn(rt: &impl Abort, alloc: Global) -> Result<MemDisk, Fail>
     ensures { IfOk result (λ dev. (⟦<MemDisk as Sectors>⟧.seen dev).size ≡ DATA) }
 {
-    let dev = MemDisk::failing(alloc, DATA, vec![in alloc; 2]?)?;
-    let mut part = data_part_on(rt, alloc, dev);
+    let mut part = failing(rt, alloc)?;
     let answer = part.write_batch(&[(3, 9_000)], &[7; USER]);
-    assert!(rt; answer == Err(DevError::Failed) && part.failed() == Some(DevError::Failed));
+    assert_eq!(rt; answer, Err(DevError::Failed));
+    assert_eq!(rt; part.failed(), Some(DevError::Failed));
     let mut dev = part.into_dev();
     dev.crash(15);
     Ok(dev)

@@ -95,7 +95,12 @@ fn codes_of_four<D: Sectors>(device: &mut D, pick: u64) -> [u8; 4]
     let synced = device.sync();
     let read = first_byte(device, 0);
     device.crash(pick);
-    [code_of(first), code_of(second), code_of(synced), code_of(read)]
+    [
+        code_of(first),
+        code_of(second),
+        code_of(synced),
+        code_of(read),
+    ]
 }
 
 #[test]
@@ -137,17 +142,27 @@ fn a_fuse_stops_a_device(rt: HostRuntime) -> Result<(), Fail> {
     Ok(())
 }
 
+/// The codes of a write before the fuse is armed, of one at which the device is stopped, and of one after the crash.
+fn codes_of_a_stop<D: Sectors>(fused: &mut Fused<D>) -> [u8; 3]
+    requires fuse { fuse_of fused.old ≡ fresh }
+    requires size { LEN ≤ (⟦<Fused<D> as Sectors>⟧.seen fused.old).size }
+    ensures { (⟦<Fused<D> as Sectors>⟧.seen fused.new).size ≡ (⟦<Fused<D> as Sectors>⟧.seen fused.old).size }
+{
+    let early = fused.write(0, &[1; 512]);
+    fused.arm(Some(0));
+    let stopped = fill(fused, 1, 2);
+    fused.crash(0);
+    let late = fill(fused, 3, 4);
+    [code_of(early), code_of(stopped), code_of(late)]
+}
+
 #[test]
 fn a_crash_ends_a_stop(rt: HostRuntime) -> Result<(), Fail> {
     let mut fused = Fused::plain(blank(rt.alloc())?);
-    let early = fill(&mut fused, 0, 1);
-    fused.arm(Some(0));
-    let stopped = fill(&mut fused, 1, 2);
-    fused.crash(0);
-    let late = fill(&mut fused, 3, 4);
-    assert!(rt; [code_of(early), code_of(stopped), code_of(late)] == [0, 1, 0]);
+    assert!(rt; codes_of_a_stop(&mut fused) == [0, 1, 0]);
     let fuse = fused.fuse();
     assert!(rt; (fuse.late_changes, fuse.early_calls) == (1, 1));
-    assert!(rt; first_bytes(&mut fused.into_inner())? == [0, 0, 0, 4]);
+    let mut device = fused.into_inner();
+    assert!(rt; first_bytes(&mut device)? == [0, 0, 0, 4]);
     Ok(())
 }

@@ -2,9 +2,7 @@
 ghost use Rattle.std.specs.Prelude.{◌<◌, ◌^◌};
 
 use crate::table::{bytes, number, number32, optional};
-use redo_block::{
-    BlockView, are_firsts, fill, frame, frame_into, read, unframe,
-};
+use redo_block::{BlockView, are_firsts, fill, frame, frame_into, read, unframe};
 use redo_crc::sector::{put, seal};
 use std::alloc::Global;
 use std::str::SplitWhitespace;

@@ -26,8 +26,11 @@ fn open_and_crash(
     (log_limit, data_limit): (Option<u64>, Option<u64>),
     pick: u64,
 ) -> (MemDisk, MemDisk, Option<RecFault>) {
-    let (mut log, mut data, fault) =
-        open_to_end(alloc, Fused::new(log, log_limit), Fused::new(data, data_limit));
+    let (mut log, mut data, fault) = open_to_end(
+        alloc,
+        Fused::new(log, log_limit),
+        Fused::new(data, data_limit),
+    );
     log.crash(pick);
     data.crash(pick);
     (log.into_inner(), data.into_inner(), fault)
@@ -46,12 +49,18 @@ fn see_stop(
     let alloc = rt.alloc();
     let (mut log, mut data, fault) = open_and_crash(alloc, store.devices(alloc)?, limits, pick);
     let is_kept = pages_of(alloc, &read(alloc, &mut log, &mut data)?)?.as_str() == pages;
-    assert!(rt; is_kept && fault == want, "at {limits:?} with the pick {pick}");
+    assert!(rt;
+        is_kept && fault == want,
+        "at {limits:?} with the pick {pick}"
+    );
     let (mut log, mut data, _) = open_and_crash(alloc, (log, data), (None, None), 0);
     let read = read(alloc, &mut log, &mut data)?;
     let is_opened = read.ckpt == LAST_BLOCK + 1024 && read.end == LAST_BLOCK + 1036;
     let is_kept = pages_of(alloc, &read)?.as_str() == pages;
-    assert!(rt; is_opened && is_kept && read.groups.is_empty(), "after {limits:?}");
+    assert!(rt;
+        is_opened && is_kept && read.groups.is_empty(),
+        "after {limits:?}"
+    );
     Ok(())
 }
 

@@ -151,7 +151,10 @@ fn spellings_that_clap_takes(rt: HostRuntime) -> Result<(), Fail> {
     for row in SPELLINGS.lines() {
         let (line, plain) = columns(row);
         let asked = asked_of(rt.alloc(), line)?;
-        assert!(rt; asked.is_ok() && asked == asked_of(rt.alloc(), plain)?, "of {row}");
+        assert!(rt;
+            asked.is_ok() && asked == asked_of(rt.alloc(), plain)?,
+            "of {row}"
+        );
     }
     Ok(())
 }

@@ -23,16 +23,35 @@ fn fault_lines(rt: HostRuntime) {
         (Fault::Sink, 5, ""),
         (Fault::LogDevice, 6, "fault log device\n"),
         (Fault::DataDevice, 7, "fault data device\n"),
-        (Fault::Store(Refusal::NotFormatted), 8, "fault store unformatted\n"),
-        (Fault::Store(Refusal::BadRecord(8204)), 8, "fault store record 8204\n"),
-        (Fault::Store(Refusal::PageAhead(5, 9000)), 8, "fault store ahead 5 9000\n"),
+        (
+            Fault::Store(Refusal::NotFormatted),
+            8,
+            "fault store unformatted\n",
+        ),
+        (
+            Fault::Store(Refusal::BadRecord(8204)),
+            8,
+            "fault store record 8204\n",
+        ),
+        (
+            Fault::Store(Refusal::PageAhead(5, 9000)),
+            8,
+            "fault store ahead 5 9000\n",
+        ),
         (Fault::Turns(6, 1), 9, "fault turns 6 user 1\n"),
         (Fault::Fit(PAGE), 10, "fault fit page 9\n"),
         (Fault::Fit(STORE), 10, "fault fit store 294912\n"),
-        (Fault::Store(Refusal::SmallLog(2048)), 10, "fault fit log 2048\n"),
+        (
+            Fault::Store(Refusal::SmallLog(2048)),
+            10,
+            "fault fit log 2048\n",
+        ),
     ] {
         let mut out = [255; FAULT_ROOM];
         let end = fault_text(fault, &mut out);
-        assert!(rt; status_of(fault) == status && &out[..end] == line.as_bytes(), "{line}");
+        assert!(rt;
+            status_of(fault) == status && &out[..end] == line.as_bytes(),
+            "{line}"
+        );
     }
 }
