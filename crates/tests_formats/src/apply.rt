@@ -6,7 +6,6 @@ use model_base::Shape;
 use model_record::Group;
 use redo_apply::Pages;
 use redo_record::Fits;
-use std::alloc::Global;
 use std::test::Fail;
 
 /// Applies a group where it fits the store, and says whether it does.
@@ -33,23 +32,15 @@ fn has_at(pages: &Pages, page: u32, at: usize, bytes: &[u8]) -> bool {
     at <= user.len() && user[at..].starts_with(bytes)
 }
 
-// The pages once a group is applied that fits.
-fn applied(alloc: Global, text: &str) -> Option<Pages> {
-    let shape = Shape::default_shape();
-    let group = group(alloc, text)?;
-    let mut pages = Pages::blank(alloc, &shape).ok()?;
-    if pages.len() != 8 {
-        return None;
-    }
-    pages.put(1, 90, &[5; 4050]);
-    pages.put(2, 80, &[6; 4050]);
-    apply_fitting(&mut pages, &group, 9_000, &shape).then_some(pages)
-}
-
 #[test]
 fn a_group_is_applied_in_order(rt: HostRuntime) -> Result<(), Fail> {
-    let pages = applied(rt.alloc(), FOUR).ok_or("no pages")?;
+    let shape = Shape::default_shape();
+    let group = group(rt.alloc(), FOUR).ok_or("no group")?;
+    let mut pages = Pages::blank(rt.alloc(), &shape)?;
     assert!(rt; pages.len() == 8);
+    pages.put(1, 90, &[5; 4050]);
+    pages.put(2, 80, &[6; 4050]);
+    assert!(rt; apply_fitting(&mut pages, &group, 9_000, &shape));
     assert!(rt; [pages.lsn(0), pages.lsn(1), pages.lsn(2), pages.lsn(3)] == [0, 9_000, 80, 9_000]);
     assert!(rt; has_at(&pages, 1, 0, &[0, 0, 3, 4, 0]) && has_at(&pages, 1, 4_047, &[0, 1, 2]));
     assert!(rt; has_at(&pages, 2, 0, &[6; 4050]));

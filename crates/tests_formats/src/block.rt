@@ -118,7 +118,24 @@ fn is_joined(alloc: Global, blocks: &[u8], from: u64, stream: &[u8]) -> Option<b
     Some(joined.as_slice() == stream)
 }
 
-// The three blocks are framed, read one by one, and joined: all; up to half of the second; at another lsn; the third alone.
+// Stretches of the three blocks are joined: all; up to half of the second block; at another lsn; the third block alone.
+fn are_joined(alloc: Global, room: &[u8; 1536]) -> Option<bool> {
+    for (start, end, from, count) in [
+        (0, 1536, 8204, 1200),
+        (0, 1023, 8204, 496),
+        (0, 1536, 8704, 0),
+        (1024, 1536, 9228, 208),
+    ] {
+        let blocks = room.get(start..end)?;
+        let stream = STREAM.get(..count)?;
+        if !is_joined(alloc, blocks, from, stream)? {
+            return Some(false);
+        }
+    }
+    Some(true)
+}
+
+// The three blocks are framed, read one by one, and joined.
 fn are_three_blocks(alloc: Global) -> Option<bool> {
     if !are_firsts(&STREAM, &FIRSTS) {
         return None;
@@ -126,16 +143,11 @@ fn are_three_blocks(alloc: Global) -> Option<bool> {
     let mut room = [0xFF; 1536];
     frame_into(&mut room, &STREAM, 8204, &FIRSTS, 1);
     let framed = frame(alloc, &STREAM, 8204, &FIRSTS, 1).ok()?;
-    Some(
-        framed.as_slice() == room.as_slice()
-            && read_at(&room, 8192) == view(512, 12, 1)
-            && read_at(&room, 8704) == view(512, 0, 1)
-            && read_at(&room, 9216) == view(220, 220, 1)
-            && is_joined(alloc, &room, 8204, &STREAM)?
-            && is_joined(alloc, &room[..1023], 8204, &STREAM[..496])?
-            && is_joined(alloc, &room, 8704, b"")?
-            && is_joined(alloc, &room[1024..], 9228, &STREAM[..208])?,
-    )
+    let is_framed = framed.as_slice() == room.as_slice()
+        && read_at(&room, 8192) == view(512, 12, 1)
+        && read_at(&room, 8704) == view(512, 0, 1)
+        && read_at(&room, 9216) == view(220, 220, 1);
+    Some(is_framed && are_joined(alloc, &room)?)
 }
 
 #[test]
