@@ -18,6 +18,7 @@ pub mod Lsn
 pub mod NewActors
 pub mod Program
 pub mod Setup
+pub mod StartWords
 pub mod States
 pub mod Turn
 pub mod UserProgram

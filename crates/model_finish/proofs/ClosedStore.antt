@@ -10,7 +10,8 @@ use Rattle.model_finish.proofs.FinishedPages.{finished_pages}
 use Rattle.model_finish.proofs.FinishedStore.{finished_store, stands_for_run}
 use Rattle.model_finish.specs.ClosedStore.{ClosedStore, DataTells, HeldStore, LogTells}
 use Rattle.model_finish.specs.Finished.{CausesAreFailures, FinishedStore, StandsForRun}
-use Rattle.model_finish.specs.FinishedPages.{FinishedPages, HasItsPages}
+use Rattle.model_finish.specs.FinishedPages.{FinishedPages}
+use Rattle.model_finish.specs.OpenedPages.{HasItsPages}
 use Rattle.model_finish.specs.Script.{IsOfScript}
 use Rattle.model_history.specs.{IsLeft, wholes_of}
 use Rattle.model_log.specs.{start_after}

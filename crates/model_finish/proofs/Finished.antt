@@ -10,7 +10,8 @@ use Rattle.model_finish.proofs.Legality.{legal_log}
 use Rattle.model_finish.proofs.Losses.{left_lines, lost_entry}
 use Rattle.model_finish.proofs.Places.{bound_spans, history_spans}
 use Rattle.model_finish.specs.Ended.{IsAtEnd}
-use Rattle.model_finish.specs.History.{AreWholesOf, history_of, log_spans, marks_in, run_of, word_marks}
+use Rattle.model_finish.specs.History.{AreWholesOf, history_of, log_spans, marks_in, word_marks}
+use Rattle.model_finish.specs.RunOf.{run_of}
 use Rattle.model_finish.specs.Script.{HasSeats, IsOfScript}
 use Rattle.model_history.specs.{entry_spans, IsLeft, wholes_of}
 use Rattle.model_log.specs.{IsBoundary, Span, start_after}

@@ -13,8 +13,10 @@ use Rattle.model_core.specs.Setup.{Setup}
 use Rattle.model_finish.proofs.Finished.{finished_groups}
 use Rattle.model_finish.proofs.Groups.{line_below}
 use Rattle.model_finish.proofs.PagePrefixes.{ArePageGroups, applied_none, ends_above, lsn_upto, passed_by, passed_start, user_upto}
-use Rattle.model_finish.specs.FinishedPages.{ArePrefixes, FinishedPages, HasItsPages, IsOpenedPage}
-use Rattle.model_finish.specs.History.{AreWholesOf, history_of, run_of, word_marks}
+use Rattle.model_finish.specs.FinishedPages.{ArePrefixes, FinishedPages}
+use Rattle.model_finish.specs.OpenedPages.{HasItsPages, IsOpenedPage}
+use Rattle.model_finish.specs.History.{AreWholesOf, history_of, word_marks}
+use Rattle.model_finish.specs.RunOf.{run_of}
 use Rattle.model_finish.specs.PageContents.{content_in, contents_of, new_content}
 use Rattle.model_finish.specs.Script.{IsOfScript}
 use Rattle.model_history.specs.{group_of_line, lines_of_user, wholes_of}

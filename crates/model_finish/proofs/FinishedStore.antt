@@ -10,7 +10,8 @@ use Rattle.model_finish.proofs.Seated.{seated_end, seated_seats}
 use Rattle.model_finish.proofs.Losses.{lost_entry_exactly, open_line}
 use Rattle.model_finish.proofs.OpenLines.{leaves_open}
 use Rattle.model_finish.specs.Finished.{CausesAreFailures, FinishedStore, HasCause, SpentStore, StandsForRun}
-use Rattle.model_finish.specs.History.{run_of, word_marks, history_of}
+use Rattle.model_finish.specs.RunOf.{run_of}
+use Rattle.model_finish.specs.History.{word_marks, history_of}
 use Rattle.model_finish.specs.Script.{IsOfScript}
 use Rattle.model_history.specs.{lines_of_user}
 use Rattle.model_history.specs.declared.entry.Marks.{Marks}

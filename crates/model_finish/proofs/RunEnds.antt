@@ -9,7 +9,7 @@ use Rattle.model_finish.proofs.ClosedStore.{closed_store, held_store}
 use Rattle.model_finish.proofs.FinishedStore.{finished_store, spent_store}
 use Rattle.model_finish.specs.Finished.{CausesAreFailures, FinishedStore, SpentStore}
 use Rattle.model_finish.specs.ClosedStore.{ClosedStore, DataTells, HeldStore, LogTells}
-use Rattle.model_finish.specs.FinishedPages.{HasItsPages}
+use Rattle.model_finish.specs.OpenedPages.{HasItsPages}
 use Rattle.model_finish.specs.Script.{IsOfScript}
 use Rattle.model_log.specs.{start_after}
 use Rattle.model_logcore.specs.LogLaws.{LogLaws}

@@ -1,11 +1,9 @@
 -- What a running store keeps of its pages, in the words of a closed run.
-use Rattle.std.specs.Prelude.{List, Option, Some, length, slice_get, ℕ, ◌<◌, ◌≡◌}
+use Rattle.std.specs.Prelude.{List, Option, Some, slice_get, ℕ, ◌≡◌}
 use Rattle.model_core.specs.DataSide.{DataSide}
 use Rattle.model_core.specs.{BatchPage, Core, KeptPage}
 use Rattle.model_core.specs.LogSide.{LogSide}
-use Rattle.model_core.specs.Setup.{Setup}
-use Rattle.model_core.specs.declared.limits.TheConstants.{FRAME_CELLS}
-use Rattle.model_finish.specs.PageContents.{content_in, content_of, contents_of}
+use Rattle.model_finish.specs.PageContents.{content_in, contents_of}
 use Rattle.model_history.specs.{wholes_of}
 use Rattle.model_page.specs.declared.content.Content.{Content}
 use Rattle.model_pagecore.specs.{AreApart}
@@ -13,17 +11,6 @@ use Rattle.model_record.specs.declared.group.Whole.{Whole}
 use Rattle.model_run.specs.{IsBatchOf, IsKeptPrefix}
 use Rattle.model_script.specs.declared.script.ScriptLine.{ScriptLine}
 use Rattle.model_theorem.specs.{Opened, Ran}
-
--- a page of the store that was opened, as the run began with it
-pub record IsOpenedPage (c : Setup) (p : ℕ) (page : Content) : Type 0 where
-  pub there : p < c.pages
-  pub content : content_of (c.opened p) ≡ page
-  pub cells : length (c.opened p).bytes ≡ FRAME_CELLS
-
--- the pages of a run are those of the store that was opened
-pub record HasItsPages (c : Setup) (opened : Opened) : Type 0 where
-  pub count : c.pages ≡ opened.shape.pages
-  pub each : (p : ℕ) (page : Content) → slice_get opened.pages p ≡ Some page → IsOpenedPage c p page
 
 -- Each page as it was last written is a prefix of the run that lacks no group that starts below the checkpoint; and what the
 -- batch at hand has for it, if it has it, is a prefix too, and no older.

@@ -1,17 +1,14 @@
--- The history of a run: each reserved group, and how its commit stands by the marks; and what the run comes to.
+-- The history of a run: each reserved group, and how its commit stands by the marks.
 use Rattle.std.specs.Prelude.{List, [], cond, map, nat_lt, slice_index, ℕ, ◌∷◌, ◌≡◌}
 use Rattle.model_core.specs.{answered, end_of, index, lsn, SharedWords}
-use Rattle.model_core.specs.Setup.{Setup}
 use Rattle.model_history.specs.{state_by}
 use Rattle.model_history.specs.declared.entry.Entry.{Entry}
 use Rattle.model_history.specs.declared.entry.Marks.{Marks}
 use Rattle.model_history.specs.declared.entry.State.{State}
 use Rattle.model_history.specs.declared.entry.State.TheVariants.{Lost}
 use Rattle.model_log.specs.{Span, span_of}
-use Rattle.model_logcore.specs.{LogGhost}
 use Rattle.model_record.specs.{group_text}
 use Rattle.model_record.specs.declared.group.Whole.{Whole}
-use Rattle.model_theorem.specs.{Ran}
 use Rattle.model_core.specs.declared.words.Word.TheVariants as word
 use Rattle.model_core.specs.Groups as core
 
@@ -37,9 +34,6 @@ marks_in ws = record {
   flushed = slice_index ws (index word.Flushed);
   ckpt = slice_index ws (index word.Ckpt);
 }
-
-abbrev pub run_of : Setup → LogGhost → SharedWords → Ran
-run_of c g m = record { start = lsn c.base; entries = history_of g.answered (word_marks m) g.log; marks = word_marks m }
 
 -- where each group of the log stands, in lsns
 abbrev pub log_span : core.Entry → Span

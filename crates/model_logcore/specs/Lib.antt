@@ -10,5 +10,5 @@ pub use Rattle.model_logcore.specs.LogFits.{CheckpointerAt, CheckpointerFits, Cl
 pub use Rattle.model_logcore.specs.LogHalf.{Counted, left_to_reserve, lengths}
 pub use Rattle.model_logcore.specs.LogLaws.{AfterCheckpoint, AfterSync, AfterWrite, CanCheckpoint, CanWrite}
 pub use Rattle.model_logcore.specs.Ready.{CanLend}
-pub use Rattle.model_logcore.specs.Start.{StartActor, StartPart, StartUser, StartWords, checkpointer_start, cleaner_start, closer_start, start_checkpoint}
+pub use Rattle.model_logcore.specs.Start.{StartActor, StartPart, StartUser, checkpointer_start, cleaner_start, closer_start}
 pub use Rattle.model_logcore.specs.Watermarks.{HasMetFailure, LogWatermarks}

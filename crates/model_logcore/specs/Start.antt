@@ -1,11 +1,10 @@
 -- What stands at the start of a run, from which the invariant holds.
-use Rattle.std.specs.Prelude.{[], cond, length, slice_index, ℕ, ◌%◌, ◌+◌, ◌-◌, ◌/◌, ◌<◌, ◌==◌, ◌≡◌, ◌≤◌}
+use Rattle.std.specs.Prelude.{[], length, slice_index, ℕ, ◌+◌, ◌-◌, ◌<◌, ◌≡◌, ◌≤◌}
 use Rattle.model_base.specs.declared.limits.TheConstants.{MAX_GROUP}
-use Rattle.model_core.specs.{Actor, CheckpointerState, CleanerState, CloserState, FlusherState, IsSized, line_at, lsn, new_checkpointer, new_cleaner, new_closer, new_flusher, new_user, new_writer, SharedWords, UserState, WriterState}
+use Rattle.model_core.specs.{Actor, CheckpointerState, CleanerState, CloserState, FlusherState, line_at, lsn, new_checkpointer, new_cleaner, new_closer, new_flusher, new_user, new_writer, UserState, WriterState}
 use Rattle.model_core.specs.LogSide.{LogSide}
 use Rattle.model_core.specs.Setup.{Setup}
-use Rattle.model_core.specs.declared.limits.TheConstants.{BUFFER_BLOCKS}
-use Rattle.model_log.specs.declared.layout.TheConstants.{BLOCK_DATA, BLOCK_HEADER}
+use Rattle.model_core.specs.StartWords.{start_checkpoint}
 use Rattle.model_core.specs.Actors as actor
 
 abbrev pub writer_start : Setup → WriterState
@@ -19,10 +18,6 @@ closer_start c = new_closer (lsn c.base)
 
 abbrev pub cleaner_start : Setup → CleanerState
 cleaner_start c = new_cleaner c.pages
-
--- the newest checkpoint stands a block's header below the run's start
-abbrev pub start_checkpoint : Setup → ℕ
-start_checkpoint c = lsn c.base - BLOCK_HEADER
 
 abbrev pub checkpointer_start : Setup → CheckpointerState
 checkpointer_start c = new_checkpointer (lsn c.base)
@@ -43,21 +38,6 @@ StartActor c seat_of writer seat (actor.Closer t) = (seat ≡ c.closer) × ◌�
 StartActor c seat_of writer seat (actor.Cleaner v) = (seat ≡ c.cleaner) × ◌≡◌ {A = CleanerState} v (cleaner_start c)
 StartActor c seat_of writer seat (actor.Checkpointer t) = (seat ≡ c.checkpointer) × ◌≡◌ {A = CheckpointerState} t (checkpointer_start c)
 StartActor c seat_of writer seat (actor.Joined es) = es ≡ []
-
-pub record StartWords (c : Setup) (m : SharedWords) : Type 0 where
-  pub sized : IsSized c.pages m
-  pub even : c.base % BLOCK_DATA ≡ 0
-  pub sn : m.sn ≡ c.base
-  pub write : m.write ≡ lsn c.base
-  pub wtail : m.wtail ≡ lsn c.base
-  pub flushed : m.flushed ≡ lsn c.base
-  pub ckpt : m.ckpt ≡ start_checkpoint c
-  pub failed : m.failed ≡ 0
-  pub device : m.device ≡ 0
-  pub lists : (i : ℕ) → slice_index m.lists i ≡ 0
-  pub wlinks : (i : ℕ) → slice_index m.wlinks i ≡ 0
-  pub cells : (i : ℕ) → slice_index m.cells i ≡ 0
-  pub firsts : (q : ℕ) → c.base / BLOCK_DATA ≤ q → q < c.base / BLOCK_DATA + BUFFER_BLOCKS → slice_index m.firsts (q % BUFFER_BLOCKS) ≡ cond (q == c.base / BLOCK_DATA) BLOCK_HEADER 0
 
 pub record StartPart (D : LogSide) (c : Setup) (p : D.Part) : Type 0 where
   pub holds : D.Holds c.blocks c.base [] p

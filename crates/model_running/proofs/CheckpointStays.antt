@@ -13,7 +13,8 @@ use Rattle.model_core.specs.declared.steps.CloserStep.{CloserStep}
 use Rattle.model_core.specs.declared.steps.FlusherStep.{FlusherStep}
 use Rattle.model_core.specs.declared.steps.UserStep.{UserStep}
 use Rattle.model_core.specs.declared.steps.WriterStep.{WriterStep}
-use Rattle.model_logcore.specs.{LogGhost, start_checkpoint}
+use Rattle.model_logcore.specs.{LogGhost}
+use Rattle.model_core.specs.StartWords.{start_checkpoint}
 use Rattle.model_pagecore.specs.{CheckpointerPageFits, PageGhost}
 use Rattle.model_running.specs.RunningStore.{BothHalves}
 use Rattle.model_core.specs.Actors as actor

@@ -10,7 +10,8 @@ use Rattle.model_core.specs.Setup.{Setup}
 use Rattle.model_logcore.proofs.DeviceSteps.{alone}
 use Rattle.model_logcore.proofs.NewUsers.{new_user_is}
 use Rattle.model_logcore.proofs.StartHolds.{half_starts, start}
-use Rattle.model_logcore.specs.{checkpointer_start, cleaner_start, closer_start, left_to_reserve, start_checkpoint, StartActor, sum_over_actors}
+use Rattle.model_logcore.specs.{checkpointer_start, cleaner_start, closer_start, left_to_reserve, StartActor, sum_over_actors}
+use Rattle.model_core.specs.StartWords.{start_checkpoint}
 use Rattle.model_pagecore.proofs.PageStart.{pages_start}
 use Rattle.model_pagecore.specs.{CheckpointerPageFits, CleanerFits, CloserFits, PageFits, PageGhost, UserPagesAt}
 use Rattle.model_running.specs.RunningStore.{BothHalves, RunningStore}

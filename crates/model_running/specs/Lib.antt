@@ -13,5 +13,4 @@ pub use Rattle.model_running.specs.DataReady.{CanLendBatch}
 pub use Rattle.model_running.specs.RunningStore.{BothHalves, IsRunning}
 pub use Rattle.model_running.specs.Schedule.{HasEnded, HaveEnded, IsDone, IsSpent, LastTurn, TakesTurns, seat_of_turn}
 pub use Rattle.model_running.specs.Seating.{ArePageActors, AreSeated}
-pub use Rattle.model_running.specs.StartStore.{StartPageWords}
 pub use Rattle.model_running.specs.Watermarks.{HasWatermarks}

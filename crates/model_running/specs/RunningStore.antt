@@ -4,7 +4,8 @@ use Rattle.model_core.specs.{Actor, Core, flat, IsScripted, Listed, SharedWords}
 use Rattle.model_core.specs.DataSide.{DataSide}
 use Rattle.model_core.specs.LogSide.{LogSide}
 use Rattle.model_core.specs.Setup.{Setup}
-use Rattle.model_logcore.specs.{LogGhost, start_checkpoint}
+use Rattle.model_logcore.specs.{LogGhost}
+use Rattle.model_core.specs.StartWords.{start_checkpoint}
 use Rattle.model_logcore.specs.LogHalf.{LogHalf}
 use Rattle.model_pagecore.specs.{PageGhost}
 use Rattle.model_pagecore.specs.PageHalf.{PageHalf}

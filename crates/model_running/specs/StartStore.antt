@@ -1,22 +1,15 @@
 -- What stands at the start of a run, from which both halves of the invariant hold.
-use Rattle.std.specs.Prelude.{[], false, slice_index, ℕ, ◌<◌, ◌≡◌, ◌≤◌}
+use Rattle.std.specs.Prelude.{[], false, ℕ, ◌<◌, ◌≡◌}
 use lib.ListN.{get_elem?}
 use mathlib.Core.Option.{some}
 use Rattle.std.specs.Prelude.{List}
-use Rattle.model_core.specs.{Actor, CheckpointerState, frame_bytes, IsScripted, lsn, page_words_at, PageWords, SharedWords}
+use Rattle.model_core.specs.{Actor, CheckpointerState, IsScripted, SharedWords}
 use Rattle.model_core.specs.DataSide.{DataSide}
 use Rattle.model_core.specs.LogSide.{LogSide}
 use Rattle.model_core.specs.Setup.{Setup}
-use Rattle.model_logcore.specs.{StartActor, StartPart, StartWords}
+use Rattle.model_core.specs.StartWords.{StartPageWords, StartWords}
+use Rattle.model_logcore.specs.{StartActor, StartPart}
 use Rattle.model_core.specs.Actors as actor
-
--- the words of the pages: each page is free, unlisted, and as it was opened
-pub record StartPageWords (c : Setup) (m : SharedWords) : Type 0 where
-  pub page_words : (p : ℕ) → p < c.pages → ◌≡◌ {A = PageWords} (page_words_at m.page_words p) (record { latch = 0; newest = 0; oldest = 0; frame = (page_words_at m.page_words p).frame })
-  pub frames : (p : ℕ) → p < c.pages → frame_bytes (page_words_at m.page_words p).frame ≡ (c.opened p).bytes
-  pub early : (p : ℕ) → p < c.pages → (c.opened p).lsn ≤ lsn c.base
-  pub ctail : m.ctail ≡ lsn c.base
-  pub clinks : (i : ℕ) → slice_index m.clinks i ≡ 0
 
 pub record StartStore (D : LogSide) (E : DataSide) (c : Setup) (m : SharedWords) (p : D.Part) (d : E.Part) (seat_of : ℕ → ℕ) (writer : ℕ) (actors : List Actor) : Type 0 where
   pub script : IsScripted c

@@ -10,7 +10,8 @@ use Rattle.model_core.specs.Setup.{Setup}
 use Rattle.model_core.specs.declared.limits.TheConstants.{CLOSED_LINKS}
 use Rattle.model_core.specs.declared.steps.CleanerStep.{CleanerStep}
 use Rattle.model_core.specs.declared.steps.UserStep.{UserStep}
-use Rattle.model_logcore.specs.{LogWatermarks, start_checkpoint}
+use Rattle.model_logcore.specs.{LogWatermarks}
+use Rattle.model_core.specs.StartWords.{start_checkpoint}
 use Rattle.model_pagecore.specs.{Agree, All, applied_upto, AreUnfinished, CheckpointerPagesAt, CleanerHasLatch, CleanerHolds, ClosedLink, end_lsn, EndsAt, HoldsOnly, Last, listed, none_in_hand, PageGhost, PageIs, Passed, start_lsn, StartsAt, touches, UserHasLatch, UserHolds}
 use Rattle.model_running.specs.LatchesHeld.{LatchesAreHeld}
 use Rattle.model_running.specs.UsersClosed.{UsersClosed}

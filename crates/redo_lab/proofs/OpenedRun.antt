@@ -28,13 +28,14 @@ use Rattle.redo_pageactors.specs.{IsRunnable}
 use Rattle.redo_pageactors.specs.declared.opened.Opened.{Opened}
 use Rattle.redo_recover.specs.{OnContents}
 use Rattle.redo_disk.proofs.Made.{may_end}
-use Rattle.redo_machine.specs.{ComesToRun, HasMemory, IsOwed, IsOwedSynced, IsOwedWith, room_from, RunsByTurns}
-use Rattle.redo_machine.specs.Drive.{failed_in, HoldsRun as IsRunHeld}
-use Rattle.redo_machine.specs.declared.drive.Driven.{Driven}
-use Rattle.redo_machine.specs.declared.running.Ran.{Ran}
-use Rattle.redo_machine.specs.declared.running.Ran.TheVariants as ended
+use Rattle.redo_drive.specs.{ComesToRun, HasMemory, IsOwed, IsOwedSynced, IsOwedWith, room_from}
+use Rattle.redo_machine.specs.{RunsByTurns}
+use Rattle.redo_drive.specs.Drive.{failed_in, HoldsRun as IsRunHeld}
+use Rattle.redo_drive.specs.declared.drive.Driven.{Driven}
+use Rattle.redo_drive.specs.declared.drive.RunEnd.{RunEnd}
+use Rattle.redo_drive.specs.declared.drive.RunEnd.TheVariants as ended
 use Rattle.model_theorem.specs.{LosesOnlyByFailure}
-use Rattle.redo_machine.specs.Beginning.{IsOpenedAs as IsStartedAs}
+use Rattle.redo_drive.specs.Beginning.{IsOpenedAs as IsStartedAs}
 use Rattle.redo_machine.specs.declared.drive.Turns.{Turns}
 use Rattle.redo_lab.specs.declared.playing.Course.{Course}
 use Rattle.redo_lab.specs.declared.playing.Played.{Played}

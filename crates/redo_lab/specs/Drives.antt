@@ -8,10 +8,11 @@ use Rattle.model_theorem.specs.{Ran}
 use Rattle.model_theorem.specs.Values as values
 use Rattle.redo_disk.specs.{Call}
 use Rattle.redo_disk.specs.Seen.{Seen}
-use Rattle.redo_machine.specs.{RunsByTurns, ran_of}
-use Rattle.redo_machine.specs.declared.drive.Driven.{Driven}
-use Rattle.redo_machine.specs.declared.running.Ran as running
-use Rattle.redo_machine.specs.declared.running.Ran.TheVariants as ended
+use Rattle.redo_drive.specs.{ran_of}
+use Rattle.redo_machine.specs.{RunsByTurns}
+use Rattle.redo_drive.specs.declared.drive.Driven.{Driven}
+use Rattle.redo_drive.specs.declared.drive.RunEnd as running
+use Rattle.redo_drive.specs.declared.drive.RunEnd.TheVariants as ended
 use Rattle.redo_machine.specs.declared.drive.Turns.{Turns}
 use Rattle.redo_memdisk.specs.{CallsThrough, seen_through}
 use Rattle.redo_pageactors.specs.{IsRunnable}

@@ -10,11 +10,12 @@ use Rattle.redo_disk.specs.{Call}
 use Rattle.redo_disk.specs.Seen.{Seen}
 use Rattle.redo_disk.specs.declared.error.DevError.{DevError}
 use Rattle.redo_disk.specs.declared.error.DevError.TheVariants as device
-use Rattle.redo_machine.specs.{ComesToRun, HoldsRun, IsOwed, IsOwedSynced, room_from, RunsByTurns}
-use Rattle.redo_machine.specs.declared.drive.Driven.{Driven}
+use Rattle.redo_drive.specs.{ComesToRun, HoldsRun, IsOwed, IsOwedSynced, room_from}
+use Rattle.redo_machine.specs.{RunsByTurns}
+use Rattle.redo_drive.specs.declared.drive.Driven.{Driven}
 use Rattle.redo_machine.specs.declared.drive.Turns.{Turns}
-use Rattle.redo_machine.specs.declared.running.Ran.{Ran}
-use Rattle.redo_machine.specs.declared.running.Ran.TheVariants as ended
+use Rattle.redo_drive.specs.declared.drive.RunEnd.{RunEnd}
+use Rattle.redo_drive.specs.declared.drive.RunEnd.TheVariants as ended
 use Rattle.redo_pageactors.specs.declared.closed.Closed.{Closed}
 use Rattle.redo_pageactors.specs.declared.opened.Opened.{Opened}
 use Rattle.redo_recover.specs.declared.fault.RecFault.{RecFault}

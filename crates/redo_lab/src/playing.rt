@@ -6,7 +6,7 @@ ghost use Rattle.model_log.specs.declared.layout.TheConstants.{BLOCK_HEADER};
 ghost use Rattle.model_script.specs.{IsScriptLine};
 ghost use Rattle.redo_disk.specs.Seen.{Seen};
 ghost use Rattle.redo_memdisk.specs.{CallsThrough, entry_of, seen_through};
-ghost use Rattle.redo_machine.specs.{room_from};
+ghost use Rattle.redo_drive.specs.{room_from};
 ghost use Rattle.redo_pageactors.specs.{IsRunnable};
 ghost use Rattle.redo_lab.specs.Course.{ByTurns, ComesTo};
 ghost use Rattle.redo_lab.specs.Handed.{AreOf};

@@ -9,10 +9,10 @@ use Rattle.model_core.specs.{UserState}
 use Rattle.model_core.specs.declared.steps.UserStep.{UserStep}
 use Rattle.model_core.specs.declared.steps.UserStep.TheVariants as user_step
 use Rattle.model_running.specs.{HasEnded, HaveEnded}
-use Rattle.redo_machine.proofs.Viewed.{length_views, view_at}
+use Rattle.redo_drive.proofs.Viewed.{length_views, view_at}
 use Rattle.redo_machine.specs.OpenUsers.{IsFirstOpen, IsOpen, IsOpenUser, IsOver}
-use Rattle.redo_machine.specs.Views.{view_of, views_of}
-use Rattle.redo_machine.specs.declared.actor.Actor.{Actor}
+use Rattle.redo_drive.specs.Views.{view_of, views_of}
+use Rattle.redo_drive.specs.declared.actor.Actor.{Actor}
 use Rattle.redo_useractor.specs.{has_ended}
 
 step_is : (s : UserStep) → has_ended s ≡ true → (s ≡ user_step.Done) ⊎ (s ≡ user_step.Failed)

@@ -14,17 +14,18 @@ use Rattle.model_script.specs.{draw, first_state, next_state, state_after}
 use Rattle.redo_disk.specs.{Call}
 use Rattle.redo_disk.specs.Seen.{Seen}
 use Rattle.redo_machine.proofs.UserSeats.{first_is_least}
-use Rattle.redo_machine.proofs.Viewed.{length_views, so_at}
-use Rattle.redo_machine.specs.Asking.{AskOfBoth}
-use Rattle.redo_machine.specs.Calls.{CallOnBoth}
+use Rattle.redo_drive.proofs.Viewed.{length_views, so_at}
+use Rattle.redo_drive.specs.Asking.{AskOfBoth}
+use Rattle.redo_drive.specs.Calls.{CallOnBoth}
 use Rattle.redo_machine.specs.OpenUsers.{IsFirstOpen}
-use Rattle.redo_machine.specs.Playing.{RunOf, data_of, log_of}
-use Rattle.redo_machine.specs.Running.{IsOnRun, RunsOn, TakesTurn, core_of}
+use Rattle.redo_drive.specs.Playing.{RunOf, data_of, log_of}
+use Rattle.redo_drive.specs.Running.{IsOnRun, RunsOn}
+use Rattle.redo_drive.specs.Turning.{TakesTurn, core_of}
 use Rattle.redo_machine.specs.Turns.{AskInTurns, EndsAsking, IsDrawn}
-use Rattle.redo_machine.specs.Views.{view_of, views_of}
-use Rattle.redo_machine.specs.declared.actor.Actor.{Actor}
+use Rattle.redo_drive.specs.Views.{view_of, views_of}
+use Rattle.redo_drive.specs.declared.actor.Actor.{Actor}
 use Rattle.redo_machine.specs.declared.machine.Machine.{Machine}
-use Rattle.redo_machine.specs.declared.running.Ran.TheVariants as ran
+use Rattle.redo_drive.specs.declared.drive.RunEnd.TheVariants as ran
 
 -- one draw more
 more_draws : (n state : ℕ) → state_after n (next_state state) ≡ next_state (state_after n state)
@@ -148,18 +149,21 @@ module _ {L D : Type 0} (log_seen : L → Seen) (log_gives : L → Call → L �
   -- a run whose turns are spent
   pub ends_spent : (turn draws seats user : ℕ) (first last : Machine L D) → InRun log_seen log_gives data_seen data_gives seed max turn draws seats first last → turn ≡ max → IsFirstOpen (views_of last.actors.items) user
       → (run : RunOf L D) → RunsOn log_seen data_seen run first.parts first.actors.items
-      → EndsAsking log_seen log_gives data_seen data_gives run seed max first.parts first.actors.items (ran.Spent user) last.parts last.actors.items
+      → EndsAsking log_seen log_gives data_seen data_gives run seed max first.parts first.actors.items (ran.Spent max user) last.parts last.actors.items
   ends_spent turn draws seats user first last I all open_user run R =
       let goes = I.goes run R in
       let taken = subst (λ (n : ℕ). TurnsAsk log_seen log_gives data_seen data_gives run seed max n (core_of log_seen data_seen run first.parts first.actors.items) (core_of log_seen data_seen run last.parts last.actors.items)) all goes.taken in record {
-        ends = record {
-          turns = taken.turns;
-          seat = open_user.seat;
-          state = open_user.state;
-          is = open_user.is;
-          number = open_user.open_user.number;
-          not_ended = open_user.open_user.not_ended;
-          least = first_is_least run.setup (views_of last.actors.items) goes.runs.seated user open_user;
-        };
+        ends = (
+          refl,
+          record {
+            turns = taken.turns;
+            seat = open_user.seat;
+            state = open_user.state;
+            is = open_user.is;
+            number = open_user.open_user.number;
+            not_ended = open_user.open_user.not_ended;
+            least = first_is_least run.setup (views_of last.actors.items) goes.runs.seated user open_user;
+          },
+        );
         asked = taken.asked;
       }

@@ -5,22 +5,22 @@ use Rattle.model_running.specs.{IsDone, IsSpent, TakesTurns}
 use Rattle.model_script.specs.{first_state, state_after}
 use Rattle.redo_disk.specs.{Call}
 use Rattle.redo_disk.specs.Seen.{Seen}
-use Rattle.redo_machine.specs.Asking.{AskOfParts}
-use Rattle.redo_machine.specs.Playing.{RunOf, data_of, log_of}
-use Rattle.redo_machine.specs.Running.{core_of}
-use Rattle.redo_machine.specs.declared.actor.Actor.{Actor}
-use Rattle.redo_machine.specs.declared.parts.Parts.{Parts}
-use Rattle.redo_machine.specs.declared.running.Ran.{Ran}
-use Rattle.redo_machine.specs.declared.running.Ran.TheVariants as ran
+use Rattle.redo_drive.specs.Asking.{AskOfParts}
+use Rattle.redo_drive.specs.Playing.{RunOf, data_of, log_of}
+use Rattle.redo_drive.specs.Turning.{core_of}
+use Rattle.redo_drive.specs.declared.actor.Actor.{Actor}
+use Rattle.redo_drive.specs.declared.parts.Parts.{Parts}
+use Rattle.redo_drive.specs.declared.drive.RunEnd.{RunEnd}
+use Rattle.redo_drive.specs.declared.drive.RunEnd.TheVariants as ran
 
 -- as long as the turns are drawn, the state is the seed's, so many draws on
 abbrev pub IsDrawn : ℕ → ℕ → ℕ → ℕ → Type 0
 IsDrawn seed turn max state = turn < max / 2 → state ≡ state_after turn (first_state seed)
 
 -- a run by a seed that ended so
-abbrev pub EndsAs : {L D : Type 0} (log_seen : L → Seen) (data_seen : D → Seen) (run : RunOf L D) (seed max : ℕ) → Parts L D → List Actor → Ran → Parts L D → List Actor → Type 0
+abbrev pub EndsAs : {L D : Type 0} (log_seen : L → Seen) (data_seen : D → Seen) (run : RunOf L D) (seed max : ℕ) → Parts L D → List Actor → RunEnd → Parts L D → List Actor → Type 0
 EndsAs log_seen data_seen run seed max first actors ran.Done last after = IsDone (log_of log_seen data_seen run) (data_of log_seen data_seen run) seed max (core_of log_seen data_seen run first actors) (core_of log_seen data_seen run last after)
-EndsAs log_seen data_seen run seed max first actors (ran.Spent user) last after = IsSpent (log_of log_seen data_seen run) (data_of log_seen data_seen run) seed max user (core_of log_seen data_seen run first actors) (core_of log_seen data_seen run last after)
+EndsAs log_seen data_seen run seed max first actors (ran.Spent turns user) last after = (turns ≡ max) × IsSpent (log_of log_seen data_seen run) (data_of log_seen data_seen run) seed max user (core_of log_seen data_seen run first actors) (core_of log_seen data_seen run last after)
 
 -- In each of these turns, from the parts before it to those behind it, both devices were asked for what the Op of the actor
 -- whose turn it was asks of them, for all of it or up to the call that answered an error, and for nothing else. Behind an error
@@ -34,14 +34,14 @@ AskInTurns log_seen log_gives data_seen data_gives run seed max (suc n) first la
 
 -- the same of the turns of a run that ended so
 abbrev pub AskToEnd : {L D : Type 0} (log_seen : L → Seen) (log_gives : L → Call → L → Type 0) (data_seen : D → Seen) (data_gives : D → Call → D → Type 0) (run : RunOf L D) (seed max : ℕ)
-    (first : Parts L D) (actors : List Actor) (how : Ran) (last : Parts L D) (after : List Actor) → EndsAs log_seen data_seen run seed max first actors how last after → Type 0
+    (first : Parts L D) (actors : List Actor) (how : RunEnd) (last : Parts L D) (after : List Actor) → EndsAs log_seen data_seen run seed max first actors how last after → Type 0
 AskToEnd log_seen log_gives data_seen data_gives run seed max first actors ran.Done last after ends =
     AskInTurns log_seen log_gives data_seen data_gives run seed max ends.count (core_of log_seen data_seen run first actors) (core_of log_seen data_seen run last after) ends.turns
-AskToEnd log_seen log_gives data_seen data_gives run seed max first actors (ran.Spent user) last after ends =
-    AskInTurns log_seen log_gives data_seen data_gives run seed max max (core_of log_seen data_seen run first actors) (core_of log_seen data_seen run last after) ends.turns
+AskToEnd log_seen log_gives data_seen data_gives run seed max first actors (ran.Spent turns user) last after ends =
+    AskInTurns log_seen log_gives data_seen data_gives run seed max max (core_of log_seen data_seen run first actors) (core_of log_seen data_seen run last after) ends.1.turns
 
 -- a run by a seed that ended so, with what its turns asked of both devices
 pub record EndsAsking {L D : Type 0} (log_seen : L → Seen) (log_gives : L → Call → L → Type 0) (data_seen : D → Seen) (data_gives : D → Call → D → Type 0) (run : RunOf L D) (seed max : ℕ)
-    (first : Parts L D) (actors : List Actor) (how : Ran) (last : Parts L D) (after : List Actor) : Type 0 where
+    (first : Parts L D) (actors : List Actor) (how : RunEnd) (last : Parts L D) (after : List Actor) : Type 0 where
   pub ends : EndsAs log_seen data_seen run seed max first actors how last after
   pub asked : AskToEnd log_seen log_gives data_seen data_gives run seed max first actors how last after ends

@@ -3,14 +3,14 @@ ghost use Rattle.std.specs.Prelude.{◌≡◌, ◌≤◌, [], length, slice_inde
 ghost use Rattle.model_core.specs.{index, IsWord};
 ghost use Rattle.model_core.specs.declared.words.Word.TheVariants as word_is;
 ghost use Rattle.model_finish.specs.{history_of, marks_in, word_marks};
-ghost use Rattle.redo_machine.specs.Playing.{RunOf};
-ghost use Rattle.redo_machine.specs.Running.{IsOnRun, RunsOn};
+ghost use Rattle.redo_drive.specs.History.{ListsInOrder};
+ghost use Rattle.redo_drive.specs.Playing.{RunOf};
+ghost use Rattle.redo_drive.specs.Running.{IsOnRun, RunsOn};
 
-use crate::history::history_of;
 use crate::machine::Machine;
-use crate::parts::Parts;
 use model_history::Marks;
 use redo_disk::Sectors;
+use redo_drive::{Parts, history_of};
 use redo_pageactors::Closed;
 use redo_words::{Op, PlainWords, Word, old_of};
 
@@ -49,6 +49,9 @@ impl<L: Sectors, D: Sectors> Machine<L, D> {
         ensures history { (run : RunOf L D) (runs : RunsOn L.seen D.seen run self.parts self.actors.items)
             → self.entries.items ≡ [] → length runs.running.log_ghost.log ≤ vec_capacity self.entries
             → result.history ≡ history_of runs.running.log_ghost.answered (word_marks runs.running.shared) runs.running.log_ghost.log }
+        ensures listed { (run : RunOf L D) (runs : RunsOn L.seen D.seen run self.parts self.actors.items)
+            → self.entries.items ≡ [] → length runs.running.log_ghost.log ≤ vec_capacity self.entries
+            → ListsInOrder result.marks self.actors.items result.history }
     {
         let Machine {
             parts,

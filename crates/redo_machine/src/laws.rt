@@ -3,14 +3,14 @@
 ghost use Rattle.std.specs.Prelude.{List, ℕ, ◌<◌};
 ghost use Rattle.model_core.specs.declared.ops.Step.{Step};
 ghost use Rattle.model_running.specs.{HasWatermarks};
-ghost use Rattle.redo_machine.specs.Playing.{RunOf, data_of, log_of};
-ghost use Rattle.redo_machine.specs.Running.{RunsOn, TakesTurn, code_in, core_of};
-ghost use Rattle.redo_machine.specs.declared.actor.Actor.{Actor};
-ghost use Rattle.redo_machine.specs.declared.parts.Parts.{Parts};
+ghost use Rattle.redo_drive.specs.Playing.{RunOf, data_of, log_of};
+ghost use Rattle.redo_drive.specs.Running.{RunsOn};
+ghost use Rattle.redo_drive.specs.Turning.{TakesTurn, code_in, core_of};
+ghost use Rattle.redo_drive.specs.declared.actor.Actor.{Actor};
+ghost use Rattle.redo_drive.specs.declared.parts.Parts.{Parts};
 
-use redo_dataside::data_part_meets_laws;
 use redo_disk::Sectors;
-use redo_logside::log_part_meets_laws;
+use redo_drive::{data_part_meets_laws, log_part_meets_laws};
 
 /// A machine in its run has each of the watermarks of a running store.
 pub fn running_machine_has_watermarks<L: Sectors, D: Sectors>()

@@ -1,10 +1,15 @@
 // A running store.
-ghost use Rattle.std.specs.Prelude.{◌≡◌};
+ghost use Rattle.std.specs.Prelude.{◌≡◌, IfErr, IfOk};
+ghost use Rattle.redo_drive.specs.Beginning.{MayBegin};
+ghost use Rattle.redo_drive.specs.Begins.{BeginsRun};
 
-use crate::actor::Actor;
-use crate::parts::Parts;
 use model_history::Entry;
+use model_script::Script;
 use redo_disk::Sectors;
+use redo_drive::{Actor, Beginning, Parts, begin_run};
+use redo_lsn::NoMemory;
+use redo_pageactors::Opened;
+use std::alloc::Global;
 
 /// A running store whose actors take turns: users that have lines, by their numbers, then the writer and the flusher, and
 /// then, unless the log runs alone, the closer, the cleaner and the checkpointer.
@@ -17,17 +22,28 @@ pub struct Machine<L: Sectors, D: Sectors> {
 }
 
 impl<L: Sectors, D: Sectors> Machine<L, D> {
-    /// What the actors share, the actors, and the room for the history.
-    pub fn into_parts(self) -> (Parts<L, D>, Vec<Actor>, Vec<Entry>)
-        ensures parts { result.0 ≡ self.parts }
-        ensures actors { result.1 ≡ self.actors }
-        ensures entries { result.2 ≡ self.entries }
+    /// The store as the run of a script begins, with the log alone or with the pages. It takes all memory; where there is none
+    /// it gives both devices back as they were.
+    pub fn new(
+        alloc: Global,
+        opened: Opened<L, D>,
+        script: &Script,
+        log_only: bool,
+    ) -> Result<Machine<L, D>, (NoMemory, L, D)>
+        requires { MayBegin opened script.now log_only }
+        ensures err { IfErr result (λ error. (error.1 ≡ opened.log.dev) × (error.2 ≡ opened.store.dev)) }
+        ensures begins { IfOk result (λ machine. BeginsRun L.seen D.seen opened script.now log_only
+            (record { parts = machine.parts; actors = machine.actors; entries = machine.entries })) }
     {
-        let Machine {
+        let Beginning {
             parts,
             actors,
             entries,
-        } = self;
-        (parts, actors, entries)
+        } = begin_run(alloc, opened, script, log_only)?;
+        Ok(Machine {
+            parts,
+            actors,
+            entries,
+        })
     }
 }

@@ -5,18 +5,16 @@ ghost use Rattle.model_core.specs.{answer_of, Each, index, IsWord, list_answer, 
 ghost use Rattle.model_core.specs.declared.limits.TheConstants.{CLOSED_LINKS};
 ghost use Rattle.model_core.specs.declared.ops.Op.TheVariants as op;
 ghost use Rattle.model_core.specs.declared.words.Word.TheVariants as word_is;
-ghost use Rattle.redo_logside.specs.{has_failed};
-ghost use Rattle.redo_machine.specs.Asking.{AskOfBoth};
-ghost use Rattle.redo_machine.specs.Calls.{CallOnBoth};
-ghost use Rattle.redo_machine.specs.Lists.{added, lists_of, removed};
-ghost use Rattle.redo_machine.specs.Playing.{HasSameDevices, HasSamePages, HasWholePages, IsPlayable, IsPlayed, RunOf};
+ghost use Rattle.redo_drive.specs.{has_failed};
+ghost use Rattle.redo_drive.specs.Asking.{AskOfBoth};
+ghost use Rattle.redo_drive.specs.Calls.{CallOnBoth};
+ghost use Rattle.redo_drive.specs.Lists.{added, lists_of, removed};
+ghost use Rattle.redo_drive.specs.Playing.{HasSameDevices, HasSamePages, HasWholePages, IsPlayable, IsPlayed, RunOf};
 ghost use Rattle.redo_words.specs.{Lends};
 
-use crate::calling::{call_batch, call_write, called};
-use crate::parts::Parts;
 use model_core::FLUSH_LISTS;
 use redo_disk::Sectors;
-use redo_logside::{checkpoint, sync};
+use redo_drive::{Parts, call_batch, call_write, called, checkpoint, sync};
 use redo_words::{Answer, Lent, Op, PlainWords, Word, old_of};
 
 /// Takes a turn word, if it is free.
@@ -47,102 +45,100 @@ fn list_of(page: u32) -> Word
     Word::List(page % FLUSH_LISTS as u32)
 }
 
-impl<L: Sectors, D: Sectors> Parts<L, D> {
-    /// Takes the log part.
-    fn take_device(&mut self) -> Answer
-        ensures pages { HasSamePages self.old self.new }
-        ensures devices { HasSameDevices self.old self.new }
-        ensures words { self.new.words.words ≡ words_left self.old.words.words op.TakeDevice }
-        ensures lists { self.new.lists ≡ self.old.lists }
-        ensures answer { (code mark : ℕ) → result ≡ answer_of (lists_of self.old.lists) (has_failed self.old.log.failed) code mark self.old.words.words op.TakeDevice }
-    {
-        if !take_turn_word(&mut self.words, Word::Device) {
-            return Answer::Held;
-        }
-        match self.log.failed() {
-            None => Answer::Taken(None),
-            Some(_) => Answer::Broken,
-        }
+/// Takes the log part.
+fn take_device<L: Sectors, D: Sectors>(parts: &mut Parts<L, D>) -> Answer
+    ensures pages { HasSamePages parts.old parts.new }
+    ensures devices { HasSameDevices parts.old parts.new }
+    ensures words { parts.new.words.words ≡ words_left parts.old.words.words op.TakeDevice }
+    ensures lists { parts.new.lists ≡ parts.old.lists }
+    ensures answer { (code mark : ℕ) → result ≡ answer_of (lists_of parts.old.lists) (has_failed parts.old.log.failed) code mark parts.old.words.words op.TakeDevice }
+{
+    if !take_turn_word(&mut parts.words, Word::Device) {
+        return Answer::Held;
     }
-
-    /// Takes a page's flush list, and adds the page.
-    fn take_add(&mut self, page: u32, oldest: u64) -> Answer
-        requires below { page < self.old.lists.pages }
-        requires unlisted { oldest_of page (lists_of self.old.lists (page % FLUSH_LISTS)) ≡ 0 }
-        requires order { Each (λ listed. listed.oldest < oldest + CLOSED_LINKS) (lists_of self.old.lists (page % FLUSH_LISTS)) }
-        requires real { Each (λ listed. 0 < listed.oldest) (lists_of self.old.lists (page % FLUSH_LISTS)) }
-        ensures pages { HasSamePages self.old self.new }
-        ensures devices { HasSameDevices self.old self.new }
-        ensures words { self.new.words.words ≡ words_left self.old.words.words (op.TakeAdd page oldest) }
-        ensures lists { self.new.lists ≡ (if list_word self.old.words.words (page % FLUSH_LISTS) == 0 then added self.old.lists page oldest else self.old.lists) }
-        ensures answer { result ≡ list_answer (list_word self.old.words.words (page % FLUSH_LISTS)) None }
-    {
-        if !take_turn_word(&mut self.words, list_of(page)) {
-            return Answer::Held;
-        }
-        self.lists.add(page, oldest);
-        Answer::Taken(None)
+    match parts.log.failed() {
+        None => Answer::Taken(None),
+        Some(_) => Answer::Broken,
     }
+}
 
-    /// Takes a page's flush list, and removes the page.
-    fn take_remove(&mut self, page: u32) -> Answer
-        requires { 0 < oldest_of page (lists_of self.old.lists (page % FLUSH_LISTS)) }
-        ensures pages { HasSamePages self.old self.new }
-        ensures devices { HasSameDevices self.old self.new }
-        ensures words { self.new.words.words ≡ words_left self.old.words.words (op.TakeRemove page) }
-        ensures lists { self.new.lists ≡ (if list_word self.old.words.words (page % FLUSH_LISTS) == 0 then removed self.old.lists page else self.old.lists) }
-        ensures answer { result ≡ list_answer (list_word self.old.words.words (page % FLUSH_LISTS)) None }
-    {
-        if !take_turn_word(&mut self.words, list_of(page)) {
-            return Answer::Held;
-        }
-        self.lists.remove(page);
-        Answer::Taken(None)
+/// Takes a page's flush list, and adds the page.
+fn take_add<L: Sectors, D: Sectors>(parts: &mut Parts<L, D>, page: u32, oldest: u64) -> Answer
+    requires below { page < parts.old.lists.pages }
+    requires unlisted { oldest_of page (lists_of parts.old.lists (page % FLUSH_LISTS)) ≡ 0 }
+    requires order { Each (λ listed. listed.oldest < oldest + CLOSED_LINKS) (lists_of parts.old.lists (page % FLUSH_LISTS)) }
+    requires real { Each (λ listed. 0 < listed.oldest) (lists_of parts.old.lists (page % FLUSH_LISTS)) }
+    ensures pages { HasSamePages parts.old parts.new }
+    ensures devices { HasSameDevices parts.old parts.new }
+    ensures words { parts.new.words.words ≡ words_left parts.old.words.words (op.TakeAdd page oldest) }
+    ensures lists { parts.new.lists ≡ (if list_word parts.old.words.words (page % FLUSH_LISTS) == 0 then added parts.old.lists page oldest else parts.old.lists) }
+    ensures answer { result ≡ list_answer (list_word parts.old.words.words (page % FLUSH_LISTS)) None }
+{
+    if !take_turn_word(&mut parts.words, list_of(page)) {
+        return Answer::Held;
     }
+    parts.lists.add(page, oldest);
+    Answer::Taken(None)
+}
 
-    /// Takes a flush list, and reads the oldest modification of the page that entered it first.
-    fn take_oldest(&mut self, list: u32) -> Answer
-        requires { list < FLUSH_LISTS }
-        ensures pages { HasSamePages self.old self.new }
-        ensures devices { HasSameDevices self.old self.new }
-        ensures words { self.new.words.words ≡ words_left self.old.words.words (op.TakeOldest list) }
-        ensures lists { self.new.lists ≡ self.old.lists }
-        ensures answer { result ≡ list_answer (list_word self.old.words.words list) (oldest_end (lists_of self.old.lists list)) }
-    {
-        if !take_turn_word(&mut self.words, Word::List(list)) {
-            return Answer::Held;
-        }
-        Answer::Taken(self.lists.oldest_end(list))
+/// Takes a page's flush list, and removes the page.
+fn take_remove<L: Sectors, D: Sectors>(parts: &mut Parts<L, D>, page: u32) -> Answer
+    requires { 0 < oldest_of page (lists_of parts.old.lists (page % FLUSH_LISTS)) }
+    ensures pages { HasSamePages parts.old parts.new }
+    ensures devices { HasSameDevices parts.old parts.new }
+    ensures words { parts.new.words.words ≡ words_left parts.old.words.words (op.TakeRemove page) }
+    ensures lists { parts.new.lists ≡ (if list_word parts.old.words.words (page % FLUSH_LISTS) == 0 then removed parts.old.lists page else parts.old.lists) }
+    ensures answer { result ≡ list_answer (list_word parts.old.words.words (page % FLUSH_LISTS)) None }
+{
+    if !take_turn_word(&mut parts.words, list_of(page)) {
+        return Answer::Held;
     }
+    parts.lists.remove(page);
+    Answer::Taken(None)
+}
 
-    /// Plays an Op with what its actor lends.
-    pub fn play(&mut self, op: Op, lent: Lent<'_>) -> Answer
-        requires { IsPlayable self.old op lent }
-        ensures pages { HasSamePages self.old self.new }
-        ensures played { (run : RunOf L D) (l : model.Lent) → Lends lent.entry l → HasWholePages op l
-            → IsPlayed L.seen D.seen run op l self.old result self.new }
-        ensures asked { (l : model.Lent) → Lends lent.entry l → HasWholePages op l → AskOfBoth L.gives D.gives l op self.old self.new }
-        ensures calls { CallOnBoth L.gives D.gives self.old self.new }
-    {
-        self.lists.are_lists();
-        match op {
-            Op::Load(_) | Op::Store(_, _) | Op::Add(_, _) | Op::Swap(_, _, _) => {
-                self.words.play(op)
-            }
-            Op::TakeDevice => self.take_device(),
-            Op::GiveDevice => give_turn_word(&mut self.words, Word::Device),
-            Op::TakeAdd(page, oldest) => self.take_add(page, oldest),
-            Op::TakeRemove(page) => self.take_remove(page),
-            Op::TakeOldest(list) => self.take_oldest(list),
-            Op::GiveList(list) => give_turn_word(&mut self.words, Word::List(list)),
-            Op::WriteTo(mark) => called(call_write(&mut self.log, mark, lent), 0),
-            Op::Sync => {
-                let code = sync(&mut self.log);
-                called(code, self.log.stable())
-            }
-            Op::Checkpoint(lsn) => called(checkpoint(&mut self.log, lsn), 0),
-            Op::WriteBatch => called(call_batch(&mut self.store, lent), 0),
-            Op::Rest => Answer::Rested,
+/// Takes a flush list, and reads the oldest modification of the page that entered it first.
+fn take_oldest<L: Sectors, D: Sectors>(parts: &mut Parts<L, D>, list: u32) -> Answer
+    requires { list < FLUSH_LISTS }
+    ensures pages { HasSamePages parts.old parts.new }
+    ensures devices { HasSameDevices parts.old parts.new }
+    ensures words { parts.new.words.words ≡ words_left parts.old.words.words (op.TakeOldest list) }
+    ensures lists { parts.new.lists ≡ parts.old.lists }
+    ensures answer { result ≡ list_answer (list_word parts.old.words.words list) (oldest_end (lists_of parts.old.lists list)) }
+{
+    if !take_turn_word(&mut parts.words, Word::List(list)) {
+        return Answer::Held;
+    }
+    Answer::Taken(parts.lists.oldest_end(list))
+}
+
+/// Plays an Op with what its actor lends.
+pub fn play<L: Sectors, D: Sectors>(parts: &mut Parts<L, D>, op: Op, lent: Lent<'_>) -> Answer
+    requires { IsPlayable parts.old op lent }
+    ensures pages { HasSamePages parts.old parts.new }
+    ensures played { (run : RunOf L D) (l : model.Lent) → Lends lent.entry l → HasWholePages op l
+        → IsPlayed L.seen D.seen run op l parts.old result parts.new }
+    ensures asked { (l : model.Lent) → Lends lent.entry l → HasWholePages op l → AskOfBoth L.gives D.gives l op parts.old parts.new }
+    ensures calls { CallOnBoth L.gives D.gives parts.old parts.new }
+{
+    parts.lists.are_lists();
+    match op {
+        Op::Load(_) | Op::Store(_, _) | Op::Add(_, _) | Op::Swap(_, _, _) => {
+            parts.words.play(op)
         }
+        Op::TakeDevice => take_device(parts),
+        Op::GiveDevice => give_turn_word(&mut parts.words, Word::Device),
+        Op::TakeAdd(page, oldest) => take_add(parts, page, oldest),
+        Op::TakeRemove(page) => take_remove(parts, page),
+        Op::TakeOldest(list) => take_oldest(parts, list),
+        Op::GiveList(list) => give_turn_word(&mut parts.words, Word::List(list)),
+        Op::WriteTo(mark) => called(call_write(&mut parts.log, mark, lent), 0),
+        Op::Sync => {
+            let code = sync(&mut parts.log);
+            called(code, parts.log.stable())
+        }
+        Op::Checkpoint(lsn) => called(checkpoint(&mut parts.log, lsn), 0),
+        Op::WriteBatch => called(call_batch(&mut parts.store, lent), 0),
+        Op::Rest => Answer::Rested,
     }
 }

@@ -1,24 +1,16 @@
 // A run by turns.
 ghost use Rattle.std.specs.Prelude.{◌≡◌, ◌<◌, ◌+◌, ℕ};
 ghost use Rattle.model_running.specs.{seat_of_turn};
-ghost use Rattle.redo_machine.specs.Calls.{CallOnBoth};
-ghost use Rattle.redo_machine.specs.Playing.{RunOf};
-ghost use Rattle.redo_machine.specs.Running.{IsOnRun, RunsOn};
+ghost use Rattle.redo_drive.specs.Calls.{CallOnBoth};
+ghost use Rattle.redo_drive.specs.Playing.{RunOf};
+ghost use Rattle.redo_drive.specs.Running.{IsOnRun, RunsOn};
 ghost use Rattle.redo_machine.specs.Turns.{EndsAsking, IsDrawn};
 
 use crate::machine::Machine;
 use crate::open_users::{open_seat, open_user};
 use redo_disk::Sectors;
+use redo_drive::RunEnd;
 use redo_script::Draws;
-
-/// How a run ends.
-#[derive(Clone, Copy, Debug, PartialEq, Eq)]
-pub enum Ran {
-    /// Each user has ended.
-    Done,
-    /// The turns are spent, and this is the least user that hasn't ended.
-    Spent(u32),
-}
 
 /// The seat of a turn: as the seed draws in the first half of the turns, then one after another.
 fn seat_of(draws: &mut Draws, turn: u64, max: u64, seats: u64) -> u64
@@ -36,7 +28,7 @@ fn seat_of(draws: &mut Draws, turn: u64, max: u64, seats: u64) -> u64
 
 impl<L: Sectors, D: Sectors> Machine<L, D> {
     /// Gives turns to the actors, at most so many, until each user has ended.
-    pub fn run(&mut self, seed: u64, max: u64) -> Ran
+    pub fn run(&mut self, seed: u64, max: u64) -> RunEnd
         requires { IsOnRun L.seen D.seen self.old.parts self.old.actors.items }
         ensures runs { (run : RunOf L D) → RunsOn L.seen D.seen run self.old.parts self.old.actors.items
             → RunsOn L.seen D.seen run self.new.parts self.new.actors.items }
@@ -50,15 +42,15 @@ impl<L: Sectors, D: Sectors> Machine<L, D> {
         let mut open = 0;
         for turn in 0..max {
             match open_seat(self.actors.as_slice(), open) {
-                None => return Ran::Done,
+                None => return RunEnd::Done,
                 Some(found) => open = found,
             }
             let seat = seat_of(&mut draws, turn, max, seats);
             let _ = self.turn(seat as usize);
         }
         match open_user(self.actors.as_slice()) {
-            None => Ran::Done,
-            Some((_, user)) => Ran::Spent(user),
+            None => RunEnd::Done,
+            Some((_, user)) => RunEnd::Spent { turns: max, user },
         }
     }
 }

@@ -1,50 +1,47 @@
 // One turn.
 ghost use Rattle.std.specs.Prelude.{◌≡◌, ◌<◌, ℕ, IfSome, length, slice_get};
 ghost use Rattle.model_core.specs.{lent, next};
-ghost use Rattle.redo_machine.specs.Asking.{AskOfBoth};
-ghost use Rattle.redo_machine.specs.Calls.{CallOnBoth};
-ghost use Rattle.redo_machine.specs.Playing.{HasSamePages, RunOf};
-ghost use Rattle.redo_machine.specs.Running.{HasCause, IsOnRun, IsServed, MayServe, RunsOn, TakesTurn};
-ghost use Rattle.redo_machine.specs.Views.{view_of};
+ghost use Rattle.redo_drive.specs.Asking.{AskOfBoth};
+ghost use Rattle.redo_drive.specs.Calls.{CallOnBoth};
+ghost use Rattle.redo_drive.specs.Playing.{HasSamePages, RunOf};
+ghost use Rattle.redo_drive.specs.Running.{IsOnRun, RunsOn};
+ghost use Rattle.redo_drive.specs.Turning.{HasCause, IsServed, MayServe, TakesTurn};
+ghost use Rattle.redo_drive.specs.Views.{view_of};
 
-use crate::actor::Actor;
 use crate::machine::Machine;
-use crate::parts::Parts;
-use redo_dataside::data_part_meets_laws;
+use crate::playing::play;
 use redo_disk::Sectors;
-use redo_logside::log_part_meets_laws;
+use redo_drive::{Actor, Parts, data_part_meets_laws, log_part_meets_laws};
 use redo_words::Step;
 
-impl<L: Sectors, D: Sectors> Parts<L, D> {
-    /// Plays the Op that an actor asks for, and gives the actor the answer.
-    pub fn serve(&mut self, actor: &mut Actor) -> Step
-        requires { MayServe self.old (view_of actor.old) }
-        ensures pages { HasSamePages self.old self.new }
-        ensures served { (run : RunOf L D) → IsServed L.seen D.seen run self.old (view_of actor.old) result self.new (view_of actor.new) }
-        ensures asked { AskOfBoth L.gives D.gives (lent (view_of actor.old)) (next (view_of actor.old)) self.old self.new }
-        ensures calls { CallOnBoth L.gives D.gives self.old self.new }
-    {
-        let op = actor.next();
-        let answer = self.play(op, actor.lent());
-        actor.took(answer)
-    }
+/// Plays the Op that an actor asks for, and gives the actor the answer.
+fn serve<L: Sectors, D: Sectors>(parts: &mut Parts<L, D>, actor: &mut Actor) -> Step
+    requires { MayServe parts.old (view_of actor.old) }
+    ensures pages { HasSamePages parts.old parts.new }
+    ensures served { (run : RunOf L D) → IsServed L.seen D.seen run parts.old (view_of actor.old) result parts.new (view_of actor.new) }
+    ensures asked { AskOfBoth L.gives D.gives (lent (view_of actor.old)) (next (view_of actor.old)) parts.old parts.new }
+    ensures calls { CallOnBoth L.gives D.gives parts.old parts.new }
+{
+    let op = actor.next();
+    let answer = play(parts, op, actor.lent());
+    actor.took(answer)
+}
 
-    /// Gives the actor at a seat its turn.
-    pub fn turn(&mut self, actors: &mut Vec<Actor>, seat: usize) -> Step
-        requires on_run { IsOnRun L.seen D.seen self.old actors.old.items }
-        requires seat { seat < length actors.old.items }
-        ensures turn { (run : RunOf L D) → RunsOn L.seen D.seen run self.old actors.old.items
-            → TakesTurn L.seen D.seen run self.old actors.old.items seat result self.new actors.new.items }
-        ensures runs { (run : RunOf L D) → RunsOn L.seen D.seen run self.old actors.old.items → RunsOn L.seen D.seen run self.new actors.new.items }
-        ensures cause { (run : RunOf L D) (code : ℕ) → RunsOn L.seen D.seen run self.old actors.old.items → result ≡ Step.Failed code → HasCause L.seen D.seen run self.new }
-        ensures seats { length actors.new.items ≡ length actors.old.items }
-        ensures asked { IfSome (slice_get actors.old.items seat) (λ actor. AskOfBoth L.gives D.gives (lent (view_of actor)) (next (view_of actor)) self.old self.new) }
-        ensures calls { CallOnBoth L.gives D.gives self.old self.new }
-    {
-        log_part_meets_laws::<L>();
-        data_part_meets_laws::<D>();
-        self.serve(&mut actors[seat])
-    }
+/// Gives the actor at a seat its turn.
+fn turn<L: Sectors, D: Sectors>(parts: &mut Parts<L, D>, actors: &mut Vec<Actor>, seat: usize) -> Step
+    requires on_run { IsOnRun L.seen D.seen parts.old actors.old.items }
+    requires seat { seat < length actors.old.items }
+    ensures turn { (run : RunOf L D) → RunsOn L.seen D.seen run parts.old actors.old.items
+        → TakesTurn L.seen D.seen run parts.old actors.old.items seat result parts.new actors.new.items }
+    ensures runs { (run : RunOf L D) → RunsOn L.seen D.seen run parts.old actors.old.items → RunsOn L.seen D.seen run parts.new actors.new.items }
+    ensures cause { (run : RunOf L D) (code : ℕ) → RunsOn L.seen D.seen run parts.old actors.old.items → result ≡ Step.Failed code → HasCause L.seen D.seen run parts.new }
+    ensures seats { length actors.new.items ≡ length actors.old.items }
+    ensures asked { IfSome (slice_get actors.old.items seat) (λ actor. AskOfBoth L.gives D.gives (lent (view_of actor)) (next (view_of actor)) parts.old parts.new) }
+    ensures calls { CallOnBoth L.gives D.gives parts.old parts.new }
+{
+    log_part_meets_laws::<L>();
+    data_part_meets_laws::<D>();
+    serve(parts, &mut actors[seat])
 }
 
 impl<L: Sectors, D: Sectors> Machine<L, D> {
@@ -70,6 +67,6 @@ impl<L: Sectors, D: Sectors> Machine<L, D> {
         ensures calls { CallOnBoth L.gives D.gives self.old.parts self.new.parts }
         ensures entries { self.new.entries ≡ self.old.entries }
     {
-        self.parts.turn(&mut self.actors, seat)
+        turn(&mut self.parts, &mut self.actors, seat)
     }
 }

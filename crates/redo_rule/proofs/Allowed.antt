@@ -18,14 +18,14 @@ use Rattle.model_core.specs.declared.words.Word.{Word}
 use Rattle.redo_disk.specs.{Call}
 use Rattle.redo_disk.specs.Seen.{Seen}
 use Rattle.redo_logdev.specs.Part as log
-use Rattle.redo_logside.specs.{has_failed}
-use Rattle.redo_machine.proofs.MayTurn.{holds_sum}
-use Rattle.redo_machine.proofs.Played as played
-use Rattle.redo_machine.specs.Lists.{AreLists, listing_at, Listings, lists_of}
-use Rattle.redo_machine.specs.Playing.{data_of, HasSamePages, IsPlayed}
-use Rattle.redo_machine.specs.Views.{view_of, views_of}
-use Rattle.redo_machine.specs.Calls.{CallsOn}
-use Rattle.redo_machine.specs.declared.parts.Parts.{Parts}
+use Rattle.redo_drive.specs.{has_failed}
+use Rattle.redo_drive.proofs.MayTurn.{holds_sum}
+use Rattle.redo_drive.proofs.Played as played
+use Rattle.redo_drive.specs.Lists.{AreLists, listing_at, Listings, lists_of}
+use Rattle.redo_drive.specs.Playing.{data_of, HasSamePages, IsPlayed}
+use Rattle.redo_drive.specs.Views.{view_of, views_of}
+use Rattle.redo_drive.specs.Calls.{CallsOn}
+use Rattle.redo_drive.specs.declared.parts.Parts.{Parts}
 use Rattle.redo_flushlist.specs.{Listing}
 use Rattle.redo_rule.proofs.Hands.{handles}
 use Rattle.redo_rule.proofs.Holders as holders

@@ -16,15 +16,15 @@ use Rattle.model_core.specs.declared.ops.Op.TheVariants as op
 use Rattle.redo_disk.specs.{Call, EndWith, MakesCalls}
 use Rattle.redo_disk.specs.Seen.{Seen}
 use Rattle.redo_logdev.specs.Part as log
-use Rattle.redo_logside.proofs.ShapeStays.{served_shape}
-use Rattle.redo_logside.specs.LogPartSide as log_part
-use Rattle.redo_machine.proofs.CallsOn.{calls_then}
-use Rattle.redo_machine.proofs.Played as played
-use Rattle.redo_machine.specs.Calls.{CallsOn}
-use Rattle.redo_machine.specs.Lists.{listing_at, Listings, lists_of}
-use Rattle.redo_machine.specs.Playing.{data_of, HasSamePages, IsPlayed, log_of, RunOf}
-use Rattle.redo_machine.specs.Views.{view_of, views_of}
-use Rattle.redo_machine.specs.declared.parts.Parts.{Parts}
+use Rattle.redo_drive.proofs.ShapeStays.{served_shape}
+use Rattle.redo_drive.specs.LogPartSide as log_part
+use Rattle.redo_drive.proofs.CallsOn.{calls_then}
+use Rattle.redo_drive.proofs.Played as played
+use Rattle.redo_drive.specs.Calls.{CallsOn}
+use Rattle.redo_drive.specs.Lists.{listing_at, Listings, lists_of}
+use Rattle.redo_drive.specs.Playing.{data_of, HasSamePages, IsPlayed, log_of, RunOf}
+use Rattle.redo_drive.specs.Views.{view_of, views_of}
+use Rattle.redo_drive.specs.declared.parts.Parts.{Parts}
 use Rattle.redo_rule.proofs.Allowed as allowed
 use Rattle.redo_rule.proofs.Hands.{handles}
 use Rattle.redo_rule.proofs.Holders as holders

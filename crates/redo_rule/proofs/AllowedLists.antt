@@ -18,11 +18,11 @@ use Rattle.redo_disk.specs.{Call}
 use Rattle.redo_disk.specs.Seen.{Seen}
 use Rattle.redo_flushlist.specs.{Listing, without}
 use Rattle.redo_flushlist.specs.declared.dirty.Dirty.{Dirty}
-use Rattle.redo_machine.proofs.Played as played
-use Rattle.redo_machine.specs.Lists.{added, AreLists, listing_at, Listings, lists_of, no_list, removed, with_list}
-use Rattle.redo_machine.specs.Playing.{data_of, log_of}
-use Rattle.redo_machine.specs.Views.{view_of, views_of}
-use Rattle.redo_machine.specs.declared.parts.Parts.{Parts}
+use Rattle.redo_drive.proofs.Played as played
+use Rattle.redo_drive.specs.Lists.{added, AreLists, listing_at, Listings, lists_of, no_list, removed, with_list}
+use Rattle.redo_drive.specs.Playing.{data_of, log_of}
+use Rattle.redo_drive.specs.Views.{view_of, views_of}
+use Rattle.redo_drive.specs.declared.parts.Parts.{Parts}
 use Rattle.redo_rule.proofs.Allowed as allowed
 use Rattle.redo_rule.proofs.Hands.{handles}
 use Rattle.redo_rule.proofs.Retook.{one_head}

@@ -10,12 +10,12 @@ use Rattle.model_core.specs.declared.ops.Answer.{Answer}
 use Rattle.model_core.specs.declared.ops.Op.{Op}
 use Rattle.model_core.specs.declared.ops.Op.TheVariants as op
 use Rattle.model_core.specs.declared.ops.Step.{Step}
-use Rattle.redo_dataside.specs.DataPartSide as data_part
+use Rattle.redo_drive.specs.DataPartSide as data_part
 use Rattle.redo_disk.specs.{Call, EndWith, error_of, MakesCalls}
 use Rattle.redo_disk.specs.Seen.{Seen}
 use Rattle.redo_disk.specs.declared.error.DevError.{DevError}
-use Rattle.redo_machine.specs.Playing.{data_of, DataReady, HasWholePages, MayBatchLent, RunOf}
-use Rattle.redo_machine.specs.Views.{view_of}
+use Rattle.redo_drive.specs.Playing.{data_of, DataReady, HasWholePages, MayBatchLent, RunOf}
+use Rattle.redo_drive.specs.Views.{view_of}
 use Rattle.redo_rule.proofs.AllowedCalls.{allows_batched, allows_reach}
 use Rattle.redo_rule.proofs.Kept as kept
 use Rattle.redo_rule.proofs.Retook.{view_retook}

@@ -14,9 +14,9 @@ use Rattle.redo_disk.specs.{Call, EndWith, error_of, MakesCalls}
 use Rattle.redo_disk.specs.Seen.{Seen}
 use Rattle.redo_disk.specs.declared.error.DevError.{DevError}
 use Rattle.redo_logdev.specs.Part as log
-use Rattle.redo_logside.specs.LogPartSide as log_part
-use Rattle.redo_machine.specs.Playing.{log_of, LogReady, MayWriteLent, RunOf}
-use Rattle.redo_machine.specs.Views.{view_of}
+use Rattle.redo_drive.specs.LogPartSide as log_part
+use Rattle.redo_drive.specs.Playing.{log_of, LogReady, MayWriteLent, RunOf}
+use Rattle.redo_drive.specs.Views.{view_of}
 use Rattle.redo_rule.proofs.AllowedCalls.{allows_called, CallsLog}
 use Rattle.redo_rule.proofs.Kept as kept
 use Rattle.redo_rule.proofs.Retook.{view_retook}

@@ -23,9 +23,9 @@ use Rattle.model_core.specs.declared.steps.WriterStep.{WriterStep}
 use Rattle.model_core.specs.declared.steps.WriterStep.TheVariants as writer_step
 use Rattle.model_core.specs.declared.words.Word.TheVariants as word
 use Rattle.redo_disk.specs.Seen.{Seen}
-use Rattle.redo_machine.proofs.FailedTurns.{failed_turn_has_cause}
-use Rattle.redo_machine.specs.Playing.{data_of, log_of}
-use Rattle.redo_machine.specs.Running.{core_of, HasCause}
+use Rattle.redo_drive.proofs.FailedTurns.{failed_turn_has_cause}
+use Rattle.redo_drive.specs.Playing.{data_of, log_of}
+use Rattle.redo_drive.specs.Turning.{core_of, HasCause}
 use Rattle.redo_rule.proofs.Hands.{rests}
 use Rattle.redo_rule.proofs.Kept.{laws_of_data, laws_of_log}
 use Rattle.redo_rule.specs.Causes.{HasMetFailure, HasWaited}

@@ -11,10 +11,10 @@ use Rattle.model_core.specs.Setup.{Setup}
 use Rattle.model_running.specs.{ArePageActors, AreSeated}
 use Rattle.redo_disk.specs.{Call}
 use Rattle.redo_disk.specs.Seen.{Seen}
-use Rattle.redo_machine.specs.Lists.{listing_at}
-use Rattle.redo_machine.specs.Views.{view_of, views_of}
-use Rattle.redo_machine.specs.declared.actor.Actor.{Actor}
-use Rattle.redo_machine.specs.Running.{RunsOn}
+use Rattle.redo_drive.specs.Lists.{listing_at}
+use Rattle.redo_drive.specs.Views.{view_of, views_of}
+use Rattle.redo_drive.specs.declared.actor.Actor.{Actor}
+use Rattle.redo_drive.specs.Running.{RunsOn}
 use Rattle.redo_rule.specs.Ending.{EndsWith}
 use Rattle.redo_rule.specs.Hands.{hand}
 use Rattle.redo_rule.specs.Ruled.{Knows, numbered, Ruled}

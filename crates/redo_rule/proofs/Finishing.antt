@@ -14,16 +14,16 @@ use Rattle.model_history.specs.declared.entry.Entry.{Entry}
 use Rattle.model_history.specs.declared.entry.Marks.{Marks}
 use Rattle.redo_disk.specs.{Call}
 use Rattle.redo_disk.specs.Seen.{Seen}
-use Rattle.redo_machine.proofs.FailureCode.{small_code}
-use Rattle.redo_machine.proofs.LeftRun as left_run
-use Rattle.redo_machine.proofs.LogCount.{log_within_script}
-use Rattle.redo_machine.proofs.Told.{as_many, have_groups, history_is}
-use Rattle.redo_machine.specs.Beginning.{MayBegin}
-use Rattle.redo_machine.specs.History.{HasGroups, ListsInOrder, all_listed}
-use Rattle.redo_machine.specs.Lists.{listing_at}
-use Rattle.redo_machine.specs.Leaving.{LeavesRun}
-use Rattle.redo_machine.specs.Views.{view_of}
-use Rattle.redo_machine.specs.declared.actor.Actor.{Actor}
+use Rattle.redo_drive.proofs.FailureCode.{small_code}
+use Rattle.redo_drive.proofs.LeftRun as left_run
+use Rattle.redo_drive.proofs.LogCount.{log_within_script}
+use Rattle.redo_drive.proofs.Told.{as_many, have_groups, history_is}
+use Rattle.redo_drive.specs.Beginning.{MayBegin}
+use Rattle.redo_drive.specs.History.{HasGroups, ListsInOrder, all_listed}
+use Rattle.redo_drive.specs.Lists.{listing_at}
+use Rattle.redo_drive.specs.Leaving.{LeavesRun}
+use Rattle.redo_drive.specs.Views.{view_of}
+use Rattle.redo_drive.specs.declared.actor.Actor.{Actor}
 use Rattle.redo_pageactors.specs.declared.closed.Closed.{Closed}
 use Rattle.redo_rule.proofs.Ends.{ends_ok}
 use Rattle.redo_rule.proofs.Kept as kept
@@ -187,7 +187,7 @@ module _ {L D : Type 0} (log_seen : L → Seen) (log_gives : L → Call → L �
         → IsOwedRun log_seen log_gives data_seen data_gives about.opened.value about.script.value actors closed
     is_owed may closed by = record {
       holds = left_run.holds_run log_seen log_gives data_seen data_gives about.opened.value about.script.value about.log_only actors (done_with closed) by may;
-      comes_to = λ ended. left_run.comes_to_run log_seen log_gives data_seen data_gives about.opened.value about.script.value about.log_only actors (done_with closed) by may (λ e. ended) (λ user e. absurd (cc));
+      comes_to = λ ended. left_run.comes_to_run log_seen log_gives data_seen data_gives about.opened.value about.script.value about.log_only actors (done_with closed) by may (λ e. ended) (λ turns user e. absurd (cc));
       owed = λ ended. left_run.is_owed log_seen log_gives data_seen data_gives about.opened.value about.script.value about.log_only actors (done_with closed) by may (λ e. ended);
       owed_synced = λ ended. left_run.is_owed_synced log_seen log_gives data_seen data_gives about.opened.value about.script.value about.log_only actors (done_with closed) by may (λ e. ended);
     }

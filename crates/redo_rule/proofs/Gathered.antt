@@ -8,9 +8,9 @@ use Rattle.atomic_table.specs.Seated.{TableId}
 use Rattle.atomic_table.specs.declared.shared.Seat.{Seat}
 use Rattle.model_core.specs.{word_count}
 use Rattle.model_core.specs.Actors as model
-use Rattle.redo_machine.specs.Views.{view_of}
-use Rattle.redo_machine.specs.declared.actor.Actor.{Actor}
-use Rattle.redo_machine.specs.declared.actor.Actor.TheVariants as own
+use Rattle.redo_drive.specs.Views.{view_of}
+use Rattle.redo_drive.specs.declared.actor.Actor.{Actor}
+use Rattle.redo_drive.specs.declared.actor.Actor.TheVariants as own
 use Rattle.redo_rule.proofs.Opens.{numbered_at}
 use Rattle.redo_rule.proofs.Seated.{at_end}
 use Rattle.redo_rule.specs.Cutting.{HoldNothing, IsFirst, MayCut, MayTakeIn}

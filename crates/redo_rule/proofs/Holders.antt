@@ -23,12 +23,12 @@ use Rattle.model_pagecore.specs.{CheckpointerPageFits, CheckpointerPagesAt, Clea
 use Rattle.model_pagecore.specs.PageHalf.{HasList}
 use Rattle.model_running.proofs.FlatWords.{flat_read}
 use Rattle.redo_disk.specs.Seen.{Seen}
-use Rattle.redo_machine.specs.Lists.{lists_of}
-use Rattle.redo_machine.specs.Playing.{RunOf, data_of, log_of}
-use Rattle.redo_machine.specs.Running.{RunsOn}
-use Rattle.redo_machine.specs.Views.{views_of}
-use Rattle.redo_machine.specs.declared.actor.Actor.{Actor}
-use Rattle.redo_machine.specs.declared.parts.Parts.{Parts}
+use Rattle.redo_drive.specs.Lists.{lists_of}
+use Rattle.redo_drive.specs.Playing.{RunOf, data_of, log_of}
+use Rattle.redo_drive.specs.Running.{RunsOn}
+use Rattle.redo_drive.specs.Views.{views_of}
+use Rattle.redo_drive.specs.declared.actor.Actor.{Actor}
+use Rattle.redo_drive.specs.declared.parts.Parts.{Parts}
 use Rattle.redo_rule.specs.Hands.{checkpointer_hand, cleaner_hand, flusher_hand, hand, user_hand, writer_hand}
 
 abbrev number_in : Option ℕ → ℕ

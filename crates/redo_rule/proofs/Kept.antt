@@ -19,23 +19,24 @@ use Rattle.model_pagecore.specs.DataLaws.{DataLaws}
 use Rattle.model_running.proofs.EachTurn.{turn_keeps}
 use Rattle.model_running.proofs.SeatsKeep.{turn_keeps_seats}
 use Rattle.model_running.proofs.Turns.{next_words}
-use Rattle.redo_dataside.proofs.DataPartLaws.{data_laws}
-use Rattle.redo_dataside.specs.DataPartSide as data_part
+use Rattle.redo_drive.proofs.DataPartLaws.{data_laws}
+use Rattle.redo_drive.specs.DataPartSide as data_part
 use Rattle.redo_disk.specs.{Call}
 use Rattle.redo_disk.specs.Seen.{Seen}
 use Rattle.redo_flushlist.specs.{Listing}
 use Rattle.redo_logdev.specs.Part as log
-use Rattle.redo_logside.proofs.LogPartLaws.{log_laws}
-use Rattle.redo_logside.specs.LogPartSide as log_part
-use Rattle.redo_machine.proofs.MayTurn.{may_serve}
-use Rattle.redo_machine.proofs.TurnsOf.{answer_fits}
-use Rattle.redo_machine.specs.Calls.{CallsOn}
-use Rattle.redo_machine.specs.Lists.{AreLists, lists_of}
-use Rattle.redo_machine.specs.Playing.{DataReady, HasSamePages, IsPlayed, LogReady, RunOf, data_of, log_of}
-use Rattle.redo_machine.specs.Running.{core_of, MayServe, RunsOn}
-use Rattle.redo_machine.specs.Views.{view_of, views_of}
-use Rattle.redo_machine.specs.declared.actor.Actor.{Actor}
-use Rattle.redo_machine.specs.declared.parts.Parts.{Parts}
+use Rattle.redo_drive.proofs.LogPartLaws.{log_laws}
+use Rattle.redo_drive.specs.LogPartSide as log_part
+use Rattle.redo_drive.proofs.MayTurn.{may_serve}
+use Rattle.redo_drive.proofs.TurnsOf.{answer_fits}
+use Rattle.redo_drive.specs.Calls.{CallsOn}
+use Rattle.redo_drive.specs.Lists.{AreLists, lists_of}
+use Rattle.redo_drive.specs.Playing.{DataReady, HasSamePages, IsPlayed, LogReady, RunOf, data_of, log_of}
+use Rattle.redo_drive.specs.Running.{RunsOn}
+use Rattle.redo_drive.specs.Turning.{core_of, MayServe}
+use Rattle.redo_drive.specs.Views.{view_of, views_of}
+use Rattle.redo_drive.specs.declared.actor.Actor.{Actor}
+use Rattle.redo_drive.specs.declared.parts.Parts.{Parts}
 use Rattle.redo_rule.proofs.Hands.{stays_free}
 use Rattle.redo_rule.proofs.Retook.{at_map, view_retook}
 use Rattle.redo_rule.specs.Hands.{hand, IsFreeToCheck}

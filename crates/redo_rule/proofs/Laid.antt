@@ -1,7 +1,7 @@
 -- What comes out of the slots, the last one first.
 use Rattle.std.proofs.Common.{List, [], ap, refl, sym, ℕ, ◌++◌, ◌∙◌, ◌∷◌, ◌≡◌}
 use Rattle.redo_logdev.specs.Part as log
-use Rattle.redo_machine.specs.Lists.{listing_at, Listings}
+use Rattle.redo_drive.specs.Lists.{listing_at, Listings}
 use Rattle.redo_rule.specs.Sharing.{laid}
 use Rattle.redo_rule.specs.declared.law.Slot.{Slot}
 use Rattle.redo_rule.specs.declared.law.Slot.TheVariants as slot

@@ -1,4 +1,4 @@
--- The rule holds of a table that was made of a machine at the beginning of its run.
+-- The rule holds of a table that was made of parts and actors at the beginning of a run.
 use Rattle.std.proofs.Common.{Bool, List, None, Option, Some, [], ap, arith, cond, false, length, map, refl, subst, suc, sym, true, zero, ℕ, ◌+◌, ◌<◌, ◌==◌, ◌∙◌, ◌∷◌, ◌≡◌}
 use Rattle.std.specs.Prelude.{slice_index}
 use lib.ListN.{get_elem?}
@@ -15,14 +15,14 @@ use Rattle.model_running.proofs.FlatWords.{flat_read}
 use Rattle.redo_disk.specs.{Call}
 use Rattle.redo_disk.specs.Seen.{Seen}
 use Rattle.redo_logdev.specs.Part as log
-use Rattle.redo_machine.proofs.CallsOn.{not_called}
-use Rattle.redo_machine.specs.Beginning.{BeginsRun}
-use Rattle.redo_machine.specs.Calls.{CallsOn}
-use Rattle.redo_machine.specs.Lists.{AreLists, listing_at}
-use Rattle.redo_machine.specs.Views.{view_of}
-use Rattle.redo_machine.specs.declared.actor.Actor.{Actor}
-use Rattle.redo_machine.specs.declared.machine.Machine.{Machine}
-use Rattle.redo_machine.specs.declared.parts.Parts.{Parts}
+use Rattle.redo_drive.proofs.CallsOn.{not_called}
+use Rattle.redo_drive.specs.Begins.{BeginsRun}
+use Rattle.redo_drive.specs.Calls.{CallsOn}
+use Rattle.redo_drive.specs.Lists.{AreLists, listing_at}
+use Rattle.redo_drive.specs.Views.{view_of}
+use Rattle.redo_drive.specs.declared.actor.Actor.{Actor}
+use Rattle.redo_drive.specs.declared.making.Beginning.{Beginning}
+use Rattle.redo_drive.specs.declared.parts.Parts.{Parts}
 use Rattle.redo_rule.proofs.Retook.{at_map}
 use Rattle.redo_rule.specs.Hands.{checkpointer_hand, cleaner_hand, flusher_hand, hand, user_hand, writer_hand}
 use Rattle.redo_rule.specs.Ruled.{content_at, first_view, Knows, numbered, Ruled}
@@ -75,23 +75,23 @@ module _ {L D : Type 0} where
   at_home parts (suc (suc (suc (suc zero)))) l = refl
   at_home parts (suc (suc (suc (suc (suc k))))) l = absurd (omega arith)
 
-module _ {L D : Type 0} (log_seen : L → Seen) (data_seen : D → Seen) (about : About L D) (machine : Machine L D)
-    (B : BeginsRun log_seen data_seen about.opened.value about.script.value about.log_only machine) (actors : ◌≡◌ {A = List Actor} about.actors.value.items machine.actors.items) where
-  pub fresh : (n : ℕ) (a : Actor) → get_elem? machine.actors.items n ≡ maybe.some a → hand (view_of a) ≡ None
-  fresh n a at = fresh_hand B.run.setup B.at_start.seat_of B.at_start.writer n (view_of a) (B.at_start.starts.each n (view_of a) (at_map view_of machine.actors.items n a at))
+module _ {L D : Type 0} (log_seen : L → Seen) (data_seen : D → Seen) (about : About L D) (start : Beginning L D)
+    (B : BeginsRun log_seen data_seen about.opened.value about.script.value about.log_only start) (actors : ◌≡◌ {A = List Actor} about.actors.value.items start.actors.items) where
+  pub fresh : (n : ℕ) (a : Actor) → get_elem? start.actors.items n ≡ maybe.some a → hand (view_of a) ≡ None
+  fresh n a at = fresh_hand B.run.setup B.at_start.seat_of B.at_start.writer n (view_of a) (B.at_start.starts.each n (view_of a) (at_map view_of start.actors.items n a at))
 
-  pub there : (i : ℕ) (x : Numbered) → get_elem? (first_view about).seats i ≡ maybe.some x → get_elem? machine.actors.items x.number ≡ maybe.some x.actor
-  there i x e = let n = numbered_at 0 about.actors.value.items i x e in ap (get_elem? machine.actors.items) (let k = n.0 in let z : x.number ≡ i = omega arith in z) ∙ ap (λ (l : List Actor). get_elem? l i) (sym actors) ∙ n.1
+  pub there : (i : ℕ) (x : Numbered) → get_elem? (first_view about).seats i ≡ maybe.some x → get_elem? start.actors.items x.number ≡ maybe.some x.actor
+  there i x e = let n = numbered_at 0 about.actors.value.items i x e in ap (get_elem? start.actors.items) (let k = n.0 in let z : x.number ≡ i = omega arith in z) ∙ ap (λ (l : List Actor). get_elem? l i) (sym actors) ∙ n.1
 
-module _ {L D : Type 0} (log_seen : L → Seen) (log_gives : L → Call → L → Type 0) (data_seen : D → Seen) (data_gives : D → Call → D → Type 0) (about : About L D) (machine : Machine L D)
-    (B : BeginsRun log_seen data_seen about.opened.value about.script.value about.log_only machine) (are : AreLists machine.parts.lists) (actors : ◌≡◌ {A = List Actor} about.actors.value.items machine.actors.items) where
-  abbrev fresh_one : (n : ℕ) (a : Actor) → get_elem? machine.actors.items n ≡ maybe.some a → hand (view_of a) ≡ None
-  fresh_one n a at = fresh log_seen data_seen about machine B actors n a at
+module _ {L D : Type 0} (log_seen : L → Seen) (log_gives : L → Call → L → Type 0) (data_seen : D → Seen) (data_gives : D → Call → D → Type 0) (about : About L D) (start : Beginning L D)
+    (B : BeginsRun log_seen data_seen about.opened.value about.script.value about.log_only start) (are : AreLists start.parts.lists) (actors : ◌≡◌ {A = List Actor} about.actors.value.items start.actors.items) where
+  abbrev fresh_one : (n : ℕ) (a : Actor) → get_elem? start.actors.items n ≡ maybe.some a → hand (view_of a) ≡ None
+  fresh_one n a at = fresh log_seen data_seen about start B actors n a at
 
-  abbrev there_one : (i : ℕ) (x : Numbered) → get_elem? (first_view about).seats i ≡ maybe.some x → get_elem? machine.actors.items x.number ≡ maybe.some x.actor
-  there_one i x e = there log_seen data_seen about machine B actors i x e
+  abbrev there_one : (i : ℕ) (x : Numbered) → get_elem? (first_view about).seats i ≡ maybe.some x → get_elem? start.actors.items x.number ≡ maybe.some x.actor
+  there_one i x e = there log_seen data_seen about start B actors i x e
 
-  knows_first : Knows machine.parts machine.actors.items (λ _. 0) 0 false 0 (first_view about)
+  knows_first : Knows start.parts start.actors.items (λ _. 0) 0 false 0 (first_view about)
   knows_first = record {
     pages = λ i x e. ap (λ (z : Shape). z.pages) (sym B.is_run.shape) ∙ B.runs.its_pages ∙ sym B.runs.word_pages;
     mine = λ i x e. (refl, there_one i x e);
@@ -100,22 +100,22 @@ module _ {L D : Type 0} (log_seen : L → Seen) (log_gives : L → Call → L �
     data_part = λ d e. (refl, sym (ap (λ (o : Option (Keeping D)). part_or about.opened.value.store o) e) ∙ sym B.data_part, ap (λ (o : Option (Keeping D)). is_out o) e);
   }
 
-  one_view : (j : ℕ) (u : View L D) → get_elem? (first_view about ∷ []) j ≡ maybe.some u → Knows machine.parts machine.actors.items (λ _. 0) 0 false j u
-  one_view zero u e = subst (λ (z : View L D). Knows machine.parts machine.actors.items (λ _. 0) 0 false 0 z) (maybe.some-injective (first_view about) u e) knows_first
+  one_view : (j : ℕ) (u : View L D) → get_elem? (first_view about ∷ []) j ≡ maybe.some u → Knows start.parts start.actors.items (λ _. 0) 0 false j u
+  one_view zero u e = subst (λ (z : View L D). Knows start.parts start.actors.items (λ _. 0) 0 false 0 z) (maybe.some-injective (first_view about) u e) knows_first
   one_view (suc j) u e = absurd (maybe.some-ne-none u (sym e))
 
   -- no turn word is held
-  free_word : (k : ℕ) → k < 5 → slice_index machine.parts.words.words (7 + k) ≡ 0
+  free_word : (k : ℕ) → k < 5 → slice_index start.parts.words.words (7 + k) ≡ 0
   free_word zero l = ap (λ (ws : List ℕ). slice_index ws 7) B.at_start.words_are ∙ B.at_start.starts.words.device
   free_word (suc i) l = ap (λ (ws : List ℕ). slice_index ws (7 + suc i)) B.at_start.words_are ∙ ap (slice_index (flat B.at_start.words)) (let q : 7 + suc i ≡ 8 + i = omega arith in q)
       ∙ flat_read B.run.setup.pages B.at_start.words B.at_start.starts.words.sized (word.List i) (omega arith) ∙ B.at_start.starts.words.lists i
 
-  opens_one : Ruled log_seen log_gives data_seen data_gives about (opening machine.parts.words.words (slots_of machine.parts) (first_view about))
+  opens_one : Ruled log_seen log_gives data_seen data_gives about (opening start.parts.words.words (slots_of start.parts) (first_view about))
   opens_one = record {
     run = B.run;
     is_about = record { is_run = B.is_run; begun = B.begun };
-    parts = machine.parts;
-    actors = machine.actors.items;
+    parts = start.parts;
+    actors = start.actors.items;
     words_are = refl;
     lists_are = are;
     runs = B.runs;
@@ -124,7 +124,7 @@ module _ {L D : Type 0} (log_seen : L → Seen) (log_gives : L → Call → L �
     data_calls = subst (λ (z : store.Part D). CallsOn data_gives about.opened.value.store.dev about.opened.value.store.failed z.dev z.failed) (sym B.data_part) (not_called data_gives about.opened.value.store.dev about.opened.value.store.failed);
     log_shape = ap (λ (z : log.Part L). z.shape) B.log;
     slots = refl;
-    home = λ k l z. at_home machine.parts k l;
+    home = λ k l z. at_home start.parts k l;
     seat_of = λ _. 0;
     keeper = 0;
     out = false;
@@ -133,6 +133,6 @@ module _ {L D : Type 0} (log_seen : L → Seen) (log_gives : L → Call → L �
     knows = one_view;
   }
 
-  pub opens_ok : (ws : List ℕ) (xs : List (Slot L D)) → ws ≡ machine.parts.words.words → ◌≡◌ {A = List (Slot L D)} xs (slots_of machine.parts) → Ruled log_seen log_gives data_seen data_gives about (opening ws xs (first_view about))
+  pub opens_ok : (ws : List ℕ) (xs : List (Slot L D)) → ws ≡ start.parts.words.words → ◌≡◌ {A = List (Slot L D)} xs (slots_of start.parts) → Ruled log_seen log_gives data_seen data_gives about (opening ws xs (first_view about))
   opens_ok ws xs words slots_are = subst (λ (z : List ℕ). Ruled log_seen log_gives data_seen data_gives about (opening z xs (first_view about))) (sym words)
-      (subst (λ (z : List (Slot L D)). Ruled log_seen log_gives data_seen data_gives about (opening machine.parts.words.words z (first_view about))) (sym slots_are) opens_one)
+      (subst (λ (z : List (Slot L D)). Ruled log_seen log_gives data_seen data_gives about (opening start.parts.words.words z (first_view about))) (sym slots_are) opens_one)

@@ -5,9 +5,9 @@ use mathlib.Core.Option as maybe
 use Rattle.model_core.specs.{checkpointer_checked, checkpointer_took, cleaner_checked, cleaner_took, closer_checked, closer_took, flusher_checked, flusher_took, heard, old_of, took, user_checked, user_took, writer_checked, writer_took}
 use Rattle.model_core.specs.Actors as model
 use Rattle.model_core.specs.declared.ops.Answer.{Answer}
-use Rattle.redo_machine.specs.Views.{view_of}
-use Rattle.redo_machine.specs.declared.actor.Actor.{Actor}
-use Rattle.redo_machine.specs.declared.actor.Actor.TheVariants as own
+use Rattle.redo_drive.specs.Views.{view_of}
+use Rattle.redo_drive.specs.declared.actor.Actor.{Actor}
+use Rattle.redo_drive.specs.declared.actor.Actor.TheVariants as own
 use Rattle.redo_rule.specs.Plays.{retook}
 
 wrapped : {S : Type 0} (wrap : S → model.Actor) (b : Bool) (x y : S) → ◌≡◌ {A = model.Actor} (wrap (cond b x y)) (cond b (wrap x) (wrap y))

@@ -7,7 +7,7 @@ use Rattle.atomic_table.specs.Table.{Joins, Splits, State}
 use Rattle.model_core.proofs.Lists.{at_set}
 use Rattle.redo_disk.specs.{Call}
 use Rattle.redo_disk.specs.Seen.{Seen}
-use Rattle.redo_machine.specs.Views.{view_of}
+use Rattle.redo_drive.specs.Views.{view_of}
 use Rattle.redo_rule.proofs.Kept.{only}
 use Rattle.redo_rule.specs.Cutting.{AreAtRest, IsApart}
 use Rattle.redo_rule.specs.Hands.{hand, IsFreeToCheck}

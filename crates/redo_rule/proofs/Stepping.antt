@@ -17,7 +17,7 @@ use Rattle.model_core.specs.declared.words.Word.{Word}
 use Rattle.redo_disk.specs.{Call}
 use Rattle.redo_disk.specs.Seen.{Seen}
 use Rattle.redo_flushlist.specs.{Listing}
-use Rattle.redo_machine.specs.Views.{view_of}
+use Rattle.redo_drive.specs.Views.{view_of}
 use Rattle.redo_rule.proofs.Allowed.{allows_add, allows_give, allows_give_list, allows_load, allows_store, allows_swap, allows_take, word_hand}
 use Rattle.redo_rule.proofs.AllowedLists.{allows_take_add, allows_take_oldest, allows_take_remove}
 use Rattle.redo_rule.proofs.Hands.{handles}

@@ -12,10 +12,11 @@ use Rattle.model_logcore.specs.{StartActor}
 use Rattle.model_running.specs.{ArePageActors, AreSeated}
 use Rattle.model_script.specs.declared.script.ScriptLine.{ScriptLine}
 use Rattle.redo_disk.specs.Seen.{Seen}
-use Rattle.redo_machine.specs.Beginning.{BeginsRun, MayBegin}
-use Rattle.redo_machine.specs.Views.{view_of, views_of}
-use Rattle.redo_machine.specs.declared.actor.Actor.{Actor}
-use Rattle.redo_machine.specs.declared.machine.Machine.{Machine}
+use Rattle.redo_drive.specs.Beginning.{MayBegin}
+use Rattle.redo_drive.specs.Begins.{BeginsRun}
+use Rattle.redo_drive.specs.Views.{view_of, views_of}
+use Rattle.redo_drive.specs.declared.actor.Actor.{Actor}
+use Rattle.redo_drive.specs.declared.making.Beginning.{Beginning}
 use Rattle.redo_pageactors.specs.declared.opened.Opened.{Opened}
 use Rattle.redo_rule.proofs.Opens as opens
 use Rattle.redo_rule.proofs.Retook.{at_map}
@@ -56,19 +57,19 @@ none_there c actors S alone i a at is =
     (no_other S.others (subst (λ (b : Bool). ArePageActors b S.others) alone S.page_actors) (model.Writer S.writer) (model.Flusher S.flusher) (λ z. z) (λ z. z))
     i (view_of a) (ap (λ (l : List model.Actor). get_elem? l i) (sym S.are) ∙ at_map view_of actors i a at) is
 
-module _ {L D : Type 0} (log_seen : L → Seen) (data_seen : D → Seen) (about : About L D) (machine : Machine L D)
-    (B : BeginsRun log_seen data_seen about.opened.value about.script.value about.log_only machine) (actors : ◌≡◌ {A = List Actor} about.actors.value.items machine.actors.items)
+module _ {L D : Type 0} (log_seen : L → Seen) (data_seen : D → Seen) (about : About L D) (start : Beginning L D)
+    (B : BeginsRun log_seen data_seen about.opened.value about.script.value about.log_only start) (actors : ◌≡◌ {A = List Actor} about.actors.value.items start.actors.items)
     (may : MayBegin about.opened.value about.script.value about.log_only) where
-  pages_are : about.opened.value.shape.pages ≡ machine.parts.words.pages
+  pages_are : about.opened.value.shape.pages ≡ start.parts.words.pages
   pages_are = ap (λ (z : Shape). z.pages) (sym B.is_run.shape) ∙ B.runs.its_pages ∙ sym B.runs.word_pages
 
   module _ (shared : Shared L D) (key : shared.board.shared.key ≡ about) (of : shared.first.table_id ≡ shared.board.shared.table_id) (slots : shared.board.shared.table_id.slots ≡ 6)
-      (words : shared.board.shared.table_id.words ≡ word_count machine.parts.words.pages) (me : shared.first.me ≡ (first_view about, [])) (no_entries : shared.entries.items ≡ []) (room : length about.script.value ≤ vec_capacity shared.entries)
-      (has_room : IsSome shared.room) (fits : IfSome shared.room (λ v. (v.items ≡ []) × (length machine.actors.items ≤ vec_capacity v))) where
+      (words : shared.board.shared.table_id.words ≡ word_count start.parts.words.pages) (me : shared.first.me ≡ (first_view about, [])) (no_entries : shared.entries.items ≡ []) (room : length about.script.value ≤ vec_capacity shared.entries)
+      (has_room : IsSome shared.room) (fits : IfSome shared.room (λ v. (v.items ≡ []) × (length start.actors.items ≤ vec_capacity v))) where
     view : shared.first.me.0 ≡ first_view about
     view = ap (λ (m : Me (Slot L D) (View L D)). m.0) me
 
-    known : shared.first.me.0.seats ≡ numbered 0 machine.actors.items
+    known : shared.first.me.0.seats ≡ numbered 0 start.actors.items
     known = ap (λ (v : View L D). v.seats) view ∙ ap (numbered 0) actors
 
     first_is : IsFirst shared.board.shared.table_id shared.first
@@ -78,14 +79,14 @@ module _ {L D : Type 0} (log_seen : L → Seen) (data_seen : D → Seen) (about 
       words = words ∙ ap word_count (sym pages_are ∙ sym (ap (λ (v : View L D). v.pages) view));
       none = ap (λ (m : Me (Slot L D) (View L D)). m.1) me;
       empty = ap (λ (v : View L D). v.held) view;
-      rest = λ i y e. opens.fresh log_seen data_seen about machine B actors y.number y.actor (opens.there log_seen data_seen about machine B actors i y (ap (λ (v : View L D). get_elem? v.seats i) (sym view) ∙ e));
+      rest = λ i y e. opens.fresh log_seen data_seen about start B actors y.number y.actor (opens.there log_seen data_seen about start B actors i y (ap (λ (v : View L D). get_elem? v.seats i) (sym view) ∙ e));
       home = λ d has. sym (ap (λ (o : Option (Keeping D)). opens.is_out o) (sym (ap (λ (v : View L D). v.data_part) view) ∙ has));
     }
 
-    starts : (i : ℕ) (a : Actor) → get_elem? machine.actors.items i ≡ maybe.some a → IsCleaner (view_of a) → i ≡ B.run.setup.cleaner
-    starts i a at is = cleaner_place B.run.setup B.at_start.seat_of B.at_start.writer i (view_of a) (B.at_start.starts.each i (view_of a) (at_map view_of machine.actors.items i a at)) is
+    starts : (i : ℕ) (a : Actor) → get_elem? start.actors.items i ≡ maybe.some a → IsCleaner (view_of a) → i ≡ B.run.setup.cleaner
+    starts i a at is = cleaner_place B.run.setup B.at_start.seat_of B.at_start.writer i (view_of a) (B.at_start.starts.each i (view_of a) (at_map view_of start.actors.items i a at)) is
 
-    pub unseated : IsUnseated shared machine.actors.items
+    pub unseated : IsUnseated shared start.actors.items
     unseated = record {
       ready = record {
         may = subst (λ (z : About L D). MayBegin z.opened.value z.script.value z.log_only) (sym key) may;
@@ -94,7 +95,7 @@ module _ {L D : Type 0} (log_seen : L → Seen) (data_seen : D → Seen) (about 
       };
       actors_are = ap (λ (z : About L D). z.actors.value.items) key ∙ actors;
       one_cleaner = λ i j a b at bt is jt. starts i a at is ∙ sym (starts j b bt jt);
-      no_cleaner = λ alone i a at is. none_there B.run.setup machine.actors.items B.runs.seated (B.is_run.log_only_is ∙ sym (ap (λ (z : About L D). z.log_only) key) ∙ alone) i a at is;
+      no_cleaner = λ alone i a at is. none_there B.run.setup start.actors.items B.runs.seated (B.is_run.log_only_is ∙ sym (ap (λ (z : About L D). z.log_only) key) ∙ alone) i a at is;
       first = first_is;
       all = known;
       part = (about.opened.value.store, ap (λ (v : View L D). v.data_part) view);
@@ -104,9 +105,9 @@ module _ {L D : Type 0} (log_seen : L → Seen) (data_seen : D → Seen) (about 
 
 -- what was told of the run at its start, as its table is told
 module _ {L D : Type 0} (log_seen : L → Seen) (data_seen : D → Seen) (about : About L D) (opened : Opened L D) (script : List ScriptLine) (log_only : Bool) (opened_is : about.opened.value ≡ opened) (script_is : about.script.value ≡ script) (only_is : about.log_only ≡ log_only) where
-  pub about_begins : (machine : Machine L D) → BeginsRun log_seen data_seen opened script log_only machine → BeginsRun log_seen data_seen about.opened.value about.script.value about.log_only machine
-  about_begins machine B = subst (λ (o : Opened L D). BeginsRun log_seen data_seen o about.script.value about.log_only machine) (sym opened_is)
-      (subst (λ (s : List ScriptLine). BeginsRun log_seen data_seen opened s about.log_only machine) (sym script_is) (subst (λ (b : Bool). BeginsRun log_seen data_seen opened script b machine) (sym only_is) B))
+  pub about_begins : (start : Beginning L D) → BeginsRun log_seen data_seen opened script log_only start → BeginsRun log_seen data_seen about.opened.value about.script.value about.log_only start
+  about_begins start B = subst (λ (o : Opened L D). BeginsRun log_seen data_seen o about.script.value about.log_only start) (sym opened_is)
+      (subst (λ (s : List ScriptLine). BeginsRun log_seen data_seen opened s about.log_only start) (sym script_is) (subst (λ (b : Bool). BeginsRun log_seen data_seen opened script b start) (sym only_is) B))
 
   pub about_may : MayBegin opened script log_only → MayBegin about.opened.value about.script.value about.log_only
   about_may M = subst (λ (o : Opened L D). MayBegin o about.script.value about.log_only) (sym opened_is)

@@ -5,7 +5,7 @@ use Rattle.model_core.specs.Actors as model
 use Rattle.model_core.specs.Waiting.{waits}
 use Rattle.model_core.specs.declared.ops.Answer.{Answer}
 use Rattle.redo_disk.specs.Seen.{Seen}
-use Rattle.redo_machine.specs.Running.{HasCause}
+use Rattle.redo_drive.specs.Turning.{HasCause}
 use Rattle.redo_rule.specs.Plays.{Shown}
 
 module _ {L D : Type 0} (log_seen : L → Seen) (data_seen : D → Seen) where

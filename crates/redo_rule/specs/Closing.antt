@@ -11,15 +11,15 @@ use Rattle.model_running.specs.{HaveEnded}
 use Rattle.model_script.specs.declared.script.ScriptLine.{ScriptLine}
 use Rattle.redo_disk.specs.{Call}
 use Rattle.redo_disk.specs.Seen.{Seen}
-use Rattle.redo_machine.specs.Calls.{CallsOn}
-use Rattle.redo_machine.specs.Drive.{ComesToRun, HoldsRun, IsOwed, IsOwedSynced}
-use Rattle.redo_machine.specs.Playing.{RunOf}
-use Rattle.redo_machine.specs.Running.{RunsOn}
-use Rattle.redo_machine.specs.Views.{view_of, views_of}
-use Rattle.redo_machine.specs.declared.actor.Actor.{Actor}
-use Rattle.redo_machine.specs.declared.drive.Driven.{Driven}
-use Rattle.redo_machine.specs.declared.parts.Parts.{Parts}
-use Rattle.redo_machine.specs.declared.running.Ran.TheVariants as ended
+use Rattle.redo_drive.specs.Calls.{CallsOn}
+use Rattle.redo_drive.specs.Drive.{ComesToRun, HoldsRun, IsOwed, IsOwedSynced}
+use Rattle.redo_drive.specs.Playing.{RunOf}
+use Rattle.redo_drive.specs.Running.{RunsOn}
+use Rattle.redo_drive.specs.Views.{view_of, views_of}
+use Rattle.redo_drive.specs.declared.actor.Actor.{Actor}
+use Rattle.redo_drive.specs.declared.drive.Driven.{Driven}
+use Rattle.redo_drive.specs.declared.parts.Parts.{Parts}
+use Rattle.redo_drive.specs.declared.drive.RunEnd.TheVariants as ended
 use Rattle.redo_pageactors.specs.declared.closed.Closed.{Closed}
 use Rattle.redo_pageactors.specs.declared.opened.Opened.{Opened}
 use Rattle.redo_rule.specs.Cutting.{HoldNothing, IsFirst}

@@ -9,7 +9,7 @@ use Rattle.model_core.specs.declared.ops.Answer.TheVariants as answer
 use Rattle.model_core.specs.declared.ops.Op.TheVariants as op
 use Rattle.model_core.specs.declared.ops.Step.{Step}
 use Rattle.redo_disk.specs.Seen.{Seen}
-use Rattle.redo_machine.specs.Views.{view_of}
+use Rattle.redo_drive.specs.Views.{view_of}
 use Rattle.redo_rule.specs.Hands.{hand}
 use Rattle.redo_rule.specs.Plays.{Carries, MayGo, Shown}
 use Rattle.redo_rule.specs.declared.law.Numbered.{Numbered}

@@ -16,16 +16,17 @@ use Rattle.redo_disk.specs.Seen.{Seen}
 use Rattle.redo_disk.specs.declared.error.DevError.{DevError}
 use Rattle.redo_flushlist.specs.{Listing, without}
 use Rattle.redo_logdev.specs.Part as log
-use Rattle.redo_logside.specs.{has_failed}
-use Rattle.redo_logside.specs.LogPartSide as log_part
-use Rattle.redo_dataside.specs.DataPartSide as data_part
-use Rattle.redo_machine.specs.Lists.{listed_of}
-use Rattle.redo_machine.specs.Playing.{DataReady, HasWholePages, LogReady, RunOf, data_of, log_of}
-use Rattle.redo_machine.specs.Running.{core_of, RunsOn}
-use Rattle.redo_machine.specs.Views.{view_of, views_of}
-use Rattle.redo_machine.specs.declared.actor.Actor.{Actor}
-use Rattle.redo_machine.specs.declared.actor.Actor.TheVariants as own
-use Rattle.redo_machine.specs.declared.parts.Parts.{Parts}
+use Rattle.redo_drive.specs.{has_failed}
+use Rattle.redo_drive.specs.LogPartSide as log_part
+use Rattle.redo_drive.specs.DataPartSide as data_part
+use Rattle.redo_drive.specs.Lists.{listed_of}
+use Rattle.redo_drive.specs.Playing.{DataReady, HasWholePages, LogReady, RunOf, data_of, log_of}
+use Rattle.redo_drive.specs.Running.{RunsOn}
+use Rattle.redo_drive.specs.Turning.{core_of}
+use Rattle.redo_drive.specs.Views.{view_of, views_of}
+use Rattle.redo_drive.specs.declared.actor.Actor.{Actor}
+use Rattle.redo_drive.specs.declared.actor.Actor.TheVariants as own
+use Rattle.redo_drive.specs.declared.parts.Parts.{Parts}
 use Rattle.redo_rule.specs.Hands.{hand, IsFreeToCheck}
 use Rattle.redo_rule.specs.declared.law.Keeping.{Keeping}
 use Rattle.redo_rule.specs.declared.law.Numbered.{Numbered}

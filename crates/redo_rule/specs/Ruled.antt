@@ -8,14 +8,14 @@ use Rattle.model_run.specs.{IsStart}
 use Rattle.model_store.specs.Reading.{Reading}
 use Rattle.redo_disk.specs.{Call}
 use Rattle.redo_disk.specs.Seen.{Seen}
-use Rattle.redo_machine.specs.Beginning.{HaveBegun, IsOpenedAs, IsRunOfOpened}
-use Rattle.redo_machine.specs.Calls.{CallsOn}
-use Rattle.redo_machine.specs.Lists.{AreLists, listing_at}
-use Rattle.redo_machine.specs.Playing.{RunOf}
-use Rattle.redo_machine.specs.Running.{RunsOn}
-use Rattle.redo_machine.specs.Views.{view_of}
-use Rattle.redo_machine.specs.declared.actor.Actor.{Actor}
-use Rattle.redo_machine.specs.declared.parts.Parts.{Parts}
+use Rattle.redo_drive.specs.Beginning.{HaveBegun, IsOpenedAs, IsRunOfOpened}
+use Rattle.redo_drive.specs.Calls.{CallsOn}
+use Rattle.redo_drive.specs.Lists.{AreLists, listing_at}
+use Rattle.redo_drive.specs.Playing.{RunOf}
+use Rattle.redo_drive.specs.Running.{RunsOn}
+use Rattle.redo_drive.specs.Views.{view_of}
+use Rattle.redo_drive.specs.declared.actor.Actor.{Actor}
+use Rattle.redo_drive.specs.declared.parts.Parts.{Parts}
 use Rattle.redo_rule.specs.Hands.{hand, IsFreeToCheck}
 use Rattle.redo_rule.specs.declared.law.About.{About}
 use Rattle.redo_rule.specs.declared.law.Keeping.{Keeping}

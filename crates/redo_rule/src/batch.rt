@@ -2,7 +2,7 @@
 ghost use Rattle.std.specs.Prelude.{◌≡◌};
 ghost use Rattle.model_core.specs.{next};
 ghost use Rattle.model_core.specs.declared.ops.Op.TheVariants as op;
-ghost use Rattle.redo_machine.specs.Views.{view_of};
+ghost use Rattle.redo_drive.specs.Views.{view_of};
 ghost use Rattle.redo_rule.specs.Mine.{HasPlayed, Mine, number_of};
 ghost use Rattle.redo_rule.specs.Seating.{HasPart};
 
@@ -10,7 +10,7 @@ use crate::law::{Ring, Seat};
 use crate::plays::{Batched, Reached};
 use crate::slots::batch_slot;
 use redo_disk::Sectors;
-use redo_machine::{Actor, called};
+use redo_drive::{Actor, called};
 use redo_words::Step;
 
 /// The slot of the data part, which has no turn word, since the cleaner alone comes to it.

@@ -2,14 +2,14 @@
 ghost use Rattle.std.specs.Prelude.{◌≡◌};
 ghost use Rattle.model_core.specs.{next};
 ghost use Rattle.model_core.specs.declared.ops.Op.TheVariants as op;
-ghost use Rattle.redo_machine.specs.Views.{view_of};
+ghost use Rattle.redo_drive.specs.Views.{view_of};
 ghost use Rattle.redo_rule.specs.Mine.{HasPlayed, Mine, Stays};
 
 use crate::law::{Ring, Seat};
 use crate::plays::{Called, Gave, Seized};
 use crate::slots::{checkpoint_slot, sync_slot, taken_answer, write_slot};
 use redo_disk::Sectors;
-use redo_machine::{Actor, called};
+use redo_drive::{Actor, called};
 use redo_words::{Answer, Step};
 
 /// The turn word of the log part, and its slot.

@@ -1,7 +1,7 @@
 // Both parts and the lists in their slots, and a table over them.
 ghost use Rattle.std.specs.Prelude.{[], ◌++◌, ◌<◌, ◌∷◌, ◌≡◌, ◌≤◌, IfErr, IfOk, length, vec_capacity, vec_len};
 ghost use Rattle.atomic_table.specs.Table.{opening};
-ghost use Rattle.redo_machine.specs.Lists.{AreLists, Listings};
+ghost use Rattle.redo_drive.specs.Lists.{AreLists, Listings};
 ghost use Rattle.redo_logdev.specs.Part as log_dev;
 ghost use Rattle.redo_rule.specs.Ruled.{Ruled, first_view};
 ghost use Rattle.redo_rule.specs.Sharing.{AreLaid, laid};
@@ -13,7 +13,7 @@ use crate::slots::{data_in, drop_list, log_in};
 use atomic_table::Table;
 use redo_disk::Sectors;
 use redo_logdev::LogPart;
-use redo_machine::FlushLists;
+use redo_drive::FlushLists;
 use redo_store::DataPart;
 use std::alloc::Global;
 

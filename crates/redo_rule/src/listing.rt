@@ -3,7 +3,7 @@ ghost use Rattle.std.specs.Prelude.{suc, ◌+◌, ◌<◌, ◌≡◌};
 ghost use Rattle.model_core.specs.declared.limits.TheConstants.{FLUSH_LISTS};
 ghost use Rattle.model_core.specs.{next};
 ghost use Rattle.model_core.specs.declared.ops.Op.TheVariants as op;
-ghost use Rattle.redo_machine.specs.Views.{view_of};
+ghost use Rattle.redo_drive.specs.Views.{view_of};
 ghost use Rattle.redo_rule.specs.Mine.{HasPlayed, Mine, Stays};
 
 use crate::law::{Ring, Seat};
@@ -11,7 +11,7 @@ use crate::plays::{Gave, SeizedList};
 use crate::slots::{add_slot, oldest_slot, remove_slot};
 use model_core::FLUSH_LISTS;
 use redo_disk::Sectors;
-use redo_machine::Actor;
+use redo_drive::Actor;
 use redo_words::{Answer, Step, Word, number_of};
 
 /// The turn word of a flush list, and its slot.

@@ -2,7 +2,7 @@
 ghost use Rattle.std.specs.Prelude.{ℕ, ◌≡◌, ◌⊎◌};
 ghost use Rattle.model_core.specs.{next};
 ghost use Rattle.model_core.specs.Waiting.{ending};
-ghost use Rattle.redo_machine.specs.Views.{view_of};
+ghost use Rattle.redo_drive.specs.Views.{view_of};
 ghost use Rattle.redo_rule.specs.Causes.{HasMetFailure, HasWaited};
 ghost use Rattle.redo_rule.specs.Mine.{HasGone, HasPlayed, Mine, Stays, number_of};
 ghost use Rattle.redo_rule.specs.Seating.{IsBare, IsSeatOf};
@@ -13,7 +13,7 @@ use crate::law::{Ring, Seat};
 use crate::listing::{give_list, take_add, take_oldest, take_remove};
 use crate::steps::{add, load, store, swap};
 use redo_disk::Sectors;
-use redo_machine::Actor;
+use redo_drive::Actor;
 use redo_words::{Answer, Op, Step};
 
 /// Plays an Op on the words, the log part or a list.

@@ -1,11 +1,11 @@
 // Whether actors hold anything. One that has a seat is free wherever it checks for a failure.
 ghost use Rattle.std.specs.Prelude.{None, false, true, ◌≡◌};
 ghost use Rattle.model_core.specs.{next};
-ghost use Rattle.redo_machine.specs.Views.{view_of};
+ghost use Rattle.redo_drive.specs.Views.{view_of};
 ghost use Rattle.redo_rule.specs.Cutting.{AreFreeToCheck, HoldNothing};
 ghost use Rattle.redo_rule.specs.Hands.{hand, IsFreeOp, IsFreeToCheck};
 
-use redo_machine::Actor;
+use redo_drive::Actor;
 use redo_words::Op;
 
 /// Whether an actor that asks for this Op surely holds nothing: where it stores it may hold a turn.

@@ -1,6 +1,6 @@
 // Seats are cut off the first one, and taken in again.
 ghost use Rattle.std.specs.Prelude.{[], ◌∷◌, ◌≡◌};
-ghost use Rattle.redo_machine.specs.Views.{view_of};
+ghost use Rattle.redo_drive.specs.Views.{view_of};
 ghost use Rattle.redo_rule.specs.Mine.{Mine};
 ghost use Rattle.redo_rule.specs.Cutting.{IsFirst, MayCut, MayTakeIn};
 ghost use Rattle.redo_rule.specs.Seats.{cut_left, cut_right, spent, taken_in};

@@ -2,20 +2,20 @@
 ghost use Rattle.std.specs.Prelude.{[], ◌≡◌, ◌≤◌, ◌<◌, length, vec_capacity, ℕ};
 ghost use lib.ListN.{get_elem?};
 ghost use mathlib.Core.Option.{some};
-ghost use Rattle.redo_machine.specs.Views.{view_of};
+ghost use Rattle.redo_drive.specs.Views.{view_of};
 ghost use Rattle.redo_rule.specs.Cutting.{HoldNothing, IsFirst};
 ghost use Rattle.redo_rule.specs.Gathering.{AreApart, HasOneCleaner, PartIsKept};
 ghost use Rattle.redo_rule.specs.Ruled.{numbered};
 ghost use Rattle.redo_rule.specs.Seating.{HasPart, IsCleaner};
 ghost use Rattle.redo_rule.specs.Sharing.{AreSeatsOf, IsSeated, IsUnseated, table_of};
 ghost use Rattle.redo_rule.specs.declared.law.Numbered.{Numbered};
-ghost use Rattle.redo_machine.specs.declared.actor.Actor.{Actor as TheActor};
+ghost use Rattle.redo_drive.specs.declared.actor.Actor.{Actor as TheActor};
 
 use crate::law::{Ring, Seat};
 use crate::seating::{cut_off, take_in};
 use crate::shared::Shared;
 use redo_disk::Sectors;
-use redo_machine::Actor;
+use redo_drive::Actor;
 
 /// Cuts a seat off the first one for each actor.
 fn cut_all<L: Sectors, D: Sectors>(

@@ -1,6 +1,6 @@
 // A store that its actors share, each in a thread of its own.
 ghost use Rattle.std.specs.Prelude.{◌≡◌, IfErr, IfOk};
-ghost use Rattle.redo_machine.specs.Beginning.{MayBegin};
+ghost use Rattle.redo_drive.specs.Beginning.{MayBegin};
 ghost use Rattle.redo_rule.specs.Sharing.{IsNew};
 
 use crate::law::{About, Law, Ring, Seat, Slot, View};
@@ -10,7 +10,7 @@ use model_history::Entry;
 use model_script::Script;
 use redo_disk::Sectors;
 use redo_lsn::NoMemory;
-use redo_machine::{Actor, Machine, Parts};
+use redo_drive::{Actor, Beginning, Parts, begin_run};
 use redo_pageactors::Opened;
 use std::alloc::Global;
 use std::snapshot::Snapshot;
@@ -42,8 +42,11 @@ impl<L: Sectors, D: Sectors> Shared<L, D> {
         ensures new { IfOk result (λ made. IsNew opened script.now log_only made.0 made.1.items) }
     {
         let opened_is = Snapshot::of(&opened);
-        let machine = Machine::new(alloc, opened, script, log_only)?;
-        let (parts, actors, entries) = machine.into_parts();
+        let Beginning {
+            parts,
+            actors,
+            entries,
+        } = begin_run(alloc, opened, script, log_only)?;
         let about = About {
             opened: opened_is,
             script: Snapshot::of(script),

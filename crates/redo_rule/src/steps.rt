@@ -2,13 +2,13 @@
 ghost use Rattle.std.specs.Prelude.{◌≡◌};
 ghost use Rattle.model_core.specs.{next};
 ghost use Rattle.model_core.specs.declared.ops.Op.TheVariants as op;
-ghost use Rattle.redo_machine.specs.Views.{view_of};
+ghost use Rattle.redo_drive.specs.Views.{view_of};
 ghost use Rattle.redo_rule.specs.Mine.{HasPlayed, Mine, Stays};
 
 use crate::law::{Ring, Seat};
 use crate::plays::Saw;
 use redo_disk::Sectors;
-use redo_machine::Actor;
+use redo_drive::Actor;
 use redo_words::{Answer, Step, Word, number_of};
 
 /// `Load word`.

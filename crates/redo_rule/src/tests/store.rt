@@ -6,7 +6,7 @@ ghost use Rattle.redo_rule.specs.Sharing.{AreSeatsOf, IsSeated, starts_of, table
 use crate::{Seat, Shared};
 use model_base::Shape;
 use model_script::{fitting_script, read_lines_are_ranged};
-use redo_machine::Actor;
+use redo_drive::Actor;
 use redo_memdisk::{Fused, MemDisk};
 use redo_open::{format, open_store};
 use redo_pageactors::Opened;

@@ -5,7 +5,7 @@ ghost use Rattle.redo_rule.specs.Sharing.{AreSeatsOf, IsSeated, starts_of, table
 use super::store::{Device, Playing, begin};
 use crate::{Ring, Seat, all_hold_nothing, play};
 use redo_disk::Sectors;
-use redo_machine::Actor;
+use redo_drive::Actor;
 use redo_pageactors::Closed;
 use redo_words::Step;
 use std::alloc::Global;

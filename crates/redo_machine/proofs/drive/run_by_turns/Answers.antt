@@ -1,7 +1,8 @@
 -- The machine begins the run, its turns lead to the end, and what `finish` tells of that end is what the run comes to.
 use Rattle.std.proofs.Common.{arith, rules}
-use Rattle.redo_machine.proofs.LogCount.{log_within_script}
-use Rattle.redo_machine.proofs.RunLeft.{comes_to_run, holds_run, is_owed, is_owed_synced}
+use Rattle.redo_drive.proofs.LogCount.{log_within_script}
+use Rattle.redo_machine.proofs.RunLeft.{TurnsLead, by_turns, owes}
+use Rattle.redo_machine.proofs.drive.run_by_turns.Given as given
 use Rattle.redo_machine.proofs.drive.run_by_turns.Goals as goal
 
 pub run-ended-requires : goal.run-ended-requires
@@ -10,46 +11,34 @@ run-ended-requires g c = let B = c.in_ok-machine.ensures.begins in record { run 
 pub finish-closed-requires : goal.finish-closed-requires
 finish-closed-requires g c = let B = c.in_ok-machine.ensures.begins in record { run = B.run; runs = c.run-ended.ensures.runs B.run B.runs }
 
-pub returns-in_err-machine : goal.returns-in_err-machine
-returns-in_err-machine g c = search rules
-
-pub returns-clause-turns : goal.returns-clause-turns
-returns-clause-turns g c =
+leads : (g : given.Over) (c : goal.After-finish-closed g) → TurnsLead g.L.Sectors.seen g.L.Sectors.gives g.D.Sectors.seen g.D.Sectors.gives c.args.opened c.args.script.now c.args.turns.now (record { ended = c.run-ended.result; closed = c.finish-closed.result })
+leads g c =
     let B = c.in_ok-machine.ensures.begins in
     let R = c.run-ended.ensures.runs B.run B.runs in
     let E = c.run-ended.ensures.ends B.run B.runs in
     let within = log_within_script B.run.setup c.args.script.now c.args.opened.shape.space R.running.shared.sn R.running.log_ghost.log R.running.log_ghost.place R.running.both.logged.global.tiled B.is_run.of_script in
     record {
-      first = c.in_ok-machine.machine;
+      first = record { parts = c.in_ok-machine.machine.parts; actors = c.in_ok-machine.machine.actors; entries = c.in_ok-machine.machine.entries };
       begins = B;
       last = c.run-ended.new.self.parts;
       actors = c.run-ended.new.self.actors.items;
       runs = R;
       ends = E.ends;
       asked = E.asked;
+      calls = c.run-ended.ensures.calls;
       log = c.finish-closed.ensures.log;
       data_part = c.finish-closed.ensures.data_part;
       marks = c.finish-closed.ensures.marks;
       code = c.finish-closed.ensures.code;
       history = c.finish-closed.ensures.history B.run R (rw c.run-ended.ensures.entries B.no_entries) (rw c.run-ended.ensures.entries (omega arith));
+      listed = c.finish-closed.ensures.listed B.run R (rw c.run-ended.ensures.entries B.no_entries) (rw c.run-ended.ensures.entries (omega arith));
     }
 
-pub returns-clause-comes_to : goal.returns-clause-comes_to
-unfolding returns-clause-turns
-returns-clause-comes_to g c =
-    comes_to_run g.L.Sectors.seen g.L.Sectors.gives g.D.Sectors.seen g.D.Sectors.gives c.args.opened c.args.script.now c.args.turns.now _ (returns-clause-turns g c) c.run-ended.ensures.calls c.requires
-
-pub returns-clause-holds : goal.returns-clause-holds
-unfolding returns-clause-turns
-returns-clause-holds g c =
-    holds_run g.L.Sectors.seen g.L.Sectors.gives g.D.Sectors.seen g.D.Sectors.gives c.args.opened c.args.script.now c.args.turns.now _ (returns-clause-turns g c) c.run-ended.ensures.calls c.requires
+pub returns-in_err-machine : goal.returns-in_err-machine
+returns-in_err-machine g c = search rules
 
 pub returns-clause-owed : goal.returns-clause-owed
-unfolding returns-clause-turns
-returns-clause-owed g c =
-    is_owed g.L.Sectors.seen g.L.Sectors.gives g.D.Sectors.seen g.D.Sectors.gives c.args.opened c.args.script.now c.args.turns.now _ (returns-clause-turns g c) c.run-ended.ensures.calls c.requires
+returns-clause-owed g c = owes g.L.Sectors.seen g.L.Sectors.gives g.D.Sectors.seen g.D.Sectors.gives c.args.opened c.args.script.now c.args.turns.now _ (leads g c) c.requires
 
-pub returns-clause-owed_synced : goal.returns-clause-owed_synced
-unfolding returns-clause-turns
-returns-clause-owed_synced g c =
-    is_owed_synced g.L.Sectors.seen g.L.Sectors.gives g.D.Sectors.seen g.D.Sectors.gives c.args.opened c.args.script.now c.args.turns.now _ (returns-clause-turns g c) c.run-ended.ensures.calls c.requires
+pub returns-clause-turns : goal.returns-clause-turns
+returns-clause-turns g c = by_turns g.L.Sectors.seen g.L.Sectors.gives g.D.Sectors.seen g.D.Sectors.gives c.args.opened c.args.script.now c.args.turns.now _ (leads g c)

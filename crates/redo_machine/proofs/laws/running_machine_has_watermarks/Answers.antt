@@ -1,7 +1,7 @@
 use Rattle.model_core.specs.{lsn}
 use Rattle.model_running.proofs.Watermarks.{has_watermarks}
-use Rattle.redo_machine.specs.Playing.{data_of, log_of}
-use Rattle.redo_machine.specs.Running.{core_of}
+use Rattle.redo_drive.specs.Playing.{data_of, log_of}
+use Rattle.redo_drive.specs.Turning.{core_of}
 use Rattle.redo_machine.proofs.laws.running_machine_has_watermarks.Goals as goal
 
 pub returns : goal.returns

@@ -1,6 +1,6 @@
 use Rattle.model_running.proofs.FailedStays.{turn_keeps_failed}
-use Rattle.redo_machine.specs.Playing.{data_of, log_of}
-use Rattle.redo_machine.specs.Running.{core_of}
+use Rattle.redo_drive.specs.Playing.{data_of, log_of}
+use Rattle.redo_drive.specs.Turning.{core_of}
 use Rattle.redo_machine.proofs.laws.turn_keeps_failed.Goals as goal
 
 pub returns : goal.returns

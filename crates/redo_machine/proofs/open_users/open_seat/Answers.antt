@@ -1,8 +1,8 @@
 use Rattle.std.proofs.Common.{subst}
 use Rattle.redo_machine.proofs.Ended.{not_all}
 use Rattle.redo_machine.specs.OpenUsers.{IsOpen}
-use Rattle.redo_machine.specs.Views.{view_of}
-use Rattle.redo_machine.specs.declared.actor.Actor.{Actor}
+use Rattle.redo_drive.specs.Views.{view_of}
+use Rattle.redo_drive.specs.declared.actor.Actor.{Actor}
 use Rattle.redo_machine.proofs.open_users.open_seat.Goals as goal
 
 pub returns-in-Some : goal.returns-in-Some

@@ -1,5 +1,5 @@
 use Rattle.std.proofs.Common.{ap, ℕ, ◌∙◌}
-use Rattle.redo_machine.specs.Views.{view_of}
+use Rattle.redo_drive.specs.Views.{view_of}
 use Rattle.redo_rule.proofs.Batching.{answer_is, batched_mine, batched_ok, batched_played, keeps_number, keeps_part, lends_part, may_call, reach_ok}
 use Rattle.redo_rule.specs.Plays.{called_by}
 use Rattle.redo_rule.proofs.batch.write_batch.Goals as goal

@@ -1,8 +1,8 @@
 use Rattle.std.proofs.Common.{ap, ◌∙◌, ℕ}
 use Rattle.model_core.specs.{lent}
 use Rattle.model_core.specs.declared.ops.Op.TheVariants as op
-use Rattle.redo_logside.specs.LogPartSide as log_part
-use Rattle.redo_machine.specs.Views.{view_of}
+use Rattle.redo_drive.specs.LogPartSide as log_part
+use Rattle.redo_drive.specs.Views.{view_of}
 use Rattle.redo_rule.proofs.Calling.{called_mine, called_ok, called_part, called_played, code_is, lends_slot, may_call}
 use Rattle.redo_rule.specs.Plays.{called_by}
 use Rattle.redo_rule.proofs.device.sync.Goals as goal

@@ -2,8 +2,8 @@ use Rattle.std.proofs.Common.{ap, ◌∙◌}
 use Rattle.model_core.specs.{step_of, took}
 use Rattle.model_core.specs.declared.ops.Answer.TheVariants as answer
 use Rattle.model_core.specs.declared.ops.Op.TheVariants as op
-use Rattle.redo_logside.specs.{has_failed}
-use Rattle.redo_machine.specs.Views.{view_of}
+use Rattle.redo_drive.specs.{has_failed}
+use Rattle.redo_drive.specs.Views.{view_of}
 use Rattle.redo_rule.proofs.Stepping.{goes, held_carries, stays_mine, take_ok, taking_holds}
 use Rattle.redo_rule.proofs.Taking.{carries_log, is_taken, lends_taken, taken_mine, taken_played}
 use Rattle.redo_rule.specs.Plays.{taking}

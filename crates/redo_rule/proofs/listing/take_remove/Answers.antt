@@ -2,7 +2,7 @@ use Rattle.std.proofs.Common.{ap, refl, suc, sym, ◌%◌, ◌∙◌}
 use Rattle.model_core.specs.declared.ops.Answer.TheVariants as answer
 use Rattle.model_core.specs.declared.ops.Op.TheVariants as op
 use Rattle.redo_flushlist.specs.{Listing}
-use Rattle.redo_machine.specs.Views.{view_of}
+use Rattle.redo_drive.specs.Views.{view_of}
 use Rattle.redo_rule.proofs.Kept.{same_pages}
 use Rattle.redo_rule.proofs.Stepping.{goes, has_played, held_carries, keeps_part, listed, stays_mine, take_remove_ok, takes}
 use Rattle.redo_rule.proofs.Taking.{carries_list, is_taken, lends_taken, taken_mine, taken_part, taken_played}

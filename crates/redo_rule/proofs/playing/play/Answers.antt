@@ -1,4 +1,4 @@
-use Rattle.redo_machine.specs.Views.{view_of}
+use Rattle.redo_drive.specs.Views.{view_of}
 use Rattle.redo_rule.proofs.Causes.{why_ended, why_failed, why_idle}
 use Rattle.redo_rule.proofs.playing.play.Goals as goal
 

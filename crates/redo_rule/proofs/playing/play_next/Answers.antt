@@ -3,7 +3,7 @@ use Rattle.model_core.specs.{next}
 use Rattle.model_core.specs.Actors as model
 use Rattle.model_core.specs.declared.ops.Answer.TheVariants as answer
 use Rattle.model_core.specs.declared.ops.Op.TheVariants as op
-use Rattle.redo_machine.specs.Views.{view_of}
+use Rattle.redo_drive.specs.Views.{view_of}
 use Rattle.redo_rule.proofs.Behind.{batch_behind, seat_behind, was_cleaner}
 use Rattle.redo_rule.proofs.Hands.{batch_cleaner, rests}
 use Rattle.redo_rule.specs.Seating.{IsSeatOf}

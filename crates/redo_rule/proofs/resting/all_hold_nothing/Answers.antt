@@ -1,6 +1,6 @@
 use Rattle.std.proofs.Common.{None, arith, rules, subst, sym, ◌≡◌}
-use Rattle.redo_machine.specs.Views.{view_of}
-use Rattle.redo_machine.specs.declared.actor.Actor.{Actor}
+use Rattle.redo_drive.specs.Views.{view_of}
+use Rattle.redo_drive.specs.declared.actor.Actor.{Actor}
 use Rattle.redo_rule.proofs.AtRest.{at_or, nothing_held, nothing_more}
 use Rattle.redo_rule.specs.Hands.{hand, IsFreeToCheck}
 use Rattle.redo_rule.proofs.resting.all_hold_nothing.Goals as goal

@@ -2,8 +2,8 @@
 use Rattle.std.proofs.Common.{length, ℕ, ◌≡◌, ◌≤◌}
 use lib.ListN.{get_elem?}
 use mathlib.Core.Option.{some}
-use Rattle.redo_machine.specs.Views.{view_of}
-use Rattle.redo_machine.specs.declared.actor.Actor.{Actor}
+use Rattle.redo_drive.specs.Views.{view_of}
+use Rattle.redo_drive.specs.declared.actor.Actor.{Actor}
 use Rattle.redo_rule.specs.Gathering.{AreApart}
 use Rattle.redo_rule.specs.Seating.{HasPart, IsCleaner}
 use Rattle.redo_rule.proofs.seats.take_all.Given as goal

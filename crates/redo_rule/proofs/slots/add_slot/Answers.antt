@@ -3,7 +3,7 @@ use Rattle.std.specs.Prelude.{All}
 use Rattle.redo_flushlist.specs.{Listing, MayFollow}
 use Rattle.redo_flushlist.specs.Order as own
 use Rattle.redo_flushlist.specs.declared.dirty.Dirty.{Dirty}
-use Rattle.redo_machine.proofs.Listings.{may_follow, none_there}
+use Rattle.redo_drive.proofs.Listings.{may_follow, none_there}
 use Rattle.redo_rule.proofs.Kept.{same_pages}
 use Rattle.redo_rule.proofs.slots.add_slot.Goals as goal
 

@@ -2,7 +2,7 @@ use Rattle.std.proofs.Common.{subst, sym, ◌∙◌}
 use Rattle.std.specs.Prelude.{IsSome}
 use Rattle.redo_flushlist.specs.{Listing}
 use Rattle.redo_flushlist.specs.Order as own
-use Rattle.redo_machine.proofs.Listings.{some_there}
+use Rattle.redo_drive.proofs.Listings.{some_there}
 use Rattle.redo_rule.proofs.Kept.{same_pages}
 use Rattle.redo_rule.proofs.slots.remove_slot.Goals as goal
 

@@ -1,6 +1,6 @@
 use Rattle.model_core.specs.declared.ops.Answer.TheVariants as answer
 use Rattle.model_core.specs.declared.ops.Op.TheVariants as op
-use Rattle.redo_machine.specs.Views.{view_of}
+use Rattle.redo_drive.specs.Views.{view_of}
 use Rattle.redo_rule.proofs.Stepping.{swap_ok, has_played, stays_mine, word_carries, word_fits}
 use Rattle.redo_rule.proofs.steps.swap.Goals as goal
 

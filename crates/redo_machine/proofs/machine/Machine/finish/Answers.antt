@@ -5,11 +5,11 @@ use Rattle.model_core.specs.declared.words.Word.TheVariants as word
 use Rattle.model_finish.proofs.Finished.{marks_same}
 use Rattle.model_finish.specs.{word_marks}
 use Rattle.model_history.specs.declared.entry.Marks.{Marks}
-use Rattle.redo_machine.proofs.FailureCode.{small_code}
-use Rattle.redo_machine.proofs.Told.{as_many, have_groups, history_is}
-use Rattle.redo_machine.specs.History.{HasGroups, ListsInOrder, all_listed}
-use Rattle.redo_machine.specs.Views.{view_of}
-use Rattle.redo_machine.specs.declared.actor.Actor.{Actor}
+use Rattle.redo_drive.proofs.FailureCode.{small_code}
+use Rattle.redo_drive.proofs.Told.{as_many, have_groups, history_is}
+use Rattle.redo_drive.specs.History.{HasGroups, ListsInOrder, all_listed}
+use Rattle.redo_drive.specs.Views.{view_of}
+use Rattle.redo_drive.specs.declared.actor.Actor.{Actor}
 use Rattle.redo_machine.proofs.machine.Machine.finish.Goals as goal
 
 pub overflow_cast-code : goal.overflow_cast-code
@@ -24,14 +24,24 @@ history_of-history-requires g c = let R = c.requires in
     subst (λ (z : List Actor). (seat : ℕ) (actor : Actor) → seat < length z → HasGroups (view_of (get_or z seat actor))) (sym c.as_slice.ensures.value)
     (have_groups g.L.Sectors.seen g.D.Sectors.seen R.run c.args.self.parts c.args.self.actors.items R.runs)
 
-pub returns-clause-history : goal.returns-clause-history
-returns-clause-history g c = λ run runs empty room.
+-- there is room for the groups of all
+lists : goal.returns-clause-listed
+lists g c = λ run runs empty room.
     let actors = c.args.self.actors.items in
     let marks : Marks = word_marks runs.running.shared in
     let marks_are : ◌≡◌ {A = Marks} c.marks_in-marks.result marks = c.marks_in-marks.ensures.marks ∙ marks_same c.args.self.parts.words.words runs.running.shared runs.running.flat_is in
     let many = as_many g.L.Sectors.seen g.D.Sectors.seen run c.args.self.parts actors runs in
     let same : length (all_listed c.marks_in-marks.result c.as_slice.result.now) ≡ length (all_listed marks actors) =
     ap (λ (z : Marks). length (all_listed z c.as_slice.result.now)) marks_are ∙ ap (λ (z : List Actor). length (all_listed marks z)) c.as_slice.ensures.value in
+    subst (λ (z : List Actor). ListsInOrder c.marks_in-marks.result z c.history_of-history.result) c.as_slice.ensures.value (c.history_of-history.ensures empty (omega arith))
+
+pub returns-clause-listed : goal.returns-clause-listed
+returns-clause-listed g c = lists g c
+
+pub returns-clause-history : goal.returns-clause-history
+returns-clause-history g c = λ run runs empty room.
+    let actors = c.args.self.actors.items in
+    let marks : Marks = word_marks runs.running.shared in
+    let marks_are : ◌≡◌ {A = Marks} c.marks_in-marks.result marks = c.marks_in-marks.ensures.marks ∙ marks_same c.args.self.parts.words.words runs.running.shared runs.running.flat_is in
     history_is g.L.Sectors.seen g.D.Sectors.seen run c.args.self.parts actors runs c.history_of-history.result
-    (subst (λ (z : List Actor). ListsInOrder marks z c.history_of-history.result) c.as_slice.ensures.value
-    (subst (λ (z : Marks). ListsInOrder z c.as_slice.result.now c.history_of-history.result) marks_are (c.history_of-history.ensures empty (omega arith))))
+    (subst (λ (z : Marks). ListsInOrder z actors c.history_of-history.result) marks_are (lists g c run runs empty room))

@@ -1,10 +1,10 @@
 use Rattle.std.proofs.Common.{List, ℕ, arith, refl, subst, sym, ◌∙◌}
 use Rattle.model_running.specs.{HaveEnded}
-use Rattle.redo_machine.proofs.CallsOn.{both_then, none_called}
+use Rattle.redo_drive.proofs.CallsOn.{both_then, none_called}
 use Rattle.redo_machine.proofs.Runs.{InRun, ends_done, ends_spent, goes_on, starts_run}
 use Rattle.redo_machine.specs.OpenUsers.{IsFirstOpen}
-use Rattle.redo_machine.specs.Views.{views_of}
-use Rattle.redo_machine.specs.declared.actor.Actor.{Actor}
+use Rattle.redo_drive.specs.Views.{views_of}
+use Rattle.redo_drive.specs.declared.actor.Actor.{Actor}
 use Rattle.redo_machine.proofs.machine.Machine.run.Goals as goal
 
 pub loop-turn-init : goal.loop-turn-init

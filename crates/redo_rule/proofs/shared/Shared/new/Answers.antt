@@ -1,10 +1,7 @@
 use Rattle.std.proofs.Common.{List, Some, ap, arith, refl, subst, sym, ◌∙◌, length}
 use Rattle.std.specs.Prelude.{vec_capacity}
-use Rattle.model_core.specs.{word_count}
-use Rattle.redo_machine.specs.Lists.{AreLists}
-use Rattle.redo_machine.specs.declared.actor.Actor.{Actor}
-use Rattle.redo_machine.specs.declared.parts.Parts.{Parts}
-use Rattle.redo_rule.proofs.Opens.{opens_ok, slots_of}
+use Rattle.redo_drive.specs.declared.actor.Actor.{Actor}
+use Rattle.redo_rule.proofs.Opens.{opens_ok}
 use Rattle.redo_rule.proofs.Unseated.{about_begins, about_may, unseated}
 use Rattle.redo_rule.specs.Sharing.{IsUnseated}
 use Rattle.redo_rule.specs.declared.law.About.{About}
@@ -14,42 +11,38 @@ pub lay_out-requires : goal.lay_out-requires
 lay_out-requires g c = c.are_lists.ensures
 
 pub make_board-requires : goal.make_board-requires
-make_board-requires g c = opens_ok g.L.Sectors.seen g.L.Sectors.gives g.D.Sectors.seen g.D.Sectors.gives (record { opened = c.of-opened_is.result; script = c.of.result; actors = c.of-2.result; log_only = c.args.log_only }) c.in_ok-machine.machine (about_begins g.L.Sectors.seen g.D.Sectors.seen (record { opened = c.of-opened_is.result; script = c.of.result; actors = c.of-2.result; log_only = c.args.log_only }) c.args.opened c.args.script.now c.args.log_only c.of-opened_is.ensures c.of.ensures refl c.in_ok-machine.machine c.in_ok-machine.ensures.begins) (subst (λ (p : Parts _ _). AreLists p.lists) c.into_parts-parts.ensures.parts c.are_lists.ensures)
-    (ap (λ v. v.items) c.of-2.ensures ∙ ap (λ v. v.items) c.into_parts-parts.ensures.actors) _ _
-    (c.as_slice.ensures.words ∙ ap (λ (p : Parts _ _). p.words.words) c.into_parts-parts.ensures.parts)
-    (c.in-Ok.ensures.slots ∙ ap (λ (p : Parts _ _). slots_of p) c.into_parts-parts.ensures.parts)
+make_board-requires g c = opens_ok g.L.Sectors.seen g.L.Sectors.gives g.D.Sectors.seen g.D.Sectors.gives (record { opened = c.of-opened_is.result; script = c.of.result; actors = c.of-2.result; log_only = c.args.log_only }) _ (about_begins g.L.Sectors.seen g.D.Sectors.seen (record { opened = c.of-opened_is.result; script = c.of.result; actors = c.of-2.result; log_only = c.args.log_only }) c.args.opened c.args.script.now c.args.log_only c.of-opened_is.ensures c.of.ensures refl c.in_ok-parts.field-0 c.in_ok-parts.ensures.begins) c.are_lists.ensures
+    (ap (λ v. v.items) c.of-2.ensures) _ _ c.as_slice.ensures.words c.in-Ok.ensures.slots
 
 pub parts_in-log-requires : goal.parts_in-log-requires
-parts_in-log-requires g c = (c.into_parts-parts.result.0.log, c.into_parts-parts.result.0.lists, c.into_parts-parts.result.0.store, c.in-Err-make_board.ensures.err ∙ c.in-Ok.ensures.slots)
+parts_in-log-requires g c = (c.in_ok-parts.field-0.parts.log, c.in_ok-parts.field-0.parts.lists, c.in_ok-parts.field-0.parts.store, c.in-Err-make_board.ensures.err ∙ c.in-Ok.ensures.slots)
 
 pub returns-in-Ok-make_board-clause-new : goal.returns-in-Ok-make_board-clause-new
 returns-in-Ok-make_board-clause-new g c = record {
   opened_is = ap (λ (z : About _ _). z.opened.value) c.in-Ok-make_board.ensures.key ∙ c.of-opened_is.ensures;
   script_is = ap (λ (z : About _ _). z.script.value) c.in-Ok-make_board.ensures.key ∙ c.of.ensures;
   log_only_is = ap (λ (z : About _ _). z.log_only) c.in-Ok-make_board.ensures.key;
-  unseated = subst (λ (l : List Actor). IsUnseated (record { board = c.in-Ok-make_board.board; first = c.in-Ok-make_board.first; room = Some c.in-Ok.room; entries = c.into_parts-parts.result.2 }) l)
-      (sym (ap (λ v. v.items) c.into_parts-parts.ensures.actors))
-      (unseated g.L.Sectors.seen g.D.Sectors.seen (record { opened = c.of-opened_is.result; script = c.of.result; actors = c.of-2.result; log_only = c.args.log_only }) c.in_ok-machine.machine
-      (about_begins g.L.Sectors.seen g.D.Sectors.seen (record { opened = c.of-opened_is.result; script = c.of.result; actors = c.of-2.result; log_only = c.args.log_only }) c.args.opened c.args.script.now c.args.log_only c.of-opened_is.ensures c.of.ensures refl c.in_ok-machine.machine c.in_ok-machine.ensures.begins)
-      (ap (λ v. v.items) c.of-2.ensures ∙ ap (λ v. v.items) c.into_parts-parts.ensures.actors)
+  unseated = unseated g.L.Sectors.seen g.D.Sectors.seen (record { opened = c.of-opened_is.result; script = c.of.result; actors = c.of-2.result; log_only = c.args.log_only }) c.in_ok-parts.field-0
+      (about_begins g.L.Sectors.seen g.D.Sectors.seen (record { opened = c.of-opened_is.result; script = c.of.result; actors = c.of-2.result; log_only = c.args.log_only }) c.args.opened c.args.script.now c.args.log_only c.of-opened_is.ensures c.of.ensures refl c.in_ok-parts.field-0 c.in_ok-parts.ensures.begins)
+      (ap (λ v. v.items) c.of-2.ensures)
       (about_may g.L.Sectors.seen g.D.Sectors.seen (record { opened = c.of-opened_is.result; script = c.of.result; actors = c.of-2.result; log_only = c.args.log_only }) c.args.opened c.args.script.now c.args.log_only c.of-opened_is.ensures c.of.ensures refl c.requires)
-      (record { board = c.in-Ok-make_board.board; first = c.in-Ok-make_board.first; room = Some c.in-Ok.room; entries = c.into_parts-parts.result.2 })
+      (record { board = c.in-Ok-make_board.board; first = c.in-Ok-make_board.first; room = Some c.in-Ok.room; entries = c.in_ok-parts.field-0.entries })
       c.in-Ok-make_board.ensures.key
       c.in-Ok-make_board.ensures.ids
       (c.in-Ok-make_board.ensures.slots ∙ ap length c.in-Ok.ensures.slots)
-      (c.in-Ok-make_board.ensures.words ∙ c.as_slice.ensures.count ∙ ap (λ (p : Parts _ _). word_count p.words.pages) c.into_parts-parts.ensures.parts)
+      (c.in-Ok-make_board.ensures.words ∙ c.as_slice.ensures.count)
       c.in-Ok-make_board.ensures.me
-      (ap (λ v. v.items) c.into_parts-parts.ensures.entries ∙ c.in_ok-machine.ensures.begins.no_entries)
-      (let e = ap (λ v. vec_capacity v) c.into_parts-parts.ensures.entries in let s = ap length c.of.ensures in let r = c.in_ok-machine.ensures.begins.room in omega arith)
+      c.in_ok-parts.ensures.begins.no_entries
+      (let s = ap length c.of.ensures in let r = c.in_ok-parts.ensures.begins.room in omega arith)
       refl
-      (c.in-Ok.ensures.room.0, (let r = c.in-Ok.ensures.room.1 in let n = c.len.ensures in let e = ap (λ v. length v.items) c.into_parts-parts.ensures.actors in omega arith)));
+      (c.in-Ok.ensures.room.0, (let r = c.in-Ok.ensures.room.1 in let n = c.len.ensures in omega arith));
 }
 
 pub returns-in-Err-make_board-clause-err : goal.returns-in-Err-make_board-clause-err
 returns-in-Err-make_board-clause-err g c =
-    let p = c.into_parts-parts.result.0 in
+    let p = c.in_ok-parts.field-0.parts in
     let both = c.parts_in-log.ensures p.log p.lists p.store (c.in-Err-make_board.ensures.err ∙ c.in-Ok.ensures.slots) in
-    let B = c.in_ok-machine.ensures.begins in (
-      c.into_dev-in-Err-make_board.ensures ∙ ap (λ z. z.dev) (both.0 ∙ ap (λ (q : Parts _ _). q.log) c.into_parts-parts.ensures.parts ∙ B.log),
-      c.into_dev-in-Err-make_board-2.ensures ∙ ap (λ z. z.dev) (both.1 ∙ ap (λ (q : Parts _ _). q.store) c.into_parts-parts.ensures.parts ∙ B.data_part),
+    let B = c.in_ok-parts.ensures.begins in (
+      c.into_dev-in-Err-make_board.ensures ∙ ap (λ z. z.dev) (both.0 ∙ B.log),
+      c.into_dev-in-Err-make_board-2.ensures ∙ ap (λ z. z.dev) (both.1 ∙ B.data_part),
     )

@@ -1,5 +1,5 @@
 use Rattle.std.proofs.Common.{List, subst, sym}
-use Rattle.redo_machine.specs.declared.actor.Actor.{Actor}
+use Rattle.redo_drive.specs.declared.actor.Actor.{Actor}
 use Rattle.redo_rule.proofs.AtRest.{seated_free}
 use Rattle.redo_rule.specs.Cutting.{AreFreeToCheck}
 use Rattle.redo_rule.proofs.tests.turns.left_by.Goals as goal

@@ -1,6 +1,0 @@
-use Rattle.redo_dataside.proofs.DataPartLaws.{data_laws}
-use Rattle.redo_dataside.proofs.laws.data_part_meets_laws.Goals as goal
-use Rattle.redo_dataside.specs.DataPartSide.{HasBegun}
-
-pub returns : goal.returns
-returns g c = λ faults shape opened first. data_laws g.D.Sectors.seen faults shape (HasBegun g.D.Sectors.seen opened first)

@@ -1,0 +1,63 @@
+-- Where a store was ready, both its devices hold just what was opened.
+use Rattle.std.proofs.Common.{List, None, Option, Some, [], ap, arith, false, get_or, replicate, subst, sym, ℕ, ◌+◌, ◌-◌, ◌∙◌, ◌≡◌}
+use Rattle.std.specs.Prelude.{IfSome}
+use Rattle.model_base.specs.{IsWithinLimits}
+use Rattle.model_base.specs.declared.shape.Shape.{Shape}
+use Rattle.model_datadev.specs.{IsUpTo, read_as}
+use Rattle.model_datadev.specs.Stored.{Stored}
+use Rattle.model_device.specs.Disk.{Disk}
+use Rattle.model_finish.specs.{content_of}
+use Rattle.model_logdev.specs.{first_marks, IsLive}
+use Rattle.model_logdev.specs.declared.marks.LogMarks.{LogMarks}
+use Rattle.model_opening.specs.{start_of}
+use Rattle.model_page.specs.{blank_page}
+use Rattle.model_page.specs.declared.content.Content.{Content}
+use Rattle.model_run.proofs.Start.{start-live}
+use Rattle.model_run.specs.{IsStart}
+use Rattle.model_script.specs.declared.script.ScriptLine.{ScriptLine}
+use Rattle.model_store.specs.Reading.{Reading}
+use Rattle.redo_drive.proofs.DataPartStarts.{opened_begins}
+use Rattle.redo_drive.specs.DataPartSide as data_part
+use Rattle.redo_disk.specs.Seen.{Seen}
+use Rattle.redo_logdev.specs.{DiskHolds}
+use Rattle.redo_logdev.specs.Part as log
+use Rattle.redo_drive.specs.LogPartSide as log_part
+use Rattle.redo_drive.proofs.StartWordsPages.{content_of-kept_page_of}
+use Rattle.redo_drive.specs.StartWords.{opened_page, unwritten_page}
+use Rattle.redo_store.specs.Part as store
+
+-- a page that was never written is one of any store's
+unwritten_is : (shape : Shape) → IsWithinLimits shape → unwritten_page ≡ blank_page shape
+unfolding unwritten_page
+unwritten_is shape limits = ap (λ (n : ℕ). let page : Content = record { lsn = 0; user = replicate n 0 } in page) (let size = limits.page_size in let e : 4050 ≡ shape.page_size - 46 = omega arith in e)
+
+-- the pages that the run finds are those that were read
+pages_as_read : (shape : Shape) (pages : List Content) (reading : Reading) → IsWithinLimits shape → shape ≡ reading.shape → pages ≡ reading.pages
+    → (p : ℕ) → content_of (opened_page pages p) ≡ read_as reading p
+pages_as_read shape pages reading limits same_shape same_pages p =
+    content_of-kept_page_of (get_or pages p unwritten_page)
+    ∙ ap (λ (page : Content). get_or pages p page) (unwritten_is shape limits ∙ ap blank_page same_shape)
+    ∙ ap (λ (ps : List Content). get_or ps p (blank_page reading.shape)) same_pages
+
+module _ (reading : Reading) (script : List ScriptLine) (log_disk data_disk : Disk) (is : IsStart reading script log_disk data_disk) where
+  -- the log device
+  pub log_begun : {L : Type 0} (seen : L → Seen) (part : log.Part L) → part.shape ≡ reading.shape → part.failed ≡ None
+      → ◌≡◌ {A = LogMarks} part.marks (first_marks (start_of reading) (reading.number + 1)) → (seen part.dev).tells ≡ Some log_disk
+      → log_part.HasBegun seen (start_of reading) part
+  log_begun seen part shape live marks tells =
+      let held : IsLive reading.shape (start_of reading) [] (first_marks (start_of reading) (reading.number + 1)) log_disk = start-live reading script log_disk data_disk is in
+      let fresh : DiskHolds reading.shape (start_of reading) [] (first_marks (start_of reading) (reading.number + 1)) part.failed log_disk =
+      record { holds = held.holds; live = λ _. held.is_written } in
+      record {
+        holds = subst (λ (o : Option Disk). IfSome o (DiskHolds part.shape (start_of reading) [] part.marks part.failed)) (sym tells)
+            (subst (λ (s : Shape). DiskHolds s (start_of reading) [] part.marks part.failed log_disk) (sym shape)
+            (subst (λ (m : LogMarks). DiskHolds reading.shape (start_of reading) [] m part.failed log_disk) (sym marks) fresh));
+        few = (let number = ap (λ (m : LogMarks). m.number) marks in let left = is.orderly.numbers_left in omega arith);
+      }
+
+  -- the data device
+  pub data_begun : {D : Type 0} (seen : D → Seen) (shape : Shape) (pages : List Content) (part : store.Part D) → IsWithinLimits shape → shape ≡ reading.shape → pages ≡ reading.pages
+      → part.shape ≡ shape → part.failed ≡ None → (seen part.dev).tells ≡ Some data_disk → data_part.HasBegun seen (opened_page pages) part
+  data_begun seen shape pages part limits same_shape same_pages its_shape live tells =
+      opened_begins seen (opened_page pages) reading part (its_shape ∙ same_shape) live (pages_as_read shape pages reading limits same_shape same_pages)
+      (subst (λ (o : Option Disk). IfSome o (Stored reading.shape (IsUpTo (read_as reading)) (read_as reading) [] false)) (sym tells) is.ready.pages)

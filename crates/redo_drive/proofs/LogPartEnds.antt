@@ -1,0 +1,40 @@
+-- What the log part's device holds of a run, at any moment and so at its end.
+use Rattle.std.proofs.Common.{Option, Some, arith, refl, subst, sym, ℕ, ◌<◌, ◌^◌, ◌≡◌}
+use Rattle.std.specs.Prelude.{IfSome}
+use Rattle.model_base.specs.declared.shape.Shape.{Shape}
+use Rattle.model_core.specs.{lsn}
+use Rattle.model_core.specs.Setup.{Setup}
+use Rattle.model_device.specs.Disk.{Disk}
+use Rattle.model_finish.specs.{LogTells}
+use Rattle.model_logdev.specs.{LogHolds}
+use Rattle.redo_disk.specs.Seen.{Seen}
+use Rattle.redo_disk.specs.declared.error.DevError.{DevError}
+use Rattle.redo_disk.specs.declared.error.DevError.TheVariants.{Failed, NoMemory}
+use Rattle.redo_logdev.specs.{DiskHolds}
+use Rattle.redo_logdev.specs.Part.{Part}
+use Rattle.redo_drive.specs.LogPartSide.{HasFailedBy, fault_code, log_side}
+
+-- The device holds the groups that the part does, if it was as it should be when the run began, and the checkpoint isn't older
+-- than then.
+pub log_tells : {L : Type 0} (seen : L → Seen) (faults number : ℕ) (Begun : Type 0) (c : Setup) (shape : Shape) (p : Part L) (disk : Disk) → Begun → ◌≡◌ {A = Shape} p.shape shape → (seen p.dev).tells ≡ Some disk
+    → LogTells (log_side seen faults number Begun) c shape number p disk
+log_tells seen faults number Begun c shape p disk begun same tells = record {
+  marks = p.marks;
+  stable = refl;
+  given = refl;
+  ckpt = refl;
+  asked = refl;
+  number_kept = λ log held. held.number_kept begun;
+  holds = λ log wholes held are.
+      let here : DiskHolds p.shape (lsn c.base) wholes p.marks p.failed disk =
+      subst (λ (o : Option Disk). IfSome o (DiskHolds p.shape (lsn c.base) wholes p.marks p.failed)) tells (held.groups begun wholes are) in
+      subst (λ (z : Shape). LogHolds z (lsn c.base) wholes p.marks disk) same here.holds;
+}
+
+-- a cause is a code of 32 bits, and not 0
+pub small_cause : {L : Type 0} (seen : L → Seen) (faults : ℕ) (p : Part L) (code : ℕ) → HasFailedBy seen faults p code → (0 < code) × (code < 2 ^ 32)
+small_cause seen faults p code cause = subst (λ (k : ℕ). (0 < k) × (k < 2 ^ 32)) (sym cause.code_is) (small cause.fault)
+  where
+    small : (fault : DevError) → (0 < fault_code fault) × (fault_code fault < 2 ^ 32)
+    small Failed = (omega arith, omega arith)
+    small NoMemory = (omega arith, omega arith)

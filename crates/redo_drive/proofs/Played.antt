@@ -1,0 +1,71 @@
+-- That an Op was played, for each kind of Op.
+use Rattle.std.proofs.Common.{None, ap, cond, refl, subst, sym, ℕ, ◌%◌, ◌==◌, ◌≡◌}
+use Rattle.std.specs.Prelude.{slice_set}
+use Rattle.model_core.specs.Actors as model
+use Rattle.model_core.specs.DataSide.{DataSide}
+use Rattle.model_core.specs.{answer_of, DataServed, list_answer, list_word, OnWord, word_found, words_after, words_left}
+use Rattle.model_core.specs.declared.ops.Answer.{Answer}
+use Rattle.model_core.specs.declared.ops.Answer.TheVariants as answer
+use Rattle.model_core.specs.declared.ops.Op.{Op}
+use Rattle.model_core.specs.declared.ops.Op.TheVariants as op
+use Rattle.redo_disk.specs.Seen.{Seen}
+use Rattle.redo_drive.specs.LogPartSide as log_part
+use Rattle.redo_drive.proofs.Listings.{add_left, remove_left}
+use Rattle.redo_drive.specs.Lists.{AreLists, Listings, added, lists_of, removed}
+use Rattle.redo_drive.specs.Playing.{HasSameDevices, IsPlayed, RunOf, data_of}
+use Rattle.redo_drive.specs.declared.parts.Parts.{Parts}
+use Rattle.redo_words.specs.Plain.{Plain}
+
+-- the Op is no writing of a batch
+abbrev pub IsNoBatch : Op → Type 0
+IsNoBatch op.WriteBatch = ⊥
+IsNoBatch _ = Unit {0}
+
+-- such an Op leaves the data part
+pub untouched : (E : DataSide) (d e : E.Part) (l : model.Lent) (o : Op) (code : ℕ) → IsNoBatch o → ◌≡◌ {A = E.Part} e d → DataServed E d l o code e
+untouched E d e model.Nothing o code other same = same
+untouched E d e (model.Blocks kept offsets) o code other same = same
+untouched E d e (model.Batch batch) op.WriteBatch code other same = absurd other
+untouched E d e (model.Batch batch) _ code other same = same
+
+module _ {L D : Type 0} (log_seen : L → Seen) (data_seen : D → Seen) (run : RunOf L D) (l : model.Lent) (old : Parts L D) where
+  abbrev Played : Op → Answer → Parts L D → Type 0
+  Played o r new = IsPlayed log_seen data_seen run o l old r new
+
+  abbrev with_words : Plain → Parts L D
+  with_words w = record { words = w; log = old.log; store = old.store; lists = old.lists }
+
+  none : (o : Op) → IsNoBatch o → (code : ℕ) → DataServed (data_of log_seen data_seen run) old.store l o code old.store
+  none o other code = untouched (data_of log_seen data_seen run) old.store old.store l o code other refl
+
+  pub word_played : (o : Op) (w : Plain) (r : Answer) → OnWord o → w.words ≡ words_after o old.words.words → r ≡ answer.Old (word_found o old.words.words) → Played o r (with_words w)
+  word_played (op.Load v) w r on words is = record { code = 0; log_served = refl; data_served = none (op.Load v) tt 0; words = words; lists = refl; answered = is }
+  word_played (op.Store v x) w r on words is = record { code = 0; log_served = refl; data_served = none (op.Store v x) tt 0; words = words; lists = refl; answered = is }
+  word_played (op.Add v x) w r on words is = record { code = 0; log_served = refl; data_served = none (op.Add v x) tt 0; words = words; lists = refl; answered = is }
+  word_played (op.Swap v x y) w r on words is = record { code = 0; log_served = refl; data_served = none (op.Swap v x y) tt 0; words = words; lists = refl; answered = is }
+  word_played _ w r on words is = absurd on
+
+  by_op : (o p : Op) (r : Answer) (new : Parts L D) → o ≡ p → Played p r new → Played o r new
+  by_op o p r new is played = subst (λ (z : Op). Played z r new) (sym is) played
+
+  pub gave_device : (o : Op) → o ≡ op.GiveDevice → (w : Plain) (r : Answer) → r ≡ answer.Taken None → w.words ≡ slice_set old.words.words 7 0 → Played o r (with_words w)
+  gave_device o is w r taken words = by_op o op.GiveDevice r (with_words w) is (record { code = 0; log_served = refl; data_served = none op.GiveDevice tt 0; words = words; lists = refl; answered = taken })
+
+  pub rested : (o : Op) → o ≡ op.Rest → Played o answer.Rested old
+  rested o is = by_op o op.Rest answer.Rested old is (record { code = 0; log_served = refl; data_served = none op.Rest tt 0; words = refl; lists = refl; answered = refl })
+
+  module _ (new : Parts L D) (r : Answer) (same : HasSameDevices old new) where
+    left : (o : Op) → IsNoBatch o → DataServed (data_of log_seen data_seen run) old.store l o 0 new.store
+    left o other = untouched (data_of log_seen data_seen run) old.store new.store l o 0 other same.data_part
+
+    pub took_device : (o : Op) → o ≡ op.TakeDevice → new.words.words ≡ words_left old.words.words op.TakeDevice → ◌≡◌ {A = Listings} new.lists old.lists
+        → ((code mark : ℕ) → r ≡ answer_of (lists_of old.lists) (log_part.has_failed old.log.failed) code mark old.words.words op.TakeDevice) → Played o r new
+    took_device o is words lists answers = by_op o op.TakeDevice r new is (record { code = 0; log_served = same.log; data_served = left op.TakeDevice tt; words = words; lists = ap lists_of lists; answered = answers 0 new.log.marks.stable })
+
+    pub took_add : (o : Op) (p x : ℕ) → o ≡ op.TakeAdd p x → AreLists old.lists → new.words.words ≡ words_left old.words.words (op.TakeAdd p x)
+        → ◌≡◌ {A = Listings} new.lists (cond (list_word old.words.words (p % 4) == 0) (added old.lists p x) old.lists) → r ≡ list_answer (list_word old.words.words (p % 4)) None → Played o r new
+    took_add o p x is are words lists answers = by_op o (op.TakeAdd p x) r new is (record { code = 0; log_served = same.log; data_served = left (op.TakeAdd p x) tt; words = words; lists = add_left old.lists new.lists (list_word old.words.words) p x are lists; answered = answers })
+
+    pub took_remove : (o : Op) (p : ℕ) → o ≡ op.TakeRemove p → AreLists old.lists → new.words.words ≡ words_left old.words.words (op.TakeRemove p)
+        → ◌≡◌ {A = Listings} new.lists (cond (list_word old.words.words (p % 4) == 0) (removed old.lists p) old.lists) → r ≡ list_answer (list_word old.words.words (p % 4)) None → Played o r new
+    took_remove o p is are words lists answers = by_op o (op.TakeRemove p) r new is (record { code = 0; log_served = same.log; data_served = left (op.TakeRemove p) tt; words = words; lists = remove_left old.lists new.lists (list_word old.words.words) p are lists; answered = answers })

@@ -1,0 +1,253 @@
+-- New actors, the words of a start and empty lists stand at the beginning of a run.
+use Rattle.std.proofs.Common.{Bool, List, None, Option, Some, [], ap, arith, cond, false, length, ltb, refl, slice_get, subst, suc, sym, true, zero, ℕ, ◌%◌, ◌*◌, ◌+◌, ◌-◌, ◌/◌, ◌<◌, ◌∙◌, ◌≡◌}
+use Rattle.std.proofs.lemmas.Bool.{le-ltb}
+use Rattle.std.proofs.lemmas.List.{get_or_past}
+use Rattle.std.specs.List.{AllByRecursion}
+use Rattle.std.specs.Prelude.{IfSome}
+use lib.ListN.{get_elem?}
+use mathlib.Core.Option.{some}
+use native.Mathlib.Decide.{dec_le}
+use Rattle.model_base.specs.declared.limits.TheConstants.{LSN_LIMIT}
+use Rattle.model_base.specs.declared.shape.Shape.{Shape}
+use Rattle.model_changes.specs.{changes_of}
+use Rattle.model_core.specs.{Actor, change_at, Line, line_at, Listed, lsn}
+use Rattle.model_core.specs.DataSide.{DataSide}
+use Rattle.model_core.specs.LogSide.{LogSide}
+use Rattle.model_core.specs.Setup.{Setup}
+use Rattle.model_core.specs.Actors as actor
+use Rattle.model_device.specs.Disk.{Disk}
+use Rattle.model_finish.proofs.Groups.{line_below}
+use Rattle.model_finish.proofs.Scripted.{scripted}
+use Rattle.model_history.specs.{lines_of_user}
+use Rattle.model_logcore.specs.{left_to_reserve, StartPart, sum_over_actors}
+use Rattle.model_logdev.specs.{first_marks}
+use Rattle.model_logdev.specs.declared.marks.LogMarks.{LogMarks}
+use Rattle.model_opening.specs.{start_of}
+use Rattle.model_log.specs.{IsAtDataStart, lsn_of, sn_of}
+use Rattle.model_page.specs.declared.content.Content.{Content}
+use Rattle.model_run.specs.{IsStart}
+use Rattle.model_running.proofs.StartRunning.{store_starts}
+use Rattle.model_running.specs.{AreSeated, IsRunning}
+use Rattle.model_running.specs.RunningStore.{RunningStore}
+use Rattle.model_running.specs.StartStore.{StartStore}
+use Rattle.model_script.specs.{group_of, LineFits}
+use Rattle.model_script.specs.declared.script.ScriptLine.{ScriptLine}
+use Rattle.model_store.specs.Reading.{Reading}
+use Rattle.redo_drive.proofs.DataPartStarts as data_starting
+use Rattle.redo_drive.proofs.DataPartStarts.{StartsHolding}
+use Rattle.redo_disk.specs.Seen.{Seen}
+use Rattle.redo_drive.proofs.LogPartStarts as log_starting
+use Rattle.redo_drive.specs.LogPartSide as log_side
+use Rattle.redo_drive.proofs.Begun.{data_begun, log_begun}
+use Rattle.model_finish.proofs.LineBytes.{GetsBytes, changes_get_bytes}
+use Rattle.redo_drive.proofs.ScriptRoom.{room_for_all}
+use Rattle.redo_drive.proofs.StartActors.{IsNew, are_new, are_seated, seat_of_user, writer_seat}
+use Rattle.redo_drive.proofs.StartWordsPages.{full_pages, has_opened_pages}
+use Rattle.redo_drive.proofs.UserLines.{of_script, of_user}
+use Rattle.redo_drive.specs.Beginning.{HaveBegun, IsOpenedAs, MayBegin}
+use Rattle.redo_drive.specs.Begins.{BeginsRun}
+use Rattle.redo_drive.specs.Lists.{Listings, empty_lists, lists_of}
+use Rattle.redo_drive.specs.Making.{IsOwnOf}
+use Rattle.redo_drive.specs.Playing.{RunOf, data_of, log_of}
+use Rattle.redo_drive.specs.Running.{RunsOn}
+use Rattle.redo_drive.specs.Turning.{core_of}
+use Rattle.redo_drive.specs.Setups.{programs_of, setup_of}
+use Rattle.redo_drive.specs.StartWords.{AreStartWords, StartsOn}
+use Rattle.redo_drive.specs.Views.{views_of}
+use Rattle.redo_drive.specs.declared.making.Beginning.{Beginning}
+use Rattle.redo_drive.specs.declared.making.Own.{Own}
+use Rattle.redo_pageactors.specs.declared.opened.Opened.{Opened}
+
+-- no page is in an empty list
+none_listed : (pages i : ℕ) → ◌≡◌ {A = List Listed} (lists_of (empty_lists pages) i) []
+none_listed pages zero = refl
+none_listed pages (suc zero) = refl
+none_listed pages (suc (suc zero)) = refl
+none_listed pages (suc (suc (suc zero))) = refl
+none_listed pages (suc (suc (suc (suc i)))) = refl
+
+-- the first data byte of a block has as many before it as the blocks before
+sn_at_start : (start : ℕ) → IsAtDataStart start → sn_of start ≡ start / 512 * 496
+sn_at_start start place =
+    let first : ltb (start % 512) 12 ≡ false = le-ltb (start % 512) 12 (omega arith) in
+    let last : ltb 508 (start % 512) ≡ false = le-ltb 508 (start % 512) (omega arith) in
+    ap (λ (b : Bool). start / 512 * 496 + cond b 0 (cond (ltb 508 (start % 512)) 496 (start % 512 - 12))) first
+    ∙ ap (λ (b : Bool). start / 512 * 496 + cond b 496 (start % 512 - 12)) last ∙ omega arith
+
+-- so its lsn comes back from its sn
+lsn_at_start : (start : ℕ) → IsAtDataStart start → lsn (sn_of start) ≡ start
+unfolding lsn
+lsn_at_start start place = ap lsn_of (sn_at_start start place) ∙ omega arith
+
+-- the cells that lines change get bytes
+lines_get_bytes : (shape : Shape) (pages : List Content) (start : ℕ) (script : List ScriptLine) (log_only : Bool) → AllByRecursion (LineFits shape) script
+    → (user j k : ℕ) → GetsBytes (change_at (line_at (programs_of shape log_only script user) j).changes k)
+lines_get_bytes shape pages start script log_only fits user j k = elim (dec_le (length (programs_of shape log_only script user)) j) [
+  | yes past ↦ subst (λ (line : Line). GetsBytes (change_at line.changes k)) (sym (get_or_past (programs_of shape log_only script user) j (record { mode = 0; bytes = []; changes = [] }) past)) (λ i. omega arith)
+  | no there ↦ (
+      let is = of_script shape pages start script log_only in
+      let count = is.count user in
+      let one = line_below (lines_of_user user script) j (omega arith) in
+      subst (λ (line : Line). GetsBytes (change_at line.changes k)) (sym (is.each user j one.0 one.1)) (by log_only one.0 (of_user (LineFits shape) script user j one.0 fits one.1).0))
+]
+  where
+    by : (b : Bool) (one : ScriptLine) → LineFits shape one → GetsBytes (change_at (cond b [] (changes_of shape.pages (group_of shape.space one))) k)
+    by true one fit = λ i. omega arith
+    by false one fit = changes_get_bytes shape.pages (group_of shape.space one) fit.has_text.each k
+
+-- what holds of what both devices tell
+if_told : (log_told data_told : Option Disk) (P : Disk → Disk → Type 0) → ((log_disk data_disk : Disk) → log_told ≡ Some log_disk → data_told ≡ Some data_disk → P log_disk data_disk)
+    → IfSome log_told (λ log_disk. IfSome data_told (λ data_disk. P log_disk data_disk))
+if_told None data_told P is = tt
+if_told (Some log_disk) None P is = tt
+if_told (Some log_disk) (Some data_disk) P is = is log_disk data_disk refl refl
+
+module _ {L D : Type 0} (log_seen : L → Seen) (data_seen : D → Seen) (opened : Opened L D) (script : List ScriptLine) (log_only : Bool) (may : MayBegin opened script log_only) (own : Own)
+    (owns : IsOwnOf opened.shape opened.pages script opened.start log_only own) where
+  -- the run
+  abbrev setup : Setup
+  setup = setup_of opened.shape opened.pages opened.start script log_only
+
+  abbrev run : RunOf L D
+  run = record { setup = setup; shape = opened.shape; first_log = opened.log; first_data = opened.store }
+
+  abbrev log_part : LogSide
+  log_part = log_of log_seen data_seen run
+
+  abbrev data_part : DataSide
+  data_part = data_of log_seen data_seen run
+
+  abbrev seat_of : ℕ → ℕ
+  seat_of = seat_of_user opened.shape log_only script
+
+  abbrev writer : ℕ
+  writer = writer_seat opened.shape log_only script
+
+  abbrev start : Beginning L D
+  start = record {
+    parts = record { words = own.words; log = opened.log; store = opened.store; lists = own.lists };
+    actors = own.actors;
+    entries = own.entries;
+  }
+
+  place : lsn setup.base ≡ opened.start
+  place = lsn_at_start opened.start may.runnable.place
+
+  even : setup.base % 496 ≡ 0
+  even = let e = sn_at_start opened.start may.runnable.place in omega arith
+
+  starts_on : StartsOn opened.start opened.pages setup
+  starts_on = record {
+    begins = place;
+    count = sym may.runnable.its_pages.count;
+    opened = λ p there. refl;
+    early = may.runnable.not_ahead;
+  }
+
+  -- the words and the actors are those of the start
+  words : AreStartWords own.words.words setup
+  words = owns.words setup starts_on
+
+  fit : (user k : ℕ) (one : ScriptLine) → slice_get (lines_of_user user script) k ≡ Some one → LineFits opened.shape one
+  fit user k one at = (of_user (LineFits opened.shape) script user k one may.fits.lines at).0
+
+  new_actors : (seat : ℕ) (a : Actor) → get_elem? (views_of own.actors.items) seat ≡ some a → IsNew setup seat_of writer seat a
+  new_actors seat a at = are_new opened.shape opened.pages opened.start script log_only may.lines may.fits.lines place seat a
+      (subst (λ (actors : List Actor). get_elem? actors seat ≡ some a) owns.actors at)
+
+  -- and so are both parts
+  log_starts : StartPart log_part setup opened.log
+  log_starts = log_starting.part_starts log_seen setup opened.log.marks.number opened.log even
+      (let small = may.runnable.small in let z = place in omega arith)
+      (ap (λ (s : Shape). s.log_blocks) may.runnable.log_shape) may.runnable.log_live
+      (may.runnable.log_marks ∙ ap (λ (n : ℕ). let marks : LogMarks = first_marks n opened.log.marks.number in marks) (sym place))
+
+  data_starts : StartsHolding data_part setup opened.store
+  data_starts = data_starting.part_starts data_seen setup opened.shape opened.store may.runnable.data_shape may.runnable.data_live
+
+  -- what stands at its start
+  store_start : StartStore log_part data_part setup words.by_name opened.log opened.store seat_of writer (views_of own.actors.items)
+  store_start = record {
+    script = scripted setup script opened.shape refl (of_script opened.shape opened.pages opened.start script log_only) fit;
+    some_page = may.runnable.limits.some_pages;
+    words = words.of_log;
+    page_words = words.of_pages;
+    log_part = log_starts;
+    stored = data_starts.stored;
+    sound = data_starts.sound;
+    each = λ seat a at. (new_actors seat a at).start;
+    with_pages = λ seat t at. (new_actors seat (actor.Checkpointer t) at).with_pages;
+  }
+
+  none_at : (i : ℕ) → ◌≡◌ {A = List Listed} (lists_of own.lists i) []
+  none_at i = ap (λ (lists : Listings). let l : List Listed = lists_of lists i in l) owns.lists ∙ none_listed opened.shape.pages i
+
+  -- the invariant holds
+  is_running : IsRunning log_part data_part setup 0 (core_of log_seen data_seen run start.parts own.actors.items)
+  is_running =
+      let room : lsn (setup.base + sum_over_actors left_to_reserve (views_of own.actors.items) + 0) < LSN_LIMIT =
+      subst (λ (actors : List Actor). lsn (setup.base + sum_over_actors left_to_reserve actors + 0) < LSN_LIMIT) (sym owns.actors)
+      (room_for_all opened.shape script opened.start log_only may.fits.lines may.fits.end) in
+      let none : ◌≡◌ {A = ℕ → List Listed} (lists_of own.lists) (λ _. []) = λ k i. none_at i k in
+      subst (λ (lists : ℕ → List Listed). RunningStore log_part data_part setup 0 own.words.words lists opened.log opened.store (views_of own.actors.items)) (sym none)
+      (store_starts log_part data_part setup words.by_name opened.log opened.store seat_of writer (views_of own.actors.items) store_start 0 own.words.words words.in_order room)
+
+  runs : RunsOn log_seen data_seen run start.parts own.actors.items
+  runs = record {
+    limits = may.runnable.limits;
+    its_pages = refl;
+    bytes = record { opened = owns.bytes; cells = λ user j k i. lines_get_bytes opened.shape opened.pages opened.start script log_only may.fits.lines user j k i };
+    word_pages = owns.word_pages ∙ may.runnable.its_pages.count;
+    list_pages = ap (λ (lists : Listings). lists.pages) owns.lists;
+    running = is_running;
+    seated = subst (AreSeated setup) (sym owns.actors) (are_seated opened.shape opened.pages opened.start script log_only may.lines may.fits.lines);
+  }
+
+  -- where the store was ready, its devices hold what was opened
+  begun_on : (reading : Reading) (log_disk data_disk : Disk) → IsOpenedAs reading opened → (log_seen opened.log.dev).tells ≡ Some log_disk → (data_seen opened.store.dev).tells ≡ Some data_disk
+      → IsStart reading script log_disk data_disk → HaveBegun log_seen data_seen run
+  begun_on reading log_disk data_disk reads log_tells data_tells is =
+      let start : opened.start ≡ start_of reading = reads.start in record {
+        log = subst (λ (n : ℕ). log_side.HasBegun log_seen n opened.log) (sym (place ∙ start))
+            (log_begun reading script log_disk data_disk is log_seen opened.log (may.runnable.log_shape ∙ reads.shape) may.runnable.log_live
+            (may.runnable.log_marks ∙ ap (λ (n : ℕ). let marks : LogMarks = first_marks n opened.log.marks.number in marks) start ∙ ap (λ (n : ℕ). let marks : LogMarks = first_marks (start_of reading) n in marks) reads.number) log_tells);
+        data_part = data_begun reading script log_disk data_disk is data_seen opened.shape opened.pages opened.store may.runnable.limits reads.shape reads.pages may.runnable.data_shape may.runnable.data_live data_tells;
+      }
+
+  -- its parts and actors stand at the beginning of the run
+  pub begins : BeginsRun log_seen data_seen opened script log_only start
+  begins = record {
+    run = run;
+    is_run = record {
+      shape = refl;
+      first_log = refl;
+      first_data = refl;
+      start = place;
+      log_only_is = refl;
+      of_script = of_script opened.shape opened.pages opened.start script log_only;
+      its_pages = has_opened_pages setup (record { shape = opened.shape; pages = opened.pages; end = 0 }) (full_pages opened.shape opened.pages may.runnable.limits may.runnable.its_pages)
+          may.runnable.its_pages.count (sym may.runnable.its_pages.count) (λ p there. refl);
+    };
+    at_start = record {
+      words = words.by_name;
+      words_are = words.in_order;
+      seat_of = seat_of;
+      writer = writer;
+      starts = store_start;
+      none_listed = none_at;
+    };
+    stands = record {
+      words = words;
+      are_new = owns.actors;
+      log = refl;
+      data_part = refl;
+      none_listed = none_at;
+    };
+    runs = runs;
+    log = refl;
+    data_part = refl;
+    no_entries = owns.no_entries;
+    room = owns.room;
+    begun = λ reading reads. if_told (log_seen opened.log.dev).tells (data_seen opened.store.dev).tells (λ log_disk data_disk. IsStart reading script log_disk data_disk → HaveBegun log_seen data_seen run)
+        (λ log_disk data_disk log_tells data_tells is. begun_on reading log_disk data_disk reads log_tells data_tells is);
+  }

@@ -1,0 +1,46 @@
+-- No Op of a running store changes the shape of its log part.
+use Rattle.std.proofs.Common.{List, ap, suc, zero, ℕ, ◌∙◌, ◌≡◌}
+use Rattle.model_base.specs.declared.shape.Shape.{Shape}
+use Rattle.model_core.specs.{Batch, Blocks, Core, Lent, lent, LogServed, next, Nothing}
+use Rattle.model_core.specs.DataSide.{DataSide}
+use Rattle.model_core.specs.LogSide.{LogSide}
+use Rattle.model_core.specs.declared.ops.Op.{Op}
+use Rattle.model_running.specs.{TakesTurns}
+use Rattle.redo_disk.specs.Seen.{Seen}
+use Rattle.redo_logdev.specs.Part.{Part}
+use Rattle.redo_drive.specs.LogPartSide.{LogCheckpointed, LogSynced, LogWrote, log_side}
+use Rattle.model_core.specs.declared.ops.Op.TheVariants as op
+
+module _ {L : Type 0} (seen : L → Seen) (faults number : ℕ) (Begun : Type 0) where
+  abbrev side : LogSide
+  side = log_side seen faults number Begun
+
+  module _ (p q : Part L) (code : ℕ) where
+    abbrev IsSame : Type 0
+    IsSame = ◌≡◌ {A = Shape} q.shape p.shape
+
+    wrote : (t : ℕ) (bytes firsts : List ℕ) → LogWrote seen t bytes firsts code p q → IsSame
+    wrote t bytes firsts w = w.called.stays.shape
+
+    synced : LogSynced seen code p q → IsSame
+    synced w = w.called.stays.shape
+
+    checkpointed : (x : ℕ) → LogCheckpointed seen x code p q → IsSame
+    checkpointed x w = w.called.stays.shape
+
+    as_is : ◌≡◌ {A = Part L} q p → IsSame
+    as_is same = ap (λ (z : Part L). z.shape) same
+
+    pub served_shape : (l : Lent) (o : Op) → LogServed side p l o code q → IsSame
+    served_shape (Blocks bytes firsts) (op.WriteTo t) w = wrote t bytes firsts w
+    served_shape Nothing (op.WriteTo t) w = absurd w
+    served_shape (Batch batch) (op.WriteTo t) w = absurd w
+    served_shape l op.Sync w = synced w
+    served_shape l (op.Checkpoint x) w = checkpointed x w
+    served_shape l _ w = as_is w
+
+  -- so no turn does, and no run of turns
+  pub run_shape : (E : DataSide) (seed max n : ℕ) (first last : Core side E) → TakesTurns side E seed max n first last → ◌≡◌ {A = Shape} last.log_part.shape first.log_part.shape
+  run_shape E seed max zero first last same = ap (λ (s : Core side E). s.log_part.shape) same
+  run_shape E seed max (suc n) first last r =
+      served_shape r.before.log_part last.log_part r.turn.code (lent r.turn.who) (next r.turn.who) r.turn.log_served ∙ run_shape E seed max n first r.before r.earlier

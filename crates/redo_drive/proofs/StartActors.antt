@@ -1,0 +1,146 @@
+-- The actors of a run as it begins: each is new, and in its seat.
+use Rattle.std.proofs.Common.{Bool, List, [], ap, arith, false, length, map, refl, subst, suc, sym, true, zero, ℕ, ⊎_elim, ◌+◌, ◌<◌, ◌∙◌, ◌∷◌, ◌≡◌, ◌≤◌}
+use Rattle.std.specs.List.{AllByRecursion}
+use Rattle.std.specs.Prelude.{slice_index}
+use Rattle.std.proofs.lemmas.List.{get_or_past, length-map}
+use lib.ListN.{get_elem?}
+use mathlib.Core.Option.{some, some-injective, some-ne-none}
+use native.Mathlib.Decide.{dec_le}
+use Rattle.model_base.specs.declared.limits.TheConstants.{MAX_GROUP}
+use Rattle.model_base.specs.declared.shape.Shape.{Shape}
+use Rattle.model_changes.proofs.Collected.{group_has_text}
+use Rattle.model_core.specs.{Actor, Line, line_at, lsn, new_checkpointer, new_cleaner, new_closer, new_flusher, new_user, new_writer, UserState}
+use Rattle.model_core.specs.Actors as actor
+use Rattle.model_core.specs.Setup.{Setup}
+use Rattle.model_finish.proofs.Groups.{line_below}
+use Rattle.model_history.specs.{lines_of_user}
+use Rattle.model_logcore.specs.{StartActor, StartUser}
+use Rattle.model_logdev.proofs.Bytes.{group-bytes}
+use Rattle.model_page.specs.declared.content.Content.{Content}
+use Rattle.model_running.specs.{ArePageActors, AreSeated}
+use Rattle.model_script.specs.{group_of, IsScriptLine, LineFits}
+use Rattle.model_script.specs.declared.misfit.TheConstants.{MAX_USERS}
+use Rattle.model_script.specs.declared.script.ScriptLine.{ScriptLine}
+use Rattle.redo_drive.proofs.Seats.{HasSeat, ascend, at_either, has_seat, seated, user_at}
+use Rattle.redo_drive.proofs.UserLines.{few_modes, numbered, of_script, of_user}
+use Rattle.redo_drive.specs.Setups.{page_actors, programs_of, setup_of, start_actors, users_below, users_of}
+
+-- where the log runs alone there is no checkpointer
+abbrev pub RunsWithPages : Bool → Actor → Type 0
+RunsWithPages log_only (actor.Checkpointer t) = log_only ≡ false
+RunsWithPages log_only _ = Unit {0}
+
+-- the seat of the user of a number: as many users have lesser numbers
+abbrev pub seat_of_user : Shape → Bool → List ScriptLine → ℕ → ℕ
+seat_of_user shape log_only script user = length (users_below shape.log_blocks (programs_of shape log_only script) user)
+
+-- the writer sits behind the users
+abbrev pub writer_seat : Shape → Bool → List ScriptLine → ℕ
+writer_seat shape log_only script = length (users_of shape log_only script)
+
+-- an actor as the run begins, in its seat
+pub record IsNew (c : Setup) (seat_of : ℕ → ℕ) (writer seat : ℕ) (a : Actor) : Type 0 where
+  pub start : StartActor c seat_of writer seat a
+  pub with_pages : RunsWithPages c.log_only a
+
+module _ (shape : Shape) (pages : List Content) (start : ℕ) (script : List ScriptLine) (log_only : Bool) (lines : AllByRecursion IsScriptLine script) (fits : AllByRecursion (LineFits shape) script) where
+  abbrev setup : Setup
+  setup = setup_of shape pages start script log_only
+
+  abbrev programs : ℕ → List Line
+  programs = programs_of shape log_only script
+
+  abbrev users : List UserState
+  users = users_of shape log_only script
+
+  -- a line of a user, as its program has it
+  record IsProgramLine (line : Line) : Type 0 where
+    pub some_bytes : 0 < length line.bytes
+    pub short : length line.bytes ≤ MAX_GROUP
+    pub mode : line.mode < 3
+    pub are_bytes : (i : ℕ) → i < length line.bytes → slice_index line.bytes i < 256
+
+  program_line : (user j : ℕ) → j < length (programs user) → IsProgramLine (line_at (programs user) j)
+  program_line user j there =
+      let count = (of_script shape pages start script log_only).count user in
+      let one = line_below (lines_of_user user script) j (omega arith) in
+      let fit : LineFits shape one.0 = (of_user (LineFits shape) script user j one.0 fits one.1).0 in
+      let in_range : IsScriptLine one.0 = (of_user IsScriptLine script user j one.0 lines one.1).0 in
+      subst IsProgramLine (sym ((of_script shape pages start script log_only).each user j one.0 one.1)) (record {
+        some_bytes = group_has_text (group_of shape.space one.0) fit.has_text;
+        short = fit.short;
+        mode = few_modes one.0 in_range;
+        are_bytes = λ i l. group-bytes (group_of shape.space one.0) fit.has_text.each i 0 l;
+      })
+
+  start_user : (u : UserState) → u ≡ new_user u.user shape.log_blocks (programs u.user) → 0 < length (programs u.user) → StartUser setup u
+  start_user u is some_lines = record {
+    is = is;
+    some_lines = some_lines;
+    sound = λ j there. (let line = program_line u.user j there in (line.some_bytes, line.short, line.mode));
+    are_bytes = λ j i within. elim (dec_le (length (programs u.user)) j) [
+      | yes past ↦ absurd (let none = ap (λ (z : Line). length z.bytes) (get_or_past (programs u.user) j (record { mode = 0; bytes = []; changes = [] }) past) in omega arith)
+      | no there ↦ (program_line u.user j (omega arith)).are_bytes i within
+    ];
+  }
+
+  -- the run starts at the first data byte of a block, so that its sn and its lsn tell one another
+  module _ (place : lsn setup.base ≡ start) where
+    abbrev IsHere : ℕ → Actor → Type 0
+    IsHere seat a = IsNew setup (seat_of_user shape log_only script) (writer_seat shape log_only script) seat a
+
+    user_starts : (seat : ℕ) (a : Actor) → get_elem? (map actor.User users) seat ≡ some a → IsHere seat a
+    user_starts seat a at =
+        let u = user_at users seat a at in
+        let own : HasSeat shape.log_blocks programs (MAX_USERS + 1) seat u.0 = seated shape.log_blocks programs (MAX_USERS + 1) seat u.0 u.2 in
+        subst (IsHere seat) u.1 (record { start = (own.before, start_user u.0 own.is own.some_lines); with_pages = tt })
+
+    -- behind the users, the writer and the flusher
+    pages_start : (b : Bool) → b ≡ log_only → (i : ℕ) (a : Actor) → get_elem? (page_actors shape start b) i ≡ some a → IsHere (length users + (2 + i)) a
+    pages_start true is i a at = absurd (some-ne-none a (sym at))
+    pages_start false is zero a at = subst (IsHere (length users + 2)) (some-injective (actor.Closer (new_closer start)) a at)
+        (record { start = (refl, ap new_closer (sym place)); with_pages = tt })
+    pages_start false is (suc zero) a at = subst (IsHere (length users + 3)) (some-injective (actor.Cleaner (new_cleaner shape.pages)) a at)
+        (record { start = (refl, refl); with_pages = tt })
+    pages_start false is (suc (suc zero)) a at = subst (IsHere (length users + 4)) (some-injective (actor.Checkpointer (new_checkpointer start)) a at)
+        (record { start = (refl, ap new_checkpointer (sym place)); with_pages = sym is })
+    pages_start false is (suc (suc (suc i))) a at = absurd (some-ne-none a (sym at))
+
+    others_start : (i : ℕ) (a : Actor) → get_elem? (actor.Writer (new_writer shape.log_blocks start) ∷ actor.Flusher (new_flusher start) ∷ page_actors shape start log_only) i ≡ some a
+        → IsHere (length users + i) a
+    others_start zero a at = subst (IsHere (length users + 0)) (some-injective (actor.Writer (new_writer shape.log_blocks start)) a at)
+        (record { start = (omega arith, ap (new_writer shape.log_blocks) (sym place)); with_pages = tt })
+    others_start (suc zero) a at = subst (IsHere (length users + 1)) (some-injective (actor.Flusher (new_flusher start)) a at)
+        (record { start = (refl, ap new_flusher (sym place)); with_pages = tt })
+    others_start (suc (suc i)) a at = subst (λ (n : ℕ). IsHere (length users + n) a) (let e : 2 + i ≡ suc (suc i) = omega arith in e) (pages_start log_only refl i a at)
+
+    -- each actor is new, and in its seat
+    pub are_new : (seat : ℕ) (a : Actor) → get_elem? (start_actors shape script start log_only) seat ≡ some a → IsHere seat a
+    are_new seat a at = ⊎_elim (user_starts seat a)
+        (λ z. subst (λ (n : ℕ). IsHere n a) (sym (z.1 ∙ ap (λ (n : ℕ). n + z.0) (length-map users actor.User))) (others_start z.0 a z.2))
+        (at_either (map actor.User users) (actor.Writer (new_writer shape.log_blocks start) ∷ actor.Flusher (new_flusher start) ∷ page_actors shape start log_only) a seat at)
+
+  are_page_actors : (b : Bool) → ArePageActors b (page_actors shape start b)
+  are_page_actors true = refl
+  are_page_actors false = (record { closer = new_closer start; cleaner = new_cleaner shape.pages; checkpointer = new_checkpointer start }, refl)
+
+  -- the users that have lines are seated, and the other actors behind them
+  pub are_seated : AreSeated setup (start_actors shape script start log_only)
+  are_seated = record {
+    users = users;
+    writer = new_writer shape.log_blocks start;
+    flusher = new_flusher start;
+    others = page_actors shape start log_only;
+    are = refl;
+    page_actors = are_page_actors log_only;
+    ascending = ascend shape.log_blocks programs (MAX_USERS + 1);
+    have_lines = λ i u at. (seated shape.log_blocks programs (MAX_USERS + 1) i u at).some_lines;
+    all = λ user some_lines.
+        (let count = (of_script shape pages start script log_only).count user in
+        let range = numbered shape script lines fits user (omega arith) in
+        let to = range.1 in
+        (seat_of_user shape log_only script user, new_user user shape.log_blocks (programs user), has_seat shape.log_blocks programs (MAX_USERS + 1) user (omega arith) some_lines, refl));
+    closer = refl;
+    cleaner = refl;
+    checkpointer = refl;
+  }

@@ -1,0 +1,55 @@
+-- The words by name while their first numbers are written.
+use Rattle.std.proofs.Common.{List, ap, arith, length, subst, sym, ℕ, ◌<◌, ◌∙◌, ◌≡◌, ⊎_elim}
+use Rattle.std.specs.Prelude.{slice_set}
+use Rattle.std.proofs.lemmas.Bool.{cases_eq}
+use Rattle.std.proofs.lemmas.List.{get_or-set_other, get_or-set_same, length-set}
+use Rattle.model_core.specs.{blank_words, index, IsSized, IsWord, page_words_at, PageWords, SharedWords, with_page_words, wrote}
+use Rattle.model_core.specs.declared.limits.TheConstants.{FRAME_WORDS}
+use Rattle.model_core.specs.declared.words.Word.{Word}
+use Rattle.model_core.specs.declared.words.Word.TheVariants as word
+use Rattle.model_running.proofs.FlatWords.{flat_wrote}
+use Rattle.redo_drive.specs.StartWords.{AreNamed}
+use Rattle.redo_words.specs.Plain.{Plain}
+
+module _ (pages : ℕ) (m : SharedWords) (s : IsSized pages m) where
+  -- other words of a page, whose frame is as long
+  pub page_sized : (p : ℕ) (w : PageWords) → p < pages → length w.frame ≡ FRAME_WORDS → IsSized pages (with_page_words m p w)
+  page_sized p w there long = record {
+    lists = s.lists;
+    wlinks = s.wlinks;
+    clinks = s.clinks;
+    cells = s.cells;
+    firsts = s.firsts;
+    page_words = length-set m.page_words p w ∙ s.page_words;
+    frames = λ q below. ⊎_elim
+        (λ e. ap (λ (k : ℕ). length (page_words_at (slice_set m.page_words p w) k).frame) e ∙ ap (λ (v : PageWords). length v.frame) (get_or-set_same m.page_words p w blank_words (omega (arith, s.page_words))) ∙ long)
+        (λ other. ap (λ (v : PageWords). length v.frame) (get_or-set_other m.page_words p q w blank_words other) ∙ s.frames q below)
+        (cases_eq q p);
+  }
+
+  -- a word that is written leaves how many there are of each kind
+  pub wrote_sized : (w : Word) → IsWord pages w → (x : ℕ) → IsSized pages (wrote m w x)
+  wrote_sized word.Sn h x = record { lists = s.lists; wlinks = s.wlinks; clinks = s.clinks; cells = s.cells; firsts = s.firsts; page_words = s.page_words; frames = s.frames }
+  wrote_sized word.Write h x = record { lists = s.lists; wlinks = s.wlinks; clinks = s.clinks; cells = s.cells; firsts = s.firsts; page_words = s.page_words; frames = s.frames }
+  wrote_sized word.Wtail h x = record { lists = s.lists; wlinks = s.wlinks; clinks = s.clinks; cells = s.cells; firsts = s.firsts; page_words = s.page_words; frames = s.frames }
+  wrote_sized word.Flushed h x = record { lists = s.lists; wlinks = s.wlinks; clinks = s.clinks; cells = s.cells; firsts = s.firsts; page_words = s.page_words; frames = s.frames }
+  wrote_sized word.Ckpt h x = record { lists = s.lists; wlinks = s.wlinks; clinks = s.clinks; cells = s.cells; firsts = s.firsts; page_words = s.page_words; frames = s.frames }
+  wrote_sized word.Ctail h x = record { lists = s.lists; wlinks = s.wlinks; clinks = s.clinks; cells = s.cells; firsts = s.firsts; page_words = s.page_words; frames = s.frames }
+  wrote_sized word.Failed h x = record { lists = s.lists; wlinks = s.wlinks; clinks = s.clinks; cells = s.cells; firsts = s.firsts; page_words = s.page_words; frames = s.frames }
+  wrote_sized word.Device h x = record { lists = s.lists; wlinks = s.wlinks; clinks = s.clinks; cells = s.cells; firsts = s.firsts; page_words = s.page_words; frames = s.frames }
+  wrote_sized (word.List i) h x = record { lists = length-set m.lists i x ∙ s.lists; wlinks = s.wlinks; clinks = s.clinks; cells = s.cells; firsts = s.firsts; page_words = s.page_words; frames = s.frames }
+  wrote_sized (word.Wlink i) h x = record { lists = s.lists; wlinks = length-set m.wlinks i x ∙ s.wlinks; clinks = s.clinks; cells = s.cells; firsts = s.firsts; page_words = s.page_words; frames = s.frames }
+  wrote_sized (word.Clink i) h x = record { lists = s.lists; wlinks = s.wlinks; clinks = length-set m.clinks i x ∙ s.clinks; cells = s.cells; firsts = s.firsts; page_words = s.page_words; frames = s.frames }
+  wrote_sized (word.Cell i) h x = record { lists = s.lists; wlinks = s.wlinks; clinks = s.clinks; cells = length-set m.cells i x ∙ s.cells; firsts = s.firsts; page_words = s.page_words; frames = s.frames }
+  wrote_sized (word.First i) h x = record { lists = s.lists; wlinks = s.wlinks; clinks = s.clinks; cells = s.cells; firsts = length-set m.firsts i x ∙ s.firsts; page_words = s.page_words; frames = s.frames }
+  wrote_sized (word.Latch p) h x = page_sized p (record (page_words_at m.page_words p) { latch = x }) h (s.frames p h)
+  wrote_sized (word.Newest p) h x = page_sized p (record (page_words_at m.page_words p) { newest = x }) h (s.frames p h)
+  wrote_sized (word.Oldest p) h x = page_sized p (record (page_words_at m.page_words p) { oldest = x }) h (s.frames p h)
+  wrote_sized (word.Frame p i) h x = page_sized p (record (page_words_at m.page_words p) { frame = slice_set (page_words_at m.page_words p).frame i x }) h.0 (length-set (page_words_at m.page_words p).frame i x ∙ s.frames p h.0)
+
+-- the words stay named where one is written
+pub named_wrote : (old new : Plain) (m : SharedWords) (w : Word) (x : ℕ) → AreNamed old m → IsWord old.pages w → new.pages ≡ old.pages → new.words ≡ slice_set old.words (index w) x → AreNamed new (wrote m w x)
+named_wrote old new m w x named there pages words = record {
+  sized = subst (λ (n : ℕ). IsSized n (wrote m w x)) (sym pages) (wrote_sized old.pages m named.sized w there x);
+  in_order = words ∙ ap (λ (ws : List ℕ). slice_set ws (index w) x) named.in_order ∙ flat_wrote old.pages m named.sized w there x;
+}

@@ -1,0 +1,134 @@
+-- The words of a store while its pages are written into them one by one, and what they are then for a run.
+use Rattle.std.proofs.Common.{Bool, List, ap, arith, cond, eq-eqb, get_or, length, ne_eqb, refl, subst, suc, sym, ℕ, ⊎_elim, ◌%◌, ◌*◌, ◌+◌, ◌-◌, ◌/◌, ◌<◌, ◌==◌, ◌∙◌, ◌≡◌, ◌≤◌}
+use Rattle.std.specs.Prelude.{slice_index, slice_set}
+use Rattle.std.proofs.lemmas.Bool.{cases_eq}
+use Rattle.std.proofs.lemmas.List.{get_or-set_other, get_or-set_same}
+use Rattle.std.proofs.lemmas.Option.{slice_get-get_or}
+use Rattle.model_base.specs.declared.limits.TheConstants.{BLOCK_SIZE}
+use Rattle.model_core.proofs.Lists.{one_turn}
+use Rattle.model_core.proofs.Lsns.{lsn_block, lsn_offset}
+use Rattle.model_core.specs.{blank_words, frame_bytes, IsSized, KeptPage, lsn, page_words_at, PageWords, SharedWords}
+use Rattle.model_core.specs.Setup.{Setup}
+use Rattle.model_core.specs.declared.limits.TheConstants.{BUFFER_BLOCKS}
+use Rattle.model_log.specs.{data_before, IsAtDataStart, sn_of}
+use Rattle.model_log.specs.declared.layout.TheConstants.{BLOCK_DATA, BLOCK_HEADER}
+use Rattle.model_page.specs.declared.content.Content.{Content}
+use Rattle.redo_drive.proofs.StartWordsPacked.{page_frame-bytes}
+use Rattle.redo_drive.proofs.StartWordsZero.{zero_page, zero_page_at, zero_words, zeros, zeros-length, zeros-zero}
+use Rattle.redo_drive.specs.StartWords.{AreFullPages, AreNamed, AreStartWords, IsBlankFrame, StartsOn, page_frame, unwritten_page, with_frame, with_log}
+use Rattle.redo_words.specs.Plain.{Plain}
+
+-- a page that is free and in no list, with these cells
+abbrev free_page : List ℕ → PageWords
+free_page cells = record { latch = 0; newest = 0; oldest = 0; frame = cells }
+
+-- the words of a run that starts at this lsn, with these of the pages
+abbrev begun_words : ℕ → ℕ → List PageWords → SharedWords
+begun_words start pages ws = record (with_log start (zero_words pages)) { page_words = ws }
+
+-- so many of the pages have their cells and hold bytes, and the others' cells are 0
+pub record AreSetUpTo (start : ℕ) (pages : List Content) (k : ℕ) (words : Plain) : Type 0 where
+  pub count : words.pages ≡ length pages
+  pub page_words : List PageWords
+  pub named : AreNamed words (begun_words start (length pages) page_words)
+  pub done : (p : ℕ) → p < k → p < length pages → ◌≡◌ {A = PageWords} (page_words_at page_words p) (free_page (page_frame (get_or pages p unwritten_page).user))
+  pub left : (p : ℕ) → k ≤ p → p < length pages → ◌≡◌ {A = PageWords} (page_words_at page_words p) zero_page
+  pub bytes : (p : ℕ) → p < k → p < length pages → (i : ℕ) → slice_index (get_or pages p unwritten_page).user i < 256
+
+module _ (start : ℕ) (pages : List Content) where
+  -- the words of the log are set, on words that were all 0
+  pub set_none : (words : Plain) (count : ℕ) → count ≡ length pages → words.pages ≡ count → AreNamed words (with_log start (zero_words count)) → AreSetUpTo start pages 0 words
+  set_none words count is has named = record {
+    count = has ∙ is;
+    page_words = (zero_words (length pages)).page_words;
+    named = subst (λ (n : ℕ). AreNamed words (with_log start (zero_words n))) is named;
+    done = λ p below there. absurd (omega arith);
+    left = λ p from there. zero_page_at (length pages) p there;
+    bytes = λ p below there. absurd (omega arith);
+  }
+
+  -- one more page has its cells
+  pub set_more : (mid new : Plain) (k : ℕ) (user : List ℕ) → AreSetUpTo start pages k mid → k < length pages → user ≡ (get_or pages k unwritten_page).user → ((i : ℕ) → slice_index user i < 256)
+      → new.pages ≡ mid.pages → ((m : SharedWords) → AreNamed mid m → IsBlankFrame k m → AreNamed new (with_frame k (page_frame user) m)) → AreSetUpTo start pages (suc k) new
+  set_more mid new k user before there is small same step = record {
+    count = same ∙ before.count;
+    page_words = slice_set before.page_words k framed;
+    named = step (begun_words start (length pages) before.page_words) before.named (λ i. ap (λ (w : PageWords). slice_index w.frame i) blank ∙ zeros-zero _ i);
+    done = λ p below there'. ⊎_elim
+        (λ e. ap (page_words_at (slice_set before.page_words k framed)) e ∙ get_or-set_same before.page_words k framed blank_words long
+        ∙ ap (λ (w : PageWords). let v : PageWords = record w { frame = page_frame user } in v) blank
+        ∙ ap (λ (us : List ℕ). free_page (page_frame us)) is ∙ ap (λ (q : ℕ). free_page (page_frame (get_or pages q unwritten_page).user)) (sym e))
+        (λ other. get_or-set_other before.page_words k p framed blank_words other ∙ before.done p (omega arith) there')
+        (cases_eq p k);
+    left = λ p from there'. get_or-set_other before.page_words k p framed blank_words (λ e. omega arith) ∙ before.left p (omega arith) there';
+    bytes = λ p below there'. ⊎_elim
+        (λ e. λ i. subst (λ (q : ℕ). slice_index (get_or pages q unwritten_page).user i < 256) (sym e) (subst (λ (us : List ℕ). slice_index us i < 256) is (small i)))
+        (λ other. before.bytes p (omega arith) there')
+        (cases_eq p k);
+  }
+    where
+      framed : PageWords
+      framed = record (page_words_at before.page_words k) { frame = page_frame user }
+
+      blank : ◌≡◌ {A = PageWords} (page_words_at before.page_words k) zero_page
+      blank = before.left k (omega arith) there
+
+      long : k < length before.page_words
+      long = omega (arith, before.named.sized.page_words, before.count)
+
+  -- a run that starts there, at the first data byte of a block, has these words
+  module _ (c : Setup) (full : AreFullPages pages) (place : IsAtDataStart start) (on : StartsOn start pages c) where
+    -- its first block, its first sn, and the first offsets of the blocks that the log buffer spans
+    block : start / BLOCK_SIZE ≡ c.base / BLOCK_DATA
+    block = ap (λ (n : ℕ). n / BLOCK_SIZE) (sym on.begins) ∙ lsn_block c.base
+
+    even : c.base % BLOCK_DATA ≡ 0
+    even = let e : lsn c.base % BLOCK_SIZE ≡ start % BLOCK_SIZE = ap (λ (n : ℕ). n % BLOCK_SIZE) on.begins in let o = lsn_offset c.base in omega arith
+
+    sn : sn_of start ≡ c.base
+    sn = ap (λ (n : ℕ). start / BLOCK_SIZE * BLOCK_DATA + data_before n) place ∙ ap (λ (n : ℕ). n * BLOCK_DATA + data_before BLOCK_HEADER) block ∙ (let e : c.base / BLOCK_DATA * BLOCK_DATA + 0 ≡ c.base = omega (arith, even) in e)
+
+    firsts : (q : ℕ) → c.base / BLOCK_DATA ≤ q → q < c.base / BLOCK_DATA + BUFFER_BLOCKS → slice_index (slice_set (zeros BUFFER_BLOCKS) (start / BLOCK_SIZE % BUFFER_BLOCKS) BLOCK_HEADER) (q % BUFFER_BLOCKS) ≡ cond (q == c.base / BLOCK_DATA) BLOCK_HEADER 0
+    firsts q from below = ap (λ (n : ℕ). slice_index (slice_set (zeros BUFFER_BLOCKS) (n % BUFFER_BLOCKS) BLOCK_HEADER) (q % BUFFER_BLOCKS)) block ∙ ⊎_elim
+        (λ e. ap (λ (n : ℕ). slice_index (slice_set (zeros BUFFER_BLOCKS) (b % BUFFER_BLOCKS) BLOCK_HEADER) (n % BUFFER_BLOCKS)) e
+        ∙ get_or-set_same (zeros BUFFER_BLOCKS) (b % BUFFER_BLOCKS) BLOCK_HEADER 0 (omega (arith, zeros-length BUFFER_BLOCKS)) ∙ sym (ap (λ (t : Bool). cond t BLOCK_HEADER 0) (eq-eqb q b e)))
+        (λ other. get_or-set_other (zeros BUFFER_BLOCKS) (b % BUFFER_BLOCKS) (q % BUFFER_BLOCKS) BLOCK_HEADER 0 (λ e. other (sym (one_turn b q BUFFER_BLOCKS from below (sym e))))
+        ∙ zeros-zero BUFFER_BLOCKS (q % BUFFER_BLOCKS) ∙ sym (ap (λ (t : Bool). cond t BLOCK_HEADER 0) (ne_eqb q b other)))
+        (cases_eq q b)
+      where
+        b : ℕ
+        b = c.base / BLOCK_DATA
+
+    pub set_all : (words : Plain) (k : ℕ) → AreSetUpTo start pages k words → length pages ≤ k → AreStartWords words.words c
+    set_all words k up_to all = record {
+      by_name = begun_words start (length pages) up_to.page_words;
+      in_order = up_to.named.in_order;
+      of_log = record {
+        sized = subst (λ (n : ℕ). IsSized n (begun_words start (length pages) up_to.page_words)) (up_to.count ∙ sym on.count) up_to.named.sized;
+        even = even;
+        sn = sn;
+        write = sym on.begins;
+        wtail = sym on.begins;
+        flushed = sym on.begins;
+        ckpt = ap (λ (n : ℕ). n - BLOCK_HEADER) (sym on.begins);
+        failed = refl;
+        device = refl;
+        lists = zeros-zero _;
+        wlinks = zeros-zero _;
+        cells = zeros-zero _;
+        firsts = firsts;
+      };
+      of_pages = record {
+        page_words = λ p below. let there : p < length pages = omega (arith, on.count) in
+            up_to.done p (omega arith) there ∙ ap (λ (w : PageWords). free_page w.frame) (sym (up_to.done p (omega arith) there));
+        frames = λ p below. let there : p < length pages = omega (arith, on.count) in
+            ap (λ (w : PageWords). frame_bytes w.frame) (up_to.done p (omega arith) there)
+            ∙ page_frame-bytes (get_or pages p unwritten_page).user (full.sizes p (get_or pages p unwritten_page) (slice_get-get_or pages p unwritten_page there)) (up_to.bytes p (omega arith) there)
+            ∙ ap (λ (kept : KeptPage). kept.bytes) (sym (on.opened p there));
+        early = λ p below. let there : p < length pages = omega (arith, on.count) in
+            let e : (c.opened p).lsn ≡ (get_or pages p unwritten_page).lsn = ap (λ (kept : KeptPage). kept.lsn) (on.opened p there) in
+            let old = on.early p (get_or pages p unwritten_page) (slice_get-get_or pages p unwritten_page there) in omega (arith, on.begins);
+        ctail = sym on.begins;
+        clinks = zeros-zero _;
+      };
+    }

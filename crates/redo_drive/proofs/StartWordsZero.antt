@@ -1,0 +1,108 @@
+-- Words that are all 0, by name.
+use Rattle.std.proofs.Common.{List, [], ap, arith, length, refl, replicate, suc, sym, zero, ℕ, ◌*◌, ◌++◌, ◌+◌, ◌<◌, ◌∙◌, ◌∷◌, ◌≡◌}
+use Rattle.std.specs.Prelude.{slice_index}
+use Rattle.std.proofs.lemmas.List.{get_or-replicate, length-replicate}
+use Rattle.model_core.specs.{blank_words, flat, flat_page_words, page_stride, page_words_at, PageWords, SharedWords, word_count}
+use Rattle.model_core.specs.declared.limits.TheConstants.{BUFFER_BLOCKS, CLOSED_LINKS, FLUSH_LISTS, FRAME_WORDS, BUFFER_WORDS, WRITTEN_LINKS}
+use Rattle.redo_drive.specs.StartWords.{AreNamed}
+use Rattle.redo_words.specs.Plain.{Plain}
+
+-- so many zeros. There are tens of thousands, so only the lemmas on any number of them see what they are
+pub zeros : ℕ → List ℕ
+zeros zero = []
+zeros (suc n) = 0 ∷ zeros n
+
+pub zeros-length : (n : ℕ) → length (zeros n) ≡ n
+unfolding zeros
+zeros-length zero = refl
+zeros-length (suc n) = ap suc (zeros-length n)
+
+pub zeros-zero : (n i : ℕ) → slice_index (zeros n) i ≡ 0
+unfolding zeros
+zeros-zero zero i = refl
+zeros-zero (suc n) zero = refl
+zeros-zero (suc n) (suc i) = zeros-zero n i
+
+zeros-append : (m n : ℕ) → zeros m ++ zeros n ≡ zeros (m + n)
+unfolding zeros
+zeros-append zero n = ap zeros (let e : n ≡ 0 + n = omega arith in e)
+zeros-append (suc m) n = ap (λ (xs : List ℕ). 0 ∷ xs) (zeros-append m n) ∙ ap zeros (let e : suc (m + n) ≡ suc m + n = omega arith in e)
+
+zeros-none : [] ≡ zeros (0 * page_stride)
+unfolding zeros
+zeros-none = refl
+
+zeros-three : (n : ℕ) → 0 ∷ 0 ∷ 0 ∷ zeros n ≡ zeros (suc (suc (suc n)))
+unfolding zeros
+zeros-three n = refl
+
+zeros-eight : (n : ℕ) → 0 ∷ 0 ∷ 0 ∷ 0 ∷ 0 ∷ 0 ∷ 0 ∷ 0 ∷ zeros n ≡ zeros (suc (suc (suc (suc (suc (suc (suc (suc n))))))))
+unfolding zeros
+zeros-eight n = refl
+
+-- zeros before so many others
+longer : (m n : ℕ) (xs : List ℕ) → xs ≡ zeros n → zeros m ++ xs ≡ zeros (m + n)
+longer m n xs are = ap (λ (ys : List ℕ). zeros m ++ ys) are ∙ zeros-append m n
+
+-- a list whose numbers are all 0
+are_zeros : (xs : List ℕ) → ((i : ℕ) → slice_index xs i ≡ 0) → xs ≡ zeros (length xs)
+unfolding zeros
+are_zeros [] each = refl
+are_zeros (x ∷ xs) each = ap (λ (y : ℕ). y ∷ xs) (each zero) ∙ ap (λ (ys : List ℕ). 0 ∷ ys) (are_zeros xs (λ i. each (suc i)))
+
+-- a page that is free and in no list, and whose frame is empty
+abbrev pub zero_page : PageWords
+zero_page = record { latch = 0; newest = 0; oldest = 0; frame = zeros FRAME_WORDS }
+
+-- the words of so many pages, each 0
+abbrev pub zero_words : ℕ → SharedWords
+zero_words pages = record {
+  sn = 0;
+  write = 0;
+  wtail = 0;
+  flushed = 0;
+  ckpt = 0;
+  ctail = 0;
+  failed = 0;
+  device = 0;
+  lists = zeros FLUSH_LISTS;
+  wlinks = zeros WRITTEN_LINKS;
+  clinks = zeros CLOSED_LINKS;
+  cells = zeros BUFFER_WORDS;
+  firsts = zeros BUFFER_BLOCKS;
+  page_words = replicate pages zero_page;
+}
+
+-- the words of so many such pages, and of their store, in order
+zero_pages : (pages : ℕ) → flat_page_words (replicate pages zero_page) ≡ zeros (pages * page_stride)
+zero_pages zero = zeros-none
+zero_pages (suc pages) = ap (λ (xs : List ℕ). 0 ∷ 0 ∷ 0 ∷ xs) (ap (λ (xs : List ℕ). zeros FRAME_WORDS ++ xs) (zero_pages pages) ∙ zeros-append FRAME_WORDS (pages * page_stride))
+    ∙ zeros-three (FRAME_WORDS + pages * page_stride)
+    ∙ ap zeros (let e : suc (suc (suc (FRAME_WORDS + pages * page_stride))) ≡ suc pages * page_stride = omega arith in e)
+
+zero_flat : (pages : ℕ) → flat (zero_words pages) ≡ zeros (word_count pages)
+zero_flat pages =
+    let paged : ℕ = pages * page_stride in
+    ap (λ (xs : List ℕ). 0 ∷ 0 ∷ 0 ∷ 0 ∷ 0 ∷ 0 ∷ 0 ∷ 0 ∷ (zeros FLUSH_LISTS ++ (zeros WRITTEN_LINKS ++ (zeros CLOSED_LINKS ++ (zeros BUFFER_WORDS ++ (zeros BUFFER_BLOCKS ++ xs)))))) (zero_pages pages)
+    ∙ ap (λ (xs : List ℕ). 0 ∷ 0 ∷ 0 ∷ 0 ∷ 0 ∷ 0 ∷ 0 ∷ 0 ∷ xs) (longer FLUSH_LISTS _ _ (longer WRITTEN_LINKS _ _ (longer CLOSED_LINKS _ _ (longer BUFFER_WORDS _ _ (zeros-append BUFFER_BLOCKS paged)))))
+    ∙ zeros-eight (FLUSH_LISTS + (WRITTEN_LINKS + (CLOSED_LINKS + (BUFFER_WORDS + (BUFFER_BLOCKS + paged)))))
+    ∙ ap zeros (let e : suc (suc (suc (suc (suc (suc (suc (suc (FLUSH_LISTS + (WRITTEN_LINKS + (CLOSED_LINKS + (BUFFER_WORDS + (BUFFER_BLOCKS + paged)))))))))))) ≡ word_count pages = omega arith in e)
+
+-- each of its pages
+pub zero_page_at : (pages p : ℕ) → p < pages → page_words_at (zero_words pages).page_words p ≡ zero_page
+zero_page_at pages p there = get_or-replicate pages p zero_page blank_words there
+
+-- words that are all 0 are these
+pub zero_named : (words : Plain) → length words.words ≡ word_count words.pages → ((i : ℕ) → slice_index words.words i ≡ 0) → AreNamed words (zero_words words.pages)
+zero_named words count each = record {
+  sized = record {
+    lists = zeros-length FLUSH_LISTS;
+    wlinks = zeros-length WRITTEN_LINKS;
+    clinks = zeros-length CLOSED_LINKS;
+    cells = zeros-length BUFFER_WORDS;
+    firsts = zeros-length BUFFER_BLOCKS;
+    page_words = length-replicate {A = PageWords} words.pages zero_page;
+    frames = λ p there. ap (λ (w : PageWords). length w.frame) (zero_page_at words.pages p there) ∙ zeros-length FRAME_WORDS;
+  };
+  in_order = are_zeros words.words each ∙ ap zeros count ∙ sym (zero_flat words.pages);
+}

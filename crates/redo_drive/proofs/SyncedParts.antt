@@ -1,0 +1,65 @@
+-- What a sync would leave of the devices of two parts of which no call failed: what their run has so far.
+use Rattle.std.proofs.Common.{List, None, Option, Some, ap, arith, false, refl, subst, sym, ℕ, ◌∙◌, ◌≡◌}
+use Rattle.std.specs.Prelude.{IfSome, is_some}
+use Rattle.model_base.specs.declared.shape.Shape.{Shape}
+use Rattle.model_core.specs.{BatchPage, KeptPage, lsn}
+use Rattle.model_core.specs.Setup.{Setup}
+use Rattle.model_datadev.specs.{IsUpTo}
+use Rattle.model_datadev.specs.Stored.{Stored}
+use Rattle.model_device.specs.{settled, synced}
+use Rattle.model_device.specs.Disk.{Disk}
+use Rattle.model_finish.specs.{contents_of, LogTells}
+use Rattle.model_logdev.proofs.Checkpoints.{synced-holds}
+use Rattle.model_logdev.proofs.Images.{beside-kept}
+use Rattle.model_logdev.proofs.Windows.{wider}
+use Rattle.model_logdev.specs.{after_synced, IsWritten, LogHolds}
+use Rattle.model_logdev.specs.declared.marks.LogMarks.{LogMarks}
+use Rattle.model_record.specs.declared.group.Whole.{Whole}
+use Rattle.redo_drive.specs.DataPartSide.{HoldsPages, fresh_batch}
+use Rattle.redo_disk.specs.Seen.{Seen}
+use Rattle.redo_logdev.specs.{DiskHolds}
+use Rattle.redo_logdev.specs.Part as log
+use Rattle.redo_drive.specs.LogPartSide.{log_side}
+use Rattle.redo_store.specs.Part as store
+
+-- by the marks of then, the log device holds the run also behind a sync
+synced_by_marks : (shape : Shape) (s : ℕ) (wholes : List Whole) (marks : LogMarks) (disk : Disk) → LogHolds shape s wholes marks disk
+    → IsWritten shape s wholes marks disk → LogHolds shape s wholes marks (synced disk)
+synced_by_marks shape s wholes marks disk holds is =
+    let behind = (synced-holds shape s wholes marks disk holds.order is).holds in
+    record {
+      long = behind.long;
+      head = behind.head;
+      order = holds.order;
+      blocks = λ b in_round bytes may.
+          wider s wholes marks.written marks.given marks.stable marks.given b bytes holds.order.stable_written (omega arith) (behind.blocks b in_round bytes may);
+      checkpoint = behind.checkpoint;
+      beside = λ bytes may. beside-kept (after_synced marks) marks refl refl (omega arith) _ (behind.beside bytes may);
+    }
+
+pub log_tells_synced : {L : Type 0} (seen : L → Seen) (faults number : ℕ) (Begun : Type 0) (c : Setup) (shape : Shape) (p : log.Part L) (disk : Disk) → Begun → ◌≡◌ {A = Shape} p.shape shape → (seen p.dev).tells ≡ Some disk
+    → p.failed ≡ None → LogTells (log_side seen faults number Begun) c shape number p (synced disk)
+log_tells_synced seen faults number Begun c shape p disk begun same tells live = record {
+  marks = p.marks;
+  stable = refl;
+  given = refl;
+  ckpt = refl;
+  asked = refl;
+  number_kept = λ log held. held.number_kept begun;
+  holds = λ log wholes held are.
+      let here : DiskHolds p.shape (lsn c.base) wholes p.marks p.failed disk =
+      subst (λ (o : Option Disk). IfSome o (DiskHolds p.shape (lsn c.base) wholes p.marks p.failed)) tells (held.groups begun wholes are) in
+      subst (λ (z : Shape). LogHolds z (lsn c.base) wholes p.marks (synced disk)) same
+      (synced_by_marks p.shape (lsn c.base) wholes p.marks disk here.holds (here.live live));
+}
+
+-- the data device has nothing pending, so that a sync leaves it as it is
+pub data_is_synced : {D : Type 0} (seen : D → Seen) (faults : ℕ) (shape : Shape) (Begun : Type 0) (kept_page : ℕ → KeptPage) (unfinished : List BatchPage) (p : store.Part D) (disk : Disk)
+    → HoldsPages seen faults shape Begun kept_page unfinished p → Begun → (seen p.dev).tells ≡ Some disk → p.failed ≡ None → disk ≡ synced disk
+data_is_synced seen faults shape Begun kept_page unfinished p disk holds begun tells live =
+    let here : Stored p.shape (IsUpTo (contents_of kept_page)) (contents_of kept_page) (fresh_batch unfinished) (is_some p.failed) disk =
+    subst (λ (o : Option Disk). IfSome o (Stored p.shape (IsUpTo (contents_of kept_page)) (contents_of kept_page) (fresh_batch unfinished) (is_some p.failed))) tells (holds.pages begun) in
+    let well : is_some p.failed ≡ false = ap is_some live in
+    let nothing_pending : disk ≡ settled disk.base = (here.steady well).nothing_pending in
+    let reads : disk.reads ≡ disk.base = ap (λ (d : Disk). d.reads) nothing_pending in
+    nothing_pending ∙ ap settled (sym reads)

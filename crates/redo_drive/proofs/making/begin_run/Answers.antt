@@ -1,0 +1,5 @@
+use Rattle.redo_drive.proofs.RunStarts.{begins}
+use Rattle.redo_drive.proofs.making.begin_run.Goals as goal
+
+pub returns-clause-begins : goal.returns-clause-begins
+returns-clause-begins g c = begins g.L.Sectors.seen g.D.Sectors.seen c.args.opened c.args.script.now c.args.log_only c.requires c.in-Ok.own c.in-Ok.ensures

@@ -1,0 +1,64 @@
+-- A run as it begins on an opened store.
+use Rattle.std.specs.Prelude.{Bool, List, None, Option, Some, [], if◌then◌else◌, ℕ, ◌+◌, ◌-◌, ◌≡◌}
+use Rattle.std.specs.List.{AllByRecursion}
+use Rattle.model_base.specs.declared.shape.Shape.{Shape}
+use Rattle.model_core.specs.{Listed, lsn}
+use Rattle.model_finish.specs.{HasItsPages, IsOfScript}
+use Rattle.model_log.specs.declared.layout.TheConstants.{BLOCK_HEADER}
+use Rattle.model_opening.specs.{start_of}
+use Rattle.model_script.specs.{IsScriptLine, round_end, ScriptFits}
+use Rattle.model_script.specs.declared.script.ScriptLine.{ScriptLine}
+use Rattle.model_store.specs.Reading.{Reading}
+use Rattle.redo_drive.specs.DataPartSide as data_part
+use Rattle.redo_disk.specs.Seen.{Seen}
+use Rattle.redo_drive.specs.LogPartSide as log_part
+use Rattle.redo_drive.specs.Lists.{lists_of}
+use Rattle.redo_drive.specs.Playing.{RunOf}
+use Rattle.redo_drive.specs.Setups.{start_actors}
+use Rattle.redo_drive.specs.StartWords.{AreStartWords}
+use Rattle.redo_drive.specs.Views.{views_of}
+use Rattle.redo_drive.specs.declared.actor.Actor.{Actor}
+use Rattle.redo_drive.specs.declared.parts.Parts.{Parts}
+use Rattle.redo_pageactors.specs.{IsRunnable}
+use Rattle.redo_pageactors.specs.declared.opened.Opened.{Opened}
+
+-- where the log runs alone, no checkpoint frees it, and the run has room for one round from its checkpoint on
+abbrev pub room_from : Bool → Shape → ℕ → Option ℕ
+room_from log_only shape start = if log_only then Some (round_end shape (start - BLOCK_HEADER)) else None
+
+-- A run can start on the store, and the script is one that fits it.
+pub record MayBegin {L D : Type 0} (opened : Opened L D) (script : List ScriptLine) (log_only : Bool) : Type 0 where
+  pub runnable : IsRunnable opened
+  pub lines : AllByRecursion IsScriptLine script
+  pub fits : ScriptFits opened.shape opened.start (room_from log_only opened.shape opened.start) script
+
+-- The opened store was in order and read as this.
+pub record IsOpenedAs {L D : Type 0} (reading : Reading) (opened : Opened L D) : Type 0 where
+  pub shape : opened.shape ≡ reading.shape
+  pub pages : opened.pages ≡ reading.pages
+  pub start : opened.start ≡ start_of reading
+  pub number : opened.log.marks.number ≡ reading.number + 1
+
+-- The run is that of this script on this store: with its sizes, its pages and both its parts, from its start on.
+pub record IsRunOfOpened {L D : Type 0} (opened : Opened L D) (script : List ScriptLine) (log_only : Bool) (run : RunOf L D) : Type 0 where
+  pub shape : run.shape ≡ opened.shape
+  pub first_log : run.first_log ≡ opened.log
+  pub first_data : run.first_data ≡ opened.store
+  pub start : lsn run.setup.base ≡ opened.start
+  pub log_only_is : run.setup.log_only ≡ log_only
+  pub of_script : IsOfScript run.setup script opened.shape.space
+  pub its_pages : HasItsPages run.setup (record { shape = opened.shape; pages = opened.pages; end = 0 })
+
+-- both devices held just what was opened when the run began
+pub record HaveBegun {L D : Type 0} (log_seen : L → Seen) (data_seen : D → Seen) (run : RunOf L D) : Type 0 where
+  pub log : log_part.HasBegun log_seen (lsn run.setup.base) run.first_log
+  pub data_part : data_part.HasBegun data_seen run.setup.opened run.first_data
+
+-- NOTHING IS DONE YET: the words are those of the run's start, the actors of the script are new and in their seats, both parts
+-- are those that were opened, and no page is listed.
+pub record StandsAtStart {L D : Type 0} (opened : Opened L D) (script : List ScriptLine) (run : RunOf L D) (parts : Parts L D) (actors : List Actor) : Type 0 where
+  pub words : AreStartWords parts.words.words run.setup
+  pub are_new : views_of actors ≡ start_actors opened.shape script opened.start run.setup.log_only
+  pub log : parts.log ≡ opened.log
+  pub data_part : parts.store ≡ opened.store
+  pub none_listed : (i : ℕ) → ◌≡◌ {A = List Listed} (lists_of parts.lists i) []

@@ -1,0 +1,42 @@
+-- A run at its beginning, with all that the invariant starts from.
+use Rattle.std.specs.Prelude.{Bool, IfSome, List, [], length, vec_capacity, ℕ, ◌-◌, ◌≡◌, ◌≤◌}
+use Rattle.model_core.specs.{flat, Listed, SharedWords}
+use Rattle.model_run.specs.{IsStart}
+use Rattle.model_running.specs.StartStore.{StartStore}
+use Rattle.model_script.specs.declared.script.ScriptLine.{ScriptLine}
+use Rattle.model_store.specs.Reading.{Reading}
+use Rattle.redo_disk.specs.Seen.{Seen}
+use Rattle.redo_drive.specs.Beginning.{HaveBegun, IsOpenedAs, IsRunOfOpened, StandsAtStart}
+use Rattle.redo_drive.specs.Lists.{lists_of}
+use Rattle.redo_drive.specs.Playing.{RunOf, data_of, log_of}
+use Rattle.redo_drive.specs.Running.{RunsOn}
+use Rattle.redo_drive.specs.Views.{views_of}
+use Rattle.redo_drive.specs.declared.making.Beginning.{Beginning}
+use Rattle.redo_pageactors.specs.declared.opened.Opened.{Opened}
+
+-- The store stands as the invariant wants it at the start: words, parts and actors, and no page is listed.
+pub record IsAtStart {L D : Type 0} (log_seen : L → Seen) (data_seen : D → Seen) (run : RunOf L D) (start : Beginning L D) : Type 0 where
+  pub words : SharedWords
+  pub words_are : start.parts.words.words ≡ flat words
+  pub seat_of : ℕ → ℕ
+  pub writer : ℕ
+  pub starts : StartStore (log_of log_seen data_seen run) (data_of log_seen data_seen run) run.setup words
+      start.parts.log start.parts.store seat_of writer (views_of start.actors.items)
+  pub none_listed : (i : ℕ) → ◌≡◌ {A = List Listed} (lists_of start.parts.lists i) []
+
+-- PARTS AND ACTORS STAND AT THE BEGINNING of the run of this script on this store.
+pub record BeginsRun {L D : Type 0} (log_seen : L → Seen) (data_seen : D → Seen) (opened : Opened L D) (script : List ScriptLine) (log_only : Bool) (start : Beginning L D) : Type 0 where
+  pub run : RunOf L D
+  pub is_run : IsRunOfOpened opened script log_only run
+  pub at_start : IsAtStart log_seen data_seen run start
+  pub stands : StandsAtStart opened script run start.parts start.actors.items
+  pub runs : RunsOn log_seen data_seen run start.parts start.actors.items
+  pub log : start.parts.log ≡ opened.log
+  pub data_part : start.parts.store ≡ opened.store
+  -- there is room for the history
+  pub no_entries : start.entries.items ≡ []
+  pub room : length script ≤ vec_capacity start.entries
+  -- where the devices tell, and the store was ready, they hold what was opened
+  pub begun : (reading : Reading) → IsOpenedAs reading opened
+      → IfSome (log_seen opened.log.dev).tells (λ log_disk. IfSome (data_seen opened.store.dev).tells (λ data_disk.
+      IsStart reading script log_disk data_disk → HaveBegun log_seen data_seen run))

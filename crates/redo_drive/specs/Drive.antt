@@ -1,0 +1,98 @@
+-- What every drive owes of its run, from the opened store to the closed one.
+use Rattle.std.specs.Prelude.{IfSome, List, None, Some, ℕ, ◌+◌, ◌<◌, ◌≡◌, ◌≢◌, ◌⊎◌}
+use Rattle.model_device.specs.{synced}
+use Rattle.model_device.specs.Disk.{Disk}
+use Rattle.model_finish.specs.{LeavesOpen}
+use Rattle.model_history.specs.{IsLeft}
+use Rattle.model_log.specs.{start_after}
+use Rattle.model_run.specs.{IsClosed, IsHeld, IsStart, opened_as}
+use Rattle.model_script.specs.declared.script.ScriptLine.{ScriptLine}
+use Rattle.model_store.specs.Reading.{Reading}
+use Rattle.model_theorem.specs.{IsRun, LosesOnlyByFailure, Ran}
+use Rattle.redo_disk.specs.{Call, failures}
+use Rattle.redo_disk.specs.Seen.{Seen}
+use Rattle.redo_disk.specs.declared.error.DevError.TheVariants.{NoMemory}
+use Rattle.redo_drive.specs.Beginning.{IsOpenedAs}
+use Rattle.redo_drive.specs.Calls.{CallsOn}
+use Rattle.redo_drive.specs.declared.drive.Driven.{Driven}
+use Rattle.redo_drive.specs.declared.drive.RunEnd.TheVariants as ended
+use Rattle.redo_pageactors.specs.declared.closed.Closed.{Closed}
+use Rattle.redo_pageactors.specs.declared.opened.Opened.{Opened}
+
+-- the history and the marks of the run
+abbrev pub ran_of : {L D : Type 0} → ℕ → Closed L D → Ran
+ran_of start closed = record { start = start; entries = closed.history; marks = closed.marks }
+
+-- how many calls of the two devices failed: one of each at the most, since a part whose call failed takes no more
+abbrev pub failed_in : {L D : Type 0} → Closed L D → ℕ
+failed_in closed = failures closed.log.failed + failures closed.store.failed
+
+-- No device was without memory, or one failed: then the run was ended by that.
+abbrev pub HasMemory : {L D : Type 0} → Closed L D → Type 0
+HasMemory closed = ((closed.log.failed ≡ Some NoMemory) ⊎ (closed.store.failed ≡ Some NoMemory)) → 0 < failed_in closed
+
+-- a call of a device answered an error: the device failed, or it had no memory
+abbrev pub HasMetError : {L D : Type 0} → Closed L D → Type 0
+HasMetError closed = (closed.log.failed ≢ None) ⊎ (closed.store.failed ≢ None)
+
+-- WHAT IT COMES TO, whatever the devices tell: a run, for any end behind which it starts; where all users have ended and no
+-- device was without memory, it loses something only where a call failed; where the turns are spent, this is the least user
+-- of which a line isn't answered.
+pub record ComesToRun {L D : Type 0} (log_gives : L → Call → L → Type 0) (data_gives : D → Call → D → Type 0) (opened : Opened L D) (script : List ScriptLine) (driven : Driven L D) : Type 0 where
+  pub is_run : (end : ℕ) → opened.start ≡ start_after end
+      → IsRun script (record { shape = opened.shape; pages = opened.pages; end = end }) (ran_of opened.start driven.closed)
+  pub loses : (left : List (ℕ × ℕ)) → driven.ended ≡ ended.Done → HasMemory driven.closed → IsLeft script driven.closed.history left
+      → LosesOnlyByFailure (failed_in driven.closed) (Some (ran_of opened.start driven.closed)) left
+  pub spent : (turns user : ℕ) → driven.ended ≡ ended.Spent turns user → LeavesOpen script driven.closed.history (HasMetError driven.closed) user
+  pub log_calls : CallsOn log_gives opened.log.dev None driven.closed.log.dev driven.closed.log.failed
+  pub data_calls : CallsOn data_gives opened.store.dev None driven.closed.store.dev driven.closed.store.failed
+
+-- WHAT A DRIVE LEAVES, whatever ended it, where the devices tell and the store was ready: both devices hold the run.
+abbrev pub HoldsRun : {L D : Type 0} → (L → Seen) → (D → Seen) → Opened L D → List ScriptLine → Driven L D → Type 0
+HoldsRun log_seen data_seen opened script driven =
+    (reading : Reading) → IsOpenedAs reading opened
+    → IfSome (log_seen opened.log.dev).tells (λ log_disk. IfSome (data_seen opened.store.dev).tells (λ data_disk.
+    IsStart reading script log_disk data_disk
+    → IfSome (log_seen driven.closed.log.dev).tells (λ log_now. IfSome (data_seen driven.closed.store.dev).tells (λ data_now.
+    IsHeld (record {
+      script = script;
+      opened = opened_as reading;
+      number = reading.number + 1;
+      run = ran_of opened.start driven.closed;
+      log_disk = log_now;
+      data_disk = data_now;
+    })))))
+
+-- WHAT A DRIVE OWES that came to its end, where the devices tell and the store was ready: a closed run, with what becomes so of both devices.
+abbrev pub IsOwedWith : {L D : Type 0} → (Disk → Disk) → (L → Seen) → (D → Seen) → Opened L D → List ScriptLine → Driven L D → Type 0
+IsOwedWith becomes log_seen data_seen opened script driven =
+    (reading : Reading) (left : List (ℕ × ℕ)) → driven.ended ≡ ended.Done → HasMemory driven.closed
+    → IsOpenedAs reading opened → IsLeft script driven.closed.history left
+    → IfSome (log_seen opened.log.dev).tells (λ log_disk. IfSome (data_seen opened.store.dev).tells (λ data_disk.
+    IsStart reading script log_disk data_disk
+    → IfSome (log_seen driven.closed.log.dev).tells (λ log_now. IfSome (data_seen driven.closed.store.dev).tells (λ data_now.
+    IsClosed (failed_in driven.closed) (record {
+      script = script;
+      opened = opened_as reading;
+      number = reading.number + 1;
+      run = ran_of opened.start driven.closed;
+      left = left;
+      log_disk = becomes log_now;
+      data_disk = becomes data_now;
+    })))))
+
+abbrev pub IsOwed : {L D : Type 0} → (L → Seen) → (D → Seen) → Opened L D → List ScriptLine → Driven L D → Type 0
+IsOwed log_seen data_seen opened script driven = IsOwedWith (λ disk. disk) log_seen data_seen opened script driven
+
+-- Where no call answered an error, a sync of both devices would leave a closed run too, whose images are what reads give.
+abbrev pub IsOwedSynced : {L D : Type 0} → (L → Seen) → (D → Seen) → Opened L D → List ScriptLine → Driven L D → Type 0
+IsOwedSynced log_seen data_seen opened script driven =
+    driven.closed.log.failed ≡ None → driven.closed.store.failed ≡ None → IsOwedWith synced log_seen data_seen opened script driven
+
+-- ALL THAT A DRIVE OWES of its run.
+pub record Owes {L D : Type 0} (log_seen : L → Seen) (log_gives : L → Call → L → Type 0) (data_seen : D → Seen) (data_gives : D → Call → D → Type 0)
+    (opened : Opened L D) (script : List ScriptLine) (driven : Driven L D) : Type 0 where
+  pub comes_to : ComesToRun log_gives data_gives opened script driven
+  pub holds : HoldsRun log_seen data_seen opened script driven
+  pub owed : IsOwed log_seen data_seen opened script driven
+  pub owed_synced : IsOwedSynced log_seen data_seen opened script driven

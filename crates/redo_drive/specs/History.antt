@@ -1,0 +1,43 @@
+-- The history of a run, as its users tell it.
+use Rattle.std.specs.Prelude.{IsPermutation, List, [], length, map, slice_index, ℕ, ◌+◌, ◌<◌, ◌^◌}
+use Rattle.std.specs.List.{flat_map}
+use Rattle.std.specs.List.Sorted.{IsNonDecreasingBy}
+use Rattle.model_core.specs.Actors as model
+use Rattle.model_core.specs.{entries_from, entry, line_at, UserState}
+use Rattle.model_finish.specs.{entry_of}
+use Rattle.model_history.specs.declared.entry.Entry.{Entry}
+use Rattle.model_history.specs.declared.entry.Marks.{Marks}
+use Rattle.redo_drive.specs.Views.{view_of}
+use Rattle.redo_drive.specs.declared.actor.Actor.{Actor}
+
+-- the user has reserved a group for its k-th line, which ends at an sn
+pub record HasReserved (u : UserState) (k : ℕ) : Type 0 where
+  pub start : k < length u.starts
+  pub line : k < length u.lines
+  pub small : slice_index u.starts k + length (line_at u.lines k).bytes < 2 ^ 61
+
+-- of each start that a user has
+abbrev pub HasGroups : model.Actor → Type 0
+HasGroups (model.User u) = (k : ℕ) → k < length u.starts → HasReserved u k
+HasGroups _ = Unit {0}
+
+-- the group of a user's k-th line, which starts there, as the history lists it
+abbrev pub listed_group : Marks → UserState → ℕ → ℕ → Entry
+listed_group marks u k start = entry_of (λ user. u.k) marks (entry u.user k start (line_at u.lines k))
+
+-- its groups from the k-th line on, which start at these places
+abbrev pub listed_from : Marks → UserState → ℕ → List ℕ → List Entry
+listed_from marks u k starts = map (entry_of (λ user. u.k) marks) (entries_from u.user u.lines k starts)
+
+-- the groups of an actor, and those of all
+abbrev pub listed : Marks → model.Actor → List Entry
+listed marks (model.User u) = listed_from marks u 0 u.starts
+listed marks _ = []
+
+abbrev pub all_listed : Marks → List Actor → List Entry
+all_listed marks actors = flat_map (λ actor. listed marks (view_of actor)) actors
+
+-- the history lists the groups of all, in lsn order
+pub record ListsInOrder (marks : Marks) (actors : List Actor) (history : List Entry) : Type 0 where
+  pub all : IsPermutation (all_listed marks actors) history
+  pub in_order : IsNonDecreasingBy (λ entry. entry.start) history

@@ -1,0 +1,23 @@
+pub mod Asking
+pub mod Beginning
+pub mod Begins
+pub mod Calls
+pub mod DataPartSide
+pub mod Drive
+pub mod History
+pub mod Leaving
+pub mod Lists
+pub mod LogPartSide
+pub mod Making
+pub mod Playing
+pub mod Requests
+pub mod Running
+pub mod Setups
+pub mod StartWords
+pub mod Turning
+pub mod Views
+pub use Rattle.redo_drive.specs.Asking.{AskOfBoth}
+pub use Rattle.redo_drive.specs.Beginning.{IsOpenedAs, room_from}
+pub use Rattle.redo_drive.specs.Drive.{ComesToRun, HasMemory, HoldsRun, IsOwed, IsOwedSynced, IsOwedWith, Owes, ran_of}
+pub use Rattle.redo_drive.specs.LogPartSide.{has_failed}
+pub use Rattle.redo_drive.specs.Requests.{checkpoint_requests, sync_requests, write_requests}

@@ -1,0 +1,21 @@
+-- What a run takes memory for, as it begins.
+use Rattle.std.specs.Prelude.{Bool, List, [], length, vec_capacity, ℕ, ◌≡◌, ◌≤◌}
+use Rattle.model_base.specs.declared.shape.Shape.{Shape}
+use Rattle.model_core.specs.Setup.{Setup}
+use Rattle.model_page.specs.declared.content.Content.{Content}
+use Rattle.model_script.specs.declared.script.ScriptLine.{ScriptLine}
+use Rattle.redo_drive.specs.Lists.{empty_lists}
+use Rattle.redo_drive.specs.Setups.{start_actors}
+use Rattle.redo_drive.specs.StartWords.{AreStartWords, HoldBytes, StartsOn}
+use Rattle.redo_drive.specs.Views.{views_of}
+use Rattle.redo_drive.specs.declared.making.Own.{Own}
+
+-- The words of the run's start, empty lists, new actors in their seats, and room for an entry of each line.
+pub record IsOwnOf (shape : Shape) (pages : List Content) (script : List ScriptLine) (start : ℕ) (log_only : Bool) (own : Own) : Type 0 where
+  pub word_pages : own.words.pages ≡ length pages
+  pub bytes : HoldBytes pages
+  pub words : (c : Setup) → StartsOn start pages c → AreStartWords own.words.words c
+  pub lists : own.lists ≡ empty_lists shape.pages
+  pub actors : views_of own.actors.items ≡ start_actors shape script start log_only
+  pub no_entries : own.entries.items ≡ []
+  pub room : length script ≤ vec_capacity own.entries

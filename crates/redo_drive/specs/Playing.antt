@@ -1,0 +1,97 @@
+-- What playing an Op asks for, and what it does.
+use Rattle.std.specs.Prelude.{None, length, ℕ, ◌<◌, ◌≡◌}
+use lib.ListN.{get_elem?}
+use mathlib.Core.Option.{some}
+use Rattle.model_base.specs.declared.shape.Shape.{Shape}
+use Rattle.model_core.specs.Actors as model
+use Rattle.model_core.specs.DataSide.{DataSide}
+use Rattle.model_core.specs.{answer_of, BatchPage, DataServed, Each, list_word, lists_left, LogServed, lsn, OpWords, words_left}
+use Rattle.model_core.specs.LogSide.{LogSide}
+use Rattle.model_core.specs.Setup.{Setup}
+use Rattle.model_core.specs.declared.limits.TheConstants.{FRAME_CELLS}
+use Rattle.model_core.specs.declared.ops.Answer.{Answer}
+use Rattle.model_core.specs.declared.ops.Op.{Op}
+use Rattle.model_core.specs.declared.ops.Op.TheVariants as op
+use Rattle.model_datadev.specs.{IsWritable}
+use Rattle.model_logdev.specs.{MayBeNext}
+use Rattle.model_running.specs.ListReady.{ListReady}
+use Rattle.redo_drive.specs.DataPartSide as data_part
+use Rattle.redo_disk.specs.Seen.{Seen}
+use Rattle.redo_logdev.specs.{MayWrite}
+use Rattle.redo_logdev.specs.Part as log
+use Rattle.redo_drive.specs.LogPartSide as log_part
+use Rattle.redo_drive.specs.Lists.{lists_of}
+use Rattle.redo_drive.specs.declared.parts.Parts.{Parts}
+use Rattle.redo_store.specs.Part as store
+use Rattle.redo_words.specs.{HoldsSum}
+use Rattle.redo_words.specs.declared.lent.Lent.{Lent}
+use Rattle.redo_words.specs.declared.lent.Lent.TheVariants as lent
+
+-- a run: what never changes in it, its store's shape, and both parts as it began
+pub record RunOf (L D : Type 0) : Type 0 where
+  pub setup : Setup
+  pub shape : Shape
+  pub first_log : log.Part L
+  pub first_data : store.Part D
+
+module _ {L D : Type 0} (log_seen : L → Seen) (data_seen : D → Seen) where
+  -- both parts as the definition of a turn sees them
+  abbrev pub log_of : RunOf L D → LogSide
+  log_of run = log_part.log_side log_seen (log_seen run.first_log.dev).faults run.first_log.marks.number
+      (log_part.HasBegun log_seen (lsn run.setup.base) run.first_log)
+
+  abbrev pub data_of : RunOf L D → DataSide
+  data_of run = data_part.data_side data_seen (data_seen run.first_data.dev).faults run.shape (data_part.HasBegun data_seen run.setup.opened run.first_data)
+
+-- a write of the log may be made with what is lent, and the writing of a batch
+abbrev pub MayWriteLent : {L : Type 0} → log.Part L → ℕ → Lent → Type 0
+MayWriteLent part mark (lent.Blocks bytes firsts) = MayWrite part mark bytes.now firsts.now
+MayWriteLent part mark _ = ⊥
+
+abbrev pub MayBatchLent : {D : Type 0} → store.Part D → Lent → Type 0
+MayBatchLent part (lent.Batch pages frames) = (part.failed ≡ None) × IsWritable part.shape pages.now frames.now
+MayBatchLent part _ = ⊥
+
+-- the conditions of a call of the log part, and of the data part
+abbrev pub LogReady : {L : Type 0} → log.Part L → Lent → Op → Type 0
+LogReady part l (op.WriteTo mark) = MayWriteLent part mark l
+LogReady part l op.Sync = part.failed ≡ None
+LogReady part l (op.Checkpoint x) = (part.failed ≡ None) × MayBeNext part.marks x
+LogReady part l _ = Unit {0}
+
+abbrev pub DataReady : {D : Type 0} → store.Part D → Lent → Op → Type 0
+DataReady part l op.WriteBatch = MayBatchLent part l
+DataReady part l _ = Unit {0}
+
+-- an Op that may be played on the parts, with what its actor lends
+pub record IsPlayable {L D : Type 0} (parts : Parts L D) (o : Op) (l : Lent) : Type 0 where
+  pub there : OpWords parts.words.pages o
+  pub sum : HoldsSum o parts.words.words
+  pub listing : ListReady parts.lists.pages (lists_of parts.lists) o
+  pub real : (i : ℕ) → Each (λ listed. 0 < listed.oldest) (lists_of parts.lists i)
+  pub log : LogReady parts.log l o
+  pub data_part : DataReady parts.store l o
+
+-- the pages of a batch that is written have all their bytes
+abbrev pub HasWholePages : Op → model.Lent → Type 0
+HasWholePages op.WriteBatch (model.Batch batch) = (i : ℕ) (x : BatchPage) → get_elem? batch i ≡ some x → length x.bytes ≡ FRAME_CELLS
+HasWholePages _ _ = Unit {0}
+
+-- An Op was played, with what its actor lends as the definition of a turn has it.
+pub record IsPlayed {L D : Type 0} (log_seen : L → Seen) (data_seen : D → Seen) (run : RunOf L D) (o : Op) (l : model.Lent) (old : Parts L D) (answer : Answer) (new : Parts L D) : Type 0 where
+  pub code : ℕ
+  pub log_served : LogServed (log_of log_seen data_seen run) old.log l o code new.log
+  pub data_served : DataServed (data_of log_seen data_seen run) old.store l o code new.store
+  pub words : new.words.words ≡ words_left old.words.words o
+  pub lists : lists_of new.lists ≡ lists_left (lists_of old.lists) (list_word old.words.words) o
+  pub answered : answer ≡ answer_of (lists_of old.lists) (log_part.has_failed old.log.failed) code new.log.marks.stable old.words.words o
+
+-- the pages stay as many
+pub record HasSamePages {L D : Type 0} (old new : Parts L D) : Type 0 where
+  pub words : new.words.pages ≡ old.words.pages
+  pub lists : new.lists.pages ≡ old.lists.pages
+
+-- no device was called
+pub record HasSameDevices {L D : Type 0} (old new : Parts L D) : Type 0 where
+  pub log : new.log ≡ old.log
+  pub data_part : new.store ≡ old.store

@@ -1,0 +1,63 @@
+-- What never changes in the run of a script on a store, and its actors as it begins.
+use Rattle.std.specs.Prelude.{Bool, List, [], cond, false, length, map, true, ℕ, ◌++◌, ◌+◌, ◌==◌, ◌∷◌}
+use Rattle.model_base.specs.declared.shape.Shape.{Shape}
+use Rattle.model_changes.specs.{collected}
+use Rattle.model_core.specs.{Actor, Line, new_checkpointer, new_cleaner, new_closer, new_flusher, new_user, new_writer, UserState}
+use Rattle.model_core.specs.Actors as actor
+use Rattle.model_core.specs.Setup.{Setup}
+use Rattle.model_history.specs.{lines_of_user}
+use Rattle.model_log.specs.{sn_of}
+use Rattle.model_page.specs.declared.content.Content.{Content}
+use Rattle.model_record.specs.declared.rec.Rec.{Rec}
+use Rattle.model_script.specs.{group_of}
+use Rattle.model_script.specs.declared.misfit.TheConstants.{MAX_USERS}
+use Rattle.model_script.specs.declared.script.ScriptLine.{ScriptLine}
+use Rattle.redo_drive.specs.StartWords.{opened_page}
+use Rattle.redo_useractor.specs.{lines_of}
+
+-- the lines of a user, each a mode and a group
+abbrev pub user_lines : (space : ℕ) → List ScriptLine → (user : ℕ) → List (ℕ × List Rec)
+user_lines space script user = map (λ (line : ScriptLine). (line.mode, group_of space line)) (lines_of_user user script)
+
+-- the lines of each user, as its program has them
+abbrev pub programs_of : Shape → (log_only : Bool) → List ScriptLine → ℕ → List Line
+programs_of shape log_only script user = lines_of log_only shape.pages (user_lines shape.space script user)
+
+-- the user of a number, if it has lines
+abbrev pub user_of : (blocks : ℕ) → (ℕ → List Line) → (user : ℕ) → List UserState
+user_of blocks programs user = cond (length (programs user) == 0) [] (new_user user blocks (programs user) ∷ [])
+
+-- the users below a number that have lines, ascending
+abbrev pub users_below : (blocks : ℕ) → (ℕ → List Line) → ℕ → List UserState
+users_below blocks programs n = collected (user_of blocks programs) n
+
+-- all users that have lines
+abbrev pub users_of : Shape → (log_only : Bool) → List ScriptLine → List UserState
+users_of shape log_only script = users_below shape.log_blocks (programs_of shape log_only script) (MAX_USERS + 1)
+
+-- The run of a script on these pages of a store, with the log alone or with the pages, which starts at this lsn. The closer,
+-- the cleaner and the checkpointer have their seats behind the users, the writer and the flusher.
+abbrev pub setup_of : Shape → List Content → (start : ℕ) → List ScriptLine → (log_only : Bool) → Setup
+setup_of shape pages start script log_only = record {
+  base = sn_of start;
+  blocks = shape.log_blocks;
+  pages = shape.pages;
+  log_only = log_only;
+  script = programs_of shape log_only script;
+  opened = opened_page pages;
+  closer = length (users_of shape log_only script) + 2;
+  cleaner = length (users_of shape log_only script) + 3;
+  checkpointer = length (users_of shape log_only script) + 4;
+}
+
+-- the actors of the pages; where the log runs alone there are none
+abbrev pub page_actors : Shape → (start : ℕ) → (log_only : Bool) → List Actor
+page_actors shape start true = []
+page_actors shape start false =
+    actor.Closer (new_closer start) ∷ actor.Cleaner (new_cleaner shape.pages) ∷ actor.Checkpointer (new_checkpointer start) ∷ []
+
+-- the actors of the run in their seats, with nothing done
+abbrev pub start_actors : Shape → List ScriptLine → (start : ℕ) → (log_only : Bool) → List Actor
+start_actors shape script start log_only =
+    map actor.User (users_of shape log_only script)
+    ++ actor.Writer (new_writer shape.log_blocks start) ∷ actor.Flusher (new_flusher start) ∷ page_actors shape start log_only

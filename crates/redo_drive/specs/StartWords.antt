@@ -1,0 +1,86 @@
+-- The words of a store as a run begins on its pages.
+use Rattle.std.specs.Prelude.{List, Some, [], drop, get_or, length, replicate, slice_get, slice_index, slice_set, suc, take, zero, ℕ, ◌%◌, ◌++◌, ◌-◌, ◌/◌, ◌<◌, ◌∷◌, ◌≡◌, ◌≤◌}
+use Rattle.model_base.specs.declared.limits.TheConstants.{BLOCK_SIZE, MAX_PAGES, USER_BYTES, USER_START}
+use Rattle.model_core.specs.{flat, IsSized, KeptPage, lsn, packed, page_words_at, SharedWords, with_page_words}
+use Rattle.model_core.specs.Setup.{Setup}
+use Rattle.model_core.specs.declared.limits.TheConstants.{BUFFER_BLOCKS, FRAME_WORDS, WORD_LANES}
+use Rattle.model_log.specs.{sn_of}
+use Rattle.model_log.specs.declared.layout.TheConstants.{BLOCK_HEADER}
+use Rattle.model_core.specs.StartWords.{StartWords}
+use Rattle.model_page.specs.declared.content.Content.{Content}
+use Rattle.model_page.specs.declared.page.TheConstants.{TRAILER_LENGTH}
+use Rattle.model_core.specs.StartWords.{StartPageWords}
+use Rattle.redo_words.specs.Plain.{Plain}
+
+-- the cells of a page's frame: its user bytes, and 0 before and behind them, where the running store keeps nothing
+unfoldable pub page_cells : List ℕ → List ℕ
+page_cells user = replicate USER_START 0 ++ user ++ replicate TRAILER_LENGTH 0
+
+-- these bytes as so many words, eight in each
+abbrev pub words_of : ℕ → List ℕ → List ℕ
+words_of zero bytes = []
+words_of (suc n) bytes = packed 0 (take WORD_LANES bytes) ∷ words_of n (drop WORD_LANES bytes)
+
+-- the words of a page's frame
+unfoldable pub page_frame : List ℕ → List ℕ
+page_frame user = words_of FRAME_WORDS (page_cells user)
+
+-- a page as the running store keeps it
+abbrev pub kept_page_of : Content → KeptPage
+kept_page_of page = record { lsn = page.lsn; bytes = page_cells page.user }
+
+-- a page of full size that was never written
+unfoldable pub unwritten_page : Content
+unwritten_page = record { lsn = 0; user = replicate USER_BYTES 0 }
+
+-- each page as a run finds it; a number that no page has counts as a page that was never written
+abbrev pub opened_page : List Content → ℕ → KeptPage
+opened_page pages p = kept_page_of (get_or pages p unwritten_page)
+
+-- the pages are no more than a store may have, each of full size
+pub record AreFullPages (pages : List Content) : Type 0 where
+  pub few : length pages ≤ MAX_PAGES
+  pub sizes : (p : ℕ) (page : Content) → slice_get pages p ≡ Some page → length page.user ≡ USER_BYTES
+
+-- each cell of the opened pages holds a byte
+abbrev pub HoldBytes : List Content → Type 0
+HoldBytes pages = (p i : ℕ) → slice_index (opened_page pages p).bytes i < 256
+
+-- the run starts at this lsn on a store with these pages, none of which has a group behind the start
+pub record StartsOn (start : ℕ) (pages : List Content) (c : Setup) : Type 0 where
+  pub begins : lsn c.base ≡ start
+  pub count : c.pages ≡ length pages
+  pub opened : (p : ℕ) → p < length pages → c.opened p ≡ opened_page pages p
+  pub early : (p : ℕ) (page : Content) → slice_get pages p ≡ Some page → page.lsn ≤ start
+
+-- the words in their order are those of a store as the run begins
+pub record AreStartWords (words : List ℕ) (c : Setup) : Type 0 where
+  pub by_name : SharedWords
+  pub in_order : words ≡ flat by_name
+  pub of_log : StartWords c by_name
+  pub of_pages : StartPageWords c by_name
+
+-- these are the words by name, all of them and in their order
+pub record AreNamed (words : Plain) (m : SharedWords) : Type 0 where
+  pub sized : IsSized words.pages m
+  pub in_order : words.words ≡ flat m
+
+-- the words once those of the log are what a run has that starts at this lsn
+abbrev pub with_log : ℕ → SharedWords → SharedWords
+with_log start m = record m {
+  sn = sn_of start;
+  write = start;
+  wtail = start;
+  flushed = start;
+  ckpt = start - BLOCK_HEADER;
+  ctail = start;
+  firsts = slice_set m.firsts (start / BLOCK_SIZE % BUFFER_BLOCKS) BLOCK_HEADER;
+}
+
+-- the words once a page's frame has these
+abbrev pub with_frame : ℕ → List ℕ → SharedWords → SharedWords
+with_frame page frame m = with_page_words m page (record (page_words_at m.page_words page) { frame = frame })
+
+-- each word of a page's frame is 0
+abbrev pub IsBlankFrame : ℕ → SharedWords → Type 0
+IsBlankFrame page m = (i : ℕ) → slice_index (page_words_at m.page_words page).frame i ≡ 0

@@ -1,0 +1,16 @@
+-- The actors as the definitions see them.
+use Rattle.std.specs.Prelude.{List, map}
+use Rattle.model_core.specs.Actors as model
+use Rattle.redo_drive.specs.declared.actor.Actor.{Actor}
+use Rattle.redo_drive.specs.declared.actor.Actor.TheVariants as own
+
+abbrev pub view_of : Actor → model.Actor
+view_of (own.User user) = model.User user
+view_of (own.Writer writer) = model.Writer writer
+view_of (own.Flusher flusher) = model.Flusher flusher
+view_of (own.Closer closer) = model.Closer closer
+view_of (own.Cleaner cleaner) = model.Cleaner cleaner
+view_of (own.Checkpointer checkpointer) = model.Checkpointer checkpointer
+
+abbrev pub views_of : List Actor → List model.Actor
+views_of actors = map view_of actors

@@ -1,0 +1,55 @@
+// What all actors have in common.
+ghost use Rattle.std.specs.Prelude.{◌≡◌};
+ghost use Rattle.model_core.specs.AnswerFits.{AnswerFits};
+ghost use Rattle.model_core.specs.{lent, next, step_of, took};
+ghost use Rattle.redo_drive.specs.Views.{view_of};
+ghost use Rattle.redo_words.specs.{Lends};
+
+use crate::actor::Actor;
+use redo_words::{Answer, Lent, Op, Step};
+
+impl Actor {
+    /// The Op that it asks for.
+    pub fn next(&self) -> Op
+        ensures { result ≡ next (view_of self.now) }
+    {
+        match self {
+            Actor::User(user) => user.next(),
+            Actor::Writer(writer) => writer.next(),
+            Actor::Flusher(flusher) => flusher.next(),
+            Actor::Closer(closer) => closer.next(),
+            Actor::Cleaner(cleaner) => cleaner.next(),
+            Actor::Checkpointer(checkpointer) => checkpointer.next(),
+        }
+    }
+
+    /// What it lends to a device call.
+    pub fn lent(&self) -> Lent<'_>
+        ensures { Lends result (lent (view_of self.now)) }
+    {
+        match self {
+            Actor::User(user) => user.lent(),
+            Actor::Writer(writer) => writer.lent(),
+            Actor::Flusher(flusher) => flusher.lent(),
+            Actor::Closer(closer) => closer.lent(),
+            Actor::Cleaner(cleaner) => cleaner.lent(),
+            Actor::Checkpointer(checkpointer) => checkpointer.lent(),
+        }
+    }
+
+    /// Takes the answer to the Op that it asked for.
+    pub fn took(&mut self, answer: Answer) -> Step
+        requires { AnswerFits (view_of self.old) answer }
+        ensures state { view_of self.new ≡ took (view_of self.old) answer }
+        ensures step { result ≡ step_of (view_of self.old) answer }
+    {
+        match self {
+            Actor::User(user) => user.took(answer),
+            Actor::Writer(writer) => writer.took(answer),
+            Actor::Flusher(flusher) => flusher.took(answer),
+            Actor::Closer(closer) => closer.took(answer),
+            Actor::Cleaner(cleaner) => cleaner.took(answer),
+            Actor::Checkpointer(checkpointer) => checkpointer.took(answer),
+        }
+    }
+}

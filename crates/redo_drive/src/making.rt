@@ -1,0 +1,119 @@
+// A run as it begins.
+ghost use Rattle.std.specs.Prelude.{◌≡◌, ◌≤◌, ◌<◌, ◌+◌, ◌^◌, IfErr, IfOk};
+ghost use Rattle.std.specs.List.{AllByRecursion};
+ghost use Rattle.model_base.specs.{IsWithinLimits};
+ghost use Rattle.model_base.specs.declared.limits.TheConstants.{START_LSN};
+ghost use Rattle.model_log.specs.{IsAtDataStart};
+ghost use Rattle.model_log.specs.declared.layout.TheConstants.{BLOCK_HEADER};
+ghost use Rattle.model_script.specs.{IsScriptLine, LineFits};
+ghost use Rattle.redo_apply.specs.{ArePagesOf};
+ghost use Rattle.redo_drive.specs.Beginning.{MayBegin};
+ghost use Rattle.redo_drive.specs.Begins.{BeginsRun};
+ghost use Rattle.redo_drive.specs.Making.{IsOwnOf};
+
+use crate::actor::Actor;
+use crate::lists::FlushLists;
+use crate::parts::Parts;
+use crate::seating::seat_actors;
+use crate::start_words::start_words;
+use model_base::Shape;
+use model_history::Entry;
+use model_script::Script;
+use redo_apply::Pages;
+use redo_disk::Sectors;
+use redo_lsn::NoMemory;
+use redo_pageactors::Opened;
+use redo_words::PlainWords;
+use std::alloc::Global;
+
+/// All that a run has beside its devices.
+#[derive(Drop)]
+struct Own {
+    words: PlainWords,
+    lists: FlushLists,
+    actors: Vec<Actor>,
+    entries: Vec<Entry>,
+}
+
+/// Takes all the memory of a run.
+fn make_own(
+    alloc: Global,
+    shape: &Shape,
+    pages: &Pages,
+    script: &Script,
+    start: u64,
+    log_only: bool,
+) -> Result<Own, NoMemory>
+    requires limits { IsWithinLimits shape.now }
+    requires its_pages { ArePagesOf shape.now pages.now }
+    requires place { IsAtDataStart start }
+    requires first { START_LSN + BLOCK_HEADER ≤ start }
+    requires small { start < 2 ^ 61 }
+    requires lines { AllByRecursion IsScriptLine script.now }
+    requires fits { AllByRecursion (LineFits shape.now) script.now }
+    ensures { IfOk result (IsOwnOf shape.now pages.now script.now start log_only) }
+{
+    let words = start_words(alloc, pages, start)?;
+    let lists = FlushLists::new(alloc, shape.pages)?;
+    let actors = seat_actors(alloc, script.0.as_slice(), shape, start, log_only)?;
+    let entries = Vec::with_capacity(alloc, script.0.len())?;
+    Ok(Own {
+        words,
+        lists,
+        actors,
+        entries,
+    })
+}
+
+/// A run as it begins: what its actors share, the actors in their seats, and room for an entry of each line. The users that
+/// have lines come first, by their numbers, then the writer and the flusher, and then, unless the log runs alone, the closer,
+/// the cleaner and the checkpointer.
+#[derive(Drop)]
+pub struct Beginning<L: Sectors, D: Sectors> {
+    pub parts: Parts<L, D>,
+    pub actors: Vec<Actor>,
+    pub entries: Vec<Entry>,
+}
+
+/// The run of a script as it begins on an opened store, with the log alone or with the pages. It takes all memory; where there
+/// is none it gives both devices back as they were.
+pub fn begin_run<L: Sectors, D: Sectors>(
+    alloc: Global,
+    opened: Opened<L, D>,
+    script: &Script,
+    log_only: bool,
+) -> Result<Beginning<L, D>, (NoMemory, L, D)>
+    requires { MayBegin opened script.now log_only }
+    ensures err { IfErr result (λ error. (error.1 ≡ opened.log.dev) × (error.2 ≡ opened.store.dev)) }
+    ensures begins { IfOk result (BeginsRun L.seen D.seen opened script.now log_only) }
+{
+    let Opened {
+        shape,
+        start,
+        pages,
+        log,
+        store,
+    } = opened;
+    match make_own(alloc, &shape, &pages, script, start, log_only) {
+        Err(_) => Err((NoMemory, log.into_dev(), store.into_dev())),
+        Ok(own) => {
+            let Own {
+                words,
+                lists,
+                actors,
+                entries,
+            } = own;
+            let parts = Parts {
+                words,
+                log,
+                store,
+                lists,
+            };
+            Ok(Beginning {
+                parts,
+                actors,
+                entries,
+            })
+        }
+    }
+}

@@ -1,0 +1,92 @@
+// The actors of a run, in their seats.
+ghost use Rattle.std.specs.Prelude.{◌≡◌, ◌≤◌, ◌<◌, ◌^◌, IfOk, map};
+ghost use Rattle.std.specs.List.{AllByRecursion};
+ghost use Rattle.model_base.specs.{IsWithinLimits};
+ghost use Rattle.model_core.specs.Actors as actor;
+ghost use Rattle.model_log.specs.{IsAtDataStart};
+ghost use Rattle.model_base.specs.declared.limits.TheConstants.{FIRST_DATA_LSN};
+ghost use Rattle.model_script.specs.{IsScriptLine, LineFits};
+ghost use Rattle.redo_drive.specs.Setups.{start_actors, user_lines, users_of};
+ghost use Rattle.redo_drive.specs.Views.{views_of};
+
+use crate::actor::Actor;
+use model_base::Shape;
+use model_record::Group;
+use model_script::{MAX_USERS, ScriptLine};
+use redo_logactors::{Closer, Flusher, Writer};
+use redo_lsn::NoMemory;
+use redo_pageactors::{Checkpointer, Cleaner};
+use redo_script::group_of;
+use redo_useractor::UserActor;
+use std::alloc::Global;
+
+/// How many actors there are at the most.
+const MOST_ACTORS: usize = MAX_USERS as usize + 5;
+
+/// The lines of a user, each a mode and a group.
+fn lines_of(
+    alloc: Global,
+    script: &[ScriptLine],
+    user: u32,
+    space: u32,
+) -> Result<Vec<(u32, Group)>, NoMemory>
+    ensures { IfOk result (λ lines. lines.items ≡ user_lines space script.now user) }
+{
+    let mut lines = Vec::new(alloc);
+    for line in script {
+        if line.user == user {
+            lines.push((line.mode, group_of(alloc, line, space)?))?;
+        }
+    }
+    Ok(lines)
+}
+
+/// The users that have lines, by their numbers, with room for the other actors.
+fn seat_users(
+    alloc: Global,
+    script: &[ScriptLine],
+    shape: &Shape,
+    log_only: bool,
+) -> Result<Vec<Actor>, NoMemory>
+    requires limits { IsWithinLimits shape.now }
+    requires lines { AllByRecursion IsScriptLine script.now }
+    requires fits { AllByRecursion (LineFits shape.now) script.now }
+    ensures { IfOk result (λ actors. views_of actors.items ≡ map actor.User (users_of shape.now log_only script.now)) }
+{
+    let mut actors = Vec::with_capacity(alloc, MOST_ACTORS)?;
+    for user in 1..MAX_USERS + 1 {
+        let lines = lines_of(alloc, script, user, shape.space)?;
+        if !lines.is_empty() {
+            let actor = UserActor::new(alloc, user, lines, shape, log_only)?;
+            actors.push(Actor::User(actor))?;
+        }
+    }
+    Ok(actors)
+}
+
+/// The actors of a run that starts at this lsn.
+pub fn seat_actors(
+    alloc: Global,
+    script: &[ScriptLine],
+    shape: &Shape,
+    start: u64,
+    log_only: bool,
+) -> Result<Vec<Actor>, NoMemory>
+    requires limits { IsWithinLimits shape.now }
+    requires lines { AllByRecursion IsScriptLine script.now }
+    requires fits { AllByRecursion (LineFits shape.now) script.now }
+    requires place { IsAtDataStart start }
+    requires first { FIRST_DATA_LSN ≤ start }
+    requires small { start < 2 ^ 61 }
+    ensures { IfOk result (λ actors. views_of actors.items ≡ start_actors shape.now script.now start log_only) }
+{
+    let mut actors = seat_users(alloc, script, shape, log_only)?;
+    actors.push(Actor::Writer(Writer::new(alloc, shape, start)?))?;
+    actors.push(Actor::Flusher(Flusher::new(start)))?;
+    if !log_only {
+        actors.push(Actor::Closer(Closer::new(start)))?;
+        actors.push(Actor::Cleaner(Cleaner::new(alloc, shape)?))?;
+        actors.push(Actor::Checkpointer(Checkpointer::new(start)))?;
+    }
+    Ok(actors)
+}

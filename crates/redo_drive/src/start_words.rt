@@ -1,0 +1,86 @@
+// The words of a store as a run begins.
+ghost use Rattle.std.specs.Prelude.{◌<◌, ◌≡◌, ◌≤◌, ℕ, IfOk, length, slice_index};
+ghost use Rattle.model_core.specs.{IsWord, SharedWords, wrote};
+ghost use Rattle.model_core.specs.Setup.{Setup};
+ghost use Rattle.model_log.specs.{IsAtDataStart};
+ghost use Rattle.redo_drive.specs.StartWords.{AreFullPages, AreNamed, AreStartWords, HoldBytes, IsBlankFrame, StartsOn, page_frame, with_frame, with_log};
+
+use model_base::{BLOCK_SIZE, USER_BYTES, USER_START};
+use model_core::{BUFFER_BLOCKS, FRAME_WORDS};
+use model_log::BLOCK_HEADER;
+use redo_apply::Pages;
+use redo_lsn::{NoMemory, sn_of};
+use redo_words::{Op, PlainWords, Word, packed};
+use std::alloc::Global;
+
+/// Gives a word its first number.
+fn set(words: &mut PlainWords, word: Word, number: u64)
+    requires { IsWord words.old.pages word }
+    ensures pages { words.new.pages ≡ words.old.pages }
+    ensures named { (m : SharedWords) → AreNamed words.old m → AreNamed words.new (wrote m word number) }
+{
+    let _ = words.play(Op::Store(word, number));
+}
+
+/// Gives the words of the log their numbers, for a run that starts at this lsn.
+fn set_log(words: &mut PlainWords, start: u64)
+    requires { BLOCK_HEADER ≤ start }
+    ensures pages { words.new.pages ≡ words.old.pages }
+    ensures named { (m : SharedWords) → AreNamed words.old m → AreNamed words.new (with_log start m) }
+{
+    set(words, Word::Sn, sn_of(start));
+    set(words, Word::Write, start);
+    set(words, Word::Wtail, start);
+    set(words, Word::Flushed, start);
+    set(words, Word::Ckpt, start - BLOCK_HEADER);
+    set(words, Word::Ctail, start);
+    let block = (start / BLOCK_SIZE % BUFFER_BLOCKS) as u32;
+    set(words, Word::First(block), BLOCK_HEADER);
+}
+
+/// A word of a page's frame, by the page's user bytes.
+fn frame_word(user: &[u8], number: u32) -> u64
+    requires full { length user.now ≡ USER_BYTES }
+    requires there { number < FRAME_WORDS }
+    ensures { result ≡ slice_index (page_frame user.now) number }
+{
+    let first = (number * 8) as usize;
+    let start = USER_START as usize;
+    let from = first.max(start);
+    let to = (first + 8).min(start + USER_BYTES as usize);
+    if from < to {
+        packed(from - first, &user[from - start..to - start])
+    } else {
+        0
+    }
+}
+
+/// Writes a page's user bytes into its frame, whose words are all 0.
+fn set_frame(words: &mut PlainWords, page: u32, user: &[u8])
+    requires there { page < words.old.pages }
+    requires full { length user.now ≡ USER_BYTES }
+    ensures pages { words.new.pages ≡ words.old.pages }
+    ensures bytes { (i : ℕ) → slice_index user.now i < 256 }
+    ensures named { (m : SharedWords) → AreNamed words.old m → IsBlankFrame page m → AreNamed words.new (with_frame page (page_frame user.now) m) }
+{
+    for number in 0..FRAME_WORDS as u32 {
+        set(words, Word::Frame(page, number), frame_word(user, number));
+    }
+}
+
+/// The words of a store with these pages, on which a run starts at this lsn. Only `PlainWords::new` takes memory.
+pub fn start_words(alloc: Global, pages: &Pages, start: u64) -> Result<PlainWords, NoMemory>
+    requires place { IsAtDataStart start }
+    requires full { AreFullPages pages.now }
+    ensures pages { IfOk result (λ words. words.pages ≡ length pages.now) }
+    ensures bytes { IfOk result (λ _. HoldBytes pages.now) }
+    ensures starts { IfOk result (λ words. (c : Setup) → StartsOn start pages.now c → AreStartWords words.words c) }
+{
+    let count = pages.len() as u32;
+    let mut words = PlainWords::new(alloc, count)?;
+    set_log(&mut words, start);
+    for page in 0..count {
+        set_frame(&mut words, page, pages.user_bytes(page));
+    }
+    Ok(words)
+}

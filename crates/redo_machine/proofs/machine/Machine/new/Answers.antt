@@ -1,5 +1,0 @@
-use Rattle.redo_machine.proofs.MachineStarts.{begins}
-use Rattle.redo_machine.proofs.machine.Machine.new.Goals as goal
-
-pub returns-clause-begins : goal.returns-clause-begins
-returns-clause-begins g c = begins g.L.Sectors.seen g.D.Sectors.seen c.args.opened c.args.script.now c.args.log_only c.requires c.in-Ok.own c.in-Ok.ensures

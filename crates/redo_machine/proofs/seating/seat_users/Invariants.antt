@@ -1,9 +1,0 @@
--- The users below this number that have lines are seated.
-use Rattle.std.proofs.Common.{map, ◌≡◌}
-use Rattle.model_core.specs.Actors as actor
-use Rattle.redo_machine.specs.Setups.{programs_of, users_below}
-use Rattle.redo_machine.specs.Views.{views_of}
-use Rattle.redo_machine.proofs.seating.seat_users.Given as goal
-
-abbrev pub invariant-loop-user : goal.invariant-loop-user
-invariant-loop-user l = views_of l.actors.items ≡ map actor.User (users_below l.shape.log_blocks (programs_of l.shape l.log_only l.script) l.user)

@@ -1,5 +1,0 @@
-use Rattle.redo_machine.proofs.StartWordsNames.{named_wrote}
-use Rattle.redo_machine.proofs.start_words.set.Goals as goal
-
-pub returns-clause-named : goal.returns-clause-named
-returns-clause-named c = λ m named. named_wrote _ _ m c.args.word c.args.number named c.requires c.play.ensures.pages c.play.ensures.words

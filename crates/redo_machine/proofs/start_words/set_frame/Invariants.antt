@@ -1,5 +1,0 @@
-use Rattle.redo_machine.proofs.StartWordsFrames.{IsFramedUpTo}
-use Rattle.redo_machine.proofs.start_words.set_frame.Given as goal
-
-abbrev pub invariant-loop-number : goal.invariant-loop-number
-invariant-loop-number l = IsFramedUpTo l.initial.words l.words l.page l.user l.number

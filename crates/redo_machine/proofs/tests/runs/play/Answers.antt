@@ -1,4 +1,0 @@
-use Rattle.redo_machine.proofs.tests.runs.play.Goals as goal
-
-pub returns : goal.returns
-returns g c = record { run = c.loop.invariant.run; runs = c.run.ensures.runs c.loop.invariant.run c.loop.invariant.runs }

@@ -1,6 +1,0 @@
--- The machine stays on its run.
-use Rattle.redo_machine.specs.Running.{IsOnRun}
-use Rattle.redo_machine.proofs.tests.runs.play_round.Given as goal
-
-abbrev pub invariant-loop-seat : goal.invariant-loop-seat
-invariant-loop-seat g l = IsOnRun g.L.Sectors.seen g.D.Sectors.seen l.machine.parts l.machine.actors.items

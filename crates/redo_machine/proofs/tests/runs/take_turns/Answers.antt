@@ -1,7 +1,0 @@
-use Rattle.redo_machine.proofs.tests.runs.take_turns.Goals as goal
-
-pub returns-then-ne : goal.returns-then-ne
-returns-then-ne g c = record { run = c.loop-turn.invariant.run; runs = c.turn-turned.ensures.runs c.loop-turn.invariant.run c.loop-turn.invariant.runs }
-
-pub loop-turn-preserved : goal.loop-turn-preserved
-loop-turn-preserved g c = record { run = c.loop-turn.invariant.run; runs = c.turn-turned.ensures.runs c.loop-turn.invariant.run c.loop-turn.invariant.runs }

@@ -1,6 +1,0 @@
--- The machine stays on its run.
-use Rattle.redo_machine.specs.Running.{IsOnRun}
-use Rattle.redo_machine.proofs.tests.runs.take_turns.Given as goal
-
-abbrev pub invariant-loop-turn : goal.invariant-loop-turn
-invariant-loop-turn g l = IsOnRun g.L.Sectors.seen g.D.Sectors.seen l.machine.parts l.machine.actors.items
