@@ -119,7 +119,15 @@ pub(crate) fn crash_command<R: Threads + Sync, L: Sectors + Send, D: Sectors + S
         Course::Ended(fault) => Outcome::Fault(fault),
         Course::Stopped(_) => crash_and_read(rt, alloc, script, crash, None, &mut log, &mut store),
         Course::Played(played, _) => {
-            crash_and_read(rt, alloc, script, crash, Some(&played), &mut log, &mut store)
+            crash_and_read(
+                rt,
+                alloc,
+                script,
+                crash,
+                Some(&played),
+                &mut log,
+                &mut store,
+            )
         }
     };
     Done {

@@ -44,13 +44,6 @@ impl<'a, R: Threads + Wait + Sync, G: Gate> Drive for InThreads<'a, R, G> {
         ensures owed { IfOk result (Owes L.seen L.gives D.seen D.gives opened script.now) }
         ensures says { IfOk result (RunsInThreads opened script.now self.now.log_only) }
     {
-        drive_in_threads(
-            self.rt,
-            alloc,
-            opened,
-            script,
-            self.log_only,
-            self.gate,
-        )
+        drive_in_threads(self.rt, alloc, opened, script, self.log_only, self.gate)
     }
 }

@@ -34,10 +34,7 @@ fn tells_of_opening(rt: &HostRuntime, stop: u64, is_stopped: bool) -> Result<boo
 fn opens_nothing_where_opening_is_stopped(rt: HostRuntime) -> Result<(), Fail> {
     let (_, opening) = calls_of_opening(&rt)?;
     for stop in [0, opening.saturating_sub(1), opening] {
-        assert!(rt;
-            tells_of_opening(&rt, stop, stop < opening)?,
-            "at {stop}"
-        );
+        assert!(rt; tells_of_opening(&rt, stop, stop < opening)?, "at {stop}");
     }
     Ok(())
 }

@@ -116,11 +116,7 @@ pub(crate) fn play(rt: &HostRuntime, table: &str) -> Result<(), Fail> {
 }
 
 /// Plays a table in which `@` stands for this number.
-pub(crate) fn play_at(
-    rt: &HostRuntime,
-    number: u64,
-    table: &str,
-) -> Result<(), Fail> {
+pub(crate) fn play_at(rt: &HostRuntime, number: u64, table: &str) -> Result<(), Fail> {
     let number = format!(in rt.alloc(); "{number}")?;
     play(rt, &table.replace(rt.alloc(), "@", &number)?)
 }
