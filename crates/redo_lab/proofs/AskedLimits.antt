@@ -9,12 +9,13 @@ use Rattle.model_command.specs.declared.asked.Asked.{Asked}
 use Rattle.model_command.specs.declared.asked.Command.{Command}
 use Rattle.model_command.specs.declared.asked.Command.TheVariants.{Run, Recover, Dump}
 use Rattle.model_command.specs.declared.words.Given.{Given}
+use Rattle.model_command.specs.declared.words.TheConstants.{MAX_WORKERS}
 use Rattle.model_command.specs.declared.words.Name.{Name}
 use Rattle.model_command.specs.declared.words.Name.TheVariants as name
 use Rattle.model_command.specs.declared.words.Expected.TheVariants.{Any}
 use Rattle.model_script.specs.declared.misfit.TheConstants.{MAX_USERS}
 use borrow.Author.Tests.{leb-true}
-use Rattle.redo_lab.specs.Asked.{IsWithin, command_of, is_served, where_served}
+use Rattle.redo_lab.specs.Asked.{IsWithin, command_of}
 
 -- the number is between these
 abbrev IsBetween : ℕ → ℕ → ℕ → Type 0
@@ -70,14 +71,19 @@ format-within options command is =
 run-within : (options : List Given) (command : Command) → option_map Run (drive_of options) ≡ Some command → IsWithin command
 run-within options command is = let run = map-some Run (drive_of options) command is in subst IsWithin run.2 tt
 
+workers-within : (options : List Given) (workers : ℕ) → workers_of options ≡ Some workers → IsBetween 1 MAX_WORKERS workers
+workers-within options workers is = or-between 1 MAX_WORKERS 1 workers (given_number name.Workers options) (lit≤ tt, lit≤ tt) is
+
 crash-within : (options : List Given) (command : Command) → crash_of options ≡ Some command → IsWithin command
 crash-within options command is =
     let drive = and_then-some _ (drive_of options) command is in
     let workers = map-some _ (workers_of options) command drive.2 in
-    subst IsWithin workers.2 tt
+    subst IsWithin workers.2 (workers-within options workers.0 workers.1)
 
 recover-within : (options : List Given) (command : Command) → option_map Recover (workers_of options) ≡ Some command → IsWithin command
-recover-within options command is = let workers = map-some Recover (workers_of options) command is in subst IsWithin workers.2 tt
+recover-within options command is =
+    let workers = map-some Recover (workers_of options) command is in
+    subst IsWithin workers.2 (workers-within options workers.0 workers.1)
 
 dump-within : (why : Bool) (command : Command) → Some (Dump why) ≡ Some command → IsWithin command
 dump-within why command is = let same : Dump why ≡ command = cc in subst IsWithin same tt
@@ -138,21 +144,7 @@ asked-within (text ∷ texts) asked is =
     let command = map-some _ (commands.command_of text said.0.options said.0.values) asked said.2 in
     subst (λ (asked : Asked). IsWithin asked.command) command.2 (command-within text said.0.options said.0.values _ command.0 command.1)
 
-where-served : (served : Bool) (command found : Command) → (if served then Some command else None) ≡ Some found → command ≡ found
-where-served true command found is = cc
-where-served false command found is = cc
-
 pub command-of-within : (words : List (List ℕ)) (command : Command) → command_of words ≡ Some command → IsWithin command
 command-of-within words command is =
-    let asked = and_then-some where_served (asked_of words) command is in
-    subst IsWithin (where-served _ asked.0.command command asked.2) (asked-within words asked.0 asked.1)
-
-served-some : (served : Bool) (command found : Command) → (if served then Some command else None) ≡ Some found → served ≡ true
-served-some true command found is = refl
-served-some false command found is = cc
-
-pub command-of-served : (words : List (List ℕ)) (command : Command) → command_of words ≡ Some command → is_served command ≡ true
-command-of-served words command is =
-    let asked = and_then-some where_served (asked_of words) command is in
-    subst (λ (found : Command). is_served found ≡ true) (where-served _ asked.0.command command asked.2)
-    (served-some (is_served asked.0.command) asked.0.command command asked.2)
+    let asked = map-some (λ (asked : Asked). asked.command) (asked_of words) command is in
+    subst IsWithin asked.2 (asked-within words asked.0 asked.1)

@@ -1,44 +1,77 @@
--- A run by turns is the one to which its drive leads.
-use Rattle.std.proofs.Common.{◌≡◌, not, Bool, true, false, List, Option, refl, sym, subst}
+-- The drives serve what is asked for.
+use Rattle.std.proofs.Common.{ℕ, ◌≡◌, Bool, true, false, List, Option, Some, None, ap, refl, sym, subst, ◌∙◌}
+use Rattle.model_command.specs.declared.asked.Command.{Command}
 use Rattle.model_command.specs.declared.asked.Drive.{Drive}
-use Rattle.model_report.specs.declared.fault.Fault.{Fault}
+use Rattle.model_device.specs.Disk.{Disk}
 use Rattle.model_script.specs.declared.script.ScriptLine.{ScriptLine}
+use Rattle.model_theorem.specs.{Ran}
+use Rattle.model_theorem.specs.Values as values
 use Rattle.redo_disk.specs.{Call}
 use Rattle.redo_disk.specs.Seen.{Seen}
-use Rattle.redo_lab.specs.declared.playing.Played.{Played}
-use Rattle.redo_lab.specs.declared.playing.Stops.{Stops}
-use Rattle.redo_lab.specs.Asked.{is_by_turns, turns_of}
-use Rattle.redo_lab.specs.Course.{ByTurns, Driving, IsEndedBy, IsPlayedBy}
-use Rattle.redo_lab.specs.Drives.{DrivenBy, DrivenOf}
-use Rattle.redo_lab.specs.Stages.{Shown}
+use Rattle.redo_drive.specs.declared.drive.Driven.{Driven}
+use Rattle.redo_drive.specs.declared.drive.RunEnd.TheVariants.{Done, Spent}
+use Rattle.redo_machine.specs.{RunsByTurns}
+use Rattle.redo_machine.specs.declared.drive.Turns.{Turns}
+use Rattle.redo_memdisk.specs.{CallsThrough, seen_through}
+use Rattle.redo_memdisk.specs.declared.fused.Fused.{Fused}
+use Rattle.redo_pageactors.specs.declared.opened.Opened.{Opened}
+use Rattle.redo_threads.specs.InThreads.{RunsInThreads}
+use Rattle.redo_lab.specs.Asked.{drive_of, runs_in_threads, turns_of}
+use Rattle.redo_lab.specs.Drives.{DrivenBy, TellsOf}
+use Rattle.redo_lab.specs.Playing.{Serves, ServesCommand}
 
-in-turns : (threads : Bool) → not threads ≡ true → threads ≡ false
-in-turns true is = cc
-in-turns false is = refl
+-- the command runs its script in threads if its drive does
+pub in-threads : (command : Command) (drive : Drive) → drive_of command ≡ Some drive → runs_in_threads command ≡ drive.threads
+in-threads command drive is = ap (λ (asked : Option Drive). elim asked [ None ↦ false | Some drive ↦ drive.threads ]) is
 
-by-drive : {L D : Type 0} (log_seen : L → Seen) (log_gives : L → Call → L → Type 0) (data_seen : D → Seen) (data_gives : D → Call → D → Type 0)
-    (drive : Drive) (script : List ScriptLine) → is_by_turns drive ≡ true → (P : Driving → Type 0)
-    → P (ByTurns log_seen log_gives data_seen data_gives (turns_of drive) script)
-    → P (λ opened run end log_met store_met. DrivenBy log_seen log_gives data_seen data_gives drive opened script run end log_met store_met)
-by-drive log_seen log_gives data_seen data_gives drive script is P holds =
-    subst (λ (threads : Bool). P (λ opened run end log_met store_met.
-    DrivenOf threads log_seen log_gives data_seen data_gives drive opened script run end log_met store_met))
-    (sym (in-turns drive.threads is)) holds
+module _ {L D : Type 0} (log_seen : L → Seen) (log_gives : L → Call → L → Type 0) (data_seen : D → Seen) (data_gives : D → Call → D → Type 0) where
+  -- what the drive tells that is in threads or isn't
+  abbrev TellsIn : Bool → Drive → Opened (Fused L) (Fused D) → List ScriptLine → Driven (Fused L) (Fused D) → Type 0
+  TellsIn threads asked opened script driven =
+      TellsOf threads (seen_through log_seen) (CallsThrough log_seen log_gives) (seen_through data_seen) (CallsThrough data_seen data_gives) asked opened script driven
 
-pub ended-by-drive : {L D : Type 0} (log_seen : L → Seen) (log_gives : L → Call → L → Type 0) (data_seen : D → Seen) (data_gives : D → Call → D → Type 0)
-    (drive : Drive) (script : List ScriptLine) (stops : Stops) (f : Fault) (log_entry data_entry : Seen) (log_now data_now : Shown) → is_by_turns drive ≡ true
-    → IsEndedBy (ByTurns log_seen log_gives data_seen data_gives (turns_of drive) script) log_entry data_entry stops (turns_of drive) script f log_now data_now
-    → IsEndedBy (λ opened run end log_met store_met. DrivenBy log_seen log_gives data_seen data_gives drive opened script run end log_met store_met)
-    log_entry data_entry stops (turns_of drive) script f log_now data_now
-ended-by-drive log_seen log_gives data_seen data_gives drive script stops f log_entry data_entry log_now data_now is =
-    by-drive log_seen log_gives data_seen data_gives drive script is (λ (by : Driving). IsEndedBy by log_entry data_entry stops (turns_of drive) script f log_now data_now)
+  -- by turns
+  turns-serve : (asked : Drive) (turns : Turns) → turns ≡ turns_of asked → asked.threads ≡ false
+      → Serves log_seen log_gives data_seen data_gives (λ (turns : Turns). turns.log_only)
+      (λ log_seen log_gives data_seen data_gives turns opened script driven. RunsByTurns log_seen log_gives data_seen data_gives opened script turns driven)
+      turns asked
+  turns-serve asked turns same is = record {
+    log_only_is = ap (λ (turns : Turns). turns.log_only) same;
+    told = λ opened script driven told. subst (λ (threads : Bool). TellsIn threads asked opened script driven) (sym is)
+        (subst (λ (turns : Turns). RunsByTurns (seen_through log_seen) (CallsThrough log_seen log_gives) (seen_through data_seen) (CallsThrough data_seen data_gives) opened script turns driven) same told);
+  }
 
-pub played-by-drive : {L D : Type 0} (log_seen : L → Seen) (log_gives : L → Call → L → Type 0) (data_seen : D → Seen) (data_gives : D → Call → D → Type 0)
-    (drive : Drive) (script : List ScriptLine) (stops : Stops) (played : Played) (cause : Option Fault) (log_entry data_entry : Seen) (log_now data_now : Shown)
-    → is_by_turns drive ≡ true
-    → IsPlayedBy (ByTurns log_seen log_gives data_seen data_gives (turns_of drive) script) log_entry data_entry stops drive.log_only script played cause log_now data_now
-    → IsPlayedBy (λ opened run end log_met store_met. DrivenBy log_seen log_gives data_seen data_gives drive opened script run end log_met store_met)
-    log_entry data_entry stops drive.log_only script played cause log_now data_now
-played-by-drive log_seen log_gives data_seen data_gives drive script stops played cause log_entry data_entry log_now data_now is =
-    by-drive log_seen log_gives data_seen data_gives drive script is
-    (λ (by : Driving). IsPlayedBy by log_entry data_entry stops drive.log_only script played cause log_now data_now)
+  -- and a command that doesn't run in threads
+  pub turns-serve-command : (command : Command) (turns : Turns) → ((asked : Drive) → drive_of command ≡ Some asked → turns ≡ turns_of asked)
+      → runs_in_threads command ≡ false
+      → ServesCommand log_seen log_gives data_seen data_gives (λ (turns : Turns). turns.log_only)
+      (λ log_seen log_gives data_seen data_gives turns opened script driven. RunsByTurns log_seen log_gives data_seen data_gives opened script turns driven)
+      turns command
+  turns-serve-command command turns is by_turns asked asked_is =
+      turns-serve asked turns (is asked asked_is) (sym (in-threads command asked asked_is) ∙ by_turns)
+
+  -- in threads
+  pub threads-serve-command : {S : Type 0} (alone : S → Bool) (threads : S) (command : Command) (drive : Drive) → drive_of command ≡ Some drive → drive.threads ≡ true
+      → alone threads ≡ drive.log_only
+      → ServesCommand log_seen log_gives data_seen data_gives alone
+      (λ log_seen log_gives data_seen data_gives threads opened script driven. RunsInThreads opened script (alone threads) driven)
+      threads command
+  threads-serve-command {S} alone threads command drive is in_threads log_only asked asked_is =
+      let same : drive ≡ asked = cc (is, asked_is) in
+      subst (λ (found : Drive). Serves log_seen log_gives data_seen data_gives alone
+      (λ log_seen log_gives data_seen data_gives threads opened script driven. RunsInThreads opened script (alone threads) driven) threads found) same
+      (record {
+        log_only_is = log_only;
+        told = λ opened script driven told. subst (λ (threads : Bool). TellsIn threads drive opened script driven) (sym in_threads)
+            (subst (λ (log_only : Bool). RunsInThreads opened script log_only driven) log_only told);
+      })
+
+  -- turns are spent by no drive in threads
+  none-spent : (threads : Bool) (asked : Drive) (store : Opened (Fused L) (Fused D)) (script : List ScriptLine) (driven : Driven (Fused L) (Fused D)) (turns user : ℕ)
+      → TellsIn threads asked store script driven → driven.ended ≡ Spent turns user → threads ≡ false
+  none-spent false asked store script driven turns user told ended = refl
+  none-spent true asked store script driven turns user told ended = let same : Done ≡ Spent turns user = sym told.done ∙ ended in absurd (cc)
+
+  pub spends-turns : (asked : Drive) (opened : values.Opened) (script : List ScriptLine) (run : Ran) (turns user : ℕ) (log_met store_met : Option Disk)
+      → DrivenBy log_seen log_gives data_seen data_gives asked opened script run (Spent turns user) log_met store_met → asked.threads ≡ false
+  spends-turns asked opened script run turns user log_met store_met so = none-spent asked.threads asked so.store script so.driven turns user so.told so.ends

@@ -1,5 +1,5 @@
 -- A whole call, put together from what its command came to and what was printed.
-use Rattle.std.proofs.Common.{ℕ, ◌≡◌, ◌+◌, ◌⊎◌, List, Option, Some, None, refl, sym, ap, subst, ◌∙◌, arith}
+use Rattle.std.proofs.Common.{ℕ, ◌≡◌, ◌+◌, ◌⊎◌, List, Option, Some, None, refl, subst, arith}
 use Rattle.model_base.specs.declared.limits.TheConstants.{MAX_SCRIPT}
 use Rattle.model_command.specs.declared.asked.Command.{Command}
 use Rattle.model_report.specs.declared.fault.Fault.{Fault}
@@ -39,37 +39,27 @@ lab_of log_seen log_gives data_seen data_gives words source source_now log store
   status = printed.status;
 }
 
--- The words ask for this command, which was done; the source and the devices are as that left them.
-pub command-called : {L D : Type 0} (log_seen : L → Seen) (log_gives : L → device.Call → L → Type 0) (data_seen : D → Seen) (data_gives : D → device.Call → D → Type 0) (words : List (List ℕ)) (source left source_now : SourceSeen)
-    (log : L) (store : D) (done given : Done L D) (printed : Printed) (command : Command) → source_now ≡ left → given ≡ done
-    → command_of words ≡ Some command
-    → EndsWith (call_of log_seen log_gives data_seen data_gives words source left log store done) command done.outcome
-    → TakesAtMost (MAX_SCRIPT + PIECE) source.left left.left
-    → IsOutcomePrinted given.outcome printed.status printed.sink printed.sink_now
-    → IsCallOf (lab_of log_seen log_gives data_seen data_gives words source source_now log store given printed)
-command-called {L} {D} log_seen log_gives data_seen data_gives words source left source_now log store done given printed command same_source same asked ends taken is_printed =
-    let Ends : Done L D → Type 0 = λ found. EndsWith (call_of log_seen log_gives data_seen data_gives words source source_now log store found) command found.outcome in
-    let EndsAt : SourceSeen → Type 0 = λ now. EndsWith (call_of log_seen log_gives data_seen data_gives words source now log store done) command done.outcome in
-    let Takes : SourceSeen → Type 0 = λ now. TakesAtMost (MAX_SCRIPT + PIECE) source.left now.left in
-    command-ends (lab_of log_seen log_gives data_seen data_gives words source source_now log store given printed) command given.outcome asked
-    (subst Ends (sym same) (subst EndsAt (sym same_source) ends))
-    is_printed (subst Takes (sym same_source) taken)
+-- The words ask for this command, which was done.
+pub command-called : {L D : Type 0} (log_seen : L → Seen) (log_gives : L → device.Call → L → Type 0) (data_seen : D → Seen) (data_gives : D → device.Call → D → Type 0) (words : List (List ℕ)) (source source_now : SourceSeen)
+    (log : L) (store : D) (done : Done L D) (printed : Printed) (command : Command) → command_of words ≡ Some command
+    → EndsWith (call_of log_seen log_gives data_seen data_gives words source source_now log store done) command done.outcome
+    → TakesAtMost (MAX_SCRIPT + PIECE) source.left source_now.left
+    → IsOutcomePrinted done.outcome printed.status printed.sink printed.sink_now
+    → IsCallOf (lab_of log_seen log_gives data_seen data_gives words source source_now log store done printed)
+command-called log_seen log_gives data_seen data_gives words source source_now log store done printed command asked ends taken is_printed =
+    command-ends (lab_of log_seen log_gives data_seen data_gives words source source_now log store done printed) command done.outcome asked ends is_printed taken
 
 -- The words ask for nothing, or memory ran out over them.
-pub nothing-called : {L D : Type 0} (log_seen : L → Seen) (log_gives : L → device.Call → L → Type 0) (data_seen : D → Seen) (data_gives : D → device.Call → D → Type 0) (words : List (List ℕ)) (source source_now : SourceSeen)
-    (log : L) (store : D) (done given : Done L D) (printed : Printed) (fault : Fault) → source_now ≡ source → given ≡ done
+pub nothing-called : {L D : Type 0} (log_seen : L → Seen) (log_gives : L → device.Call → L → Type 0) (data_seen : D → Seen) (data_gives : D → device.Call → D → Type 0) (words : List (List ℕ)) (source : SourceSeen)
+    (log : L) (store : D) (done : Done L D) (printed : Printed) (fault : Fault)
     → ((command_of words ≡ None) × (fault ≡ Words)) ⊎ (fault ≡ Memory) → IsUnasked fault log store done → OpenableLaw
-    → IsOutcomePrinted given.outcome printed.status printed.sink printed.sink_now
-    → IsCallOf (lab_of log_seen log_gives data_seen data_gives words source source_now log store given printed)
-nothing-called {L} {D} log_seen log_gives data_seen data_gives words source source_now log store done given printed fault same_source same why unasked law is_printed =
-    let outcome_is : given.outcome ≡ outcome.Fault fault = ap (λ (found : Done L D). found.outcome) same ∙ unasked.outcome_is in
-    let log_is : given.log ≡ done.log = ap (λ (found : Done L D). found.log) same in
-    let store_is : given.store ≡ done.store = ap (λ (found : Done L D). found.store) same in
-    let Takes : SourceSeen → Type 0 = λ now. TakesAtMost (MAX_SCRIPT + PIECE) source.left now.left in
+    → IsOutcomePrinted done.outcome printed.status printed.sink printed.sink_now
+    → IsCallOf (lab_of log_seen log_gives data_seen data_gives words source source log store done printed)
+nothing-called log_seen log_gives data_seen data_gives words source log store done printed fault why unasked law is_printed =
     let IsPrinted : Outcome → Type 0 = λ found. IsOutcomePrinted found printed.status printed.sink printed.sink_now in
-    nothing-ends (lab_of log_seen log_gives data_seen data_gives words source source_now log store given printed) fault why same_source
+    nothing-ends (lab_of log_seen log_gives data_seen data_gives words source source log store done printed) fault why refl
     (record {
-      log_device = alone-behind log_seen log done.log given.log unasked.log_inner unasked.log_fuse log_is;
-      data_device = alone-behind data_seen store done.store given.store unasked.data_inner unasked.data_fuse store_is;
+      log_device = alone-behind log_seen log done.log done.log unasked.log_inner unasked.log_fuse refl;
+      data_device = alone-behind data_seen store done.store done.store unasked.data_inner unasked.data_fuse refl;
     })
-    law (subst IsPrinted outcome_is is_printed) (subst Takes (sym same_source) (all-left source.left))
+    law (subst IsPrinted unasked.outcome_is is_printed) (all-left source.left)

@@ -31,10 +31,10 @@ use Rattle.redo_drive.specs.declared.drive.RunEnd.TheVariants.{Done}
 use Rattle.redo_lab.specs.Call.{Call, Each, IsUnfailedAside, WhereOpened, WhereToldNow}
 use Rattle.redo_lab.specs.Complete.{CanPlay}
 use Rattle.redo_lab.specs.Course.{IsPlayedBy, IsStoppedBy, ran_of}
-use Rattle.redo_lab.specs.Crashed.{AreCrashedSince, AreReadBack, ReadsBack}
 use Rattle.redo_lab.specs.Left.{LeavesStore}
 use Rattle.redo_lab.specs.Outcome.{EndsWith, IsDoneOrKeptFrom, IsOutcome}
-use Rattle.redo_lab.specs.Reread.{AreRefusedSince}
+use Rattle.redo_lab.specs.Reread.{AreBoth, AreRead, AreRefusedSince, IsCrashedSince, ReadsBack}
+use Rattle.redo_lab.specs.Reported.{IsReportOf}
 use Rattle.redo_lab.specs.Script.{IsScriptRead}
 use Rattle.redo_lab.specs.Stages.{IsCrashedWith, Shown, now_of}
 use Rattle.redo_lab.specs.Told.{IsOpenedFirst, IsRunOf}
@@ -47,7 +47,7 @@ pub record AreBothCrashed (call : Call) (stops : Stops) (pick log_failed data_fa
 module _ (call : Call) (drive : Drive) (stops : Stops) (pick workers : ℕ) (script : List ScriptLine) (run : Option Ran) (log_failed data_failed : ℕ) (log_old data_old : Shown)
     (laws : CrashLaws) (before : IsBeforeCrash call (Crash drive stops.log stops.store pick workers) drive stops script run log_failed data_failed log_old data_old) where
   abbrev Since : ℕ → ℕ → Type 0
-  Since log_since data_since = AreCrashedSince pick log_since data_since log_old data_old (now_of call.log) (now_of call.store)
+  Since log_since data_since = AreBoth (IsCrashedSince pick) log_since data_since log_old data_old (now_of call.log) (now_of call.store)
 
   abbrev Both : ℕ → ℕ → Type 0
   Both log_since data_since = AreBothCrashed call stops pick log_failed data_failed log_since data_since before.way.log_found before.way.data_found
@@ -136,9 +136,9 @@ module _ (call : Call) (drive : Drive) (stops : Stops) (pick workers : ℕ) (scr
 
   -- THE REPORT.
   crash-text : (text : List ℕ) → IsScriptRead call.source call.source_now script
-      → AreReadBack pick script run text log_old data_old (now_of call.log) (now_of call.store) → IsCrashText call drive stops.log stops.store pick workers text
+      → AreRead (Since 0 0) (λ reading. IsReportOf script run (Some (reading.end, reading.pages))) text (now_of call.log) (now_of call.store) → IsCrashText call drive stops.log stops.store pick workers text
   crash-text text read back =
-      let both = both-crashed 0 0 back.crashed in
+      let both = both-crashed 0 0 back.since in
       let done : IsCrashDone call (Crash drive stops.log stops.store pick workers) drive stops pick script run text log_failed data_failed log_old data_old =
       record { read = read; before = before; back = back } in
       let counted : log_failed + data_failed ≡ call.log.fuse.mid + call.store.fuse.mid = omega (arith, both.log_device.mid, both.data_device.mid) in
@@ -147,10 +147,10 @@ module _ (call : Call) (drive : Drive) (stops : Stops) (pick workers : ℕ) (scr
         opened = before.opened;
         told = record {
           is_script = read;
-          ran = as-met call.log.now.crashed_from call.store.now.crashed_from back.crashed.log_device.from back.crashed.data_device.from;
-          left_is = back.report.left_is;
-          loses = subst (λ (n : ℕ). LosesOnlyByFailure n run back.report.left) counted (before.loses back.report.left back.report.left_is);
-          opened_first = crash-first back.report.left back.report.left_is both.log_device.armed_from back.crashed.log_device.from;
+          ran = as-met call.log.now.crashed_from call.store.now.crashed_from back.since.log_device.from back.since.data_device.from;
+          left_is = back.text_is.left_is;
+          loses = subst (λ (n : ℕ). LosesOnlyByFailure n run back.text_is.left) counted (before.loses back.text_is.left back.text_is.left_is);
+          opened_first = crash-first back.text_is.left back.text_is.left_is both.log_device.armed_from back.since.log_device.from;
         };
         text_is = refl;
         log_crashed = record { limit_is = both.log_device.limit_is; pick_is = both.log_device.pick; unchanged_since = both.log_device.late_changes };
@@ -176,7 +176,7 @@ module _ (call : Call) (drive : Drive) (stops : Stops) (pick workers : ℕ) (scr
   pub crash-done : (o : Outcome) → IsScriptRead call.source call.source_now script
       → ReadsBack pick script run o log_old data_old (now_of call.log) (now_of call.store) → EndsWith call (Crash drive stops.log stops.store pick workers) o
   crash-done (outcome.Text text) read back =
-      ends-crash 0 0 (outcome.Text text) read back.crashed (unfailed-aside back.crashed, crash-text text read back) (λ can unfailed. tt)
+      ends-crash 0 0 (outcome.Text text) read back.since (unfailed-aside back.since, crash-text text read back) (λ can unfailed. tt)
   crash-done (outcome.Report text f) read back = absurd back
   crash-done (outcome.Fault fault.Memory) read back = ends-crash 0 0 (outcome.Fault fault.Memory) read back tt (λ can unfailed. tt)
   crash-done (outcome.Fault fault.LogDevice) read back =

@@ -17,7 +17,8 @@ use Rattle.redo_lab.proofs.Told.{OneAnswer}
 use Rattle.redo_lab.specs.Answer.{IsCrashCall}
 use Rattle.redo_drive.specs.declared.drive.RunEnd.TheVariants.{Done}
 use Rattle.redo_lab.specs.Call.{Call}
-use Rattle.redo_lab.specs.Crashed.{AreReadBack}
+use Rattle.redo_lab.specs.Reported.{IsReportOf}
+use Rattle.redo_lab.specs.Reread.{AreBoth, AreRead, IsCrashedSince}
 use Rattle.redo_lab.specs.Script.{IsScriptRead}
 use Rattle.redo_lab.specs.Stages.{IsCrashedWith, Shown, now_of}
 use Rattle.redo_lab.specs.Told.{IsRunOf}
@@ -33,7 +34,8 @@ pub record CrashLaws : Type 0 where
 pub record IsCrashDone (call : Call) (command : Command) (drive : Drive) (stops : Stops) (pick : ℕ) (script : List ScriptLine) (run : Option Ran) (text : List ℕ) (log_failed data_failed : ℕ) (log_old data_old : Shown) : Type 0 where
   pub read : IsScriptRead call.source call.source_now script
   pub before : IsBeforeCrash call command drive stops script run log_failed data_failed log_old data_old
-  pub back : AreReadBack pick script run text log_old data_old (now_of call.log) (now_of call.store)
+  pub back : AreRead (AreBoth (IsCrashedSince pick) 0 0 log_old data_old (now_of call.log) (now_of call.store))
+      (λ reading. IsReportOf script run (Some (reading.end, reading.pages))) text (now_of call.log) (now_of call.store)
 
 -- both devices told, and their fuses are crashed
 pub record IsCrashTold (call : Call) (stops : Stops) (pick log_failed data_failed : ℕ) (log_found data_found log_old data_old : Shown) : Type 0 where
@@ -47,8 +49,8 @@ crash-told : (call : Call) (command : Command) (drive : Drive) (stops : Stops) (
     → IsCrashTold call stops pick log_failed data_failed done.before.way.log_found done.before.way.data_found log_old data_old
 crash-told call command drive stops pick script run text log_failed data_failed log_old data_old done log_tells data_tells =
     let way = done.before.way in
-    let log_crashed = done.back.crashed.log_device.stage stops.log call.log.entry way.log_found log_failed way.log_device in
-    let data_crashed = done.back.crashed.data_device.stage stops.store call.store.entry way.data_found data_failed way.data_device in
+    let log_crashed = done.back.since.log_device.stage stops.log call.log.entry way.log_found log_failed way.log_device in
+    let data_crashed = done.back.since.data_device.stage stops.store call.store.entry way.data_found data_failed way.data_device in
     record {
       log_told = has-told call.log.entry way.log_found log_old (now_of call.log) log_tells way.prepared.log_device.same.tells way.log_device.same.tells log_crashed.same.tells;
       data_told = has-told call.store.entry way.data_found data_old (now_of call.store) data_tells way.prepared.data_device.same.tells way.data_device.same.tells data_crashed.same.tells;
@@ -90,10 +92,10 @@ as-asked call command drive stops pick script run text log_failed data_failed lo
     log_device = stopped-as stops.log pick _ _ _ _ log_failed told.log_told told.log_crashed;
     data_device = stopped-as stops.store pick _ _ _ _ data_failed told.data_told told.data_crashed;
     armed_first = armed-first call stops pick log_failed data_failed log_old data_old law done.before.way told.log_told told.data_told told.log_crashed told.data_crashed
-        done.back.crashed.log_device.passed;
+        done.back.since.log_device.passed;
   };
-  log_crashed = is-crashed stops.log pick _ _ _ _ log_failed told.log_told told.log_crashed done.back.crashed.log_device.left;
-  data_crashed = is-crashed stops.store pick _ _ _ _ data_failed told.data_told told.data_crashed done.back.crashed.data_device.left;
+  log_crashed = is-crashed stops.log pick _ _ _ _ log_failed told.log_told told.log_crashed done.back.since.log_device.left;
+  data_crashed = is-crashed stops.store pick _ _ _ _ data_failed told.data_told told.data_crashed done.back.since.data_device.left;
 }
 
 -- THE ACCOUNT.
@@ -103,7 +105,7 @@ account_of call command drive stops pick script run text log_failed data_failed 
   text = done.read.text;
   script = script;
   run = run;
-  left = done.back.report.left;
+  left = done.back.text_is.left;
   reading = done.back.reading;
   printed = text;
 }
@@ -113,16 +115,16 @@ safe-on : (call : Call) (command : Command) (drive : Drive) (stops : Stops) (pic
     → (laws : CrashLaws) (done : IsCrashDone call command drive stops pick script run text log_failed data_failed log_old data_old)
     → (told : IsCrashTold call stops pick log_failed data_failed done.before.way.log_found done.before.way.data_found log_old data_old)
     → (opened : Opened) → Premises (crash_at call command drive stops pick script run text log_failed data_failed log_old data_old done told) opened
-    → IsSafeOn script done.before.opened opened run (log_failed + data_failed) done.back.report.left told.log_told.armed_from told.log_told.crashed_from told.data_told.crashed_from
+    → IsSafeOn script done.before.opened opened run (log_failed + data_failed) done.back.text_is.left told.log_told.armed_from told.log_told.crashed_from told.data_told.crashed_from
 safe-on call command drive stops pick script run text log_failed data_failed log_old data_old laws done told opened premises =
     let way = done.before.way in
     let found = was-found call.log.entry call.store.entry way.log_found way.data_found told.log_told.at_entry told.data_told.at_entry
     call.log.entry.faults call.store.entry.faults opened laws.one_answer laws.formatted way.prepared told.log_told.entry_is told.data_told.entry_is
     premises.log_fresh premises.data_fresh premises.opens in
     subst (λ (log_found : Disk).
-    IsSafeOn script done.before.opened opened run (log_failed + data_failed) done.back.report.left log_found told.log_told.crashed_from told.data_told.crashed_from)
+    IsSafeOn script done.before.opened opened run (log_failed + data_failed) done.back.text_is.left log_found told.log_told.crashed_from told.data_told.crashed_from)
     (armed-same _ _ found.log told.log_told.armed_from refl found.log_is told.log_told.armed_is)
-    (done.before.safe opened found done.back.report.left done.back.report.left_is told.log_told.crashed_from told.data_told.crashed_from
+    (done.before.safe opened found done.back.text_is.left done.back.text_is.left_is told.log_told.crashed_from told.data_told.crashed_from
     told.log_told.crashed_is told.data_told.crashed_is)
 
 -- what fits the store that was opened
@@ -155,7 +157,7 @@ theorem-on call command drive stops pick script run text log_failed data_failed 
             (run-fits call command drive done.before.opened script run log_old.seen.tells data_old.seen.tells done.before.took_place) on.same;
       };
       any_stops = asked_for.any_stops;
-      prints = record { taken = tt; report = done.back.report.text_is; left_is = done.back.report.left_is };
+      prints = record { taken = tt; report = done.back.text_is.text_is; left_is = done.back.text_is.left_is };
       read_from_devices = record {
         log_device = asked_for.log_crashed;
         data_device = asked_for.data_crashed;
@@ -165,7 +167,7 @@ theorem-on call command drive stops pick script run text log_failed data_failed 
       fair = premises.fair;
     })
     on.opened_first
-    (subst (λ (n : ℕ). RunSafe n (result_on script opened run done.back.report.left told.log_told.crashed_from told.data_told.crashed_from)) counted on.safe)
+    (subst (λ (n : ℕ). RunSafe n (result_on script opened run done.back.text_is.left told.log_told.crashed_from told.data_told.crashed_from)) counted on.safe)
 
 -- THE CRASH THEOREM.
 pub crash-theorem : (call : Call) (command : Command) (drive : Drive) (stops : Stops) (pick : ℕ) (script : List ScriptLine) (run : Option Ran) (text : List ℕ) (log_failed data_failed : ℕ) (log_old data_old : Shown)
@@ -179,8 +181,8 @@ crash-theorem call command drive stops pick script run text log_failed data_fail
         options_are = refl;
         source = refl;
         source_left = refl;
-        log_device = is-device stops.log pick call.log _ _ log_failed told.log_told told.log_crashed done.back.crashed.log_device.from;
-        data_device = is-device stops.store pick call.store _ _ data_failed told.data_told told.data_crashed done.back.crashed.data_device.from;
+        log_device = is-device stops.log pick call.log _ _ log_failed told.log_told told.log_crashed done.back.since.log_device.from;
+        data_device = is-device stops.store pick call.store _ _ data_failed told.data_told told.data_crashed done.back.since.data_device.from;
         untold = refl;
       },
       λ opened premises. theorem-on call command drive stops pick script run text log_failed data_failed log_old data_old laws done told opened premises,

@@ -24,12 +24,11 @@ use Rattle.redo_lab.specs.declared.outcome.Outcome.TheVariants as outcome
 use Rattle.redo_lab.proofs.Stages.{after-crashed, crashed-now, crashed-reads}
 use Rattle.redo_lab.proofs.Telling.{reads-keep}
 use Rattle.redo_lab.proofs.Told.{on-contents}
-use Rattle.redo_lab.specs.Crashed.{AreCrashedSince, IsCrashedSince, ReadsBack}
 use Rattle.redo_lab.specs.Faults.{fault_of}
 use Rattle.redo_lab.specs.Outcome.{outcome_of}
 use Rattle.redo_lab.specs.Prepared.{WhereTold}
 use Rattle.redo_lab.specs.Reported.{IsReportOf}
-use Rattle.redo_lab.specs.Reread.{AreRefusedSince, FailsReading}
+use Rattle.redo_lab.specs.Reread.{AreBoth, AreRefusedSince, IsCrashedSince, ReadsBack, Rereads}
 use Rattle.redo_lab.specs.Stages.{Shown, shown}
 
 -- a crash counts no call as passed
@@ -71,18 +70,17 @@ told-now log_met data_met log_now data_now P log_same data_same holds log data_d
     on-contents log_met.tells data_met.tells P holds log data_disk (sym log_same ∙ log_is) (sym data_same ∙ data_is)
 
 -- THE STORE WAS READ.
-pub back-read : {E : Type 0} (pick : ℕ) (script : List ScriptLine) (run : Option Ran) (reading : Reading) (log_old data_old log_now data_now : Shown)
-    (log_met data_met : Seen) (r : Result (List ℕ) E) → AreCrashedSince pick 0 0 log_old data_old log_now data_now
-    → IsAsMet log_met log_now.seen → IsAsMet data_met data_now.seen
+pub store-read : {E : Type 0} (Since : ℕ → ℕ → Type 0) (IsTextOf : Reading → List ℕ → Type 0) (reading : Reading) (log_now data_now : Shown)
+    (log_met data_met : Seen) (r : Result (List ℕ) E) → Since 0 0 → IsAsMet log_met log_now.seen → IsAsMet data_met data_now.seen
     → OnContents log_met.tells data_met.tells (λ log_bytes data_bytes. IsReading log_bytes data_bytes reading)
-    → IfOk r (λ text. IsReportOf script run (Some (reading.end, reading.pages)) text) → ReadsBack pick script run (outcome_of r) log_old data_old log_now data_now
-back-read pick script run reading log_old data_old log_now data_now log_met data_met (Ok text) crashed log_same data_same read report = record {
-  crashed = crashed;
+    → IfOk r (λ text. IsTextOf reading text) → Rereads Since IsTextOf (outcome_of r) log_now data_now
+store-read Since IsTextOf reading log_now data_now log_met data_met (Ok text) since log_same data_same read is = record {
+  since = since;
   reading = reading;
   is_read = told-now log_met data_met log_now.seen data_now.seen (λ log_bytes data_bytes. IsReading log_bytes data_bytes reading) log_same data_same read;
-  report = report;
+  text_is = is;
 }
-back-read pick script run reading log_old data_old log_now data_now log_met data_met (Err error) crashed log_same data_same read report = crashed
+store-read Since IsTextOf reading log_now data_now log_met data_met (Err error) since log_same data_same read is = since
 
 -- THE STORE WASN'T READ.
 refused-since : (Since : Type 0) (cause : Refusal) (log_now data_now : Shown) (log_met data_met : Seen) → Since → IsAsMet log_met log_now.seen → IsAsMet data_met data_now.seen
@@ -93,34 +91,44 @@ refused-since Since cause log_now data_now log_met data_met since log_same data_
   refused = told-now log_met data_met log_now.seen data_now.seen (λ log_bytes data_bytes. Refuses log_bytes data_bytes cause) log_same data_same refused;
 }
 
-pub reading-fails : (Since : ℕ → ℕ → Type 0) (log_now data_now : Shown) (log_met data_met : Seen) (f : RecFault)
+pub reading-fails : (Since : ℕ → ℕ → Type 0) (IsTextOf : Reading → List ℕ → Type 0) (log_now data_now : Shown) (log_met data_met : Seen) (f : RecFault)
     → Since (failures (log_error f)) (failures (data_error f))
     → IsAsMet log_met log_now.seen → IsAsMet data_met data_now.seen → HasCauseIn log_met.tells data_met.tells f
-    → FailsReading Since (fault_of f) log_now data_now
-reading-fails Since log_now data_now log_met data_met (SmallLog n) since log_same data_same cause =
+    → Rereads Since IsTextOf (outcome.Fault (fault_of f)) log_now data_now
+reading-fails Since IsTextOf log_now data_now log_met data_met (SmallLog n) since log_same data_same cause =
     refused-since _ (refusal.SmallLog n) log_now data_now log_met data_met since log_same data_same cause
-reading-fails Since log_now data_now log_met data_met (SmallData n) since log_same data_same cause =
+reading-fails Since IsTextOf log_now data_now log_met data_met (SmallData n) since log_same data_same cause =
     refused-since _ (refusal.SmallData n) log_now data_now log_met data_met since log_same data_same cause
-reading-fails Since log_now data_now log_met data_met NotFormatted since log_same data_same cause =
+reading-fails Since IsTextOf log_now data_now log_met data_met NotFormatted since log_same data_same cause =
     refused-since _ refusal.NotFormatted log_now data_now log_met data_met since log_same data_same cause
-reading-fails Since log_now data_now log_met data_met (BadFormat n) since log_same data_same cause =
+reading-fails Since IsTextOf log_now data_now log_met data_met (BadFormat n) since log_same data_same cause =
     refused-since _ (refusal.BadFormat n) log_now data_now log_met data_met since log_same data_same cause
-reading-fails Since log_now data_now log_met data_met NoCheckpoint since log_same data_same cause =
+reading-fails Since IsTextOf log_now data_now log_met data_met NoCheckpoint since log_same data_same cause =
     refused-since _ refusal.NoCheckpoint log_now data_now log_met data_met since log_same data_same cause
-reading-fails Since log_now data_now log_met data_met (BadRecord lsn) since log_same data_same cause =
+reading-fails Since IsTextOf log_now data_now log_met data_met (BadRecord lsn) since log_same data_same cause =
     refused-since _ (refusal.BadRecord lsn) log_now data_now log_met data_met since log_same data_same cause
-reading-fails Since log_now data_now log_met data_met (PageLost p) since log_same data_same cause =
+reading-fails Since IsTextOf log_now data_now log_met data_met (PageLost p) since log_same data_same cause =
     refused-since _ (refusal.PageLost p) log_now data_now log_met data_met since log_same data_same cause
-reading-fails Since log_now data_now log_met data_met (PageAhead p lsn) since log_same data_same cause =
+reading-fails Since IsTextOf log_now data_now log_met data_met (PageAhead p lsn) since log_same data_same cause =
     refused-since _ (refusal.PageAhead p lsn) log_now data_now log_met data_met since log_same data_same cause
-reading-fails Since log_now data_now log_met data_met LogDev since log_same data_same cause = since
-reading-fails Since log_now data_now log_met data_met DataDev since log_same data_same cause = since
-reading-fails Since log_now data_now log_met data_met NoMemory since log_same data_same cause = since
+reading-fails Since IsTextOf log_now data_now log_met data_met LogDev since log_same data_same cause = since
+reading-fails Since IsTextOf log_now data_now log_met data_met DataDev since log_same data_same cause = since
+reading-fails Since IsTextOf log_now data_now log_met data_met NoMemory since log_same data_same cause = since
+
+-- the same after a crash
+pub back-read : {E : Type 0} (pick : ℕ) (script : List ScriptLine) (run : Option Ran) (reading : Reading) (log_old data_old log_now data_now : Shown)
+    (log_met data_met : Seen) (r : Result (List ℕ) E) → AreBoth (IsCrashedSince pick) 0 0 log_old data_old log_now data_now
+    → IsAsMet log_met log_now.seen → IsAsMet data_met data_now.seen
+    → OnContents log_met.tells data_met.tells (λ log_bytes data_bytes. IsReading log_bytes data_bytes reading)
+    → IfOk r (λ text. IsReportOf script run (Some (reading.end, reading.pages)) text) → ReadsBack pick script run (outcome_of r) log_old data_old log_now data_now
+back-read pick script run reading log_old data_old log_now data_now =
+    store-read (λ log_failed data_failed. AreBoth (IsCrashedSince pick) log_failed data_failed log_old data_old log_now data_now)
+    (λ reading. IsReportOf script run (Some (reading.end, reading.pages))) reading log_now data_now
 
 pub back-fails : (pick : ℕ) (script : List ScriptLine) (run : Option Ran) (log_old data_old log_now data_now : Shown) (log_met data_met : Seen) (f : RecFault)
-    → AreCrashedSince pick (failures (log_error f)) (failures (data_error f)) log_old data_old log_now data_now
+    → AreBoth (IsCrashedSince pick) (failures (log_error f)) (failures (data_error f)) log_old data_old log_now data_now
     → IsAsMet log_met log_now.seen → IsAsMet data_met data_now.seen → HasCauseIn log_met.tells data_met.tells f
     → ReadsBack pick script run (outcome.Fault (fault_of f)) log_old data_old log_now data_now
-back-fails pick script run log_old data_old log_now data_now log_met data_met f crashed log_same data_same cause =
-    reading-fails (λ log_failed data_failed. AreCrashedSince pick log_failed data_failed log_old data_old log_now data_now) log_now data_now log_met data_met f
-    crashed log_same data_same cause
+back-fails pick script run log_old data_old log_now data_now =
+    reading-fails (λ log_failed data_failed. AreBoth (IsCrashedSince pick) log_failed data_failed log_old data_old log_now data_now)
+    (λ reading. IsReportOf script run (Some (reading.end, reading.pages))) log_now data_now

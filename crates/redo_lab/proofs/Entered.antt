@@ -1,9 +1,8 @@
 -- The devices behind the fuses are those that were handed in.
-use Rattle.std.proofs.Common.{◌≡◌, List, Result, Ok, Err, refl, ap, ◌∙◌, ⊎_elim}
+use Rattle.std.proofs.Common.{◌≡◌, Bool, List, Result, Ok, Err, refl, ap, ◌∙◌, ⊎_elim}
 use Rattle.model_script.specs.declared.script.ScriptLine.{ScriptLine}
 use Rattle.redo_disk.specs.{Call, MakesCalls}
 use Rattle.redo_disk.specs.Seen.{Seen}
-use Rattle.redo_machine.specs.declared.drive.Turns.{Turns}
 use Rattle.redo_memdisk.specs.{CallsThrough, entry_of}
 use Rattle.redo_memdisk.specs.declared.fused.Fused.{Fused}
 use Rattle.redo_memdisk.proofs.Behind.{keeps-behind}
@@ -13,7 +12,7 @@ use Rattle.redo_recover.specs.declared.fault.RecFault.{RecFault}
 use Rattle.redo_recover.specs.declared.fault.RecFault.TheVariants.{LogDev, DataDev, NoMemory}
 use Rattle.redo_lab.specs.declared.playing.Course.{Course}
 use Rattle.redo_lab.specs.Handed.{AreOf}
-use Rattle.redo_lab.specs.Playing.{AreDriven, AreLeftOpened}
+use Rattle.redo_lab.specs.Playing.{AreDriven, AreLeftOpened, Says}
 
 pub calls-entry : {D : Type 0} {seen : D → Seen} {gives : D → Call → D → Type 0} {old new : Fused D} {Are : List Call → Type 0}
     → MakesCalls (CallsThrough seen gives) old new Are → entry_of new ≡ entry_of old
@@ -49,16 +48,17 @@ format-entries log_seen log_gives data_seen data_gives log_old log_new data_old 
 format-entries log_seen log_gives data_seen data_gives log_old log_new data_old data_new (Err f) same = both-same same.0 same.1
 
 -- the lines of a script
-pub unplayed-entries : {L D : Type 0} {opened : Opened (Fused L) (Fused D)} {turns : Turns} {script : List ScriptLine} {c : Course} {log_now : Fused L} {data_now : Fused D}
-    → AreLeftOpened opened turns script c log_now data_now → AreOf (entry_of opened.log.dev) (entry_of opened.store.dev) log_now data_now
+pub unplayed-entries : {L D : Type 0} {opened : Opened (Fused L) (Fused D)} {log_only : Bool} {script : List ScriptLine} {c : Course} {log_now : Fused L} {data_now : Fused D}
+    → AreLeftOpened opened log_only script c log_now data_now → AreOf (entry_of opened.log.dev) (entry_of opened.store.dev) log_now data_now
 unplayed-entries left = both-same left.log_same left.data_same
 
 pub driven-entries : {L D : Type 0} {see_log : Fused L → Seen} {see_data : Fused D → Seen} {log_seen : L → Seen} {log_gives : L → Call → L → Type 0}
     {data_seen : D → Seen} {data_gives : D → Call → D → Type 0}
-    {opened : Opened (Fused L) (Fused D)} {turns : Turns} {script : List ScriptLine} {c : Course} {log_now : Fused L} {data_now : Fused D}
-    → AreDriven see_log (CallsThrough log_seen log_gives) see_data (CallsThrough data_seen data_gives) opened turns script c log_now data_now
+    {S : Type 0} (says : Says (Fused L) (Fused D) S) (drive : S)
+    {opened : Opened (Fused L) (Fused D)} {log_only : Bool} {script : List ScriptLine} {c : Course} {log_now : Fused L} {data_now : Fused D}
+    → AreDriven see_log (CallsThrough log_seen log_gives) see_data (CallsThrough data_seen data_gives) says drive opened log_only script c log_now data_now
     → AreOf (entry_of opened.log.dev) (entry_of opened.store.dev) log_now data_now
-driven-entries are = record {
-  log_device = same-entry are.log_is ∙ calls-entry (are.comes_to.log_calls.live refl);
-  data_device = same-entry are.data_is ∙ calls-entry (are.comes_to.data_calls.live refl);
+driven-entries says drive are = record {
+  log_device = same-entry are.log_is ∙ calls-entry (are.owed.comes_to.log_calls.live refl);
+  data_device = same-entry are.data_is ∙ calls-entry (are.owed.comes_to.data_calls.live refl);
 }

@@ -13,12 +13,13 @@ use Rattle.redo_lab.proofs.Running.{IsRunning, RunLaws, driving, ends-with, fail
 use Rattle.redo_lab.proofs.SomeLeft.{some-left}
 use Rattle.redo_lab.proofs.Summed.{FairLaw, holds-read, possible-read-behind, read-played, read-run}
 use Rattle.redo_lab.specs.Asked.{drive_of_seed}
-use Rattle.redo_lab.specs.Behind.{AreReadBehind, AreReadSince, ReadsBehind}
 use Rattle.redo_lab.specs.Call.{Call, Each, IsUnfailed}
 use Rattle.redo_lab.specs.Cause.{IsCauseOf, IsPastSource}
 use Rattle.redo_lab.specs.Complete.{CanPlay}
 use Rattle.redo_lab.specs.Course.{ArePlayedThrough, CameSoFar, Driving, HoldsRun, IsPlayedBy, ran_of}
 use Rattle.redo_lab.specs.Outcome.{EndsWith, IsDoneOrKeptFrom, IsOutcome}
+use Rattle.redo_lab.specs.Reported.{summary_of}
+use Rattle.redo_lab.specs.Reread.{AreBoth, AreRead, IsReadSince, ReadsAfter}
 use Rattle.redo_lab.specs.Stages.{IsArmed, Shown, now_of}
 use Rattle.redo_lab.specs.Told.{IsRunText, IsSummaryText}
 
@@ -66,7 +67,7 @@ module _ (call : Call) (seed users groups max : ℕ) (script : List ScriptLine) 
   module _ (played : Played) (log_old data_old : Shown)
       (was : ArePlayedThrough (driving call (drive_of_seed seed max) script) call.log.entry call.store.entry no_stops false script played log_old data_old) where
     abbrev Since : ℕ → ℕ → Type 0
-    Since log_failed data_failed = AreReadSince log_failed data_failed log_old data_old (now_of call.log) (now_of call.store)
+    Since log_failed data_failed = AreBoth IsReadSince log_failed data_failed log_old data_old (now_of call.log) (now_of call.store)
 
     -- both devices were read behind it
     since-played : Since 0 0 → ArePlayedThrough (driving call (drive_of_seed seed max) script) call.log.entry call.store.entry no_stops false script played (now_of call.log) (now_of call.store)
@@ -88,19 +89,19 @@ module _ (call : Call) (seed users groups max : ℕ) (script : List ScriptLine) 
         (still-holds log_failed data_failed since))
         means (λ can unfailed. complete can)
 
-    summed-up : (text : List ℕ) → AreReadBehind (ran_of played) text log_old data_old (now_of call.log) (now_of call.store)
+    summed-up : (text : List ℕ) → AreRead (Since 0 0) (λ reading text. text ≡ summary_of (ran_of played) reading) text (now_of call.log) (now_of call.store)
         → IsRunText call (Gen seed users groups true max) (drive_of_seed seed max) (IsSummaryText call) text
     summed-up text behind =
-        let now = since-played behind.read_since in
+        let now = since-played behind.since in
         let left = some-left script played.history in
         played-text call (Gen seed users groups true max) (drive_of_seed seed max) no_stops script played 0 0 left.0 (IsSummaryText call) text
         laws.one laws.formatted laws.closed is now.are left.1 (behind.reading, behind.is_read, behind.text_is)
 
     -- THE LINES WERE RUN, and the store was read behind them, or wasn't.
-    pub seed-played : (o : Outcome) → ReadsBehind (ran_of played) o log_old data_old (now_of call.log) (now_of call.store)
+    pub seed-played : (o : Outcome) → ReadsAfter (ran_of played) o log_old data_old (now_of call.log) (now_of call.store)
         → EndsWith call (Gen seed users groups true max) o
-    seed-played (outcome.Text text) behind = ends-read (outcome.Text text) 0 0 behind.read_since
-        (unfailed-way call no_stops (since-played behind.read_since).are.way, summed-up text behind) (λ can. tt)
+    seed-played (outcome.Text text) behind = ends-read (outcome.Text text) 0 0 behind.since
+        (unfailed-way call no_stops (since-played behind.since).are.way, summed-up text behind) (λ can. tt)
     seed-played (outcome.Report text f) behind = absurd behind
     seed-played (outcome.Fault fault.Memory) behind = ends-read (outcome.Fault fault.Memory) 0 0 behind tt (λ can. tt)
     seed-played (outcome.Fault fault.LogDevice) behind =

@@ -1,10 +1,11 @@
 -- A store that was opened on two devices whose fuses are armed, and the run of a script on it.
-use Rattle.std.proofs.Common.{ℕ, ◌≡◌, ◌≤◌, ◌<◌, ◌+◌, cond, List, Option, Some, None, IfSome, refl, sym, ap, subst, ◌∙◌, inl, inr, ⊎_elim, arith}
+use Rattle.std.proofs.Common.{ℕ, ◌≡◌, ◌≤◌, ◌<◌, ◌+◌, cond, Bool, List, Option, Some, None, IfSome, refl, sym, ap, subst, ◌∙◌, inl, inr, ⊎_elim, arith}
 use Rattle.std.specs.List.{AllByRecursion}
 use Rattle.std.proofs.lemmas.Bool.{eq-eqb}
 use Rattle.model_base.specs.{default_shape}
 use Rattle.model_base.specs.declared.limits.TheConstants.{BLOCK_SIZE}
 use Rattle.model_base.specs.declared.shape.Shape.{Shape}
+use Rattle.model_command.specs.declared.asked.Drive.{Drive}
 use Rattle.model_device.specs.{synced}
 use Rattle.model_device.specs.Disk.{Disk}
 use Rattle.model_log.specs.{block_of, IsAtDataStart, start_after}
@@ -28,24 +29,22 @@ use Rattle.redo_pageactors.specs.{IsRunnable}
 use Rattle.redo_pageactors.specs.declared.opened.Opened.{Opened}
 use Rattle.redo_recover.specs.{OnContents}
 use Rattle.redo_disk.proofs.Made.{may_end}
-use Rattle.redo_drive.specs.{ComesToRun, HasMemory, IsOwed, IsOwedSynced, IsOwedWith, room_from}
-use Rattle.redo_machine.specs.{RunsByTurns}
-use Rattle.redo_machine.specs.Turns.{EndsAs}
+use Rattle.redo_drive.specs.{HasMemory, IsOwedWith, Owes, room_from}
 use Rattle.redo_drive.specs.Drive.{failed_in, HoldsRun as IsRunHeld}
 use Rattle.redo_drive.specs.declared.drive.Driven.{Driven}
 use Rattle.redo_drive.specs.declared.drive.RunEnd.{RunEnd}
-use Rattle.redo_drive.specs.declared.drive.RunEnd.TheVariants as ended
+use Rattle.redo_drive.specs.declared.drive.RunEnd.TheVariants.{Done, Spent}
 use Rattle.model_theorem.specs.{LosesOnlyByFailure}
 use Rattle.redo_drive.specs.Beginning.{IsOpenedAs as IsStartedAs}
-use Rattle.redo_machine.specs.declared.drive.Turns.{Turns}
 use Rattle.redo_lab.specs.declared.playing.Course.{Course}
 use Rattle.redo_lab.specs.declared.playing.Played.{Played}
 use Rattle.redo_lab.specs.declared.playing.Stops.{Stops}
 use Rattle.redo_lab.proofs.Telling.{calls-go_on}
 use Rattle.redo_lab.proofs.Told.{both-told, on-contents}
 use Rattle.redo_lab.proofs.UnderWay.{AreCounted, ReadingLaws, counted-more, counted-opening, formatted-read, goes-on, keeps-found, same-both, told-some, way-of}
-use Rattle.redo_lab.specs.Course.{AreMisfitted, ArePlayed, AreUnstarted, ByTurns, CameSoFar, ClosesRun, ComesTo, Driving, HoldsRun, ran_of}
-use Rattle.redo_lab.specs.Playing.{AreArmed, AreDriven, AreLeftOpened, course_done, course_of, ended_by, played_of}
+use Rattle.redo_lab.specs.Course.{AreMisfitted, ArePlayed, AreUnstarted, ByDrive, CameSoFar, ClosesRun, ComesTo, Driving, HoldsRun, ran_of}
+use Rattle.redo_lab.specs.Drives.{TellsBehind}
+use Rattle.redo_lab.specs.Playing.{AreArmed, AreDriven, AreLeftOpened, Says, course_done, course_of, ended_by, played_of}
 use Rattle.redo_lab.specs.Prepared.{ArePrepared, WhereTold}
 use Rattle.redo_lab.specs.Stages.{Shown, shown}
 use Rattle.redo_lab.specs.Store.{IsOpenedAs}
@@ -255,11 +254,11 @@ unstarted {log_seen = log_seen} {data_seen = data_seen} {log_entry = log_entry} 
 -- a script that doesn't fit
 misfitted : {L D : Type 0} {log_seen : L → Seen} {log_gives : L → Call → L → Type 0} {data_seen : D → Seen} {data_gives : D → Call → D → Type 0}
     {log_entry data_entry : Seen} {stops : Stops} {log_found data_found : Shown} {log : Fused L} {data_device : Fused D} {store : Opened (Fused L) (Fused D)}
-    {script : List ScriptLine} {misfit : Misfit} (turns : Turns)
+    {script : List ScriptLine} {misfit : Misfit} (log_only : Bool)
     → IsOpenedUnderWay log_seen log_gives data_seen data_gives log_entry data_entry stops log_found data_found log data_device store
-    → first_misfit store.shape store.start (room_from turns.log_only store.shape store.start) script ≡ Some misfit
-    → AreMisfitted log_entry data_entry stops turns.log_only script misfit (shown log_seen store.log.dev) (shown data_seen store.store.dev)
-misfitted {log_found = log_found} {data_found = data_found} {store = store} {script = script} {misfit = misfit} turns is first =
+    → first_misfit store.shape store.start (room_from log_only store.shape store.start) script ≡ Some misfit
+    → AreMisfitted log_entry data_entry stops log_only script misfit (shown log_seen store.log.dev) (shown data_seen store.store.dev)
+misfitted {log_found = log_found} {data_found = data_found} {store = store} {script = script} {misfit = misfit} log_only is first =
     let ends : HasEnd log_found.seen.tells data_found.seen.tells store = end-found is in
     let before = unstarted is in
     record {
@@ -267,17 +266,17 @@ misfitted {log_found = log_found} {data_found = data_found} {store = store} {scr
       keeps = before.keeps;
       opened = opened_at store ends.end;
       opens = opens-found is;
-      first = subst (λ start. first_misfit store.shape start (room_from turns.log_only store.shape start) script ≡ Some misfit) ends.start first;
+      first = subst (λ start. first_misfit store.shape start (room_from log_only store.shape start) script ≡ Some misfit) ends.start first;
     }
 
 -- THE LINES WERE RUN ON IT
 module _ {L D : Type 0} {log_seen : L → Seen} {log_gives : L → Call → L → Type 0} {data_seen : D → Seen} {data_gives : D → Call → D → Type 0}
     {log_entry data_entry : Seen} {stops : Stops} {log_found data_found : Shown} {log : Fused L} {data_device : Fused D} {store : Opened (Fused L) (Fused D)}
-    (turns : Turns) (script : List ScriptLine) (driven : Driven (Fused L) (Fused D))
+    (asked : Drive) (script : List ScriptLine) (driven : Driven (Fused L) (Fused D))
     (is : IsOpenedUnderWay log_seen log_gives data_seen data_gives log_entry data_entry stops log_found data_found log data_device store)
-    (fits : ScriptFits store.shape store.start (room_from turns.log_only store.shape store.start) script)
-    (by_turns : RunsByTurns (seen_through log_seen) (CallsThrough log_seen log_gives) (seen_through data_seen) (CallsThrough data_seen data_gives) store script turns driven)
-    (comes_to : ComesToRun (CallsThrough log_seen log_gives) (CallsThrough data_seen data_gives) store script driven) where
+    (fits : ScriptFits store.shape store.start (room_from asked.log_only store.shape store.start) script)
+    (told : TellsBehind log_seen log_gives data_seen data_gives asked store script driven)
+    (owes : Owes (seen_through log_seen) (CallsThrough log_seen log_gives) (seen_through data_seen) (CallsThrough data_seen data_gives) store script driven) where
   abbrev log_now : Shown
   log_now = shown log_seen driven.closed.log.dev
 
@@ -285,35 +284,35 @@ module _ {L D : Type 0} {log_seen : L → Seen} {log_gives : L → Call → L �
   data_now = shown data_seen driven.closed.store.dev
 
   abbrev by : Driving
-  by = ByTurns log_seen log_gives data_seen data_gives turns script
+  by = ByDrive log_seen log_gives data_seen data_gives asked script
 
   abbrev played : Played
   played = played_of store.start driven.closed
 
   -- a run came so far
   abbrev came-so-far : (log_error data_error : Option DevError) → driven.closed.log.failed ≡ log_error → driven.closed.store.failed ≡ data_error
-      → CameSoFar log_entry data_entry stops turns.log_only script (ran_of played) (failures log_error) (failures data_error) log_now data_now
+      → CameSoFar log_entry data_entry stops asked.log_only script (ran_of played) (failures log_error) (failures data_error) log_now data_now
   came-so-far log_error data_error log_is data_is =
       let log_made = subst (λ (e : Option DevError). MakesCalls (CallsThrough log_seen log_gives) store.log.dev driven.closed.log.dev (MayEndWith e)) log_is
-      (may_end (comes_to.log_calls.live refl)) in
+      (may_end (owes.comes_to.log_calls.live refl)) in
       let data_made = subst (λ (e : Option DevError). MakesCalls (CallsThrough data_seen data_gives) store.store.dev driven.closed.store.dev (MayEndWith e)) data_is
-      (may_end (comes_to.data_calls.live refl)) in
+      (may_end (owes.comes_to.data_calls.live refl)) in
       record {
         way = way-of log_found data_found is.armed.prepared (counted-more (counted-opened is) log_made data_made);
         opened = opened_at store (end-found is).end;
         opens = opens-found is;
-        fits = subst (λ start. ScriptFits store.shape start (room_from turns.log_only store.shape start) script) (end-found is).start fits;
-        is_run = comes_to.is_run (end-found is).end (end-found is).start;
+        fits = subst (λ start. ScriptFits store.shape start (room_from asked.log_only store.shape start) script) (end-found is).start fits;
+        is_run = owes.comes_to.is_run (end-found is).end (end-found is).start;
       }
 
-  -- the turns of the drive led to this end
+  -- the drive led to this end
   driven-so : (end : RunEnd) → driven.ended ≡ end
       → by (opened_at store (end-found is).end) (ran_of played) end (log_seen driven.closed.log.dev.inner).tells (data_seen driven.closed.store.dev.inner).tells
   driven-so end ends = record {
     store = store;
     is_opened = record { shape = refl; pages = refl; start = (end-found is).start; runnable = is.opened.runnable };
     driven = driven;
-    by_turns = by_turns;
+    told = told;
     ends = ends;
     run_is = refl;
     log_is = refl;
@@ -321,9 +320,8 @@ module _ {L D : Type 0} {log_seen : L → Seen} {log_gives : L → Call → L �
   }
 
   -- both devices hold it
-  holds-on : IsRunHeld (seen_through log_seen) (seen_through data_seen) store script driven
-      → HoldsRun log_found data_found script (opened_at store (end-found is).end) (ran_of played) log_now data_now
-  holds-on holds reading =
+  holds-on : HoldsRun log_found data_found script (opened_at store (end-found is).end) (ran_of played) log_now data_now
+  holds-on reading =
       run-on script log_now.seen.tells data_now.seen.tells (λ opened log_after data_after. IsHeld (record {
         script = script;
         opened = opened;
@@ -332,10 +330,10 @@ module _ {L D : Type 0} {log_seen : L → Seen} {log_gives : L → Call → L �
         log_disk = log_after;
         data_disk = data_after;
       }))
-      reading is fits.lines (holds reading)
+      reading is fits.lines (owes.holds reading)
 
   -- it is closed
-  closes-on : (becomes : Disk → Disk) (failed : ℕ) → failed_in driven.closed ≡ failed → driven.ended ≡ ended.Done → HasMemory driven.closed
+  closes-on : (becomes : Disk → Disk) (failed : ℕ) → failed_in driven.closed ≡ failed → driven.ended ≡ Done → HasMemory driven.closed
       → IsOwedWith becomes (seen_through log_seen) (seen_through data_seen) store script driven
       → ClosesRun becomes log_found data_found (opened_at store (end-found is).end) script played failed log_now data_now
   closes-on becomes failed counted done memory owes =
@@ -351,95 +349,94 @@ module _ {L D : Type 0} {log_seen : L → Seen} {log_gives : L → Call → L �
       }))
       reading is fits.lines (λ started. owes reading left done memory started left_is))
 
-  module _ (holds : IsRunHeld (seen_through log_seen) (seen_through data_seen) store script driven)
-      (owed : IsOwed (seen_through log_seen) (seen_through data_seen) store script driven)
-      (owed_synced : IsOwedSynced (seen_through log_seen) (seen_through data_seen) store script driven) where
-    -- all users ended, and no device was without memory, or one failed
-    played-on : (log_error data_error : Option DevError) → driven.closed.log.failed ≡ log_error → driven.closed.store.failed ≡ data_error
-        → driven.ended ≡ ended.Done → HasMemory driven.closed
-        → ArePlayed by log_entry data_entry stops turns.log_only script played (failures log_error) (failures data_error) log_now data_now
-    played-on log_error data_error log_is data_is done memory =
-        let counted : failed_in driven.closed ≡ failures log_error + failures data_error =
-        ap (λ (e : Option DevError). failures e + failures driven.closed.store.failed) log_is ∙ ap (λ (e : Option DevError). failures log_error + failures e) data_is in
-        record {
-          so_far = came-so-far log_error data_error log_is data_is;
-          driven = driven-so ended.Done done;
-          loses = λ left left_is. subst (λ (n : ℕ). LosesOnlyByFailure n (Some (ran_of played)) left) counted (comes_to.loses left done memory left_is);
-          closed = closes-on (λ disk. disk) (failures log_error + failures data_error) counted done memory owed;
-        }
+  -- all users ended, and no device was without memory, or one failed
+  played-on : (log_error data_error : Option DevError) → driven.closed.log.failed ≡ log_error → driven.closed.store.failed ≡ data_error
+      → driven.ended ≡ Done → HasMemory driven.closed
+      → ArePlayed by log_entry data_entry stops asked.log_only script played (failures log_error) (failures data_error) log_now data_now
+  played-on log_error data_error log_is data_is done memory =
+      let counted : failed_in driven.closed ≡ failures log_error + failures data_error =
+      ap (λ (e : Option DevError). failures e + failures driven.closed.store.failed) log_is ∙ ap (λ (e : Option DevError). failures log_error + failures e) data_is in
+      record {
+        so_far = came-so-far log_error data_error log_is data_is;
+        driven = driven-so Done done;
+        loses = λ left left_is. subst (λ (n : ℕ). LosesOnlyByFailure n (Some (ran_of played)) left) counted (owes.comes_to.loses left done memory left_is);
+        closed = closes-on (λ disk. disk) (failures log_error + failures data_error) counted done memory owes.owed;
+      }
 
-    some-failed : (log_error data_error : Option DevError) → driven.closed.log.failed ≡ log_error → driven.closed.store.failed ≡ data_error
-        → 0 < failures log_error + failures data_error → HasMemory driven.closed
-    some-failed log_error data_error log_is data_is some lacks =
-        let log_same = ap failures log_is in let data_same = ap failures data_is in omega arith
+  some-failed : (log_error data_error : Option DevError) → driven.closed.log.failed ≡ log_error → driven.closed.store.failed ≡ data_error
+      → 0 < failures log_error + failures data_error → HasMemory driven.closed
+  some-failed log_error data_error log_is data_is some lacks =
+      let log_same = ap failures log_is in let data_same = ap failures data_is in omega arith
 
-    none-lacks : driven.closed.log.failed ≡ None → driven.closed.store.failed ≡ None → HasMemory driven.closed
-    none-lacks log_is data_is lacks = ⊎_elim (λ log. let e = sym log_is ∙ log in absurd (cc)) (λ store. let e = sym data_is ∙ store in absurd (cc)) lacks
+  none-lacks : driven.closed.log.failed ≡ None → driven.closed.store.failed ≡ None → HasMemory driven.closed
+  none-lacks log_is data_is lacks = ⊎_elim (λ log. let e = sym log_is ∙ log in absurd (cc)) (λ store. let e = sym data_is ∙ store in absurd (cc)) lacks
 
-    -- ALL USERS ENDED, by what a call of each device answered that failed.
-    done-by : (log_error data_error : Option DevError) → driven.closed.log.failed ≡ log_error → driven.closed.store.failed ≡ data_error → driven.ended ≡ ended.Done
-        → ComesTo by log_entry data_entry stops turns script (course_done played (ended_by log_error data_error)) log_now data_now
-    unfolding played-on none-lacks
-    done-by None None log_is data_is done =
-        let memory = none-lacks log_is data_is in
-        let counted : failed_in driven.closed ≡ 0 = let log_same = ap failures log_is in let data_same = ap failures data_is in omega arith in
-        record {
-          are = played-on None None log_is data_is done memory;
-          if_synced = closes-on synced 0 counted done memory (owed_synced log_is data_is);
-        }
-    done-by (Some device.Failed) data_error log_is data_is done = record {
-      data_failed = failures data_error;
-      once = one-failure data_error;
-      are = played-on (Some device.Failed) data_error log_is data_is done (some-failed (Some device.Failed) data_error log_is data_is (omega arith));
-    }
-    done-by None (Some device.Failed) log_is data_is done =
-        played-on None (Some device.Failed) log_is data_is done (some-failed None (Some device.Failed) log_is data_is (omega arith))
-    done-by (Some device.NoMemory) (Some device.Failed) log_is data_is done =
-        played-on (Some device.NoMemory) (Some device.Failed) log_is data_is done (some-failed (Some device.NoMemory) (Some device.Failed) log_is data_is (omega arith))
-    done-by (Some device.NoMemory) None log_is data_is done = inr (inr (record { run = ran_of played; so_far = came-so-far (Some device.NoMemory) (None) log_is data_is; holds = holds-on holds }))
-    done-by (Some device.NoMemory) (Some device.NoMemory) log_is data_is done = inr (inr (record { run = ran_of played; so_far = came-so-far (Some device.NoMemory) (Some device.NoMemory) log_is data_is; holds = holds-on holds }))
-    done-by None (Some device.NoMemory) log_is data_is done = inr (inr (record { run = ran_of played; so_far = came-so-far (None) (Some device.NoMemory) log_is data_is; holds = holds-on holds }))
+  -- ALL USERS ENDED, by what a call of each device answered that failed.
+  done-by : (log_error data_error : Option DevError) → driven.closed.log.failed ≡ log_error → driven.closed.store.failed ≡ data_error → driven.ended ≡ Done
+      → ComesTo by log_entry data_entry stops asked.log_only script (course_done played (ended_by log_error data_error)) log_now data_now
+  unfolding played-on none-lacks
+  done-by None None log_is data_is done =
+      let memory = none-lacks log_is data_is in
+      let counted : failed_in driven.closed ≡ 0 = let log_same = ap failures log_is in let data_same = ap failures data_is in omega arith in
+      record {
+        are = played-on None None log_is data_is done memory;
+        if_synced = closes-on synced 0 counted done memory (owes.owed_synced log_is data_is);
+      }
+  done-by (Some device.Failed) data_error log_is data_is done = record {
+    data_failed = failures data_error;
+    once = one-failure data_error;
+    are = played-on (Some device.Failed) data_error log_is data_is done (some-failed (Some device.Failed) data_error log_is data_is (omega arith));
+  }
+  done-by None (Some device.Failed) log_is data_is done =
+      played-on None (Some device.Failed) log_is data_is done (some-failed None (Some device.Failed) log_is data_is (omega arith))
+  done-by (Some device.NoMemory) (Some device.Failed) log_is data_is done =
+      played-on (Some device.NoMemory) (Some device.Failed) log_is data_is done (some-failed (Some device.NoMemory) (Some device.Failed) log_is data_is (omega arith))
+  done-by (Some device.NoMemory) None log_is data_is done = inr (inr (record { run = ran_of played; so_far = came-so-far (Some device.NoMemory) (None) log_is data_is; holds = holds-on }))
+  done-by (Some device.NoMemory) (Some device.NoMemory) log_is data_is done = inr (inr (record { run = ran_of played; so_far = came-so-far (Some device.NoMemory) (Some device.NoMemory) log_is data_is; holds = holds-on }))
+  done-by None (Some device.NoMemory) log_is data_is done = inr (inr (record { run = ran_of played; so_far = came-so-far (None) (Some device.NoMemory) log_is data_is; holds = holds-on }))
 
-    ended-by : (how : RunEnd) → driven.ended ≡ how
-        → ComesTo by log_entry data_entry stops turns script
-        (course_of how played (ended_by driven.closed.log.failed driven.closed.store.failed)) log_now data_now
-    ended-by ended.Done how = done-by driven.closed.log.failed driven.closed.store.failed refl refl how
-    ended-by (ended.Spent count user) how = record {
-      count_is = (subst (λ (z : RunEnd). EndsAs (seen_through log_seen) (seen_through data_seen) by_turns.run turns.seed turns.max by_turns.first by_turns.starts z by_turns.last by_turns.actors) how by_turns.ends).0;
-      run = ran_of played;
-      log_failed = failures driven.closed.log.failed;
-      data_failed = failures driven.closed.store.failed;
-      so_far = came-so-far driven.closed.log.failed driven.closed.store.failed refl refl;
-      driven = driven-so (ended.Spent count user) how;
-      holds = holds-on holds;
-    }
+  ended-by : (how : RunEnd) → driven.ended ≡ how
+      → ComesTo by log_entry data_entry stops asked.log_only script
+      (course_of how played (ended_by driven.closed.log.failed driven.closed.store.failed)) log_now data_now
+  ended-by Done how = done-by driven.closed.log.failed driven.closed.store.failed refl refl how
+  ended-by (Spent turns user) how = record {
+    run = ran_of played;
+    log_failed = failures driven.closed.log.failed;
+    data_failed = failures driven.closed.store.failed;
+    so_far = came-so-far driven.closed.log.failed driven.closed.store.failed refl refl;
+    driven = driven-so (Spent turns user) how;
+    holds = holds-on;
+  }
 
 -- WHAT A RUN COMES TO whose store was opened: no line was run
 pub unplayed-comes : {L D : Type 0} {log_seen : L → Seen} {log_gives : L → Call → L → Type 0} {data_seen : D → Seen} {data_gives : D → Call → D → Type 0}
     {log_entry data_entry : Seen} {stops : Stops} {log_found data_found : Shown} {log : Fused L} {data_device : Fused D} {store : Opened (Fused L) (Fused D)}
-    (by : Driving) (turns : Turns) (script : List ScriptLine) (c : Course) (log_now : Fused L) (data_now : Fused D)
+    (by : Driving) (log_only : Bool) (script : List ScriptLine) (c : Course) (log_now : Fused L) (data_now : Fused D)
     → IsOpenedUnderWay log_seen log_gives data_seen data_gives log_entry data_entry stops log_found data_found log data_device store
-    → AreLeftOpened store turns script c log_now data_now
-    → ComesTo by log_entry data_entry stops turns script c (shown log_seen log_now) (shown data_seen data_now)
-unplayed-comes {L} {D} {log_seen = log_seen} {data_seen = data_seen} {log_entry = log_entry} {data_entry = data_entry} {stops = stops} {store = store} by turns script c _ data_now is left =
+    → AreLeftOpened store log_only script c log_now data_now
+    → ComesTo by log_entry data_entry stops log_only script c (shown log_seen log_now) (shown data_seen data_now)
+unplayed-comes {L} {D} {log_seen = log_seen} {data_seen = data_seen} {log_entry = log_entry} {data_entry = data_entry} {stops = stops} {store = store} by log_only script c _ data_now is left =
     let Comes : Course → Fused L → Fused D → Type 0 = λ c one other.
-    ComesTo by log_entry data_entry stops turns script c (shown log_seen one) (shown data_seen other) in
+    ComesTo by log_entry data_entry stops log_only script c (shown log_seen one) (shown data_seen other) in
     subst (λ (one : Fused L). Comes c one data_now) (sym left.log_same) (subst (λ (one : Fused D). Comes c store.log.dev one) (sym left.data_same)
     (⊎_elim
     (λ memory. subst (λ (c : Course). Comes c store.log.dev store.store.dev) (sym memory) (inr (inl (unstarted is))))
-    (λ unfit. subst (λ (c : Course). Comes c store.log.dev store.store.dev) (sym unfit.2) (misfitted turns is unfit.1))
+    (λ unfit. subst (λ (c : Course). Comes c store.log.dev store.store.dev) (sym unfit.2) (misfitted log_only is unfit.1))
     left.why))
 
--- or the lines were run
+-- or the lines were run, by a drive that serves
 pub driven-comes : {L D : Type 0} {log_seen : L → Seen} {log_gives : L → Call → L → Type 0} {data_seen : D → Seen} {data_gives : D → Call → D → Type 0}
     {log_entry data_entry : Seen} {stops : Stops} {log_found data_found : Shown} {log : Fused L} {data_device : Fused D} {store : Opened (Fused L) (Fused D)}
-    (turns : Turns) (script : List ScriptLine) (c : Course) (log_now : Fused L) (data_now : Fused D)
+    {S : Type 0} (says : Says (Fused L) (Fused D) S) (drive : S) (asked : Drive) (script : List ScriptLine) (c : Course) (log_now : Fused L) (data_now : Fused D)
+    → ((opened : Opened (Fused L) (Fused D)) (script : List ScriptLine) (driven : Driven (Fused L) (Fused D))
+    → says (seen_through log_seen) (CallsThrough log_seen log_gives) (seen_through data_seen) (CallsThrough data_seen data_gives) drive opened script driven
+    → TellsBehind log_seen log_gives data_seen data_gives asked opened script driven)
     → IsOpenedUnderWay log_seen log_gives data_seen data_gives log_entry data_entry stops log_found data_found log data_device store
-    → AreDriven (seen_through log_seen) (CallsThrough log_seen log_gives) (seen_through data_seen) (CallsThrough data_seen data_gives) store turns script c log_now data_now
-    → ComesTo (ByTurns log_seen log_gives data_seen data_gives turns script) log_entry data_entry stops turns script c (shown log_seen log_now) (shown data_seen data_now)
-driven-comes {L} {D} {log_seen = log_seen} {log_gives = log_gives} {data_seen = data_seen} {data_gives = data_gives} {log_entry = log_entry} {data_entry = data_entry} {stops = stops} turns script c _ data_now is are =
+    → AreDriven (seen_through log_seen) (CallsThrough log_seen log_gives) (seen_through data_seen) (CallsThrough data_seen data_gives) says drive store asked.log_only script c log_now data_now
+    → ComesTo (ByDrive log_seen log_gives data_seen data_gives asked script) log_entry data_entry stops asked.log_only script c (shown log_seen log_now) (shown data_seen data_now)
+driven-comes {L} {D} {log_seen = log_seen} {log_gives = log_gives} {data_seen = data_seen} {data_gives = data_gives} {log_entry = log_entry} {data_entry = data_entry} {stops = stops} {store = store} says drive asked script c _ data_now serves is are =
     let Comes : Course → Fused L → Fused D → Type 0 = λ c one other.
-    ComesTo (ByTurns log_seen log_gives data_seen data_gives turns script) log_entry data_entry stops turns script c (shown log_seen one) (shown data_seen other) in
+    ComesTo (ByDrive log_seen log_gives data_seen data_gives asked script) log_entry data_entry stops asked.log_only script c (shown log_seen one) (shown data_seen other) in
     subst (λ (one : Fused L). Comes c one data_now) (sym are.log_is) (subst (λ (one : Fused D). Comes c are.driven.closed.log.dev one) (sym are.data_is)
     (subst (λ (c : Course). Comes c are.driven.closed.log.dev are.driven.closed.store.dev) (sym are.course_is)
-    (ended-by turns script are.driven is are.fits are.by_turns are.comes_to are.holds are.owed are.owed_synced are.driven.ended refl)))
+    (ended-by asked script are.driven is are.fits (serves store script are.driven are.told) are.owed are.driven.ended refl)))

@@ -1,6 +1,6 @@
 -- What the commands that run no script come to.
 use Rattle.std.proofs.lemmas.Bool.{false≢true}
-use Rattle.std.proofs.Common.{ℕ, ◌≡◌, ◌<◌, Bool, true, false, List, None, Result, Ok, Err, IfOk, arith}
+use Rattle.std.proofs.Common.{ℕ, ◌≡◌, ◌<◌, Bool, true, false, if◌then◌else◌, List, Some, None, Result, Ok, Err, IfOk, subst, arith}
 use Rattle.model_base.specs.{HasRisen}
 use Rattle.model_command.specs.declared.asked.Command.{Command}
 use Rattle.model_command.specs.declared.asked.Command.TheVariants.{Recover, Dump, Gen}
@@ -12,6 +12,9 @@ use Rattle.model_store.specs.Reading.{Reading}
 use Rattle.model_store.specs.declared.refusal.Refusal.{Refusal}
 use Rattle.model_store.specs.declared.refusal.Refusal.TheVariants as refusal
 use Rattle.redo_disk.specs.{failures}
+use Rattle.model_stop.specs.{IsStop}
+use Rattle.model_stop.specs.declared.cause.Cause.{Cause}
+use Rattle.redo_recover.specs.Devices.{OnContent}
 use Rattle.redo_recover.specs.{data_error, HasCauseIn, log_error, OnContents}
 use Rattle.redo_recover.specs.declared.fault.RecFault.{RecFault}
 use Rattle.redo_recover.specs.declared.fault.RecFault.TheVariants.{SmallLog, NotFormatted, BadFormat, SmallData, NoCheckpoint, BadRecord, PageLost, PageAhead, LogDev, DataDev, NoMemory}
@@ -20,7 +23,7 @@ use Rattle.redo_lab.specs.declared.outcome.Outcome.TheVariants as outcome
 use Rattle.redo_lab.proofs.Keeping.{OpenableLaw}
 use Rattle.redo_lab.proofs.Told.{OneAnswer, on-contents}
 use Rattle.redo_lab.proofs.Unscripted.{AreLeftAlone, leaves-alone, tells-alone, unfailed-alone, unwritten-alone}
-use Rattle.redo_lab.specs.Answer.{IsReadOff}
+use Rattle.redo_lab.specs.Answer.{IsListing, IsReadOff}
 use Rattle.redo_lab.specs.Asked.{runs_script}
 use Rattle.redo_lab.specs.Call.{AreUnfailedFor, Call, Each, Guarded, IsUnfailed, IsUnwritten, WhereToldAtEntry}
 use Rattle.redo_lab.specs.Cause.{IsDeviceFault, IsPastSource, IsUnbegun}
@@ -68,18 +71,18 @@ unrefused call refusal one can refused =
     one can.log.reads can.store.reads can.reading refusal can.is_read (refused can.log can.store can.log_tells can.store_tells)
 
 -- a command that reads both devices, and what it says of them
-pub record ReadsOff (call : Call) (command : Command) (text_of : Reading → List ℕ) : Type 0 where
+pub record ReadsOff (call : Call) (command : Command) (IsTextOf : Reading → List ℕ → Type 0) : Type 0 where
   pub unread : call.source_now ≡ call.source
   pub past : IsPastSource call command
   pub runs : runs_script command ≡ true → ⊥
-  pub answer : (text : List ℕ) → Each IsUnfailed call → IsReadOff call text_of text → IsOutcome call command (outcome.Text text)
+  pub answer : (text : List ℕ) → Each IsUnfailed call → IsReadOff call IsTextOf text → IsOutcome call command (outcome.Text text)
   pub fails : (device : Guarded) → HasRisen device.entry.faults device.now.faults → 0 < device.fuse.early → IsDeviceFault command device
   pub unbegun : IsUnbegun call command
   pub refused : (refusal : Refusal) → Each IsUnfailed call → WhereToldAtEntry call (AreRefused refusal) → IsOutcome call command (outcome.Fault (fault.Store refusal))
   pub unfailed : AreUnfailedFor command call → Each IsUnfailed call
   pub reads : IsPossible call command → CanRead call
 
-pub recovers-off : (call : Call) (workers : ℕ) → call.source_now ≡ call.source → ReadsOff call (Recover workers) recover_text
+pub recovers-off : (call : Call) (workers : ℕ) → call.source_now ≡ call.source → ReadsOff call (Recover workers) (λ reading text. text ≡ recover_text reading)
 recovers-off call workers unread = record {
   unread = unread;
   past = λ reads. absurd (false≢true reads);
@@ -92,7 +95,7 @@ recovers-off call workers unread = record {
   reads = λ possible. possible;
 }
 
-pub dumps-off : (call : Call) (why : Bool) → call.source_now ≡ call.source → ReadsOff call (Dump why) (dump_text None)
+pub dumps-off : (call : Call) (why : Bool) → call.source_now ≡ call.source → ReadsOff call (Dump why) (IsListing call why)
 dumps-off call why unread = record {
   unread = unread;
   past = λ reads. absurd (false≢true reads);
@@ -105,6 +108,17 @@ dumps-off call why unread = record {
   reads = λ possible. possible;
 }
 
+-- the listing that was made of what was recovered
+pub listed : {E : Type 0} (call : Call) (why : Bool) (reading : Reading) (stop : ℕ × Cause) (r : Result (List ℕ) E)
+    → OnContent call.log.entry.tells (IsStop reading.shape reading.ckpt reading.views stop)
+    → IfOk r (λ text. text ≡ dump_text (if why then Some stop else None) reading) → IfOk r (IsListing call why reading)
+listed call why reading stop (Ok text) stops is = record {
+  stop = stop;
+  is_stop = λ log log_is. subst (λ told. OnContent told (IsStop reading.shape reading.ckpt reading.views stop)) log_is stops;
+  text_is = is;
+}
+listed call why reading stop (Err error) stops is = tt
+
 -- The devices of such a command: as they were, with so many calls failed.
 pub record ReadsDevices (call : Call) (log_failed data_failed : ℕ) : Type 0 where
   pub unwritten : Each IsUnwritten call
@@ -115,7 +129,7 @@ unfailed-reads : (call : Call) → ReadsDevices call 0 0 → Each IsUnfailed cal
 unfailed-reads call reads =
     ((reads.log_device.early, reads.log_device.mid, reads.log_device.late), (reads.data_device.early, reads.data_device.mid, reads.data_device.late))
 
-module _ (call : Call) (command : Command) (text_of : Reading → List ℕ) (off : ReadsOff call command text_of) where
+module _ (call : Call) (command : Command) (IsTextOf : Reading → List ℕ → Type 0) (off : ReadsOff call command IsTextOf) where
   reads-end : (o : Outcome) (log_failed data_failed : ℕ) → ReadsDevices call log_failed data_failed → IsOutcome call command o
       → (CanRead call → Each IsUnfailed call → IsDoneOrKeptFrom command o) → EndsWith call command o
   reads-end o log_failed data_failed reads means complete = record {
@@ -130,7 +144,7 @@ module _ (call : Call) (command : Command) (text_of : Reading → List ℕ) (off
   -- THE STORE WAS READ.
   pub plain-reads : {E : Type 0} (reading : Reading) (r : Result (List ℕ) E) → ReadsDevices call 0 0
       → OnContents call.log.entry.tells call.store.entry.tells (λ log_bytes data_bytes. IsReading log_bytes data_bytes reading)
-      → IfOk r (λ text. text ≡ text_of reading) → EndsWith call command (outcome_of r)
+      → IfOk r (IsTextOf reading) → EndsWith call command (outcome_of r)
   plain-reads reading (Ok text) reads is_read is = reads-end (outcome.Text text) 0 0 reads
       (off.answer text (unfailed-reads call reads) (record {
         reading = reading;

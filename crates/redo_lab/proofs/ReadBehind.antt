@@ -13,13 +13,13 @@ use Rattle.redo_memdisk.proofs.Behind.{counts-calls}
 use Rattle.redo_recover.specs.{data_error, HasCauseIn, log_error, OnContents, ReadsLog}
 use Rattle.redo_recover.specs.declared.fault.RecFault.{RecFault}
 use Rattle.redo_lab.specs.declared.outcome.Outcome.TheVariants as outcome
-use Rattle.redo_lab.proofs.Crashing.{IsAsMet, reading-fails, told-now}
+use Rattle.redo_lab.proofs.Crashing.{IsAsMet, reading-fails, store-read}
 use Rattle.redo_lab.proofs.Stages.{armed-calls}
 use Rattle.redo_lab.proofs.Telling.{reads-keep}
-use Rattle.redo_lab.specs.Behind.{AreReadSince, IsReadSince, ReadsBehind}
 use Rattle.redo_lab.specs.Faults.{fault_of}
 use Rattle.redo_lab.specs.Outcome.{outcome_of}
 use Rattle.redo_lab.specs.Reported.{summary_of}
+use Rattle.redo_lab.specs.Reread.{AreBoth, IsReadSince, ReadsAfter}
 use Rattle.redo_lab.specs.Stages.{Shown, shown}
 
 -- a device that was only read
@@ -40,22 +40,18 @@ log-read made = read-since (weaker_calls (λ calls log. log.reads) made)
 
 -- THE STORE WAS READ.
 pub behind-read : {E : Type 0} (run : Ran) (reading : Reading) (log_old data_old log_now data_now : Shown) (log_met data_met : Seen) (r : Result (List ℕ) E)
-    → AreReadSince 0 0 log_old data_old log_now data_now → IsAsMet log_met log_now.seen → IsAsMet data_met data_now.seen
+    → AreBoth IsReadSince 0 0 log_old data_old log_now data_now → IsAsMet log_met log_now.seen → IsAsMet data_met data_now.seen
     → OnContents log_met.tells data_met.tells (λ log_bytes data_bytes. IsReading log_bytes data_bytes reading)
-    → IfOk r (λ text. text ≡ summary_of run reading) → ReadsBehind run (outcome_of r) log_old data_old log_now data_now
-behind-read run reading log_old data_old log_now data_now log_met data_met (Ok text) since log_same data_same read is = record {
-  read_since = since;
-  reading = reading;
-  is_read = told-now log_met data_met log_now.seen data_now.seen (λ log_bytes data_bytes. IsReading log_bytes data_bytes reading) log_same data_same read;
-  text_is = is;
-}
-behind-read run reading log_old data_old log_now data_now log_met data_met (Err error) since log_same data_same read is = since
+    → IfOk r (λ text. text ≡ summary_of run reading) → ReadsAfter run (outcome_of r) log_old data_old log_now data_now
+behind-read run reading log_old data_old log_now data_now =
+    store-read (λ log_failed data_failed. AreBoth IsReadSince log_failed data_failed log_old data_old log_now data_now)
+    (λ reading text. text ≡ summary_of run reading) reading log_now data_now
 
 -- IT WASN'T.
 pub behind-fails : (run : Ran) (log_old data_old log_now data_now : Shown) (log_met data_met : Seen) (f : RecFault)
-    → AreReadSince (failures (log_error f)) (failures (data_error f)) log_old data_old log_now data_now
+    → AreBoth IsReadSince (failures (log_error f)) (failures (data_error f)) log_old data_old log_now data_now
     → IsAsMet log_met log_now.seen → IsAsMet data_met data_now.seen → HasCauseIn log_met.tells data_met.tells f
-    → ReadsBehind run (outcome.Fault (fault_of f)) log_old data_old log_now data_now
-behind-fails run log_old data_old log_now data_now log_met data_met f since log_same data_same cause =
-    reading-fails (λ log_failed data_failed. AreReadSince log_failed data_failed log_old data_old log_now data_now) log_now data_now log_met data_met f
-    since log_same data_same cause
+    → ReadsAfter run (outcome.Fault (fault_of f)) log_old data_old log_now data_now
+behind-fails run log_old data_old log_now data_now =
+    reading-fails (λ log_failed data_failed. AreBoth IsReadSince log_failed data_failed log_old data_old log_now data_now)
+    (λ reading text. text ≡ summary_of run reading) log_now data_now

@@ -17,15 +17,13 @@ use Rattle.model_store.specs.declared.refusal.Refusal.{Refusal}
 use Rattle.model_store.specs.declared.refusal.Refusal.TheVariants as refusal
 use Rattle.model_theorem.specs.{FitsOpened, Opened, room_of}
 use Rattle.redo_disk.specs.{HasSize}
-use Rattle.redo_machine.specs.declared.drive.Turns.{Turns}
 use Rattle.redo_lab.specs.declared.playing.Stops.{Stops}
 use Rattle.redo_lab.proofs.Keeping.{unused-unread}
 use Rattle.redo_lab.proofs.RunPlayed.{same-opened}
 use Rattle.redo_lab.proofs.Told.{OneAnswer}
-use Rattle.redo_lab.specs.Asked.{runs_script}
 use Rattle.redo_lab.specs.Call.{Call}
 use Rattle.redo_lab.specs.Complete.{AreLongEnough, CanPlay, CanRun, MayKeepFrom}
-use Rattle.redo_lab.specs.Course.{AreMisfitted, AreRefusedOpened, Driving, IsEndedBy}
+use Rattle.redo_lab.specs.Course.{AreMisfitted, AreRefusedOpened, AreSpent, Driving, IsEndedBy}
 use Rattle.redo_lab.specs.Prepared.{AreTooShort}
 use Rattle.redo_lab.specs.Script.{IsScriptRead}
 use Rattle.redo_lab.specs.Stages.{now_of}
@@ -122,16 +120,17 @@ possible-no-misfit call log_only stops script misfit one same unfit can ended =
     cc
 
 -- SO A RUN THAT CAN BE DONE is ended by want of memory or its turns alone, where no call of a device failed.
-pub ended-kept : (by : Driving) (call : Call) (command : Command) (stops : Stops) (turns : Turns) (script : List ScriptLine) (f : Fault) → runs_script command ≡ true
-    → OneAnswer → OneReading → UnfitLaw → CanPlay call turns.log_only script
+pub ended-kept : (by : Driving) (call : Call) (command : Command) (stops : Stops) (log_only : Bool) (script : List ScriptLine) (f : Fault)
+    → ((turns user : ℕ) → AreSpent by call.log.entry call.store.entry stops log_only script turns user (now_of call.log) (now_of call.store) → MayKeepFrom command (fault.Turns turns user))
+    → OneAnswer → OneReading → UnfitLaw → CanPlay call log_only script
     → call.log.fuse.early ≡ 0 → call.store.fuse.early ≡ 0
-    → IsEndedBy by call.log.entry call.store.entry stops turns script f (now_of call.log) (now_of call.store) → MayKeepFrom command f
-ended-kept by call command stops turns script fault.Memory runs one same unfit can log_good data_good ended = tt
-ended-kept by call command stops turns script fault.LogDevice runs one same unfit can log_good data_good ended = absurd (omega (arith, ended.log_device.early))
-ended-kept by call command stops turns script fault.DataDevice runs one same unfit can log_good data_good ended = absurd (omega (arith, ended.data_device.early))
-ended-kept by call command stops turns script (fault.Store cause) runs one same unfit can log_good data_good ended =
-    absurd (⊎_elim (possible-not-short call turns.log_only script cause one can) (possible-not-refused call turns.log_only script stops cause one can) ended)
-ended-kept by call command stops turns script (fault.Turns count user) runs one same unfit can log_good data_good ended = runs
-ended-kept by call command stops turns script (fault.Fit misfit) runs one same unfit can log_good data_good ended =
-    absurd (possible-no-misfit call turns.log_only stops script misfit one same unfit can ended)
-ended-kept by call command stops turns script f runs one same unfit can log_good data_good ended = absurd ended
+    → IsEndedBy by call.log.entry call.store.entry stops log_only script f (now_of call.log) (now_of call.store) → MayKeepFrom command f
+ended-kept by call command stops log_only script fault.Memory spent one same unfit can log_good data_good ended = tt
+ended-kept by call command stops log_only script fault.LogDevice spent one same unfit can log_good data_good ended = absurd (omega (arith, ended.log_device.early))
+ended-kept by call command stops log_only script fault.DataDevice spent one same unfit can log_good data_good ended = absurd (omega (arith, ended.data_device.early))
+ended-kept by call command stops log_only script (fault.Store cause) spent one same unfit can log_good data_good ended =
+    absurd (⊎_elim (possible-not-short call log_only script cause one can) (possible-not-refused call log_only script stops cause one can) ended)
+ended-kept by call command stops log_only script (fault.Turns turns user) spent one same unfit can log_good data_good ended = spent turns user ended
+ended-kept by call command stops log_only script (fault.Fit misfit) spent one same unfit can log_good data_good ended =
+    absurd (possible-no-misfit call log_only stops script misfit one same unfit can ended)
+ended-kept by call command stops log_only script f spent one same unfit can log_good data_good ended = absurd ended

@@ -1,7 +1,7 @@
 -- A command that runs a script: what it comes to where the run ended before its first line, or its turns were spent, or a device
 -- stopped opening.
 use Rattle.redo_disk.specs.Seen.{Seen}
-use Rattle.std.proofs.Common.{ℕ, ◌≡◌, ◌≢◌, ◌<◌, true, false, List, Option, Some, None, refl, sym, subst, inl, inr, ⊎_elim, arith}
+use Rattle.std.proofs.Common.{ℕ, ◌≡◌, ◌≢◌, ◌<◌, true, false, List, Option, Some, None, refl, sym, subst, inl, inr, ⊎_elim, arith, ap, ◌∙◌, Bool}
 use Rattle.std.proofs.lemmas.Bool.{false≢true}
 use Rattle.model_base.specs.{HasRisen}
 use Rattle.model_command.specs.declared.asked.Command.{Command}
@@ -13,19 +13,21 @@ use Rattle.model_report.specs.declared.fault.Fault.TheVariants as fault
 use Rattle.model_script.specs.{generated_lines}
 use Rattle.model_script.specs.declared.script.ScriptLine.{ScriptLine}
 use Rattle.model_store.specs.declared.refusal.Refusal.{Refusal}
-use Rattle.model_theorem.specs.{Ran}
+use Rattle.model_theorem.specs.{Opened, Ran}
 use Rattle.model_theorem.specs.Opening.{IsOpenedBefore}
 use Rattle.redo_memdisk.specs.declared.fuse.Stage.TheVariants.{Before}
 use Rattle.redo_lab.specs.declared.outcome.Outcome.{Outcome}
 use Rattle.redo_lab.specs.declared.outcome.Outcome.TheVariants as outcome
 use Rattle.redo_lab.specs.declared.playing.Stops.{Stops}
+use Rattle.redo_lab.proofs.ByDrive.{in-threads}
 use Rattle.redo_lab.proofs.Keeping.{OpenableLaw}
 use Rattle.redo_lab.proofs.Leaving.{leaves-found, leaves-read, leaves-unprepared, run-reads}
 use Rattle.redo_lab.proofs.RunPlayed.{ClosedLaws, FormattedLaw, armed-same, stopped-on, was-found}
 use Rattle.redo_lab.proofs.RunPossible.{OneReading, UnfitLaw, can-play, ended-kept}
 use Rattle.redo_lab.proofs.Told.{OneAnswer}
-use Rattle.redo_lab.specs.Asked.{drive_of, drive_of_seed, leaves_devices, reads_script, runs_script, turns_of}
+use Rattle.redo_lab.specs.Asked.{drive_of, drive_of_seed, leaves_devices, reads_script, runs_script}
 use Rattle.redo_drive.specs.declared.drive.RunEnd.{RunEnd}
+use Rattle.redo_drive.specs.declared.drive.RunEnd.TheVariants.{Spent}
 use Rattle.redo_lab.specs.Call.{AreUnfailedFor, Call, Each, Guarded, IsUnfailed, IsUnfailedAside}
 use Rattle.redo_lab.specs.Cause.{IsCauseOf, IsDeviceFault, IsPastSource, IsRefused, IsRefusedAtEntry, IsUnbegun}
 use Rattle.redo_lab.specs.Complete.{CanPlay, IsPossible}
@@ -49,6 +51,11 @@ pub record RunLaws : Type 0 where
 -- what the call tells of a run of this script by its drive
 abbrev pub driving : Call → Drive → List ScriptLine → Driving
 driving call drive script = λ opened run end log_met store_met. call.drives drive opened script run end log_met store_met
+
+-- turns are spent by a drive that isn't in threads
+abbrev pub SpendsTurns : Call → Drive → Type 0
+SpendsTurns call drive = (opened : Opened) (script : List ScriptLine) (run : Ran) (turns user : ℕ) (log_met store_met : Option Disk)
+    → call.drives drive opened script run (Spent turns user) log_met store_met → drive.threads ≡ false
 
 -- THE COMMAND RUNS THIS SCRIPT by this drive: what its cases of the definitions come to.
 pub record IsRunning (call : Call) (command : Command) (drive : Drive) (script : List ScriptLine) : Type 0 where
@@ -193,7 +200,7 @@ module _ (call : Call) (command : Command) (drive : Drive) (stops : Stops) (scri
       (run-reads call stops drive.log_only script run log_failed data_failed laws.one laws.formatted laws.closed.reads has holds)
 
   abbrev Ends : Fault → Type 0
-  Ends f = IsEndedBy (driving call drive script) call.log.entry call.store.entry stops (turns_of drive) script f (now_of call.log) (now_of call.store)
+  Ends f = IsEndedBy (driving call drive script) call.log.entry call.store.entry stops drive.log_only script f (now_of call.log) (now_of call.store)
 
   -- IT ENDED before its first line, or its turns were spent.
   ended-tells : (f : Fault) → Ends f → AreTelling call
@@ -204,7 +211,7 @@ module _ (call : Call) (command : Command) (drive : Drive) (stops : Stops) (scri
   ended-tells (fault.Store cause) ended =
       ⊎_elim (λ short. tells-unprepared call 0 0 short.ends) (λ refused. tells-way call stops 0 0 refused.way) ended
   ended-tells (fault.Fit misfit) ended = tells-way call stops 0 0 ended.way
-  ended-tells (fault.Turns count user) ended = tells-way call stops ended.log_failed ended.data_failed ended.so_far.way
+  ended-tells (fault.Turns turns user) ended = tells-way call stops ended.log_failed ended.data_failed ended.so_far.way
   ended-tells f ended = absurd ended
 
   ended-leaves : (f : Fault) → Ends f → LeavesStore call
@@ -220,7 +227,7 @@ module _ (call : Call) (command : Command) (drive : Drive) (stops : Stops) (scri
       (λ refused. leaves-found call stops 0 0 laws.one laws.formatted refused.way refused.keeps)
       ended
   ended-leaves (fault.Fit misfit) ended = leaves-found call stops 0 0 laws.one laws.formatted ended.way ended.keeps
-  ended-leaves (fault.Turns count user) ended = leaves-held ended.run ended.log_failed ended.data_failed ended.so_far ended.holds
+  ended-leaves (fault.Turns turns user) ended = leaves-held ended.run ended.log_failed ended.data_failed ended.so_far ended.holds
   ended-leaves f ended = absurd ended
 
   ended-cause : (f : Fault) → Ends f → IsCauseOf call command f
@@ -251,10 +258,9 @@ module _ (call : Call) (command : Command) (drive : Drive) (stops : Stops) (scri
       first = ended.first;
     },
   )
-  ended-cause (fault.Turns count user) ended = record {
+  ended-cause (fault.Turns turns user) ended = record {
     drive = drive;
     asked = running.asked;
-    turns_are = ended.count_is;
     opened = ended.so_far.opened;
     script = script;
     run = ended.run;
@@ -263,12 +269,14 @@ module _ (call : Call) (command : Command) (drive : Drive) (stops : Stops) (scri
   }
   ended-cause f ended = absurd ended
 
-  pub ended-early : (f : Fault)
-      → IsEndedBy (driving call drive script) call.log.entry call.store.entry stops (turns_of drive) script f (now_of call.log) (now_of call.store)
+  pub ended-early : SpendsTurns call drive → (f : Fault)
+      → IsEndedBy (driving call drive script) call.log.entry call.store.entry stops drive.log_only script f (now_of call.log) (now_of call.store)
       → EndsWith call command (outcome.Fault f)
-  ended-early f ended = ends-with (outcome.Fault f) (ended-tells f ended) (ended-leaves f ended) (ended-cause f ended)
+  ended-early spends f ended = ends-with (outcome.Fault f) (ended-tells f ended) (ended-leaves f ended) (ended-cause f ended)
       (λ can unfailed. let aside = running.aside unfailed in
-      ended-kept (driving call drive script) call command stops (turns_of drive) script f running.runs laws.one laws.same laws.unfit can aside.0.0 aside.1.0 ended)
+      ended-kept (driving call drive script) call command stops drive.log_only script f
+      (λ turns user spent. (running.runs, in-threads command drive running.asked ∙ spends spent.so_far.opened script spent.run turns user _ _ spent.driven))
+      laws.one laws.same laws.unfit can aside.0.0 aside.1.0 ended)
 
 -- A command that isn't `crash` ends with the fault of a device that failed since its fuse was armed.
 pub record IsUncrashing (call : Call) (command : Command) : Type 0 where

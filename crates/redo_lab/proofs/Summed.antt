@@ -15,12 +15,12 @@ use Rattle.redo_lab.proofs.RunPlayed.{ClosedLaws, FormattedLaw, WasFound, closed
 use Rattle.redo_lab.proofs.SomeLeft.{some-left}
 use Rattle.redo_lab.proofs.Told.{OneAnswer, weaker-both}
 use Rattle.redo_lab.proofs.UnderWay.{same-both}
-use Rattle.redo_lab.specs.Behind.{AreReadSince}
 use Rattle.redo_drive.specs.declared.drive.RunEnd.TheVariants.{Done}
 use Rattle.redo_lab.specs.Call.{Call, WhereToldNow}
 use Rattle.redo_lab.specs.Complete.{CanPlay}
 use Rattle.redo_lab.specs.Course.{ArePlayedThrough, AreUnderWay, CameSoFar, ClosesRun, Driving, HoldsRun, ran_of}
 use Rattle.redo_lab.specs.Prepared.{ArePrepared}
+use Rattle.redo_lab.specs.Reread.{AreBoth, IsReadSince}
 use Rattle.redo_lab.specs.Stages.{Shown, now_of}
 use Rattle.redo_lab.specs.Store.{AreRefused}
 
@@ -30,7 +30,7 @@ FairLaw = (shape : Shape) (disk : Disk) → IsFair shape disk disk.base
 
 -- READS LEAVE a run as it was: both devices are under way, and tell the same.
 abbrev pub read-way : {log_entry data_entry : Seen} {stops : Stops} {log_failed data_failed : ℕ} {log_old data_old log_now data_now : Shown}
-    → AreUnderWay log_entry data_entry stops 0 0 log_old data_old → AreReadSince log_failed data_failed log_old data_old log_now data_now
+    → AreUnderWay log_entry data_entry stops 0 0 log_old data_old → AreBoth IsReadSince log_failed data_failed log_old data_old log_now data_now
     → AreUnderWay log_entry data_entry stops log_failed data_failed log_now data_now
 read-way way since = record {
   log_found = way.log_found;
@@ -46,7 +46,7 @@ read-way way since = record {
 
 -- of the run that came so far
 abbrev pub read-run : {log_entry data_entry : Seen} {stops : Stops} {log_only : Bool} {script : List ScriptLine} {run : Ran} {log_failed data_failed : ℕ} {log_old data_old log_now data_now : Shown}
-    → CameSoFar log_entry data_entry stops log_only script run 0 0 log_old data_old → AreReadSince log_failed data_failed log_old data_old log_now data_now
+    → CameSoFar log_entry data_entry stops log_only script run 0 0 log_old data_old → AreBoth IsReadSince log_failed data_failed log_old data_old log_now data_now
     → CameSoFar log_entry data_entry stops log_only script run log_failed data_failed log_now data_now
 read-run has since = record { way = read-way has.way since; opened = has.opened; opens = has.opens; fits = has.fits; is_run = has.is_run }
 
@@ -73,7 +73,7 @@ holds-read log_found data_found opened script run log_old data_old log_now data_
     (holds reading)
 
 pub read-played : (by : Driving) (log_entry data_entry : Seen) (stops : Stops) (log_only : Bool) (script : List ScriptLine) (played : Played) (log_old data_old log_now data_now : Shown)
-    → ArePlayedThrough by log_entry data_entry stops log_only script played log_old data_old → AreReadSince 0 0 log_old data_old log_now data_now
+    → ArePlayedThrough by log_entry data_entry stops log_only script played log_old data_old → AreBoth IsReadSince 0 0 log_old data_old log_now data_now
     → ArePlayedThrough by log_entry data_entry stops log_only script played log_now data_now
 read-played by log_entry data_entry stops log_only script played log_old data_old log_now data_now was since =
     let Closes : (Disk → Disk) → Shown → Shown → Type 0 = λ becomes log data_device.

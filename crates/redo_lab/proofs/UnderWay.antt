@@ -1,5 +1,5 @@
 -- Two devices from the arming of their fuses on, and a store that wasn't opened on them.
-use Rattle.std.proofs.Common.{ℕ, ◌≡◌, ◌≢◌, ◌≤◌, ◌<◌, ◌+◌, List, length, Option, Some, None, IfSome, refl, sym, ap, subst, ◌∙◌, inl, inr, ⊎_elim, arith, lit<, lit≤}
+use Rattle.std.proofs.Common.{ℕ, ◌≡◌, ◌≢◌, ◌≤◌, ◌<◌, ◌+◌, Bool, List, [], ◌∷◌, length, Option, Some, None, IfSome, refl, sym, ap, subst, ◌∙◌, inl, inr, ⊎_elim, arith, lit<, lit≤}
 use Rattle.model_base.specs.{default_shape, IsWithinLimits}
 use Rattle.model_device.specs.Disk.{Disk}
 use Rattle.model_log.specs.declared.layout.TheConstants.{HEADER_BYTES}
@@ -20,7 +20,6 @@ use Rattle.redo_open.specs.{HasFaultCause, HasSameCheckpoint, WhereBothTell, Ope
 use Rattle.redo_recover.specs.{data_error, log_error, OnContents, refusal_of}
 use Rattle.redo_recover.specs.declared.fault.RecFault.{RecFault}
 use Rattle.redo_recover.specs.declared.fault.RecFault.TheVariants.{SmallLog, NotFormatted, BadFormat, SmallData, NoCheckpoint, BadRecord, PageLost, PageAhead, LogDev, DataDev, NoMemory}
-use Rattle.redo_machine.specs.declared.drive.Turns.{Turns}
 use Rattle.redo_lab.specs.declared.playing.Stops.{Stops}
 use Rattle.redo_lab.proofs.RunPlayed.{FormattedLaw}
 use Rattle.redo_lab.proofs.Stages.{armed-calls}
@@ -237,18 +236,18 @@ refused-opened {log_seen = log_seen} {data_seen = data_seen} {log_entry = log_en
 
 pub unopened-comes : {L D : Type 0} {log_seen : L → Seen} {log_gives : L → Call → L → Type 0} {data_seen : D → Seen} {data_gives : D → Call → D → Type 0}
     {log_entry data_entry : Seen} {stops : Stops} {log_found data_found : Shown} {log : Fused L} {data_device : Fused D}
-    (by : Driving) (turns : Turns) (script : List ScriptLine) (f : RecFault) (log_now : Fused L) (data_now : Fused D)
+    (by : Driving) (log_only : Bool) (script : List ScriptLine) (f : RecFault) (log_now : Fused L) (data_now : Fused D)
     → IsUnopened log_seen log_gives data_seen data_gives log_entry data_entry stops log_found data_found log data_device f log_now data_now
-    → ComesTo by log_entry data_entry stops turns script (unopened f) (shown log_seen log_now) (shown data_seen data_now)
-unopened-comes by turns script LogDev log_now data_now is = stopped is (λ same. cc)
-unopened-comes by turns script DataDev log_now data_now is = stopped is (λ same. cc)
-unopened-comes by turns script NoMemory log_now data_now is =
+    → ComesTo by log_entry data_entry stops log_only script (unopened f) (shown log_seen log_now) (shown data_seen data_now)
+unopened-comes by log_only script LogDev log_now data_now is = stopped is (λ same. cc)
+unopened-comes by log_only script DataDev log_now data_now is = stopped is (λ same. cc)
+unopened-comes by log_only script NoMemory log_now data_now is =
     inr (inl (out-of-memory is))
-unopened-comes by turns script (SmallLog n) log_now data_now is = inr (refused-opened (refusal.SmallLog n) refl refl refl is)
-unopened-comes by turns script NotFormatted log_now data_now is = inr (refused-opened refusal.NotFormatted refl refl refl is)
-unopened-comes by turns script (BadFormat n) log_now data_now is = inr (refused-opened (refusal.BadFormat n) refl refl refl is)
-unopened-comes by turns script (SmallData n) log_now data_now is = inr (refused-opened (refusal.SmallData n) refl refl refl is)
-unopened-comes by turns script NoCheckpoint log_now data_now is = inr (refused-opened refusal.NoCheckpoint refl refl refl is)
-unopened-comes by turns script (BadRecord lsn) log_now data_now is = inr (refused-opened (refusal.BadRecord lsn) refl refl refl is)
-unopened-comes by turns script (PageLost p) log_now data_now is = inr (refused-opened (refusal.PageLost p) refl refl refl is)
-unopened-comes by turns script (PageAhead p lsn) log_now data_now is = inr (refused-opened (refusal.PageAhead p lsn) refl refl refl is)
+unopened-comes by log_only script (SmallLog n) log_now data_now is = inr (refused-opened (refusal.SmallLog n) refl refl refl is)
+unopened-comes by log_only script NotFormatted log_now data_now is = inr (refused-opened refusal.NotFormatted refl refl refl is)
+unopened-comes by log_only script (BadFormat n) log_now data_now is = inr (refused-opened (refusal.BadFormat n) refl refl refl is)
+unopened-comes by log_only script (SmallData n) log_now data_now is = inr (refused-opened (refusal.SmallData n) refl refl refl is)
+unopened-comes by log_only script NoCheckpoint log_now data_now is = inr (refused-opened refusal.NoCheckpoint refl refl refl is)
+unopened-comes by log_only script (BadRecord lsn) log_now data_now is = inr (refused-opened (refusal.BadRecord lsn) refl refl refl is)
+unopened-comes by log_only script (PageLost p) log_now data_now is = inr (refused-opened (refusal.PageLost p) refl refl refl is)
+unopened-comes by log_only script (PageAhead p lsn) log_now data_now is = inr (refused-opened (refusal.PageAhead p lsn) refl refl refl is)

@@ -1,12 +1,15 @@
 -- What the text of each command says.
-use Rattle.std.specs.Prelude.{ℕ, ◌≡◌, ◌≢◌, true, false, List, Option, Some, None}
+use Rattle.std.specs.Prelude.{ℕ, if◌then◌else◌, Bool, ◌≡◌, ◌≢◌, true, false, List, Option, Some, None}
 use Rattle.model_base.specs.{default_shape}
 use Rattle.model_base.specs.declared.shape.Shape.{Shape}
 use Rattle.model_command.specs.declared.asked.Command.{Command}
 use Rattle.model_command.specs.declared.asked.Command.TheVariants.{Format, Run, Crash, Recover, Dump, Gen}
 use Rattle.model_command.specs.declared.asked.Drive.{Drive}
+use Rattle.model_device.specs.Disk.{Disk}
 use Rattle.model_report.specs.{dump_text, format_text, recover_text}
 use Rattle.model_script.specs.{generated_text}
+use Rattle.model_stop.specs.{IsStop}
+use Rattle.model_stop.specs.declared.cause.Cause.{Cause}
 use Rattle.model_store.specs.{IsReading}
 use Rattle.model_store.specs.Reading.{Reading}
 use Rattle.model_theorem.specs.{Account, CrashOptions, CrashSafe, Device, Opened, Stop}
@@ -28,10 +31,16 @@ pub record IsFormatted (call : Call) (shape : Shape) (text : List ℕ) : Type 0 
   pub text_is : text ≡ format_text
 
 -- the store was read
-pub record IsReadOff (call : Call) (text_of : Reading → List ℕ) (text : List ℕ) : Type 0 where
+pub record IsReadOff (call : Call) (IsTextOf : Reading → List ℕ → Type 0) (text : List ℕ) : Type 0 where
   pub reading : Reading
   pub is_read : WhereToldAtEntry call (λ log store. IsReading log.reads store.reads reading)
-  pub text_is : text ≡ text_of reading
+  pub text_is : IsTextOf reading text
+
+-- its listing, and where that is asked why no block is read after these of the log's content
+pub record IsListing (call : Call) (why : Bool) (reading : Reading) (text : List ℕ) : Type 0 where
+  pub stop : ℕ × Cause
+  pub is_stop : (log : Disk) → call.log.entry.tells ≡ Some log → IsStop reading.shape reading.ckpt reading.views stop log.reads
+  pub text_is : text ≡ dump_text (if why then Some stop else None) reading
 
 -- what a fuse tells
 abbrev pub stop_of : Fuse → Stop
@@ -92,8 +101,8 @@ abbrev pub IsAnswer : Call → Command → List ℕ → Type 0
 IsAnswer call (Format pages space log_blocks) text = IsFormatted call (shape_of pages space log_blocks) text
 IsAnswer call (Run drive) text = IsRunText call (Run drive) drive IsReportText text
 IsAnswer call (Crash drive stop_log stop_data pick workers) text = IsCrashText call drive stop_log stop_data pick workers text
-IsAnswer call (Recover workers) text = IsReadOff call recover_text text
-IsAnswer call (Dump why) text = IsReadOff call (dump_text None) text
+IsAnswer call (Recover workers) text = IsReadOff call (λ reading text. text ≡ recover_text reading) text
+IsAnswer call (Dump why) text = IsReadOff call (IsListing call why) text
 IsAnswer call (Gen seed users groups true max) text =
     IsRunText call (Gen seed users groups true max) (drive_of_seed seed max) (IsSummaryText call) text
 IsAnswer call (Gen seed users groups false max) text = text ≡ generated_text seed users groups

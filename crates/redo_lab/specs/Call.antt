@@ -7,8 +7,8 @@ use Rattle.model_device.specs.Disk.{Disk}
 use Rattle.model_script.specs.declared.script.ScriptLine.{ScriptLine}
 use Rattle.model_store.specs.{IsFair, Opens}
 use Rattle.model_theorem.specs.{IsFresh, Opened, Ran}
-use Rattle.redo_disk.specs.Seen.{Seen}
 use Rattle.redo_drive.specs.declared.drive.RunEnd.{RunEnd}
+use Rattle.redo_disk.specs.Seen.{Seen}
 use Rattle.redo_io.specs.{SinkSeen, SourceSeen}
 use Rattle.redo_memdisk.specs.{armed_from, fuse_of, inner_of}
 use Rattle.redo_memdisk.specs.declared.fuse.Fuse.{Fuse}

@@ -16,10 +16,10 @@ use Rattle.model_store.specs.{IsUnused}
 use Rattle.model_store.specs.declared.refusal.Refusal.{Refusal}
 use Rattle.model_store.specs.declared.refusal.Refusal.TheVariants.{SmallLog}
 use Rattle.model_theorem.specs.{Opened, Ran, room_of}
+use Rattle.redo_drive.specs.declared.drive.RunEnd.TheVariants.{Spent}
 use Rattle.redo_memdisk.specs.declared.fuse.Stage.TheVariants.{Before}
 use Rattle.redo_lab.specs.Answer.{shape_of}
 use Rattle.redo_lab.specs.Asked.{drive_of, reads_script}
-use Rattle.redo_drive.specs.declared.drive.RunEnd.TheVariants.{Spent}
 use Rattle.redo_lab.specs.Call.{AreUnfailedFor, Call, Each, Guarded, IsUnfailed, WhereToldAtEntry, WhereToldNow}
 use Rattle.redo_lab.specs.Script.{IsBadLine, IsLongScript, IsScriptFor, IsScriptRead}
 use Rattle.redo_lab.specs.Store.{AreRefused, IsOpenedAs, IsTooShort}
@@ -64,11 +64,11 @@ IsRefused call (Dump why) refusal = WhereToldAtEntry call (AreRefused refusal)
 IsRefused call (Gen seed users groups true max) refusal = IsRefusedAtEntry call refusal ⊎ WhereToldNow call (AreRefused refusal)
 IsRefused call (Gen seed users groups false max) refusal = ⊥
 
--- THE TURNS ARE SPENT: the drive's run has taken all of them, and this is the least user that hasn't ended. Nothing was crashed.
+-- THE TURNS ARE SPENT: the drive's run has taken so many, which are all, and this is the least user that hasn't ended. Nothing was
+-- crashed.
 pub record AreTurnsSpent (call : Call) (command : Command) (turns user : ℕ) : Type 0 where
   pub drive : Drive
   pub asked : drive_of command ≡ Some drive
-  pub turns_are : turns ≡ drive.max
   pub opened : Opened
   pub script : List ScriptLine
   pub run : Ran

@@ -17,7 +17,7 @@ use Rattle.model_store.specs.{IsReading, IsUnused, Opens}
 use Rattle.model_store.specs.Reading.{Reading}
 use Rattle.model_theorem.specs.{FitsOpened, IsFresh, Opened}
 use Rattle.redo_lab.specs.Answer.{shape_of}
-use Rattle.redo_lab.specs.Asked.{runs_script}
+use Rattle.redo_lab.specs.Asked.{runs_in_threads, runs_script}
 use Rattle.redo_lab.specs.Call.{AreUnfailedFor, Call, IsLeftFair, LabCall}
 
 -- both devices are long enough for these sizes
@@ -68,10 +68,10 @@ IsPossible call (Dump why) = CanRead call
 IsPossible call (Gen seed users groups true max) = CanPlay call false (generated_lines seed users groups)
 IsPossible call (Gen seed users groups false max) = ⊤
 
--- what may keep a command from being done where nothing failed: want of memory, or, where it runs a script, spent turns
+-- what may keep a command from being done where nothing failed: want of memory, or, where it runs a script by turns, spent turns
 abbrev pub MayKeepFrom : Command → Fault → Type 0
 MayKeepFrom command Memory = ⊤
-MayKeepFrom command (Turns turns user) = runs_script command ≡ true
+MayKeepFrom command (Turns turns user) = (runs_script command ≡ true) × (runs_in_threads command ≡ false)
 MayKeepFrom command _ = ⊥
 
 -- A command that can be done is done, where nothing failed, or one of these kept it from that.

@@ -16,17 +16,16 @@ use Rattle.model_store.specs.declared.refusal.Refusal.{Refusal}
 use Rattle.model_theorem.specs.{FitsOpened, IsRun, LosesOnlyByFailure, Opened, Ran, room_of}
 use Rattle.redo_disk.specs.{Call}
 use Rattle.redo_disk.specs.Seen.{Seen}
-use Rattle.redo_memdisk.specs.{CallsThrough, seen_through}
-use Rattle.redo_machine.specs.declared.drive.Turns.{Turns}
+use Rattle.redo_drive.specs.declared.drive.RunEnd.{RunEnd}
+use Rattle.redo_drive.specs.declared.drive.RunEnd.TheVariants.{Done, Spent}
+use Rattle.model_command.specs.declared.asked.Drive.{Drive}
 use Rattle.redo_open.specs.{HasSameCheckpoint, WhereBothTell}
 use Rattle.model_store.specs.{IsUnused}
 use Rattle.redo_lab.specs.declared.playing.Course.{Course}
 use Rattle.redo_lab.specs.declared.playing.Course.TheVariants as course
 use Rattle.redo_lab.specs.declared.playing.Played.{Played}
 use Rattle.redo_lab.specs.declared.playing.Stops.{Stops}
-use Rattle.redo_drive.specs.declared.drive.RunEnd.{RunEnd}
-use Rattle.redo_drive.specs.declared.drive.RunEnd.TheVariants.{Done, Spent}
-use Rattle.redo_lab.specs.Drives.{IsByTurns}
+use Rattle.redo_lab.specs.Drives.{DrivenBy}
 use Rattle.redo_lab.specs.Prepared.{ArePrepared, AreTooShort, EndUnprepared, WhereTold}
 use Rattle.redo_lab.specs.Stages.{IsArmed, Shown}
 use Rattle.redo_lab.specs.Store.{AreRefused, IsOpenedAs}
@@ -105,21 +104,19 @@ pub record CameSoFar (log_entry data_entry : Seen) (stops : Stops) (log_only : B
 abbrev pub Driving : Type 1
 Driving = Opened → Ran → RunEnd → Option Disk → Option Disk → Type 0
 
--- by the turns of the drive, on devices behind their fuses
-abbrev pub ByTurns : {L D : Type 0} → (L → Seen) → (L → Call → L → Type 0) → (D → Seen) → (D → Call → D → Type 0) → Turns → List ScriptLine → Driving
-ByTurns log_seen log_gives data_seen data_gives turns script = λ opened run end log_met store_met.
-    IsByTurns (seen_through log_seen) (CallsThrough log_seen log_gives) (seen_through data_seen) (CallsThrough data_seen data_gives)
-    turns opened script run end log_met store_met
+-- by the drive that was asked for, on devices behind their fuses
+abbrev pub ByDrive : {L D : Type 0} → (L → Seen) → (L → Call → L → Type 0) → (D → Seen) → (D → Call → D → Type 0) → Drive → List ScriptLine → Driving
+ByDrive log_seen log_gives data_seen data_gives drive script = λ opened run end log_met store_met.
+    DrivenBy log_seen log_gives data_seen data_gives drive opened script run end log_met store_met
 
 -- THE TURNS WERE SPENT, and this is the least user that hasn't ended.
-pub record AreSpent (by : Driving) (log_entry data_entry : Seen) (stops : Stops) (turns : Turns) (script : List ScriptLine) (count user : ℕ)
+pub record AreSpent (by : Driving) (log_entry data_entry : Seen) (stops : Stops) (log_only : Bool) (script : List ScriptLine) (turns user : ℕ)
     (log_now data_now : Shown) : Type 0 where
-  pub count_is : count ≡ turns.max
   pub run : Ran
   pub log_failed : ℕ
   pub data_failed : ℕ
-  pub so_far : CameSoFar log_entry data_entry stops turns.log_only script run log_failed data_failed log_now data_now
-  pub driven : by so_far.opened run (Spent count user) log_now.seen.tells data_now.seen.tells
+  pub so_far : CameSoFar log_entry data_entry stops log_only script run log_failed data_failed log_now data_now
+  pub driven : by so_far.opened run (Spent turns user) log_now.seen.tells data_now.seen.tells
   pub holds : HoldsRun so_far.way.log_found so_far.way.data_found script so_far.opened run log_now data_now
 
 -- MEMORY RAN OUT before the first line, once opening was begun.
@@ -142,20 +139,20 @@ AreWithoutMemory log_entry data_entry stops log_only script log_now data_now =
     ⊎ HasRunOut log_entry data_entry stops log_only script log_now data_now
 
 -- THE RUN ENDED before its first line, or its turns were spent, or a device had no memory.
-abbrev pub IsEndedBy : Driving → Seen → Seen → Stops → Turns → List ScriptLine → Fault → Shown → Shown → Type 0
-IsEndedBy by log_entry data_entry stops turns script fault.Memory log_now data_now =
-    AreWithoutMemory log_entry data_entry stops turns.log_only script log_now data_now
-IsEndedBy by log_entry data_entry stops turns script fault.LogDevice log_now data_now =
+abbrev pub IsEndedBy : Driving → Seen → Seen → Stops → Bool → List ScriptLine → Fault → Shown → Shown → Type 0
+IsEndedBy by log_entry data_entry stops log_only script fault.Memory log_now data_now =
+    AreWithoutMemory log_entry data_entry stops log_only script log_now data_now
+IsEndedBy by log_entry data_entry stops log_only script fault.LogDevice log_now data_now =
     EndUnprepared log_entry data_entry 1 0 log_now data_now
-IsEndedBy by log_entry data_entry stops turns script fault.DataDevice log_now data_now =
+IsEndedBy by log_entry data_entry stops log_only script fault.DataDevice log_now data_now =
     EndUnprepared log_entry data_entry 0 1 log_now data_now
-IsEndedBy by log_entry data_entry stops turns script (fault.Store cause) log_now data_now =
+IsEndedBy by log_entry data_entry stops log_only script (fault.Store cause) log_now data_now =
     AreTooShort log_entry data_entry cause log_now data_now ⊎ AreRefusedOpened log_entry data_entry stops cause log_now data_now
-IsEndedBy by log_entry data_entry stops turns script (fault.Turns count user) log_now data_now =
-    AreSpent by log_entry data_entry stops turns script count user log_now data_now
-IsEndedBy by log_entry data_entry stops turns script (fault.Fit misfit) log_now data_now =
-    AreMisfitted log_entry data_entry stops turns.log_only script misfit log_now data_now
-IsEndedBy by log_entry data_entry stops turns script _ log_now data_now = ⊥
+IsEndedBy by log_entry data_entry stops log_only script (fault.Turns turns user) log_now data_now =
+    AreSpent by log_entry data_entry stops log_only script turns user log_now data_now
+IsEndedBy by log_entry data_entry stops log_only script (fault.Fit misfit) log_now data_now =
+    AreMisfitted log_entry data_entry stops log_only script misfit log_now data_now
+IsEndedBy by log_entry data_entry stops log_only script _ log_now data_now = ⊥
 
 -- the run, as the theorem has it
 abbrev pub ran_of : Played → Ran
@@ -212,11 +209,11 @@ IsPlayedBy by log_entry data_entry stops log_only script played (Some fault.Data
     ArePlayed by log_entry data_entry stops log_only script played 0 1 log_now data_now
 IsPlayedBy by log_entry data_entry stops log_only script played (Some _) log_now data_now = ⊥
 
--- WHAT A RUN COMES TO, of a script with these stops by these turns, on these two devices.
-abbrev pub ComesTo : Driving → Seen → Seen → Stops → Turns → List ScriptLine → Course → Shown → Shown → Type 0
-ComesTo by log_entry data_entry stops turns script (course.Ended fault) log_now data_now =
-    IsEndedBy by log_entry data_entry stops turns script fault log_now data_now
-ComesTo by log_entry data_entry stops turns script (course.Stopped fault) log_now data_now =
+-- WHAT A RUN COMES TO, of a script with these stops by this drive, on these two devices.
+abbrev pub ComesTo : Driving → Seen → Seen → Stops → Bool → List ScriptLine → Course → Shown → Shown → Type 0
+ComesTo by log_entry data_entry stops log_only script (course.Ended fault) log_now data_now =
+    IsEndedBy by log_entry data_entry stops log_only script fault log_now data_now
+ComesTo by log_entry data_entry stops log_only script (course.Stopped fault) log_now data_now =
     IsStoppedBy log_entry data_entry stops fault log_now data_now
-ComesTo by log_entry data_entry stops turns script (course.Played played fault) log_now data_now =
-    IsPlayedBy by log_entry data_entry stops turns.log_only script played fault log_now data_now
+ComesTo by log_entry data_entry stops log_only script (course.Played played fault) log_now data_now =
+    IsPlayedBy by log_entry data_entry stops log_only script played fault log_now data_now

@@ -1,11 +1,9 @@
 pub mod Answer
 pub mod Asked
-pub mod Behind
 pub mod Call
 pub mod Cause
 pub mod Complete
 pub mod Course
-pub mod Crashed
 pub mod Drives
 pub mod Ending
 pub mod Faults

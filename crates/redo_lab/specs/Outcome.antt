@@ -14,26 +14,19 @@ use Rattle.redo_lab.specs.declared.outcome.Outcome.{Outcome}
 use Rattle.redo_lab.specs.declared.outcome.Outcome.TheVariants as outcome
 use Rattle.redo_lab.specs.Answer.{IsAnswer}
 use Rattle.redo_lab.specs.Asked.{leaves_devices, reads_script, runs_script}
-use Rattle.redo_lab.specs.Call.{AreUnfailedFor, Call, Each, IsUnfailedAside, IsUnwritten, guarded}
+use Rattle.redo_lab.specs.Call.{AreUnfailedFor, Call, Each, IsUnfailedAside, IsUnwritten}
 use Rattle.redo_lab.specs.Cause.{IsCauseOf}
 use Rattle.redo_lab.specs.Complete.{IsPossible, MayKeepFrom}
-use Rattle.redo_lab.specs.Drives.{DrivenBy}
 use Rattle.redo_lab.specs.Ending.{EndsRun, IsFaultPrinted, IsTextPrinted}
-use Rattle.redo_lab.specs.Handed.{AreOf}
+use Rattle.redo_lab.specs.Handed.{AreOf, call_on}
 use Rattle.redo_lab.specs.Left.{LeavesStore}
 use Rattle.redo_lab.specs.Told.{IsReportText, IsRunText}
 
 -- the call of a command on two devices that are done
 abbrev pub call_of : {L D : Type 0} → (L → Seen) → (L → device.Call → L → Type 0) → (D → Seen) → (D → device.Call → D → Type 0) → List (List ℕ)
     → (source source_now : SourceSeen) → L → D → Done L D → Call
-call_of log_seen log_gives data_seen data_gives words source source_now log store done = record {
-  words = words;
-  source = source;
-  source_now = source_now;
-  log = guarded log_seen log done.log;
-  store = guarded data_seen store done.store;
-  drives = DrivenBy log_seen log_gives data_seen data_gives;
-}
+call_of log_seen log_gives data_seen data_gives words source source_now log store done =
+    call_on log_seen log_gives data_seen data_gives words source source_now log store done.log done.store
 
 -- a command whose text is this, unless memory ran out over it
 abbrev pub outcome_of : {E : Type 0} → Result (List ℕ) E → Outcome

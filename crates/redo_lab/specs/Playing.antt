@@ -1,6 +1,9 @@
 -- What the inner functions of a run come to: both devices once their fuses are armed, and the lines of a script on the store
 -- that was opened.
-use Rattle.std.specs.Prelude.{◌≡◌, ◌⊎◌, ℕ, List, Option, Some, None}
+use Rattle.std.specs.Prelude.{◌≡◌, ◌⊎◌, ℕ, Bool, List, Option, Some, None}
+use Rattle.model_command.specs.declared.asked.Command.{Command}
+use Rattle.model_command.specs.declared.asked.Command.TheVariants.{Crash}
+use Rattle.model_command.specs.declared.asked.Drive.{Drive}
 use Rattle.model_report.specs.declared.fault.Fault.{Fault}
 use Rattle.model_report.specs.declared.fault.Fault.TheVariants as fault
 use Rattle.model_script.specs.{first_misfit, ScriptFits}
@@ -10,12 +13,12 @@ use Rattle.redo_disk.specs.{Call}
 use Rattle.redo_disk.specs.Seen.{Seen}
 use Rattle.redo_disk.specs.declared.error.DevError.{DevError}
 use Rattle.redo_disk.specs.declared.error.DevError.TheVariants as device
-use Rattle.redo_drive.specs.{ComesToRun, HoldsRun, IsOwed, IsOwedSynced, room_from}
-use Rattle.redo_machine.specs.{RunsByTurns}
+use Rattle.redo_drive.specs.{Owes, room_from}
 use Rattle.redo_drive.specs.declared.drive.Driven.{Driven}
-use Rattle.redo_machine.specs.declared.drive.Turns.{Turns}
 use Rattle.redo_drive.specs.declared.drive.RunEnd.{RunEnd}
 use Rattle.redo_drive.specs.declared.drive.RunEnd.TheVariants as ended
+use Rattle.redo_memdisk.specs.{CallsThrough, seen_through}
+use Rattle.redo_memdisk.specs.declared.fused.Fused.{Fused}
 use Rattle.redo_pageactors.specs.declared.closed.Closed.{Closed}
 use Rattle.redo_pageactors.specs.declared.opened.Opened.{Opened}
 use Rattle.redo_recover.specs.declared.fault.RecFault.{RecFault}
@@ -26,6 +29,9 @@ use Rattle.redo_lab.specs.declared.playing.Course.{Course}
 use Rattle.redo_lab.specs.declared.playing.Course.TheVariants as course
 use Rattle.redo_lab.specs.declared.playing.Played.{Played}
 use Rattle.redo_lab.specs.declared.playing.Stops.{Stops}
+use Rattle.redo_lab.specs.declared.crash_command.Crashing.{Crashing}
+use Rattle.redo_lab.specs.Asked.{drive_of}
+use Rattle.redo_lab.specs.Drives.{TellsBehind}
 use Rattle.redo_lab.specs.Faults.{fault_of}
 use Rattle.redo_lab.specs.Prepared.{ArePrepared}
 use Rattle.redo_lab.specs.Stages.{IsArmed, Shown}
@@ -75,29 +81,48 @@ course_of (ended.Spent turns user) played cause = course.Ended (fault.Turns turn
 course_of ended.Done played cause = course_done played cause
 
 -- why no line was run
-abbrev pub IsUnplayed : {L D : Type 0} → Opened L D → Turns → List ScriptLine → Course → Type 0
-IsUnplayed opened turns script found =
+abbrev pub IsUnplayed : {L D : Type 0} → Opened L D → (log_only : Bool) → List ScriptLine → Course → Type 0
+IsUnplayed opened log_only script found =
     (found ≡ course.Ended fault.Memory)
-    ⊎ ((misfit : Misfit) × (first_misfit opened.shape opened.start (room_from turns.log_only opened.shape opened.start) script ≡ Some misfit)
+    ⊎ ((misfit : Misfit) × (first_misfit opened.shape opened.start (room_from log_only opened.shape opened.start) script ≡ Some misfit)
     × (found ≡ course.Ended (fault.Fit misfit)))
 
 -- No line was run, and no call of the opened store's devices was made.
-pub record AreLeftOpened {L D : Type 0} (opened : Opened L D) (turns : Turns) (script : List ScriptLine) (found : Course) (log_now : L) (data_now : D) : Type 0 where
+pub record AreLeftOpened {L D : Type 0} (opened : Opened L D) (log_only : Bool) (script : List ScriptLine) (found : Course) (log_now : L) (data_now : D) : Type 0 where
   pub log_same : log_now ≡ opened.log.dev
   pub data_same : data_now ≡ opened.store.dev
-  pub why : IsUnplayed opened turns script found
+  pub why : IsUnplayed opened log_only script found
 
--- THE LINES WERE RUN by the turns of the drive, with all that is promised of that; and this came of it.
+-- what drives of a kind say of their runs
+abbrev pub Says : (L D S : Type 0) → Type 1
+Says L D S = (L → Seen) → (L → Call → L → Type 0) → (D → Seen) → (D → Call → D → Type 0) → S → Opened L D → List ScriptLine → Driven L D → Type 0
+
+-- THE LINES WERE RUN by a drive that says this, with all that every drive owes; and this came of it.
 pub record AreDriven {L D : Type 0} (log_seen : L → Seen) (log_gives : L → Call → L → Type 0) (data_seen : D → Seen) (data_gives : D → Call → D → Type 0)
-    (opened : Opened L D) (turns : Turns) (script : List ScriptLine) (found : Course) (log_now : L) (data_now : D) : Type 0 where
-  pub fits : ScriptFits opened.shape opened.start (room_from turns.log_only opened.shape opened.start) script
+    {S : Type 0} (says : Says L D S) (drive : S) (opened : Opened L D) (log_only : Bool) (script : List ScriptLine) (found : Course) (log_now : L) (data_now : D) : Type 0 where
+  pub fits : ScriptFits opened.shape opened.start (room_from log_only opened.shape opened.start) script
   pub driven : Driven L D
-  pub by_turns : RunsByTurns log_seen log_gives data_seen data_gives opened script turns driven
-  pub comes_to : ComesToRun log_gives data_gives opened script driven
-  pub holds : HoldsRun log_seen data_seen opened script driven
-  pub owed : IsOwed log_seen data_seen opened script driven
-  pub owed_synced : IsOwedSynced log_seen data_seen opened script driven
+  pub told : says log_seen log_gives data_seen data_gives drive opened script driven
+  pub owed : Owes log_seen log_gives data_seen data_gives opened script driven
   pub course_is : found ≡ course_of driven.ended (played_of opened.start driven.closed)
       (ended_by driven.closed.log.failed driven.closed.store.failed)
   pub log_is : log_now ≡ driven.closed.log.dev
   pub data_is : data_now ≡ driven.closed.store.dev
+
+-- A DRIVE SERVES what is asked: it runs the log alone where that is asked, and says what the drive that is asked for tells.
+pub record Serves {L D : Type 0} (log_seen : L → Seen) (log_gives : L → Call → L → Type 0) (data_seen : D → Seen) (data_gives : D → Call → D → Type 0)
+    {S : Type 0} (alone : S → Bool) (says : Says (Fused L) (Fused D) S) (drive : S) (asked : Drive) : Type 0 where
+  pub log_only_is : alone drive ≡ asked.log_only
+  pub told : (opened : Opened (Fused L) (Fused D)) (script : List ScriptLine) (driven : Driven (Fused L) (Fused D))
+      → says (seen_through log_seen) (CallsThrough log_seen log_gives) (seen_through data_seen) (CallsThrough data_seen data_gives) drive opened script driven
+      → TellsBehind log_seen log_gives data_seen data_gives asked opened script driven
+
+-- and so for a command that runs a script
+abbrev pub ServesCommand : {L D : Type 0} → (L → Seen) → (L → Call → L → Type 0) → (D → Seen) → (D → Call → D → Type 0)
+    → {S : Type 0} → (S → Bool) → Says (Fused L) (Fused D) S → S → Command → Type 0
+ServesCommand log_seen log_gives data_seen data_gives alone says drive command =
+    (asked : Drive) → drive_of command ≡ Some asked → Serves log_seen log_gives data_seen data_gives alone says drive asked
+
+-- the command to crash so
+abbrev pub crash_of : Drive → Crashing → Command
+crash_of asked crash = Crash asked crash.stops.log crash.stops.store crash.pick crash.workers

@@ -1,4 +1,10 @@
 // What a call gives back.
+ghost use Rattle.std.specs.Prelude.{◌≡◌};
+ghost use Rattle.redo_lab.specs.Outcome.{IsOutcomePrinted};
+
+use crate::outcome::Done;
+use crate::printing::print_outcome;
+use redo_io::Sink;
 use redo_memdisk::Fused;
 
 /// What the top call gives back: the status, and both devices behind their fuses, which tell what failed.
@@ -8,4 +14,19 @@ pub struct Ended<L, D> {
     pub status: u8,
     pub log: Fused<L>,
     pub store: Fused<D>,
+}
+
+/// Prints what a command comes to, and gives back its devices.
+pub(crate) fn end<O: Sink, L, D>(out: &mut O, done: Done<L, D>) -> Ended<L, D>
+    ensures printed { IsOutcomePrinted done.outcome result.status (O.seen out.old) (O.seen out.new) }
+    ensures log { result.log ≡ done.log }
+    ensures store { result.store ≡ done.store }
+{
+    let Done {
+        outcome,
+        log,
+        store,
+    } = done;
+    let status = print_outcome(out, &outcome);
+    Ended { status, log, store }
 }

@@ -8,12 +8,13 @@ ghost use Rattle.model_script.specs.declared.misfit.TheConstants.{MAX_USERS};
 ghost use Rattle.redo_io.specs.{SourceSeen};
 ghost use Rattle.redo_memdisk.specs.{entry_of};
 ghost use Rattle.redo_recover.specs.{reading_of};
-ghost use Rattle.redo_lab.specs.Asked.{drive_of_seed, turns_of};
-ghost use Rattle.redo_lab.specs.Behind.{ReadsBehind};
+ghost use Rattle.redo_lab.specs.Asked.{drive_of_seed};
 ghost use Rattle.redo_lab.specs.Course.{ran_of};
 ghost use Rattle.redo_lab.specs.Handed.{AreOf};
 ghost use Rattle.redo_lab.specs.Outcome.{EndsWith, call_of};
+ghost use Rattle.redo_lab.specs.Playing.{Serves};
 ghost use Rattle.redo_lab.specs.Reported.{summary_of};
+ghost use Rattle.redo_lab.specs.Reread.{ReadsAfter};
 ghost use Rattle.redo_lab.specs.Stages.{shown};
 
 use crate::faults::fault_of;
@@ -26,9 +27,9 @@ use model_run::{closed_run_is_safe, held_run_is_opened, held_run_reads};
 use model_script::{Script, unfit_is_misfit};
 use model_store::{base_is_fair, one_answer, one_reading};
 use redo_disk::Sectors;
+use redo_drive::Drive;
 use redo_io::Text;
 use redo_lsn::NoMemory;
-use redo_machine::Turns;
 use redo_memdisk::Fused;
 use redo_recover::{Recovered, recover};
 use redo_report::summary;
@@ -41,13 +42,12 @@ fn print_script<L: Sectors, D: Sectors>(
     seed: u64,
     users: u32,
     groups: u64,
-    max: u64,
     log: L,
     store: D,
 ) -> Done<L, D>
     requires some_users { 1 ≤ users }
     requires few_users { users ≤ MAX_USERS }
-    ensures ends { (words : List (List ℕ)) (source : SourceSeen)
+    ensures ends { (words : List (List ℕ)) (source : SourceSeen) (max : ℕ)
         → EndsWith (call_of L.seen L.gives D.seen D.gives words source source log store result) (Gen seed users groups false max) result.outcome }
     ensures entered { AreOf log store result.log result.store }
 {
@@ -74,13 +74,13 @@ fn summarize(alloc: Global, played: &Played, recovered: &Recovered) -> Result<Te
 }
 
 /// Reads the store behind a run, and sums both up.
-fn read_behind<L: Sectors, D: Sectors>(
+fn read_after<L: Sectors, D: Sectors>(
     alloc: Global,
     played: &Played,
     log: &mut Fused<L>,
     store: &mut Fused<D>,
 ) -> Outcome
-    ensures reads { ReadsBehind (ran_of played.now) result (shown L.seen log.old) (shown D.seen store.old)
+    ensures reads { ReadsAfter (ran_of played.now) result (shown L.seen log.old) (shown D.seen store.old)
         (shown L.seen log.new) (shown D.seen store.new) }
     ensures entered { AreOf (entry_of log.old) (entry_of store.old) log.new store.new }
 {
@@ -90,28 +90,17 @@ fn read_behind<L: Sectors, D: Sectors>(
     }
 }
 
-/// The turns of the run: those of the script's seed.
-fn turns_of_seed(seed: u64, max: u64) -> Turns
-    ensures { result ≡ turns_of (drive_of_seed seed max) }
-{
-    Turns {
-        seed,
-        max,
-        log_only: false,
-    }
-}
-
-/// Runs the script of the seed by the turns of the same seed, and sums the run up; of a fault there is its line alone.
-fn run_script<L: Sectors, D: Sectors>(
+/// Runs the script of the seed by this drive, and sums the run up; of a fault there is its line alone.
+fn run_script<L: Sectors + Send, D: Sectors + Send, V: Drive>(
     alloc: Global,
     script: &Script,
-    seed: u64,
-    max: u64,
+    drive: &V,
     log: L,
     store: D,
 ) -> Done<L, D>
     requires { AllByRecursion IsScriptLine script.now }
-    ensures ends { (words : List (List ℕ)) (source : SourceSeen) (users groups : ℕ) → script.now ≡ generated_lines seed users groups
+    ensures ends { (words : List (List ℕ)) (source : SourceSeen) (seed users groups max : ℕ) → script.now ≡ generated_lines seed users groups
+        → Serves L.seen L.gives D.seen D.gives V.alone V.says drive.now (drive_of_seed seed max)
         → EndsWith (call_of L.seen L.gives D.seen D.gives words source source log store result) (Gen seed users groups true max) result.outcome }
     ensures entered { AreOf log store result.log result.store }
 {
@@ -132,12 +121,12 @@ fn run_script<L: Sectors, D: Sectors>(
         course,
         mut log,
         mut store,
-    } = run_lines(alloc, script, &turns_of_seed(seed, max), stops, log, store);
+    } = run_lines(alloc, script, drive, stops, log, store);
     let outcome = match course {
         Course::Ended(fault) | Course::Stopped(fault) => Outcome::Fault(fault),
         Course::Played(played, ended) => match ended {
             Some(fault) => Outcome::Fault(fault),
-            None => read_behind(alloc, &played, &mut log, &mut store),
+            None => read_after(alloc, &played, &mut log, &mut store),
         },
     };
     Done {
@@ -147,50 +136,52 @@ fn run_script<L: Sectors, D: Sectors>(
     }
 }
 
-/// Generates the script of the seed, and runs it.
-fn run_seed<L: Sectors, D: Sectors>(
+/// Generates the script of the seed, and runs it by this drive.
+fn run_seed<L: Sectors + Send, D: Sectors + Send, V: Drive>(
     alloc: Global,
     seed: u64,
     users: u32,
     groups: u64,
-    max: u64,
+    drive: &V,
     log: L,
     store: D,
 ) -> Done<L, D>
     requires some_users { 1 ≤ users }
     requires few_users { users ≤ MAX_USERS }
-    ensures ends { (words : List (List ℕ)) (source : SourceSeen)
+    ensures ends { (words : List (List ℕ)) (source : SourceSeen) (max : ℕ)
+        → Serves L.seen L.gives D.seen D.gives V.alone V.says drive.now (drive_of_seed seed max)
         → EndsWith (call_of L.seen L.gives D.seen D.gives words source source log store result) (Gen seed users groups true max) result.outcome }
     ensures entered { AreOf log store result.log result.store }
 {
     openable_reads();
     generated_lines_are_ranged();
     match generate_lines(alloc, seed, users, groups) {
-        Ok(script) => run_script(alloc, &script, seed, max, log, store),
+        Ok(script) => run_script(alloc, &script, drive, log, store),
         Err(_) => unasked(Fault::Memory, log, store),
     }
 }
 
-/// Generates the script of the seed, and prints or runs it. It reads no source.
-pub(crate) fn gen_command<L: Sectors, D: Sectors>(
+/// Generates the script of the seed, and prints it or runs it by this drive. It reads no source.
+pub(crate) fn gen_command<L: Sectors + Send, D: Sectors + Send, V: Drive>(
     alloc: Global,
     seed: u64,
     users: u32,
     groups: u64,
     run: bool,
-    max: u64,
+    drive: &V,
     log: L,
     store: D,
 ) -> Done<L, D>
     requires some_users { 1 ≤ users }
     requires few_users { users ≤ MAX_USERS }
-    ensures ends { (words : List (List ℕ)) (source : SourceSeen)
+    ensures ends { (words : List (List ℕ)) (source : SourceSeen) (max : ℕ)
+        → (run ≡ true → Serves L.seen L.gives D.seen D.gives V.alone V.says drive.now (drive_of_seed seed max))
         → EndsWith (call_of L.seen L.gives D.seen D.gives words source source log store result) (Gen seed users groups run max) result.outcome }
     ensures entered { AreOf log store result.log result.store }
 {
     if run {
-        run_seed(alloc, seed, users, groups, max, log, store)
+        run_seed(alloc, seed, users, groups, drive, log, store)
     } else {
-        print_script(alloc, seed, users, groups, max, log, store)
+        print_script(alloc, seed, users, groups, log, store)
     }
 }

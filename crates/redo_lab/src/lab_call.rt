@@ -1,42 +1,82 @@
 // The top call.
-ghost use Rattle.std.specs.Prelude.{map};
+ghost use Rattle.std.specs.Prelude.{ℕ, ◌≡◌, Some, false, List, map};
 ghost use Rattle.std.specs.String.{string_bytes};
+ghost use Rattle.redo_lab.specs.Asked.{IsWithin, command_of, runs_in_threads};
 ghost use Rattle.redo_lab.specs.Ending.{IsCallOf};
 ghost use Rattle.redo_lab.specs.Handed.{AreOf, lab_call_of};
 
-use crate::asked::read_command;
+use crate::asked::{in_threads, read_command, turns_for};
 use crate::commands::done;
-use crate::ended::Ended;
-use crate::outcome::{Done, unasked};
-use crate::printing::print_outcome;
+use crate::ended::{Ended, end};
+use crate::in_threads::InThreads;
+use crate::outcome::unasked;
+use model_command::Command;
 use model_opening::openable_reads;
 use redo_disk::Sectors;
 use redo_io::{Sink, Source};
+use redo_threads::Gate;
 use std::alloc::Global;
+use std::sync::Wait;
+use std::thread::Threads;
+
+/// Does a command that runs nothing in threads on the two devices, with the script of the source where it takes one, and prints
+/// what came of it. Threads may still help to read the store.
+pub fn lab_turns<R: Threads + Sync, S: Source, O: Sink, L: Sectors + Send, D: Sectors + Send>(
+    rt: &R,
+    alloc: Global,
+    command: Command,
+    src: &mut S,
+    out: &mut O,
+    log: L,
+    store: D,
+) -> Ended<L, D>
+    requires within { IsWithin command }
+    requires by_turns { runs_in_threads command ≡ false }
+    ensures call { (words : List (List ℕ)) → command_of words ≡ Some command
+        → IsCallOf (lab_call_of L.seen L.gives D.seen D.gives words (S.seen src.old) (S.seen src.new) (O.seen out.old) (O.seen out.new) log store result) }
+    ensures entered { AreOf log store result.log result.store }
+{
+    let turns = turns_for(&command);
+    end(out, done(rt, alloc, command, src, &turns, log, store))
+}
 
 /// Does what the words ask for on the two devices, with the script of the source where the command takes one, and prints
-/// what came of it.
-pub fn lab<S: Source, O: Sink, L: Sectors, D: Sectors>(
+/// what came of it. A gate may hold the users of a run in threads.
+pub fn lab<
+    S: Source,
+    O: Sink,
+    L: Sectors + Send,
+    D: Sectors + Send,
+    G: Gate,
+    R: Threads + Wait + Sync,
+>(
+    rt: &R,
     alloc: Global,
     words: &[String],
     src: &mut S,
     out: &mut O,
     log: L,
     store: D,
+    gate: &G,
 ) -> Ended<L, D>
     ensures call { IsCallOf (lab_call_of L.seen L.gives D.seen D.gives (map (λ word. string_bytes word) words.now) (S.seen src.old) (S.seen src.new)
         (O.seen out.old) (O.seen out.new) log store result) }
     ensures entered { AreOf log store result.log result.store }
 {
     openable_reads();
-    let Done {
-        outcome,
-        log,
-        store,
-    } = match read_command(alloc, words) {
-        Ok(command) => done(alloc, command, src, log, store),
-        Err(fault) => unasked(fault, log, store),
+    let command = match read_command(alloc, words) {
+        Ok(command) => command,
+        Err(fault) => return end(out, unasked(fault, log, store)),
     };
-    let status = print_outcome(out, &outcome);
-    Ended { status, log, store }
+    match in_threads(&command) {
+        Some(drive) => {
+            let threads = InThreads {
+                rt,
+                gate,
+                log_only: drive.log_only,
+            };
+            end(out, done(rt, alloc, command, src, &threads, log, store))
+        }
+        None => lab_turns(rt, alloc, command, src, out, log, store),
+    }
 }

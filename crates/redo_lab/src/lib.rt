@@ -8,6 +8,7 @@ mod crash_command;
 mod ended;
 mod faults;
 mod gen_command;
+mod in_threads;
 mod lab_call;
 mod outcome;
 mod playing;
@@ -21,6 +22,6 @@ mod shapes;
 mod simple;
 
 pub use ended::Ended;
-pub use lab_call::lab;
+pub use lab_call::{lab, lab_turns};
 pub use printing::print_fault;
 pub use shapes::{LOG_LENGTH, STORE_LENGTH};

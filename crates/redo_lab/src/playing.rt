@@ -2,17 +2,18 @@
 ghost use Rattle.std.specs.Prelude.{◌≡◌, ◌≤◌, ◌<◌, ◌^◌, ◌⊎◌};
 ghost use Rattle.std.specs.List.{AllByRecursion};
 ghost use Rattle.model_base.specs.{IsWithinLimits};
+ghost use Rattle.model_command.specs.declared.asked.Drive.{Drive as Asked};
 ghost use Rattle.model_log.specs.declared.layout.TheConstants.{BLOCK_HEADER};
 ghost use Rattle.model_script.specs.{IsScriptLine};
 ghost use Rattle.redo_disk.specs.Seen.{Seen};
 ghost use Rattle.redo_memdisk.specs.{CallsThrough, entry_of, seen_through};
 ghost use Rattle.redo_drive.specs.{room_from};
 ghost use Rattle.redo_pageactors.specs.{IsRunnable};
-ghost use Rattle.redo_lab.specs.Course.{ByTurns, ComesTo};
+ghost use Rattle.redo_lab.specs.Course.{ByDrive, ComesTo};
 ghost use Rattle.redo_lab.specs.Handed.{AreOf};
 ghost use Rattle.redo_lab.specs.Stages.{Shown, shown};
 ghost use Rattle.redo_lab.specs.declared.playing.Stops.{Stops};
-ghost use Rattle.redo_lab.specs.Playing.{AreArmed, AreDriven, AreLeftOpened, course_done, course_of, ended_by, fault_of_unfit, played_of, unopened};
+ghost use Rattle.redo_lab.specs.Playing.{AreArmed, AreDriven, AreLeftOpened, Serves, course_done, course_of, ended_by, fault_of_unfit, played_of, unopened};
 
 use crate::faults::fault_of;
 use crate::prepare::prepare;
@@ -24,8 +25,7 @@ use model_report::Fault;
 use model_script::{Script, fitting_script};
 use model_store::{one_answer, one_reading};
 use redo_disk::{DevError, Sectors};
-use redo_drive::{Driven, RunEnd};
-use redo_machine::{Turns, run_by_turns};
+use redo_drive::{Drive, Driven, RunEnd};
 use redo_memdisk::Fused;
 use redo_open::open_store;
 use redo_pageactors::Opened;
@@ -140,22 +140,22 @@ fn close<L: Sectors, D: Sectors>(start: u64, driven: Driven<Fused<L>, Fused<D>>)
     }
 }
 
-/// Runs the lines of a script on an opened store by turns, if it fits that.
-fn play<L: Sectors, D: Sectors>(
+/// Runs the lines of a script on an opened store by this drive, if it fits that.
+fn play<L: Sectors + Send, D: Sectors + Send, V: Drive>(
     alloc: Global,
     script: &Script,
-    turns: &Turns,
+    drive: &V,
     opened: Opened<Fused<L>, Fused<D>>,
 ) -> Ran<L, D>
     requires runnable { IsRunnable opened }
     requires lines { AllByRecursion IsScriptLine script.now }
-    ensures plays { AreLeftOpened opened turns.now script.now result.course result.log result.store
-        ⊎ AreDriven (seen_through L.seen) (CallsThrough L.seen L.gives) (seen_through D.seen) (CallsThrough D.seen D.gives) opened turns.now script.now
+    ensures plays { AreLeftOpened opened (V.alone drive.now) script.now result.course result.log result.store
+        ⊎ AreDriven (seen_through L.seen) (CallsThrough L.seen L.gives) (seen_through D.seen) (CallsThrough D.seen D.gives) V.says drive.now opened (V.alone drive.now) script.now
         result.course result.log result.store }
 {
     fitting_script();
     let start = opened.start;
-    let room_end = room_from(turns.log_only, &opened.shape, start);
+    let room_end = room_from(drive.log_only(), &opened.shape, start);
     match judge(alloc, &opened.shape, start, room_end, script) {
         Ok(()) => {}
         Err(unfit) => {
@@ -166,7 +166,7 @@ fn play<L: Sectors, D: Sectors>(
             };
         }
     }
-    match run_by_turns(alloc, opened, script, turns) {
+    match drive.drive(alloc, opened, script) {
         Ok(driven) => close(start, driven),
         Err((_, log, store)) => Ran {
             course: Course::Ended(Fault::Memory),
@@ -186,25 +186,26 @@ fn unopened(fault: RecFault) -> Course
     }
 }
 
-/// Opens the store on both devices, whose fuses are armed, and runs the script by turns.
-fn open_and_play<L: Sectors, D: Sectors>(
+/// Opens the store on both devices, whose fuses are armed, and runs the script by this drive.
+fn open_and_play<L: Sectors + Send, D: Sectors + Send, V: Drive>(
     alloc: Global,
     script: &Script,
-    turns: &Turns,
+    drive: &V,
     log: Fused<L>,
     store: Fused<D>,
 ) -> Ran<L, D>
     requires { AllByRecursion IsScriptLine script.now }
-    ensures comes_to { (log_entry data_entry : Seen) (stops : Stops) (log_found data_found : Shown)
+    ensures comes_to { (asked : Asked) (log_entry data_entry : Seen) (stops : Stops) (log_found data_found : Shown)
+        → Serves L.seen L.gives D.seen D.gives V.alone V.says drive.now asked
         → AreArmed log_entry data_entry stops log_found data_found (shown L.seen log) (shown D.seen store)
-        → ComesTo (ByTurns L.seen L.gives D.seen D.gives turns.now script.now) log_entry data_entry stops turns.now script.now result.course (shown L.seen result.log) (shown D.seen result.store) }
+        → ComesTo (ByDrive L.seen L.gives D.seen D.gives asked script.now) log_entry data_entry stops asked.log_only script.now result.course (shown L.seen result.log) (shown D.seen result.store) }
     ensures entered { AreOf (entry_of log) (entry_of store) result.log result.store }
 {
     one_reading();
     one_answer();
     formatted_is_openable();
     match open_store(alloc, log, store) {
-        Ok(opened) => play(alloc, script, turns, opened),
+        Ok(opened) => play(alloc, script, drive, opened),
         Err((fault, log, store)) => Ran {
             course: unopened(fault),
             log,
@@ -213,17 +214,18 @@ fn open_and_play<L: Sectors, D: Sectors>(
     }
 }
 
-/// Prepares both devices, arms their fuses, opens the store and runs the script by turns.
-pub(crate) fn run_lines<L: Sectors, D: Sectors>(
+/// Prepares both devices, arms their fuses, opens the store and runs the script by this drive.
+pub(crate) fn run_lines<L: Sectors + Send, D: Sectors + Send, V: Drive>(
     alloc: Global,
     script: &Script,
-    turns: &Turns,
+    drive: &V,
     stops: Stops,
     log: L,
     store: D,
 ) -> Ran<L, D>
     requires { AllByRecursion IsScriptLine script.now }
-    ensures comes_to { ComesTo (ByTurns L.seen L.gives D.seen D.gives turns.now script.now) (L.seen log) (D.seen store) stops turns.now script.now result.course (shown L.seen result.log) (shown D.seen result.store) }
+    ensures comes_to { (asked : Asked) → Serves L.seen L.gives D.seen D.gives V.alone V.says drive.now asked
+        → ComesTo (ByDrive L.seen L.gives D.seen D.gives asked script.now) (L.seen log) (D.seen store) stops asked.log_only script.now result.course (shown L.seen result.log) (shown D.seen result.store) }
     ensures entered { AreOf log store result.log result.store }
 {
     let mut log = Fused::plain(log);
@@ -240,5 +242,5 @@ pub(crate) fn run_lines<L: Sectors, D: Sectors>(
     }
     log.arm(stops.log);
     store.arm(stops.store);
-    open_and_play(alloc, script, turns, log, store)
+    open_and_play(alloc, script, drive, log, store)
 }

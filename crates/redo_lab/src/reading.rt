@@ -1,5 +1,5 @@
 // The texts of a store that was read.
-ghost use Rattle.std.specs.Prelude.{◌≡◌, ◌≤◌, ◌<◌, ◌+◌, ◌*◌, ◌^◌, length, take, None, IfOk};
+ghost use Rattle.std.specs.Prelude.{◌≡◌, ◌≤◌, ◌<◌, ◌+◌, ◌*◌, ◌^◌, length, take, None, Some, if◌then◌else◌, IfOk};
 ghost use Rattle.model_base.specs.declared.limits.TheConstants.{BLOCK_SIZE, MAX_PAGES};
 ghost use Rattle.model_report.specs.{dump_text, recover_text};
 ghost use Rattle.redo_recover.specs.{reading_of};
@@ -43,10 +43,10 @@ pub(crate) fn reading_text(alloc: Global, recovered: &Recovered) -> Result<Text,
     )
 }
 
-/// What `dump` prints of it.
-pub(crate) fn listing_of(alloc: Global, recovered: &Recovered) -> Result<Text, NoMemory>
+/// What `dump` prints of it, and where that is asked why no further block is read.
+pub(crate) fn listing_of(alloc: Global, recovered: &Recovered, why: bool) -> Result<Text, NoMemory>
     requires { recovered.now.ckpt + BLOCK_SIZE * length recovered.now.views.items < 2 ^ 64 }
-    ensures { IfOk result (λ text. text ≡ dump_text None (reading_of recovered.now)) }
+    ensures { IfOk result (λ text. text ≡ dump_text (if why then Some recovered.now.stop else None) (reading_of recovered.now)) }
 {
     listing(
         alloc,
@@ -59,6 +59,6 @@ pub(crate) fn listing_of(alloc: Global, recovered: &Recovered) -> Result<Text, N
             groups: recovered.groups.as_slice(),
             end: recovered.end,
         },
-        false,
+        why,
     )
 }

@@ -1,7 +1,8 @@
 // The commands that take no script.
-ghost use Rattle.std.specs.Prelude.{ℕ, Bool, List};
+ghost use Rattle.std.specs.Prelude.{ℕ, List, ◌≤◌};
 ghost use Rattle.model_base.specs.{IsWithinLimits};
 ghost use Rattle.model_command.specs.declared.asked.Command.TheVariants.{Format, Recover, Dump};
+ghost use Rattle.model_command.specs.declared.words.TheConstants.{MAX_WORKERS};
 ghost use Rattle.redo_io.specs.{SourceSeen};
 ghost use Rattle.redo_lab.specs.Answer.{shape_of};
 ghost use Rattle.redo_lab.specs.Handed.{AreOf};
@@ -16,9 +17,10 @@ use model_store::one_answer;
 use redo_disk::Sectors;
 use redo_memdisk::Fused;
 use redo_open::format;
-use redo_recover::recover;
+use redo_recover::{recover, recover_with};
 use redo_report::formatted;
 use std::alloc::Global;
+use std::thread::Threads;
 
 /// Formats both devices.
 pub(crate) fn format_devices<L: Sectors, D: Sectors>(
@@ -48,16 +50,23 @@ pub(crate) fn format_devices<L: Sectors, D: Sectors>(
     }
 }
 
-/// Reads the store, and prints its pages.
-pub(crate) fn print_pages<L: Sectors, D: Sectors>(alloc: Global, log: L, store: D) -> Done<L, D>
-    ensures ends { (words : List (List ℕ)) (source : SourceSeen) (workers : ℕ)
+/// Reads the store by so many workers, and prints its pages.
+pub(crate) fn print_pages<R: Threads + Sync, L: Sectors, D: Sectors>(
+    rt: &R,
+    alloc: Global,
+    workers: u32,
+    log: L,
+    store: D,
+) -> Done<L, D>
+    requires { (1 ≤ workers) × (workers ≤ MAX_WORKERS) }
+    ensures ends { (words : List (List ℕ)) (source : SourceSeen)
         → EndsWith (call_of L.seen L.gives D.seen D.gives words source source log store result) (Recover workers) result.outcome }
     ensures entered { AreOf log store result.log result.store }
 {
     one_answer();
     let mut log = Fused::plain(log);
     let mut store = Fused::plain(store);
-    let outcome = match recover(alloc, &mut log, &mut store) {
+    let outcome = match recover_with(rt, alloc, &mut log, &mut store, workers) {
         Ok(recovered) => Outcome::of_text(reading_text(alloc, &recovered)),
         Err(fault) => Outcome::Fault(fault_of(fault)),
     };
@@ -68,9 +77,14 @@ pub(crate) fn print_pages<L: Sectors, D: Sectors>(alloc: Global, log: L, store: 
     }
 }
 
-/// Reads the store, and lists what stands on its devices.
-pub(crate) fn print_store<L: Sectors, D: Sectors>(alloc: Global, log: L, store: D) -> Done<L, D>
-    ensures ends { (words : List (List ℕ)) (source : SourceSeen) (why : Bool)
+/// Reads the store, and lists what stands on its devices, and where that is asked why no further block is read.
+pub(crate) fn print_store<L: Sectors, D: Sectors>(
+    alloc: Global,
+    why: bool,
+    log: L,
+    store: D,
+) -> Done<L, D>
+    ensures ends { (words : List (List ℕ)) (source : SourceSeen)
         → EndsWith (call_of L.seen L.gives D.seen D.gives words source source log store result) (Dump why) result.outcome }
     ensures entered { AreOf log store result.log result.store }
 {
@@ -78,7 +92,7 @@ pub(crate) fn print_store<L: Sectors, D: Sectors>(alloc: Global, log: L, store: 
     let mut log = Fused::plain(log);
     let mut store = Fused::plain(store);
     let outcome = match recover(alloc, &mut log, &mut store) {
-        Ok(recovered) => Outcome::of_text(listing_of(alloc, &recovered)),
+        Ok(recovered) => Outcome::of_text(listing_of(alloc, &recovered, why)),
         Err(fault) => Outcome::Fault(fault_of(fault)),
     };
     Done {

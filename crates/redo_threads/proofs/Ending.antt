@@ -7,6 +7,7 @@ use Rattle.model_core.specs.{index}
 use Rattle.model_core.specs.Actors as model
 use Rattle.model_core.specs.States.{UserState}
 use Rattle.model_core.specs.declared.steps.UserStep.{UserStep}
+use Rattle.model_core.specs.declared.steps.UserStep.TheVariants as user_step
 use Rattle.model_core.specs.declared.words.Word.TheVariants as word
 use Rattle.model_logcore.specs.LogFits.{UserAt}
 use Rattle.model_running.specs.Schedule.{HasEnded, HaveEnded}
@@ -67,6 +68,6 @@ module _ {L D : Type 0} (log_seen : L → Seen) (log_gives : L → Call → L �
       let code : slice_index left.last.words.words (index word.Failed) ≡ R.shared.failed = ap (λ (ws : List ℕ). slice_index ws (index word.Failed)) R.flat_is in
       let zero_is : R.shared.failed ≡ 0 = sym code ∙ sym left.code ∙ none in
       ⊎_elim
-      (λ done. (subst (λ (s : UserStep). UserAt (log_of log_seen data_seen left.run) left.run.setup R.shared R.log_ghost left.last.log seat u s) done fits.step).1)
-      (λ failed. let met = (subst (λ (s : UserStep). UserAt (log_of log_seen data_seen left.run) left.run.setup R.shared R.log_ghost left.last.log seat u s) failed fits.step).1 in absurd (omega arith))
+      (λ done. let at_done : UserAt (log_of log_seen data_seen left.run) left.run.setup R.shared R.log_ghost left.last.log seat u user_step.Done = subst (λ (s : UserStep). UserAt (log_of log_seen data_seen left.run) left.run.setup R.shared R.log_ghost left.last.log seat u s) done fits.step in at_done.1)
+      (λ failed. let at_failed : UserAt (log_of log_seen data_seen left.run) left.run.setup R.shared R.log_ghost left.last.log seat u user_step.Failed = subst (λ (s : UserStep). UserAt (log_of log_seen data_seen left.run) left.run.setup R.shared R.log_ghost left.last.log seat u s) failed fits.step in let met = at_failed.1 in absurd (omega arith))
       (ended seat u at)

@@ -33,12 +33,14 @@ module _ {L D : Type 0} (table : TableId) where
       → AreSeatsOf table all xs → AreSeatsOf table rest ys × IsSeatOf table s (view_of a) × (number_of s.me.0 ≡ length ys)
   last_taken all rest s xs ys a e f A =
       let n : length rest + 1 ≡ length ys + 1 = sym (ap length e ∙ length-append rest (s ∷ [])) ∙ A.count ∙ ap length f ∙ length-append ys (a ∷ []) in
-      let m : length rest ≡ length ys = omega arith in (
+      let m : length rest ≡ length ys = omega arith in
+      let last = A.each (length ys) s a (ap (λ l. get_elem? l (length ys)) e ∙ at_last rest s (length ys) m) (ap (λ l. get_elem? l (length ys)) f ∙ at_last ys a (length ys) refl) in (
         record {
           count = m;
           each = λ i t b at bt. A.each i t b (ap (λ l. get_elem? l i) e ∙ at_longer rest (s ∷ []) i t at) (ap (λ l. get_elem? l i) f ∙ at_longer ys (a ∷ []) i b bt);
         },
-        A.each (length ys) s a (ap (λ l. get_elem? l (length ys)) e ∙ at_last rest s (length ys) m) (ap (λ l. get_elem? l (length ys)) f ∙ at_last ys a (length ys) refl),
+        last.0,
+        last.1,
       )
 
   pub put_last : (all rest : List (Seat (Slot L D) (View L D))) (s : Seat (Slot L D) (View L D)) (xs ys : List Actor) (a : Actor) → all ≡ rest ++ s ∷ [] → xs ≡ ys ++ a ∷ []
@@ -100,3 +102,16 @@ module _ {L D : Type 0} (table : TableId) where
   -- what a promise says of an actor at the table
   pub goes_kept : (n : TableId) (s p t : Seat (Slot L D) (View L D)) (a q b : Actor) → n ≡ table → p ≡ s → q ≡ a → GoesOn n p q t b → GoesOn table s a t b
   goes_kept n s p t a q b e f k h = subst (λ (m : TableId). GoesOn m s a t b) e (subst (λ (x : Seat (Slot L D) (View L D)). GoesOn n x a t b) f (subst (λ (x : Actor). GoesOn n p x t b) k h))
+
+  -- nothing has happened
+  pub go_same : (x y : Crew L D) → AreSeatsOf table x.seats.items x.actors.items → y.seats.items ≡ x.seats.items → y.actors.items ≡ x.actors.items → vec_capacity y.seats ≡ vec_capacity x.seats → vec_capacity y.actors ≡ vec_capacity x.actors → GoOn table x y
+  go_same x y h seats actors seats_fit actors_fit = record {
+    seats = subst (λ (l : List (Seat (Slot L D) (View L D))). AreSeatsOf table l y.actors.items) (sym seats) (subst (λ (l : List Actor). AreSeatsOf table x.seats.items l) (sym actors) h);
+    actors = subst (λ (l : List Actor). AllLater x.actors.items l) (sym actors) (all_refl x.actors.items);
+    seats_fit = omega arith;
+    actors_fit = omega arith;
+  }
+
+  -- what was said of a seat of the table
+  pub seat_kept : (n : TableId) (s p : Seat (Slot L D) (View L D)) (a q : Actor) → n ≡ table → p ≡ s → q ≡ a → IsSeatOf table s (view_of a) → IsSeatOf n p (view_of q)
+  seat_kept n s p a q e f k h = subst (λ (m : TableId). IsSeatOf m p (view_of q)) (sym e) (subst (λ (x : Seat (Slot L D) (View L D)). IsSeatOf table x (view_of q)) (sym f) (subst (λ (x : Actor). IsSeatOf table s (view_of x)) (sym k) h))

@@ -12,6 +12,6 @@ mod run;
 mod starting;
 mod work;
 
-pub use drive::InThreads;
+pub use drive::drive_in_threads;
 pub use gate::{Gate, NoGate, Point};
 pub use run::run_threads;

@@ -16,6 +16,7 @@ use redo_disk::Sectors;
 use redo_io::{ReaderSource, WriterSink};
 use redo_lab::{LOG_LENGTH, STORE_LENGTH, lab, print_fault};
 use redo_memdisk::{FileDisk, MemDisk};
+use redo_threads::NoGate;
 use std::alloc::{AllocError, Global};
 use std::io::ErrorKind;
 use std::process::ExitCode;
@@ -75,7 +76,7 @@ fn in_files(
 }
 
 /// Runs the command on these devices, and says its status.
-fn run_on<L: Sectors + Drop, D: Sectors + Drop>(
+fn run_on<L: Sectors + Send + Drop, D: Sectors + Send + Drop>(
     rt: &HostRuntime,
     words: &[String],
     devices: Result<(L, D), AllocError>,
@@ -85,7 +86,16 @@ fn run_on<L: Sectors + Drop, D: Sectors + Drop>(
     };
     let mut source = ReaderSource::new(rt.stdin());
     let mut sink = WriterSink::new(io::writer(rt));
-    let ended = lab(rt.alloc(), words, &mut source, &mut sink, log, store);
+    let ended = lab(
+        rt,
+        rt.alloc(),
+        words,
+        &mut source,
+        &mut sink,
+        log,
+        store,
+        &NoGate,
+    );
     Ok(ended.status)
 }
 

@@ -37,7 +37,16 @@ fn call(
     let mut source = MemSource::new(LINE.as_bytes().to_vec(alloc)?);
     let mut sink = MemSink::new(alloc);
     let words = words_of(alloc, text)?;
-    let ended = lab(alloc, &words, &mut source, &mut sink, log, store);
+    let ended = lab(
+        rt,
+        alloc,
+        &words,
+        &mut source,
+        &mut sink,
+        log,
+        store,
+        &NoGate,
+    );
     Ok((ended.status, sink))
 }
 

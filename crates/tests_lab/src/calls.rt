@@ -3,6 +3,7 @@ use crate::devices::{Devices, blank};
 use redo_io::{MemSink, MemSource};
 use redo_lab::lab;
 use redo_memdisk::Fuse;
+use redo_threads::NoGate;
 use std::alloc::{AllocError, Global};
 use std::test::Fail;
 
@@ -34,14 +35,23 @@ pub(crate) fn source_of(alloc: Global, text: &str) -> Result<MemSource, AllocErr
 
 /// A call with this source and this sink on these devices.
 pub(crate) fn call_with(
-    alloc: Global,
+    rt: &HostRuntime,
     words: &[String],
     mut source: MemSource,
     mut sink: MemSink,
     devices: Devices,
 ) -> Called {
     let Devices { log, store } = devices;
-    let ended = lab(alloc, words, &mut source, &mut sink, log, store);
+    let ended = lab(
+        rt,
+        rt.alloc(),
+        words,
+        &mut source,
+        &mut sink,
+        log,
+        store,
+        &NoGate,
+    );
     Called {
         status: ended.status,
         sink,
@@ -55,24 +65,26 @@ pub(crate) fn call_with(
 
 /// A call on these devices, with this script on its source.
 pub(crate) fn call_on(
-    alloc: Global,
+    rt: &HostRuntime,
     text: &str,
     script: &str,
     devices: Devices,
 ) -> Result<Called, AllocError> {
+    let alloc = rt.alloc();
     let words = words_of(alloc, text)?;
     let source = source_of(alloc, script)?;
-    Ok(call_with(alloc, &words, source, MemSink::new(alloc), devices))
+    Ok(call_with(rt, &words, source, MemSink::new(alloc), devices))
 }
 
 /// A call on devices that hold zeros.
-pub(crate) fn call(alloc: Global, text: &str, script: &str) -> Result<Called, AllocError> {
-    call_on(alloc, text, script, blank(alloc)?)
+pub(crate) fn call(rt: &HostRuntime, text: &str, script: &str) -> Result<Called, AllocError> {
+    let alloc = rt.alloc();
+    call_on(rt, text, script, blank(alloc)?)
 }
 
 /// How many calls of the log device a call on devices that hold zeros makes before its opening, and in its opening.
-pub(crate) fn calls_of_opening(alloc: Global) -> Result<(u64, u64), AllocError> {
-    let fuse = call(alloc, "run", "")?.log_fuse;
+pub(crate) fn calls_of_opening(rt: &HostRuntime) -> Result<(u64, u64), AllocError> {
+    let fuse = call(rt, "run", "")?.log_fuse;
     Ok((fuse.early_calls, fuse.passed))
 }
 
@@ -90,10 +102,10 @@ pub(crate) fn prints(called: &Called, lines: [&str; 2]) -> Result<bool, Fail> {
 
 /// Whether a call on devices that hold zeros ends with status 0 and prints these two lines, among others.
 pub(crate) fn has_lines(
-    alloc: Global,
+    rt: &HostRuntime,
     words: &str,
     script: &str,
     lines: [&str; 2],
 ) -> Result<bool, Fail> {
-    prints(&call(alloc, words, script)?, lines)
+    prints(&call(rt, words, script)?, lines)
 }

@@ -3,13 +3,13 @@ use crate::calls::{Called, LINE, call, call_on, call_with, calls_of_opening, sou
 use crate::devices::{blank, new_devices};
 use crate::tables::{expect, play, play_at};
 use redo_io::{MemSink, MemSource};
-use std::alloc::{AllocError, Global};
+use std::alloc::AllocError;
 use std::test::Fail;
 
 /// Behind the opening comes the write of the first line's block, and then its sync.
 #[test]
 fn loses_a_line_whose_sync_is_stopped(rt: HostRuntime) -> Result<(), Fail> {
-    let (_, opening) = calls_of_opening(rt.alloc())?;
+    let (_, opening) = calls_of_opening(&rt)?;
     play_at(
         &rt,
         opening.saturating_add(1),
@@ -21,9 +21,10 @@ new | crash --log-only --stop-log @ | 1 f b1 3 100 7 / 1 f b1 3 100 8 / | 0 | op
 }
 
 /// Whether a crash with this stop of the log device ends with status 0, and tells of an opening that was stopped just where it was.
-fn tells_of_opening(alloc: Global, stop: u64, is_stopped: bool) -> Result<bool, AllocError> {
+fn tells_of_opening(rt: &HostRuntime, stop: u64, is_stopped: bool) -> Result<bool, AllocError> {
+    let alloc = rt.alloc();
     let words = format!(in alloc; "crash --stop-log {stop}")?;
-    let called = call(alloc, &words, LINE)?;
+    let called = call(rt, &words, LINE)?;
     let begins = called.sink.bytes().starts_with(b"open none\nleft 1 1\n");
     Ok(called.status == 0 && begins == is_stopped)
 }
@@ -31,19 +32,16 @@ fn tells_of_opening(alloc: Global, stop: u64, is_stopped: bool) -> Result<bool, 
 /// Opening is stopped exactly where the stop comes before its last call.
 #[test]
 fn opens_nothing_where_opening_is_stopped(rt: HostRuntime) -> Result<(), Fail> {
-    let (_, opening) = calls_of_opening(rt.alloc())?;
+    let (_, opening) = calls_of_opening(&rt)?;
     for stop in [0, opening.saturating_sub(1), opening] {
-        assert!(rt;
-            tells_of_opening(rt.alloc(), stop, stop < opening)?,
-            "at {stop}"
-        );
+        assert!(rt; tells_of_opening(&rt, stop, stop < opening)?, "at {stop}");
     }
     Ok(())
 }
 
 #[test]
 fn loses_a_line_whose_sync_fails(rt: HostRuntime) -> Result<(), Fail> {
-    let (early, opening) = calls_of_opening(rt.alloc())?;
+    let (early, opening) = calls_of_opening(&rt)?;
     play_at(
         &rt,
         early.saturating_add(opening).saturating_add(1),
@@ -75,13 +73,14 @@ data fails 0 | crash   | 1 f b1 3 100 7 | 7 | fault data device
 
 /// A call with this source and this sink on devices that hold zeros.
 fn call_by(
-    alloc: Global,
+    rt: &HostRuntime,
     text: &str,
     source: MemSource,
     sink: MemSink,
 ) -> Result<Called, AllocError> {
+    let alloc = rt.alloc();
     let words = words_of(alloc, text)?;
-    Ok(call_with(alloc, &words, source, sink, blank(alloc)?))
+    Ok(call_with(rt, &words, source, sink, blank(alloc)?))
 }
 
 /// The script comes, and the report goes, in pieces of one byte.
@@ -89,22 +88,23 @@ fn call_by(
 fn reads_and_prints_in_pieces(rt: HostRuntime) -> Result<(), Fail> {
     let alloc = rt.alloc();
     let source = MemSource::short(LINE.as_bytes().to_vec(alloc)?, 1);
-    let called = call_by(alloc, "crash", source, MemSink::short(alloc, 1))?;
+    let called = call_by(&rt, "crash", source, MemSink::short(alloc, 1))?;
     let outcome =
         "0 | open 8204 / g 8204 8210 1 0 flushed / marks 8210 8210 8210 8192 / recovered 1 8210 / p 3 8210 (00*62)07";
     expect(&rt, "crash", called.status, called.sink.bytes(), outcome)
 }
 
 /// The status of a run of the line on new devices of which this one fails this call.
-fn status_failing(alloc: Global, device: &str, call: u64) -> Result<u8, Fail> {
+fn status_failing(rt: &HostRuntime, device: &str, call: u64) -> Result<u8, Fail> {
+    let alloc = rt.alloc();
     let name = format!(in alloc; "{device} fails {call}")?;
-    Ok(call_on(alloc, "run", LINE, new_devices(alloc, &name)?)?.status)
+    Ok(call_on(rt, "run", LINE, new_devices(alloc, &name)?)?.status)
 }
 
 /// How many calls of this device fail a run with this status, each alone, before the first that the run doesn't make.
-fn failing_calls(alloc: Global, device: &str, status: u8) -> Result<u64, Fail> {
+fn failing_calls(rt: &HostRuntime, device: &str, status: u8) -> Result<u64, Fail> {
     for call in 0..200u64 {
-        if status_failing(alloc, device, call)? != status {
+        if status_failing(rt, device, call)? != status {
             return Ok(call);
         }
     }
@@ -115,11 +115,11 @@ fn failing_calls(alloc: Global, device: &str, status: u8) -> Result<u64, Fail> {
 #[test]
 fn tells_of_each_call_that_failed(rt: HostRuntime) -> Result<(), Fail> {
     for (device, status) in [("log", 6), ("data", 7)] {
-        let failed = failing_calls(rt.alloc(), device, status)?;
+        let failed = failing_calls(&rt, device, status)?;
         // formatting and opening make more calls than these
         assert!(rt; failed > 3, "{device} {failed}");
         for later in [failed, failed.saturating_add(1)] {
-            let found = status_failing(rt.alloc(), device, later)?;
+            let found = status_failing(&rt, device, later)?;
             assert_eq!(rt; found, 0, "{device} {later}");
         }
     }
@@ -131,7 +131,7 @@ fn tells_that_the_source_failed(rt: HostRuntime) -> Result<(), Fail> {
     let alloc = rt.alloc();
     for words in ["run", "crash"] {
         let source = MemSource::failing(LINE.as_bytes().to_vec(alloc)?, vec![in alloc; 0]?);
-        let called = call_by(alloc, words, source, MemSink::new(alloc))?;
+        let called = call_by(&rt, words, source, MemSink::new(alloc))?;
         expect(
             &rt,
             words,
@@ -160,7 +160,7 @@ fn tells_by_its_status_that_the_sink_failed(rt: HostRuntime) -> Result<(), Fail>
     for row in FAILING_SINKS.trim_matches('\n').lines() {
         let (words, status) = row.split_once('|').unwrap_or((row, ""));
         let sink = MemSink::failing(alloc, vec![in alloc; 0]?);
-        let called = call_by(alloc, words, source_of(alloc, LINE)?, sink)?;
+        let called = call_by(&rt, words, source_of(alloc, LINE)?, sink)?;
         expect(&rt, row, called.status, called.sink.bytes(), status)?;
     }
     Ok(())

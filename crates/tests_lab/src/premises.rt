@@ -10,8 +10,8 @@ use redo_io::MemSink;
 use redo_lab::{LOG_LENGTH, STORE_LENGTH, lab};
 use redo_memdisk::MemDisk;
 use redo_page::{PageState, check};
+use redo_threads::NoGate;
 use std::alloc::{AllocError, Global};
-use std::process::Abort;
 use std::test::Fail;
 
 /// All premises hold: on new devices, on a store in use, and there also where the log device stops. The first run ends at 8210
@@ -49,7 +49,7 @@ fn a_torn_page_that_passes_loses_its_bytes(rt: HostRuntime) -> Result<(), Fail> 
     ] {
         let words = format!(in rt.alloc(); "crash --stop-data 12 --pick {pick}")?;
         let lines = ["g 8204 8216 1 0 flushed", page];
-        assert!(rt; has_lines(rt.alloc(), &words, &script, lines)?, "at {pick}");
+        assert!(rt; has_lines(&rt, &words, &script, lines)?, "at {pick}");
     }
     Ok(())
 }
@@ -71,7 +71,7 @@ fn a_torn_slot_that_passes_loses_nothing(rt: HostRuntime) -> Result<(), Fail> {
         (255, PageState::Sound(3, 1, 8216), [0xf1, 0x76, 0xec, 5, 1]),
     ] {
         let words = format!(in rt.alloc(); "crash --stop-data 10 --pick {pick}")?;
-        let mut called = call(rt.alloc(), &words, &script)?;
+        let mut called = call(&rt, &words, &script)?;
         assert!(rt; prints(&called, lines)?, "at {pick}");
         let slot = first_slot(&mut called.devices.store)?;
         assert_eq!(rt; check(&slot), state, "at {pick}");
@@ -134,8 +134,8 @@ fn silent_devices(
 }
 
 /// Makes a call on these devices, which is to come to this; the devices behind it.
-fn expect_on<L: Sectors + Drop, D: Sectors + Drop>(
-    rt: &(impl Abort + AllocGlobal),
+fn expect_on<L: Sectors + Send + Drop, D: Sectors + Send + Drop>(
+    rt: &HostRuntime,
     (log, store): (L, D),
     asked: &str,
     script: &str,
@@ -145,7 +145,16 @@ fn expect_on<L: Sectors + Drop, D: Sectors + Drop>(
     let mut source = source_of(alloc, script)?;
     let mut sink = MemSink::new(alloc);
     let words = words_of(alloc, asked)?;
-    let ended = lab(alloc, &words, &mut source, &mut sink, log, store);
+    let ended = lab(
+        rt,
+        alloc,
+        &words,
+        &mut source,
+        &mut sink,
+        log,
+        store,
+        &NoGate,
+    );
     expect(rt, outcome, ended.status, sink.bytes(), outcome)?;
     Ok((ended.log.into_inner(), ended.store.into_inner()))
 }
@@ -302,7 +311,7 @@ fn devices_that_tell_nothing_serve_as_well(rt: HostRuntime) -> Result<(), Fail> 
 #[test]
 fn a_count_at_its_end(rt: HostRuntime) -> Result<(), Fail> {
     let alloc = rt.alloc();
-    let (early, opening) = calls_of_opening(alloc)?;
+    let (early, opening) = calls_of_opening(&rt)?;
     let failing = early.saturating_add(opening).saturating_add(1);
     let log = WornDisk {
         inner: MemDisk::failing(alloc, LOG_LENGTH, vec![in alloc; failing]?)?,

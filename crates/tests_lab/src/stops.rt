@@ -3,7 +3,6 @@ use crate::calls::{Called, call_on};
 use crate::devices::Devices;
 use redo_memdisk::MemDisk;
 use std::alloc::{AllocError, Global};
-use std::process::Abort;
 use std::test::Fail;
 
 /// Four lines of two users, in each mode.
@@ -176,23 +175,24 @@ fn is_stopped(report: &str) -> bool {
 }
 
 /// A crash of the four lines on a small store that was just formatted.
-fn crash(alloc: Global, words: &str) -> Result<Called, AllocError> {
+fn crash(rt: &HostRuntime, words: &str) -> Result<Called, AllocError> {
+    let alloc = rt.alloc();
     let devices = Devices {
         log: MemDisk::new(alloc, SMALL_LOG)?,
         store: MemDisk::new(alloc, SMALL_STORE)?,
     };
-    let made = call_on(alloc, FORMAT, "", devices)?;
-    call_on(alloc, words, SCRIPT, made.devices)
+    let made = call_on(rt, FORMAT, "", devices)?;
+    call_on(rt, words, SCRIPT, made.devices)
 }
 
 /// Crashes under these options with each pick: whether no stop shows in any report. Of each crash, groups that are printed
 /// as flushed are kept, and what is read is what the kept groups make of the pages.
-fn crash_with_each_pick(rt: &(impl Abort + AllocGlobal), options: &str) -> Result<bool, Fail> {
+fn crash_with_each_pick(rt: &HostRuntime, options: &str) -> Result<bool, Fail> {
     let alloc = rt.alloc();
     let mut is_whole = true;
     for pick in PICKS {
         let words = format!(in alloc; "crash {options} --pick {pick}")?;
-        let called = crash(alloc, &words)?;
+        let called = crash(rt, &words)?;
         let report = str::from_utf8(called.sink.bytes())?;
         assert!(rt;
             called.status == 0 && is_in_order(alloc, report)?,
@@ -214,7 +214,7 @@ fn keeps_flushed_lines_under_each_schedule(rt: HostRuntime) -> Result<(), Fail> 
 }
 
 /// Crashes with these stops, where `@` is the number of calls before them: from 0 on, up to where no stop comes before a call.
-fn stop_at_each_call(rt: &(impl Abort + AllocGlobal), stops: &str) -> Result<(), Fail> {
+fn stop_at_each_call(rt: &HostRuntime, stops: &str) -> Result<(), Fail> {
     for calls in 0..MANY_CALLS {
         let calls = format!(in rt.alloc(); "{calls}")?;
         let options = stops.replace(rt.alloc(), "@", &calls)?;

@@ -1,7 +1,7 @@
 // The summaries of `gen --run`, on devices that hold zeros and on others.
 use crate::calls::call;
 use crate::tables::{play, play_at, told};
-use std::alloc::{AllocError, Global};
+use std::alloc::AllocError;
 use std::test::Fail;
 
 /// The script of `gen 11 1 1` is one line, `1 f b2 4 3710 23702`; of `gen 7 3 4`, three users and five others take turns, of which
@@ -20,16 +20,17 @@ new | gen 7 3 4 --run --max 5 | 1 f b1 3 100 7 | 9 | fault turns 5 user 1
 
 /// A long run on devices that hold zeros: its status, and what it prints. Another implementation of the same actors comes to the
 /// same numbers.
-fn long_run(alloc: Global) -> Result<String, Fail> {
-    let called = call(alloc, "gen 7 16 1000 --run --max 1000000000", "")?;
+fn long_run(rt: &HostRuntime) -> Result<String, Fail> {
+    let alloc = rt.alloc();
+    let called = call(rt, "gen 7 16 1000 --run --max 1000000000", "")?;
     told(alloc, called.status, called.sink.bytes())
 }
 
 #[test]
 fn sums_up_the_same_run_again(rt: HostRuntime) -> Result<(), Fail> {
-    let first = long_run(rt.alloc())?;
+    let first = long_run(&rt)?;
     assert!(rt; first.starts_with("0\nsummary 1000 29880 13312 f0ac24be"));
-    let second = long_run(rt.alloc())?;
+    let second = long_run(&rt)?;
     assert_eq!(rt; first, second);
     Ok(())
 }
@@ -58,8 +59,8 @@ same | recover          | | 0 | read 1 8212 / p 4 8212 (00*3672)5c96
 }
 
 /// How many calls of the log device this makes.
-fn log_calls(alloc: Global, words: &str) -> Result<u64, AllocError> {
-    let fuse = call(alloc, words, "")?.log_fuse;
+fn log_calls(rt: &HostRuntime, words: &str) -> Result<u64, AllocError> {
+    let fuse = call(rt, words, "")?.log_fuse;
     Ok(fuse.early_calls.saturating_add(fuse.passed))
 }
 
@@ -67,8 +68,8 @@ fn log_calls(alloc: Global, words: &str) -> Result<u64, AllocError> {
 /// behind the run.
 #[test]
 fn tells_of_a_failure_by_its_line_alone(rt: HostRuntime) -> Result<(), Fail> {
-    let opening = log_calls(rt.alloc(), "run")?;
-    let all = log_calls(rt.alloc(), "gen 11 1 1 --run")?;
+    let opening = log_calls(&rt, "run")?;
+    let all = log_calls(&rt, "gen 11 1 1 --run")?;
     for failing in [0, opening, all.saturating_sub(1)] {
         play_at(
             &rt,

@@ -7,7 +7,6 @@
 use crate::calls::{Called, call_on};
 use crate::devices::{Devices, change, new_devices};
 use std::alloc::{AllocError, Global};
-use std::process::Abort;
 use std::test::Fail;
 
 /// The text of `TEXT*COUNT`: so many times in a row.
@@ -56,13 +55,14 @@ fn devices_of(alloc: Global, name: &str, left: Devices) -> Result<Devices, Fail>
 }
 
 /// The call of a row, and what it is to come to.
-fn call_of<'a>(alloc: Global, row: &'a str, left: Devices) -> Result<(Called, &'a str), Fail> {
+fn call_of<'a>(rt: &HostRuntime, row: &'a str, left: Devices) -> Result<(Called, &'a str), Fail> {
+    let alloc = rt.alloc();
     let (name, rest) = cell(row);
     let (words, rest) = cell(rest);
     let (script, outcome) = cell(rest);
     let devices = devices_of(alloc, name, left)?;
     let script = spelled(alloc, script)?;
-    Ok((call_on(alloc, words, &script, devices)?, outcome))
+    Ok((call_on(rt, words, &script, devices)?, outcome))
 }
 
 /// The text of `STATUS | PRINTED`, or of a status behind which nothing is printed: the status in a line of its own, and the lines.
@@ -81,7 +81,7 @@ pub(crate) fn told(alloc: Global, status: u8, printed: &[u8]) -> Result<String, 
 
 /// A call that ended with this status and printed this came to `STATUS | PRINTED`. The row is named where it didn't.
 pub(crate) fn expect(
-    rt: &(impl Abort + AllocGlobal),
+    rt: &HostRuntime,
     row: &str,
     status: u8,
     printed: &[u8],
@@ -94,14 +94,14 @@ pub(crate) fn expect(
 }
 
 /// Makes the call of a row, which is to come to what the row says; the devices behind it.
-fn play_row(rt: &(impl Abort + AllocGlobal), row: &str, left: Devices) -> Result<Devices, Fail> {
-    let (called, outcome) = call_of(rt.alloc(), row, left)?;
+fn play_row(rt: &HostRuntime, row: &str, left: Devices) -> Result<Devices, Fail> {
+    let (called, outcome) = call_of(rt, row, left)?;
     expect(rt, row, called.status, called.sink.bytes(), outcome)?;
     Ok(called.devices)
 }
 
 /// Plays a table, row by row; the devices behind it.
-pub(crate) fn left_by(rt: &(impl Abort + AllocGlobal), table: &str) -> Result<Devices, Fail> {
+pub(crate) fn left_by(rt: &HostRuntime, table: &str) -> Result<Devices, Fail> {
     let mut left = new_devices(rt.alloc(), "new")?;
     for row in table.trim().lines() {
         left = play_row(rt, row, left)?;
@@ -110,17 +110,13 @@ pub(crate) fn left_by(rt: &(impl Abort + AllocGlobal), table: &str) -> Result<De
 }
 
 /// Plays a table, row by row.
-pub(crate) fn play(rt: &(impl Abort + AllocGlobal), table: &str) -> Result<(), Fail> {
+pub(crate) fn play(rt: &HostRuntime, table: &str) -> Result<(), Fail> {
     let _devices = left_by(rt, table)?;
     Ok(())
 }
 
 /// Plays a table in which `@` stands for this number.
-pub(crate) fn play_at(
-    rt: &(impl Abort + AllocGlobal),
-    number: u64,
-    table: &str,
-) -> Result<(), Fail> {
+pub(crate) fn play_at(rt: &HostRuntime, number: u64, table: &str) -> Result<(), Fail> {
     let number = format!(in rt.alloc(); "{number}")?;
     play(rt, &table.replace(rt.alloc(), "@", &number)?)
 }

@@ -8,7 +8,12 @@ use std::process::Abort;
 use std::test::Fail;
 
 /// Sees that a run left one group of user 1 in this state.
-fn see_one(rt: &impl Abort, closed: &Closed<Device, Device>, code: u32, state: model_history::State) {
+fn see_one(
+    rt: &impl Abort,
+    closed: &Closed<Device, Device>,
+    code: u32,
+    state: model_history::State,
+) {
     assert_eq!(rt; (closed.code, closed.history.0.len()), (code, 1));
     let found = closed.history.0.get(0).copied();
     let wanted = Entry {

@@ -8,12 +8,12 @@ ghost use Rattle.redo_pageactors.specs.{IsRunnable};
 use model_base::{BLOCK_SIZE, Shape};
 use model_log::BLOCK_HEADER;
 use model_script::{Script, fitting_script, read_lines_are_ranged};
-use redo_drive::{Drive, Driven, RunEnd};
+use redo_drive::{Driven, RunEnd};
 use redo_memdisk::{Fused, MemDisk};
 use redo_open::{format, open_store};
 use redo_pageactors::{Closed, Opened};
 use redo_script::{judge, parse};
-use redo_threads::{Gate, InThreads};
+use redo_threads::{Gate, drive_in_threads};
 use std::alloc::Global;
 use std::process::Abort;
 use std::sync::Wait;
@@ -82,8 +82,7 @@ pub fn left_by<R: Abort + Threads + Wait + Sync, G: Gate>(
     let Ok(()) = judge(alloc, &opened.shape, opened.start, end, &script) else {
         panic!(rt; "no fit");
     };
-    let drive = InThreads { rt, gate, log_only };
-    match drive.drive(alloc, opened, &script) {
+    match drive_in_threads(rt, alloc, opened, &script, log_only, gate) {
         Ok(Driven { ended, closed }) => {
             assert_eq!(rt; ended, RunEnd::Done);
             Ok(closed)

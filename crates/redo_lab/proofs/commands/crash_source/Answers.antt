@@ -3,16 +3,16 @@ use Rattle.redo_lab.proofs.Unscripted.{crash-unscripted}
 use Rattle.redo_lab.proofs.commands.crash_source.Goals as goal
 
 pub crash_command-requires-clause-lines : goal.crash_command-requires-clause-lines
-crash_command-requires-clause-lines g c =
+crash_command-requires-clause-lines g c = λ κs live.
     c.read_lines_are_ranged.ensures c.in-Ok.ensures.script.text c.in-Ok.script c.in-Ok.ensures.script.of_text.is_script
 
 pub returns-in-Ok-clause-ends : goal.returns-in-Ok-clause-ends
-returns-in-Ok-clause-ends g c = λ words workers. c.crash_command.ensures.ends words _ _ workers c.in-Ok.ensures.script
+returns-in-Ok-clause-ends g c = λ asked words serves. c.crash_command.ensures.ends asked words _ _ serves c.in-Ok.ensures.script
 
 pub returns-in-Err-clause-ends : goal.returns-in-Err-clause-ends
-returns-in-Err-clause-ends g c = λ words workers.
+returns-in-Err-clause-ends g c = λ asked words serves.
     let unasked = c.unasked.ensures in
-    rw unasked.outcome_is (crash-unscripted _ c.args.drive.now c.args.stops.log c.args.stops.store c.args.pick workers c.in-Err.fault
+    rw unasked.outcome_is (crash-unscripted _ asked c.args.crash.stops.log c.args.crash.stops.store c.args.crash.pick c.args.crash.workers c.in-Err.fault
     (record {
       log_device = record { seen = ap g.L.Sectors.seen unasked.log_inner; fuse = unasked.log_fuse };
       data_device = record { seen = ap g.D.Sectors.seen unasked.data_inner; fuse = unasked.data_fuse };

@@ -1,23 +1,25 @@
+use Rattle.std.proofs.Common.{refl}
 use Rattle.redo_lab.proofs.Called.{all-left}
 use Rattle.redo_lab.proofs.commands.done.Goals as goal
 
 pub returns-in-Format-clause-ends : goal.returns-in-Format-clause-ends
-returns-in-Format-clause-ends g c = λ words. rw c.in-Format.is (c.format_devices.ensures.ends words _)
+returns-in-Format-clause-ends g c = λ words serves. rw c.in-Format.is (c.format_devices.ensures.ends words _)
 
 pub returns-in-Run-clause-ends : goal.returns-in-Run-clause-ends
-returns-in-Run-clause-ends g c = λ words. rw c.in-Run.is (c.run_source.ensures.ends words)
+returns-in-Run-clause-ends g c = λ words serves. rw c.in-Run.is (c.run_source.ensures.ends _ words (serves _ (rw c.in-Run.is refl)))
 
 pub returns-in-Crash-clause-ends : goal.returns-in-Crash-clause-ends
-returns-in-Crash-clause-ends g c = λ words. rw c.in-Crash.is (c.crash_source.ensures.ends words _)
+returns-in-Crash-clause-ends g c = λ words serves. rw c.in-Crash.is (c.crash_source.ensures.ends _ words (serves _ (rw c.in-Crash.is refl)))
 
 pub returns-in-Recover-clause-ends : goal.returns-in-Recover-clause-ends
-returns-in-Recover-clause-ends g c = λ words. rw c.in-Recover.is (c.print_pages.ensures.ends words _ _)
+returns-in-Recover-clause-ends g c = λ words serves. rw c.in-Recover.is (c.print_pages.ensures.ends words _)
 
 pub returns-in-Dump-clause-ends : goal.returns-in-Dump-clause-ends
-returns-in-Dump-clause-ends g c = λ words. rw c.in-Dump.is (c.print_store.ensures.ends words _ _)
+returns-in-Dump-clause-ends g c = λ words serves. rw c.in-Dump.is (c.print_store.ensures.ends words _)
 
 pub returns-in-Gen-clause-ends : goal.returns-in-Gen-clause-ends
-returns-in-Gen-clause-ends g c = λ words. rw c.in-Gen.is (c.gen_command.ensures.ends words _)
+returns-in-Gen-clause-ends g c = λ words serves. rw c.in-Gen.is
+    (c.gen_command.ensures.ends words _ _ (λ runs. serves _ (rw (c.in-Gen.is, runs) refl)))
 
 pub returns-in-Format-clause-entered : goal.returns-in-Format-clause-entered
 returns-in-Format-clause-entered g c = c.format_devices.ensures.entered

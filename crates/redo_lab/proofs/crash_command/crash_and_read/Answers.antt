@@ -8,7 +8,7 @@ use Rattle.redo_lab.proofs.crash_command.crash_and_read.Goals as goal
 pub returns-in-Ok-clause-reads : goal.returns-in-Ok-clause-reads
 returns-in-Ok-clause-reads g c =
     let now = c.in-Ok.ensures in
-    rw c.of_text.ensures (back-read c.args.pick c.args.script.now (run_of c.args.played) (reading_of c.in-Ok.recovered) _ _ _ _
+    rw c.of_text.ensures (back-read c.args.crash.pick c.args.script.now (run_of c.args.played) (reading_of c.in-Ok.recovered) _ _ _ _
     (g.L.Sectors.seen c.crash.new.self.inner) (g.D.Sectors.seen c.crash-2.new.self.inner) _
     (record { log_device = log-crashed c.crash.ensures.gives now.log.calls; data_device = crashed-since c.crash-2.ensures.gives now.data_device.calls })
     now.log.unchanged.tells now.data_device.unchanged.tells now.recovered.read c.report_crash.ensures)
@@ -16,7 +16,7 @@ returns-in-Ok-clause-reads g c =
 pub returns-in-Err-clause-reads : goal.returns-in-Err-clause-reads
 returns-in-Err-clause-reads g c =
     let now = c.in-Err.ensures in
-    rw c.fault_of.ensures (back-fails c.args.pick c.args.script.now (run_of c.args.played) _ _ _ _
+    rw c.fault_of.ensures (back-fails c.args.crash.pick c.args.script.now (run_of c.args.played) _ _ _ _
     (g.L.Sectors.seen c.crash.new.self.inner) (g.D.Sectors.seen c.crash-2.new.self.inner) c.in-Err.fault
     (record { log_device = log-crashed c.crash.ensures.gives now.log.calls; data_device = crashed-since c.crash-2.ensures.gives now.data_device.calls })
     now.log.unchanged.tells now.data_device.unchanged.tells now.caused.cause)

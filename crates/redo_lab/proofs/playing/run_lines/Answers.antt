@@ -8,13 +8,13 @@ use Rattle.redo_lab.specs.Stages.{Shown, shown}
 use Rattle.redo_lab.proofs.playing.run_lines.Goals as goal
 
 pub returns-clause-comes_to : goal.returns-clause-comes_to
-returns-clause-comes_to g c =
+returns-clause-comes_to g c = λ asked serves.
     let log_found : Shown = shown g.L.Sectors.seen c.prepare.new.log in
     let data_found : Shown = shown g.D.Sectors.seen c.prepare.new.store in
     let prepared : ArePrepared (g.L.Sectors.seen c.args.log) (g.D.Sectors.seen c.args.store) log_found data_found =
     entered g.L.Sectors.seen g.D.Sectors.seen c.args.log c.plain-log.result.inner c.args.store c.plain-store.result.inner c.plain-log.ensures.inner c.plain-store.ensures.inner
     (λ (log : Seen) (store : Seen). ArePrepared log store log_found data_found) c.in-Ok.ensures.prepares in
-    c.open_and_play.ensures.comes_to (g.L.Sectors.seen c.args.log) (g.D.Sectors.seen c.args.store) c.args.stops log_found data_found (record {
+    c.open_and_play.ensures.comes_to asked (g.L.Sectors.seen c.args.log) (g.D.Sectors.seen c.args.store) c.args.stops log_found data_found serves (record {
       prepared = prepared;
       log_device = armed-now g.L.Sectors.seen (g.L.Sectors.seen c.args.log) c.args.stops.log c.prepare.new.log c.arm.new.self prepared.log_device
           c.arm.ensures.inner c.arm.ensures.fuse c.arm.ensures.armed;
