@@ -18,12 +18,7 @@ use std::thread::Threads;
 
 /// Runs a script on an opened store in threads, one for each actor, with the log alone or with the pages. Where there is no
 /// memory it gives both devices back as they were.
-pub fn drive_in_threads<
-    R: Threads + Wait + Sync,
-    L: Sectors + Send,
-    D: Sectors + Send,
-    G: Gate,
->(
+pub fn drive_in_threads<R: Threads + Wait + Sync, L: Sectors + Send, D: Sectors + Send, G: Gate>(
     rt: &R,
     alloc: Global,
     opened: Opened<L, D>,

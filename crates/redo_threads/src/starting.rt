@@ -93,12 +93,7 @@ fn start<'s, E, R: Threads + Wait + Sync, L: Sectors + Send, D: Sectors + Send, 
 }
 
 /// Plays all actors at once, up to their ends.
-pub(crate) fn play_all<
-    R: Threads + Wait + Sync,
-    L: Sectors + Send,
-    D: Sectors + Send,
-    G: Gate,
->(
+pub(crate) fn play_all<R: Threads + Wait + Sync, L: Sectors + Send, D: Sectors + Send, G: Gate>(
     rt: &R,
     table: &Ring<L, D>,
     running: &AtomicU64,
