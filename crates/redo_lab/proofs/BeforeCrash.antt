@@ -20,7 +20,8 @@ use Rattle.redo_lab.specs.declared.playing.Stops.{Stops}
 use Rattle.redo_lab.proofs.RunPlayed.{ClosedLaws, WasFound, closed-as, held-closed, opened-before, safe-as, stopped-on}
 use Rattle.redo_lab.proofs.Running.{driving, run-of}
 use Rattle.redo_lab.proofs.Told.{both-told}
-use Rattle.redo_lab.specs.Call.{Call, Done}
+use Rattle.redo_drive.specs.declared.drive.RunEnd.TheVariants.{Done}
+use Rattle.redo_lab.specs.Call.{Call}
 use Rattle.redo_lab.specs.Course.{ArePlayed, AreStopped, AreUnderWay, IsPlayedBy, IsStoppedBy, ran_of}
 use Rattle.redo_lab.specs.Script.{IsScriptFor}
 use Rattle.redo_lab.specs.Stages.{Shown}

@@ -27,7 +27,8 @@ use Rattle.redo_lab.proofs.RunPossible.{can-play}
 use Rattle.redo_lab.proofs.Running.{driving}
 use Rattle.redo_lab.proofs.SomeLeft.{some-left}
 use Rattle.redo_lab.specs.Answer.{IsCrashText}
-use Rattle.redo_lab.specs.Call.{Call, Done, Each, IsUnfailedAside, WhereOpened, WhereToldNow}
+use Rattle.redo_drive.specs.declared.drive.RunEnd.TheVariants.{Done}
+use Rattle.redo_lab.specs.Call.{Call, Each, IsUnfailedAside, WhereOpened, WhereToldNow}
 use Rattle.redo_lab.specs.Complete.{CanPlay}
 use Rattle.redo_lab.specs.Course.{IsPlayedBy, IsStoppedBy, ran_of}
 use Rattle.redo_lab.specs.Crashed.{AreCrashedSince, AreReadBack, ReadsBack}

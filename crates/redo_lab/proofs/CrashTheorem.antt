@@ -15,7 +15,8 @@ use Rattle.redo_lab.proofs.RunPlayed.{FormattedLaw, armed-same, was-found, whole
 use Rattle.redo_lab.proofs.RunPossible.{OneReading}
 use Rattle.redo_lab.proofs.Told.{OneAnswer}
 use Rattle.redo_lab.specs.Answer.{IsCrashCall}
-use Rattle.redo_lab.specs.Call.{Call, Done}
+use Rattle.redo_drive.specs.declared.drive.RunEnd.TheVariants.{Done}
+use Rattle.redo_lab.specs.Call.{Call}
 use Rattle.redo_lab.specs.Crashed.{AreReadBack}
 use Rattle.redo_lab.specs.Script.{IsScriptRead}
 use Rattle.redo_lab.specs.Stages.{IsCrashedWith, Shown, now_of}

@@ -30,6 +30,7 @@ use Rattle.redo_recover.specs.{OnContents}
 use Rattle.redo_disk.proofs.Made.{may_end}
 use Rattle.redo_drive.specs.{ComesToRun, HasMemory, IsOwed, IsOwedSynced, IsOwedWith, room_from}
 use Rattle.redo_machine.specs.{RunsByTurns}
+use Rattle.redo_machine.specs.Turns.{EndsAs}
 use Rattle.redo_drive.specs.Drive.{failed_in, HoldsRun as IsRunHeld}
 use Rattle.redo_drive.specs.declared.drive.Driven.{Driven}
 use Rattle.redo_drive.specs.declared.drive.RunEnd.{RunEnd}
@@ -43,9 +44,7 @@ use Rattle.redo_lab.specs.declared.playing.Stops.{Stops}
 use Rattle.redo_lab.proofs.Telling.{calls-go_on}
 use Rattle.redo_lab.proofs.Told.{both-told, on-contents}
 use Rattle.redo_lab.proofs.UnderWay.{AreCounted, HeaderFirst, ReadingLaws, counted-more, counted-opening, formatted-read, goes-on, keeps-found, same-both, told-some, way-of}
-use Rattle.redo_lab.specs.Call.{Done, RunEnd, Spent}
 use Rattle.redo_lab.specs.Course.{AreMisfitted, ArePlayed, AreUnstarted, ByTurns, CameSoFar, ClosesRun, ComesTo, Driving, HoldsRun, ran_of}
-use Rattle.redo_lab.specs.Drives.{ended_of}
 use Rattle.redo_lab.specs.Playing.{AreArmed, AreDriven, AreLeftOpened, course_done, course_of, ended_by, played_of}
 use Rattle.redo_lab.specs.Prepared.{ArePrepared, WhereTold}
 use Rattle.redo_lab.specs.Stages.{Shown, shown}
@@ -308,7 +307,7 @@ module _ {L D : Type 0} {log_seen : L → Seen} {log_gives : L → Call → L �
       }
 
   -- the turns of the drive led to this end
-  driven-so : (end : RunEnd) → driven.ended ≡ ended_of end
+  driven-so : (end : RunEnd) → driven.ended ≡ end
       → by (opened_at store (end-found is).end) (ran_of played) end (log_seen driven.closed.log.dev.inner).tells (data_seen driven.closed.store.dev.inner).tells
   driven-so end ends = record {
     store = store;
@@ -364,7 +363,7 @@ module _ {L D : Type 0} {log_seen : L → Seen} {log_gives : L → Call → L �
         ap (λ (e : Option DevError). failures e + failures driven.closed.store.failed) log_is ∙ ap (λ (e : Option DevError). failures log_error + failures e) data_is in
         record {
           so_far = came-so-far log_error data_error log_is data_is;
-          driven = driven-so Done done;
+          driven = driven-so ended.Done done;
           loses = λ left left_is. subst (λ (n : ℕ). LosesOnlyByFailure n (Some (ran_of played)) left) counted (comes_to.loses left done memory left_is);
           closed = closes-on (λ disk. disk) (failures log_error + failures data_error) counted done memory owed;
         }
@@ -401,17 +400,17 @@ module _ {L D : Type 0} {log_seen : L → Seen} {log_gives : L → Call → L �
     done-by (Some device.NoMemory) (Some device.NoMemory) log_is data_is done = inr (inr (record { run = ran_of played; so_far = came-so-far (Some device.NoMemory) (Some device.NoMemory) log_is data_is; holds = holds-on holds }))
     done-by None (Some device.NoMemory) log_is data_is done = inr (inr (record { run = ran_of played; so_far = came-so-far (None) (Some device.NoMemory) log_is data_is; holds = holds-on holds }))
 
-    ended-by : (how : Ran) → driven.ended ≡ how
+    ended-by : (how : RunEnd) → driven.ended ≡ how
         → ComesTo by log_entry data_entry stops turns script
-        (course_of turns.max how played (ended_by driven.closed.log.failed driven.closed.store.failed)) log_now data_now
+        (course_of how played (ended_by driven.closed.log.failed driven.closed.store.failed)) log_now data_now
     ended-by ended.Done how = done-by driven.closed.log.failed driven.closed.store.failed refl refl how
-    ended-by (ended.Spent user) how = record {
-      count_is = refl;
+    ended-by (ended.Spent count user) how = record {
+      count_is = (subst (λ (z : RunEnd). EndsAs (seen_through log_seen) (seen_through data_seen) by_turns.run turns.seed turns.max by_turns.first by_turns.starts z by_turns.last by_turns.actors) how by_turns.ends).0;
       run = ran_of played;
       log_failed = failures driven.closed.log.failed;
       data_failed = failures driven.closed.store.failed;
       so_far = came-so-far driven.closed.log.failed driven.closed.store.failed refl refl;
-      driven = driven-so (Spent user) how;
+      driven = driven-so (ended.Spent count user) how;
       holds = holds-on holds;
     }
 

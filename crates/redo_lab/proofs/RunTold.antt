@@ -14,7 +14,8 @@ use Rattle.redo_lab.proofs.OpenedFirst.{OpenedLaw}
 use Rattle.redo_lab.proofs.RunPlayed.{ClosedLaws, FormattedLaw, armed-same, held-with, holds-closed, opened-before, told-still, was-found}
 use Rattle.redo_lab.proofs.Running.{driving, run-of}
 use Rattle.redo_lab.proofs.Told.{OneAnswer}
-use Rattle.redo_lab.specs.Call.{Call, Done}
+use Rattle.redo_drive.specs.declared.drive.RunEnd.TheVariants.{Done}
+use Rattle.redo_lab.specs.Call.{Call}
 use Rattle.redo_lab.specs.Course.{ArePlayed, CameSoFar, Driving, HoldsRun, ran_of}
 use Rattle.redo_lab.specs.Script.{IsScriptFor, IsTextOf}
 use Rattle.redo_lab.specs.Stages.{Shown, now_of}

@@ -25,7 +25,8 @@ use Rattle.redo_lab.proofs.RunPlayed.{ClosedLaws, FormattedLaw, armed-same, stop
 use Rattle.redo_lab.proofs.RunPossible.{OneReading, UnfitLaw, can-play, ended-kept}
 use Rattle.redo_lab.proofs.Told.{OneAnswer}
 use Rattle.redo_lab.specs.Asked.{drive_of, drive_of_seed, leaves_devices, reads_script, runs_script, turns_of}
-use Rattle.redo_lab.specs.Call.{AreUnfailedFor, Call, Each, Guarded, IsUnfailed, IsUnfailedAside, RunEnd}
+use Rattle.redo_drive.specs.declared.drive.RunEnd.{RunEnd}
+use Rattle.redo_lab.specs.Call.{AreUnfailedFor, Call, Each, Guarded, IsUnfailed, IsUnfailedAside}
 use Rattle.redo_lab.specs.Cause.{IsCauseOf, IsDeviceFault, IsPastSource, IsRefused, IsRefusedAtEntry, IsUnbegun}
 use Rattle.redo_lab.specs.Complete.{CanPlay, IsPossible}
 use Rattle.redo_lab.specs.Course.{AreRefusedOpened, AreStopped, AreUnderWay, CameSoFar, Driving, HoldsRun, IsEndedBy, IsStoppedBy}

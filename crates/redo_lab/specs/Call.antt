@@ -8,6 +8,7 @@ use Rattle.model_script.specs.declared.script.ScriptLine.{ScriptLine}
 use Rattle.model_store.specs.{IsFair, Opens}
 use Rattle.model_theorem.specs.{IsFresh, Opened, Ran}
 use Rattle.redo_disk.specs.Seen.{Seen}
+use Rattle.redo_drive.specs.declared.drive.RunEnd.{RunEnd}
 use Rattle.redo_io.specs.{SinkSeen, SourceSeen}
 use Rattle.redo_memdisk.specs.{armed_from, fuse_of, inner_of}
 use Rattle.redo_memdisk.specs.declared.fuse.Fuse.{Fuse}
@@ -24,11 +25,6 @@ pub record Guarded : Type 0 where
 -- the device that was handed in, and is given back behind its fuse, as both are seen from outside
 abbrev pub guarded : {D : Type 0} → (D → Seen) → D → Fused D → Guarded
 guarded seen device fused = record { entry = seen device; now = seen (inner_of fused); fuse = fuse_of fused; armed_from = armed_from seen fused }
-
--- how a run ends: each user has ended, or the turns are spent and this is the least user that hasn't
-pub data RunEnd : Type 0 where
-  Done : RunEnd
-  Spent : ℕ → RunEnd
 
 -- What a call was handed, and what has become of it. `drives` says that the run of this script on this opened store is the one to
 -- which the drive leads, that it ended so, and what both devices meant then: the one place that knows of drives.

@@ -19,7 +19,8 @@ use Rattle.model_theorem.specs.{Opened, Ran, room_of}
 use Rattle.redo_memdisk.specs.declared.fuse.Stage.TheVariants.{Before}
 use Rattle.redo_lab.specs.Answer.{shape_of}
 use Rattle.redo_lab.specs.Asked.{drive_of, reads_script}
-use Rattle.redo_lab.specs.Call.{AreUnfailedFor, Call, Each, Guarded, IsUnfailed, Spent, WhereToldAtEntry, WhereToldNow}
+use Rattle.redo_drive.specs.declared.drive.RunEnd.TheVariants.{Spent}
+use Rattle.redo_lab.specs.Call.{AreUnfailedFor, Call, Each, Guarded, IsUnfailed, WhereToldAtEntry, WhereToldNow}
 use Rattle.redo_lab.specs.Script.{IsBadLine, IsLongScript, IsScriptFor, IsScriptRead}
 use Rattle.redo_lab.specs.Store.{AreRefused, IsOpenedAs, IsTooShort}
 use Rattle.redo_lab.specs.Told.{IsOpenedFirst, IsRunOf}
@@ -71,7 +72,7 @@ pub record AreTurnsSpent (call : Call) (command : Command) (turns user : ℕ) : 
   pub opened : Opened
   pub script : List ScriptLine
   pub run : Ran
-  pub is_run : IsRunOf call command drive opened script run (Spent user) call.log.now.tells call.store.now.tells
+  pub is_run : IsRunOf call command drive opened script run (Spent turns user) call.log.now.tells call.store.now.tells
   pub uncrashed : Each (λ device. device.fuse.pick ≡ None) call
 
 -- A quantity of the script is the first that doesn't fit the store that was opened.

@@ -24,7 +24,8 @@ use Rattle.redo_lab.specs.declared.playing.Course.{Course}
 use Rattle.redo_lab.specs.declared.playing.Course.TheVariants as course
 use Rattle.redo_lab.specs.declared.playing.Played.{Played}
 use Rattle.redo_lab.specs.declared.playing.Stops.{Stops}
-use Rattle.redo_lab.specs.Call.{Done, RunEnd, Spent}
+use Rattle.redo_drive.specs.declared.drive.RunEnd.{RunEnd}
+use Rattle.redo_drive.specs.declared.drive.RunEnd.TheVariants.{Done, Spent}
 use Rattle.redo_lab.specs.Drives.{IsByTurns}
 use Rattle.redo_lab.specs.Prepared.{ArePrepared, AreTooShort, EndUnprepared, WhereTold}
 use Rattle.redo_lab.specs.Stages.{IsArmed, Shown}
@@ -118,7 +119,7 @@ pub record AreSpent (by : Driving) (log_entry data_entry : Seen) (stops : Stops)
   pub log_failed : ℕ
   pub data_failed : ℕ
   pub so_far : CameSoFar log_entry data_entry stops turns.log_only script run log_failed data_failed log_now data_now
-  pub driven : by so_far.opened run (Spent user) log_now.seen.tells data_now.seen.tells
+  pub driven : by so_far.opened run (Spent count user) log_now.seen.tells data_now.seen.tells
   pub holds : HoldsRun so_far.way.log_found so_far.way.data_found script so_far.opened run log_now data_now
 
 -- MEMORY RAN OUT before the first line, once opening was begun.

@@ -11,18 +11,12 @@ use Rattle.redo_disk.specs.Seen.{Seen}
 use Rattle.redo_drive.specs.{ran_of}
 use Rattle.redo_machine.specs.{RunsByTurns}
 use Rattle.redo_drive.specs.declared.drive.Driven.{Driven}
-use Rattle.redo_drive.specs.declared.drive.RunEnd as running
-use Rattle.redo_drive.specs.declared.drive.RunEnd.TheVariants as ended
+use Rattle.redo_drive.specs.declared.drive.RunEnd.{RunEnd}
 use Rattle.redo_machine.specs.declared.drive.Turns.{Turns}
 use Rattle.redo_memdisk.specs.{CallsThrough, seen_through}
 use Rattle.redo_pageactors.specs.{IsRunnable}
 use Rattle.redo_pageactors.specs.declared.opened.Opened.{Opened}
 use Rattle.redo_lab.specs.Asked.{turns_of}
-use Rattle.redo_lab.specs.Call.{Done, RunEnd, Spent}
-
-abbrev pub ended_of : RunEnd → running.Ran
-ended_of Done = ended.Done
-ended_of (Spent user) = ended.Spent user
 
 -- the store stands opened on both devices, as the theorem has it, and a run can start on it
 pub record IsOpenedAt {L D : Type 0} (opened : values.Opened) (store : Opened L D) : Type 0 where
@@ -39,7 +33,7 @@ pub record IsByTurns {L D : Type 0} (log_seen : L → Seen) (log_gives : L → C
   pub is_opened : IsOpenedAt opened store
   pub driven : Driven L D
   pub by_turns : RunsByTurns log_seen log_gives data_seen data_gives store script turns driven
-  pub ends : driven.ended ≡ ended_of end
+  pub ends : driven.ended ≡ end
   pub run_is : run ≡ ran_of store.start driven.closed
   pub log_is : log_met ≡ (log_seen driven.closed.log.dev).tells
   pub store_is : store_met ≡ (data_seen driven.closed.store.dev).tells

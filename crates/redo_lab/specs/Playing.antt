@@ -69,10 +69,10 @@ abbrev pub course_done : Played → Option Fault → Course
 course_done played (Some fault.Memory) = course.Ended fault.Memory
 course_done played ended = course.Played played ended
 
--- what a run comes to that was driven for so many turns at the most
-abbrev pub course_of : ℕ → Ran → Played → Option Fault → Course
-course_of max (ended.Spent user) played cause = course.Ended (fault.Turns max user)
-course_of max ended.Done played cause = course_done played cause
+-- what a run comes to that ended so
+abbrev pub course_of : RunEnd → Played → Option Fault → Course
+course_of (ended.Spent turns user) played cause = course.Ended (fault.Turns turns user)
+course_of ended.Done played cause = course_done played cause
 
 -- why no line was run
 abbrev pub IsUnplayed : {L D : Type 0} → Opened L D → Turns → List ScriptLine → Course → Type 0
@@ -97,7 +97,7 @@ pub record AreDriven {L D : Type 0} (log_seen : L → Seen) (log_gives : L → C
   pub holds : HoldsRun log_seen data_seen opened script driven
   pub owed : IsOwed log_seen data_seen opened script driven
   pub owed_synced : IsOwedSynced log_seen data_seen opened script driven
-  pub course_is : found ≡ course_of turns.max driven.ended (played_of opened.start driven.closed)
+  pub course_is : found ≡ course_of driven.ended (played_of opened.start driven.closed)
       (ended_by driven.closed.log.failed driven.closed.store.failed)
   pub log_is : log_now ≡ driven.closed.log.dev
   pub data_is : data_now ≡ driven.closed.store.dev

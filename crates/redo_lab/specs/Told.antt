@@ -9,7 +9,9 @@ use Rattle.model_script.specs.declared.script.ScriptLine.{ScriptLine}
 use Rattle.model_store.specs.{IsReading}
 use Rattle.model_store.specs.Reading.{Reading}
 use Rattle.model_theorem.specs.{entries_of, FitsOpened, IsOpenedBefore, IsRun, LosesOnlyByFailure, Opened, Ran}
-use Rattle.redo_lab.specs.Call.{Call, Done, RunEnd, WhereOpened, WhereToldAtEntry, WhereToldNow, mids}
+use Rattle.redo_drive.specs.declared.drive.RunEnd.{RunEnd}
+use Rattle.redo_drive.specs.declared.drive.RunEnd.TheVariants.{Done}
+use Rattle.redo_lab.specs.Call.{Call, WhereOpened, WhereToldAtEntry, WhereToldNow, mids}
 use Rattle.redo_lab.specs.Script.{IsScriptFor}
 use Rattle.redo_lab.specs.Store.{AreReadAsPrefix, IsOpenedAs}
 

@@ -24,7 +24,8 @@ use model_report::Fault;
 use model_script::{Script, fitting_script};
 use model_store::{one_answer, one_reading};
 use redo_disk::{DevError, Sectors};
-use redo_machine::{Driven, Turns, run_by_turns};
+use redo_drive::{Driven, RunEnd};
+use redo_machine::{Turns, run_by_turns};
 use redo_memdisk::Fused;
 use redo_open::open_store;
 use redo_pageactors::Opened;
@@ -114,13 +115,12 @@ fn course_done(played: Played, fault: Option<Fault>) -> Course
     }
 }
 
-/// What a run comes to that was driven for so many turns at the most.
+/// What a run comes to that was driven.
 fn close<L: Sectors, D: Sectors>(
-    max: u64,
     start: u64,
     driven: Driven<Fused<L>, Fused<D>>,
 ) -> Ran<L, D>
-    ensures course { result.course ≡ course_of max driven.ended (played_of start driven.closed)
+    ensures course { result.course ≡ course_of driven.ended (played_of start driven.closed)
         (ended_by driven.closed.log.failed driven.closed.store.failed) }
     ensures log { result.log ≡ driven.closed.log.dev }
     ensures store { result.store ≡ driven.closed.store.dev }
@@ -133,8 +133,8 @@ fn close<L: Sectors, D: Sectors>(
         marks: closed.marks,
     };
     let course = match ended {
-        redo_machine::Ran::Spent(user) => Course::Ended(Fault::Turns(max, user)),
-        redo_machine::Ran::Done => course_done(played, fault),
+        RunEnd::Spent { turns, user } => Course::Ended(Fault::Turns(turns, user)),
+        RunEnd::Done => course_done(played, fault),
     };
     Ran {
         course,
@@ -170,7 +170,7 @@ fn play<L: Sectors, D: Sectors>(
         }
     }
     match run_by_turns(alloc, opened, script, turns) {
-        Ok(driven) => close(turns.max, start, driven),
+        Ok(driven) => close(start, driven),
         Err((_, log, store)) => Ran {
             course: Course::Ended(Fault::Memory),
             log,

@@ -4,9 +4,8 @@ ghost use Rattle.model_base.specs.{default_shape};
 
 use crate::parts::{DATA, LOG, USER, blank, data_part_on, log_part_on};
 use model_base::{LSN_LIMIT, USER_BYTES};
-use redo_dataside::write_batch;
+use redo_drive::{checkpoint, sync, write_batch, write_to};
 use redo_disk::Sectors;
-use redo_logside::{checkpoint, sync, write_to};
 use redo_memdisk::Fused;
 use redo_store::DataPart;
 use std::test::Fail;

@@ -1,4 +1,4 @@
-//! Tests of recovery, and of formatting and opening, on stores that are built byte by byte.
+//! Tests of recovery, and of formatting and opening, on stores that are built byte by byte; and of runs by turns.
 #![tactic(auto)]
 
 #[cfg(test)]
@@ -13,5 +13,7 @@ mod recovery;
 mod stops;
 #[cfg(test)]
 mod store;
+#[cfg(test)]
+mod turns;
 #[cfg(test)]
 mod workers;

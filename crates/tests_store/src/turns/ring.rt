@@ -1,0 +1,120 @@
+// Runs in which the log buffer, or the log itself, comes round.
+ghost use Rattle.std.specs.Prelude.{◌≤◌};
+
+use super::runs::{Run, marks, outcome_of, see_full};
+use redo_drive::RunEnd;
+use redo_machine::Turned::{Idle, Moved};
+use model_history::State::Flushed;
+use std::alloc::AllocError;
+use std::test::Fail;
+
+/// Adds a line of a user whose group has 8,192 bytes, the most that a group may have. It leaves a page full of the byte of
+/// two equal digits.
+pub fn add_full_line(
+    text: &mut Vec<u8>,
+    user: u8,
+    mode: u8,
+    page: u8,
+    digit: u8,
+) -> Result<(), AllocError> {
+    text.extend_from_slice(&[user, b' ', mode])?;
+    let mut before = b' ';
+    for bytes in [4050, 4050, 70] {
+        text.extend_from_slice(&[before, b's', b' ', page, b' ', b'3', b'8', b' '])?;
+        for _ in 0..bytes {
+            text.extend_from_slice(&[digit, digit])?;
+        }
+        before = b';';
+    }
+    text.push(b'\n')?;
+    Ok(())
+}
+
+/// Where the k-th of such groups ends.
+fn full_end(k: usize) -> u64
+    requires { k ≤ 1_000 }
+{
+    let end = 7936 + 8192 * (k as u64 + 1);
+    end / 496 * 512 + end % 496 + 12
+}
+
+/// Seven users have reserved 8,192 bytes each. The eighth one's group would end at 75,852, which is behind the log buffer of
+/// 65,536 bytes from the block of WRITE on: it waits until the first group is written, and WRITE stands at 16,652. From the
+/// second round on two users close their groups in each, which are ahead of CTAIL by less than 16,384.
+#[test]
+fn a_full_ring(rt: HostRuntime) -> Result<(), Fail> {
+    let mut text = Vec::new(rt.alloc());
+    for k in 0..8 {
+        add_full_line(&mut text, b'1' + k, b'f', b'0' + k, b'1' + k)?;
+    }
+    let writer = 8;
+    let turns = [
+        (0, 6, Moved),
+        (1, 6, Moved),
+        (2, 6, Moved),
+        (3, 6, Moved),
+        (4, 6, Moved),
+        (5, 6, Moved),
+        (6, 6, Moved),
+        (7, 6, Idle),
+        (0, 1044, Moved),
+        (writer, 2122, Moved),
+        (7, 2, Idle),
+        (writer, 2, Moved),
+        (7, 2, Moved),
+    ];
+    let run = Run {
+        rounds: 5,
+        ..Run::by_hand(text.as_slice(), &turns)
+    };
+    let outcome = outcome_of(&rt, rt.alloc(), &run)?;
+    assert_eq!(rt; (outcome.ended, outcome.code), (RunEnd::Done, 0));
+    let end = 75_852;
+    assert_eq!(rt; outcome.marks, marks(end, end, end, 75_776));
+    assert_eq!(rt; outcome.read, (0, end));
+    assert_eq!(rt; outcome.history.0.len(), 8);
+    for (k, entry) in outcome.history.0.iter().enumerate() {
+        let found = (entry.user, entry.end, entry.state);
+        assert_eq!(rt; found, (1 + k as u32, full_end(k), Flushed));
+        see_full(&rt, &outcome, k as u32, entry.end, 0x11 * (1 + k as u8));
+    }
+    Ok(())
+}
+
+/// How many lines come round the log twice, whose ring has 524,288 bytes.
+const LINES: usize = 130;
+
+/// A user's 130 lines come round the log twice. In each round it closes two groups and links a third, which is ahead of CTAIL
+/// by more than 16,384. So after 65 rounds 130 are closed, 129 are flushed, and the checkpoint stands at the block of the
+/// 128th one's end.
+#[test]
+fn the_log_comes_round_twice(rt: HostRuntime) -> Result<(), Fail> {
+    let mut text = Vec::new(rt.alloc());
+    for k in 0..LINES {
+        let (page, digit) = (b"01234567"[k % 8], b"123456789abcdef"[k % 15]);
+        add_full_line(&mut text, b'1', b'n', page, digit)?;
+    }
+    let run = Run {
+        rounds: LINES as u64 / 2,
+        ..Run::by_hand(text.as_slice(), &[])
+    };
+    let outcome = outcome_of(&rt, rt.alloc(), &run)?;
+    assert_eq!(rt; (outcome.ended, outcome.code), (RunEnd::Done, 0));
+    let end = 1_099_052;
+    assert_eq!(rt; outcome.marks, marks(end, end, end, 1_090_560));
+    assert_eq!(rt; outcome.read, (1, end));
+    assert_eq!(rt; outcome.history.0.len(), LINES);
+    for (k, entry) in outcome.history.0.iter().enumerate() {
+        assert_eq!(rt; entry.end, full_end(k));
+    }
+    for k in LINES - 9..LINES - 1 {
+        see_full(
+            &rt,
+            &outcome,
+            k as u32 % 8,
+            full_end(k),
+            0x11 * (1 + k as u8 % 15),
+        );
+    }
+    Ok(())
+}
