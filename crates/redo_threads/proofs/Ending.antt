@@ -5,12 +5,11 @@ use mathlib.Core.Option as maybe
 use Rattle.atomic_table.proofs.Lists.{at_set}
 use Rattle.model_core.specs.{index}
 use Rattle.model_core.specs.Actors as model
-use Rattle.model_core.specs.States.{UserState}
 use Rattle.model_core.specs.declared.steps.UserStep.{UserStep}
 use Rattle.model_core.specs.declared.steps.UserStep.TheVariants as user_step
 use Rattle.model_core.specs.declared.words.Word.TheVariants as word
 use Rattle.model_logcore.specs.LogFits.{UserAt}
-use Rattle.model_running.specs.Schedule.{HasEnded, HaveEnded}
+use Rattle.model_running.specs.Schedule.{HaveEnded}
 use Rattle.redo_disk.specs.{Call}
 use Rattle.redo_disk.specs.Seen.{Seen}
 use Rattle.redo_drive.specs.Leaving.{LeavesRun}

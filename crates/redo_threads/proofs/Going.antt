@@ -1,9 +1,8 @@
 -- Actors in their seats that go on.
-use Rattle.std.proofs.Common.{List, [], ap, arith, get_or, length, length-append, refl, set, subst, suc, sym, zero, ℕ, ⊎_elim, ◌++◌, ◌+◌, ◌<◌, ◌∙◌, ◌∷◌, ◌≡◌, ◌≤◌}
+use Rattle.std.proofs.Common.{List, [], ap, arith, get_or, length, length-append, refl, set, subst, sym, ℕ, ⊎_elim, ◌++◌, ◌+◌, ◌<◌, ◌∙◌, ◌∷◌, ◌≡◌}
 use Rattle.std.specs.Prelude.{vec_capacity}
 use Rattle.std.proofs.lemmas.List.Elements.{AllZip-push, length_all_zip}
 use lib.ListN.{get_elem?}
-use mathlib.Core.Option as maybe
 use Rattle.atomic_table.proofs.Lists.{at_last, at_longer}
 use Rattle.atomic_table.specs.Seated.{TableId}
 use Rattle.atomic_table.specs.declared.shared.Seat.{Seat}

@@ -1,11 +1,10 @@
 -- The actors of a run are those of its script.
-use Rattle.std.proofs.Common.{Bool, List, ap, arith, length, map, subst, suc, sym, ℕ, ◌++◌, ◌<◌, ◌∙◌, ◌∷◌, ◌≡◌}
+use Rattle.std.proofs.Common.{Bool, List, ap, arith, length, map, subst, ℕ, ◌∙◌, ◌∷◌, ◌≡◌}
 use lib.ListN.{get_elem?}
 use mathlib.Core.Option as maybe
 use Rattle.atomic_table.proofs.Lists.{at_longer}
 use Rattle.model_core.specs.Actors as model
 use Rattle.model_core.specs.States.{UserState}
-use Rattle.model_history.specs.Legal.{lines_of_user}
 use Rattle.model_running.specs.Seating.{ArePageActors}
 use Rattle.model_script.specs.declared.script.ScriptLine.{ScriptLine}
 use Rattle.redo_disk.specs.{Call}

@@ -113,14 +113,14 @@ pub(crate) fn to_ends<R: Wait, L: Sectors, D: Sectors, G: Gate>(
     ensures goes_on { GoOn table.now.table_id crew.old crew.new }
     ensures at_end { AreAtEnd crew.new.actors.items }
 {
-    for k in 0..crew.actors.len() {
+    for number in 0..crew.actors.len() {
         work(
             rt,
             table,
             running,
             gate,
-            &mut crew.seats[k],
-            &mut crew.actors[k],
+            &mut crew.seats[number],
+            &mut crew.actors[number],
         );
     }
 }
