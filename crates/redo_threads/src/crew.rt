@@ -4,6 +4,7 @@ ghost use Rattle.redo_rule.specs.Sharing.{AreSeatsOf};
 ghost use Rattle.redo_threads.specs.Working.{AreAtEnd, GoOn};
 
 use crate::gate::Gate;
+use crate::pace::Pace;
 use crate::work::{turn_if_open, work};
 use redo_disk::Sectors;
 use redo_drive::Actor;
@@ -11,7 +12,6 @@ use redo_rule::{Ring, Seat};
 use redo_words::Step;
 use std::sync::Wait;
 use std::sync::atomic::AtomicU64;
-use std::thread::yield_now;
 
 /// An actor in its seat.
 #[derive(Drop)]
@@ -91,11 +91,12 @@ pub(crate) fn play_here<R: Wait, L: Sectors, D: Sectors, G: Gate>(
     requires { AreSeatsOf table.now.table_id crew.old.seats.items crew.old.actors.items }
     ensures { GoOn table.now.table_id crew.old crew.new }
 {
+    let mut pace = Pace::new();
     for _ in rt.forever() {
         match round(table, running, gate, crew) {
             None => return,
-            Some(true) => {}
-            Some(false) => yield_now(),
+            Some(true) => pace.reset(),
+            Some(false) => pace.wait(rt),
         }
     }
     unreachable!()

@@ -112,7 +112,7 @@ pub(crate) fn work<R: Wait, L: Sectors, D: Sectors, G: Gate>(
         }
         let step = turn(table, running, gate, seat, actor);
         moved = step == Step::Moved;
-        pace.follow(step);
+        pace.follow(rt, step);
     }
     unreachable!()
 }
