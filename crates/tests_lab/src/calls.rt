@@ -5,7 +5,9 @@ use redo_lab::lab;
 use redo_memdisk::Fuse;
 use redo_threads::NoGate;
 use std::alloc::{AllocError, Global};
+use std::sync::Wait;
 use std::test::Fail;
+use std::thread::Threads;
 
 /// The script of most calls.
 pub(crate) const LINE: &str = "1 f b1 3 100 7";
@@ -35,7 +37,7 @@ pub(crate) fn source_of(alloc: Global, text: &str) -> Result<MemSource, AllocErr
 
 /// A call with this source and this sink on these devices.
 pub(crate) fn call_with(
-    rt: &HostRuntime,
+    rt: &(impl AllocGlobal + Threads + Wait + Sync),
     words: &[String],
     mut source: MemSource,
     mut sink: MemSink,
@@ -65,7 +67,7 @@ pub(crate) fn call_with(
 
 /// A call on these devices, with this script on its source.
 pub(crate) fn call_on(
-    rt: &HostRuntime,
+    rt: &(impl AllocGlobal + Threads + Wait + Sync),
     text: &str,
     script: &str,
     devices: Devices,
@@ -77,13 +79,13 @@ pub(crate) fn call_on(
 }
 
 /// A call on devices that hold zeros.
-pub(crate) fn call(rt: &HostRuntime, text: &str, script: &str) -> Result<Called, AllocError> {
+pub(crate) fn call(rt: &(impl AllocGlobal + Threads + Wait + Sync), text: &str, script: &str) -> Result<Called, AllocError> {
     let alloc = rt.alloc();
     call_on(rt, text, script, blank(alloc)?)
 }
 
 /// How many calls of the log device a call on devices that hold zeros makes before its opening, and in its opening.
-pub(crate) fn calls_of_opening(rt: &HostRuntime) -> Result<(u64, u64), AllocError> {
+pub(crate) fn calls_of_opening(rt: &(impl AllocGlobal + Threads + Wait + Sync)) -> Result<(u64, u64), AllocError> {
     let fuse = call(rt, "run", "")?.log_fuse;
     Ok((fuse.early_calls, fuse.passed))
 }
@@ -102,7 +104,7 @@ pub(crate) fn prints(called: &Called, lines: [&str; 2]) -> Result<bool, Fail> {
 
 /// Whether a call on devices that hold zeros ends with status 0 and prints these two lines, among others.
 pub(crate) fn has_lines(
-    rt: &HostRuntime,
+    rt: &(impl AllocGlobal + Threads + Wait + Sync),
     words: &str,
     script: &str,
     lines: [&str; 2],
