@@ -61,7 +61,10 @@ same | recover          | | 0 | read 1 8212 / p 4 8212 (00*3672)5c96
 }
 
 /// How many calls of the log device this makes.
-fn log_calls(rt: &(impl AllocGlobal + Threads + Wait + Sync), words: &str) -> Result<u64, AllocError> {
+fn log_calls(
+    rt: &(impl AllocGlobal + Threads + Wait + Sync),
+    words: &str,
+) -> Result<u64, AllocError> {
     let fuse = call(rt, words, "")?.log_fuse;
     Ok(fuse.early_calls.saturating_add(fuse.passed))
 }

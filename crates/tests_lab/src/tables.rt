@@ -58,7 +58,11 @@ fn devices_of(alloc: Global, name: &str, left: Devices) -> Result<Devices, Fail>
 }
 
 /// The call of a row, and what it is to come to.
-fn call_of<'a>(rt: &(impl AllocGlobal + Threads + Wait + Sync), row: &'a str, left: Devices) -> Result<(Called, &'a str), Fail> {
+fn call_of<'a>(
+    rt: &(impl AllocGlobal + Threads + Wait + Sync),
+    row: &'a str,
+    left: Devices,
+) -> Result<(Called, &'a str), Fail> {
     let alloc = rt.alloc();
     let (name, rest) = cell(row);
     let (words, rest) = cell(rest);
@@ -97,14 +101,21 @@ pub(crate) fn expect(
 }
 
 /// Makes the call of a row, which is to come to what the row says; the devices behind it.
-fn play_row(rt: &(impl Abort + AllocGlobal + Threads + Wait + Sync), row: &str, left: Devices) -> Result<Devices, Fail> {
+fn play_row(
+    rt: &(impl Abort + AllocGlobal + Threads + Wait + Sync),
+    row: &str,
+    left: Devices,
+) -> Result<Devices, Fail> {
     let (called, outcome) = call_of(rt, row, left)?;
     expect(rt, row, called.status, called.sink.bytes(), outcome)?;
     Ok(called.devices)
 }
 
 /// Plays a table, row by row; the devices behind it.
-pub(crate) fn left_by(rt: &(impl Abort + AllocGlobal + Threads + Wait + Sync), table: &str) -> Result<Devices, Fail> {
+pub(crate) fn left_by(
+    rt: &(impl Abort + AllocGlobal + Threads + Wait + Sync),
+    table: &str,
+) -> Result<Devices, Fail> {
     let mut left = new_devices(rt.alloc(), "new")?;
     for row in table.trim().lines() {
         left = play_row(rt, row, left)?;
@@ -113,7 +124,10 @@ pub(crate) fn left_by(rt: &(impl Abort + AllocGlobal + Threads + Wait + Sync), t
 }
 
 /// Plays a table, row by row.
-pub(crate) fn play(rt: &(impl Abort + AllocGlobal + Threads + Wait + Sync), table: &str) -> Result<(), Fail> {
+pub(crate) fn play(
+    rt: &(impl Abort + AllocGlobal + Threads + Wait + Sync),
+    table: &str,
+) -> Result<(), Fail> {
     let _devices = left_by(rt, table)?;
     Ok(())
 }
