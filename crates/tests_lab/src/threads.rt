@@ -4,7 +4,6 @@ use crate::devices::blank;
 use crate::stops::crash_with_each_pick;
 use redo_io::MemSink;
 use redo_threads::{Gate, Point};
-use std::process::Abort;
 use std::sync::Wait;
 use std::sync::atomic::{AtomicU64, Ordering};
 use std::test::Fail;
@@ -109,23 +108,11 @@ fn gate_two_users(rt: HostRuntime) -> Result<(), Fail> {
 }
 
 /// In threads no number of calls is sure to be all of them, so it isn't asked whether a stop shows.
-fn stop_in_threads(
-    rt: &(impl Abort + AllocGlobal + Threads + Wait + Sync),
-    stop: &str,
-) -> Result<(), Fail> {
-    for calls in 0..61u64 {
-        let options = format!(in rt.alloc(); "--threads {stop} {calls}")?;
-        let _is_whole = crash_with_each_pick(rt, &options)?;
-    }
-    Ok(())
-}
-
 #[test]
 fn keeps_flushed_lines_where_the_log_device_stops_threads(rt: HostRuntime) -> Result<(), Fail> {
-    stop_in_threads(&rt, "--stop-log")
-}
-
-#[test]
-fn keeps_flushed_lines_where_the_data_device_stops_threads(rt: HostRuntime) -> Result<(), Fail> {
-    stop_in_threads(&rt, "--stop-data")
+    for calls in 0..61u64 {
+        let options = format!(in rt.alloc(); "--threads --stop-log {calls}")?;
+        let _is_whole = crash_with_each_pick(&rt, &options)?;
+    }
+    Ok(())
 }
