@@ -6,7 +6,7 @@ use crate::draws::Draws;
 use crate::generated;
 use crate::listing::read_of;
 use crate::lsn::start_after;
-use crate::making::{draw_script, spoil_fit, spoil_text, text_of};
+use crate::making::{draw_full_script, draw_script, spoil_fit, spoil_text, text_of};
 use crate::options::Options;
 use crate::program::{Call, Program};
 use crate::report::Report;
@@ -20,6 +20,8 @@ pub struct Tally {
     pub groups: u64,
     pub crashes: u64,
     pub stops: u64,
+    /// Runs in threads.
+    pub threads: u64,
     pub chains: u64,
     /// How often a log has gone round.
     pub rounds: u64,
@@ -32,6 +34,7 @@ impl Tally {
         self.groups += other.groups;
         self.crashes += other.crashes;
         self.stops += other.stops;
+        self.threads += other.threads;
         self.chains += other.chains;
         self.rounds += other.rounds;
         self.refused += other.refused;
@@ -42,6 +45,8 @@ impl Tally {
 pub struct Case<'a> {
     pub program: &'a Program,
     pub folder: &'a Path,
+    /// Whether each run is one in threads, of all users.
+    pub all_threads: bool,
     pub draws: Draws,
     pub tally: Tally,
     /// The calls so far.
@@ -90,11 +95,17 @@ impl Case<'_> {
         files: bool,
         is_wide: bool,
     ) -> Result<Left, String> {
-        let mut script = draw_script(&mut self.draws, &store.shape, is_wide);
+        let threads = self.all_threads || self.draws.once_in(8);
+        let draw = if threads {
+            draw_full_script
+        } else {
+            draw_script
+        };
+        let mut script = draw(&mut self.draws, &store.shape, is_wide);
         if self.draws.once_in(24) {
             spoil_fit(&mut self.draws, &mut script, &store.shape);
         }
-        let options = Options::draw(&mut self.draws, files, script.len());
+        let options = Options::draw(&mut self.draws, files, threads, script.len());
         let mut text = text_of(&mut self.draws, &script);
         if self.draws.once_in(24) {
             let line = spoil_text(&mut self.draws, &mut text);
@@ -105,7 +116,7 @@ impl Case<'_> {
         }
         let call = self.call(&options.words(), &text)?;
         let left = self.check_call(store, &script, &options, &call)?;
-        if !files && self.draws.once_in(50) {
+        if !files && !threads && self.draws.once_in(50) {
             // the turns are those of the seed, so the same call prints the same
             self.call(&options.words(), &text)?
                 .answers(call.status, &call.printed)?;
@@ -133,6 +144,7 @@ impl Case<'_> {
             return Ok(Left::Unrun);
         }
         if let Some(most) = options.most_turns
+            && !options.threads
             && call.printed.starts_with("fault turns ")
         {
             self.tally.refused += 1;
@@ -147,6 +159,7 @@ impl Case<'_> {
         self.tally.groups += report.entries.len() as u64;
         self.tally.crashes += u64::from(options.crashes);
         self.tally.stops += u64::from(report.tells_failure());
+        self.tally.threads += u64::from(options.threads);
         let asked = Asked {
             script,
             stops: options.stops(),
@@ -172,7 +185,7 @@ impl Case<'_> {
         let words = format!("gen {seed} {users} {groups}");
         let call = self.call(&words_of(&words), "")?;
         call.answers(0, &text)?;
-        let mut options = Options::draw(&mut self.draws, false, script.len());
+        let mut options = Options::draw(&mut self.draws, false, self.all_threads, script.len());
         let is_summed = self.draws.once_in(2);
         if is_summed {
             options = Options::of_generated(seed);

@@ -28,6 +28,7 @@ const MOST_FAILURES: u64 = 10;
 
 struct Soak {
     program: Program,
+    all_threads: bool,
     next: AtomicU64,
     last: u64,
     failures: AtomicU64,
@@ -39,6 +40,7 @@ impl Soak {
         let mut case = Case {
             program: &self.program,
             folder,
+            all_threads: self.all_threads,
             draws: Draws::new(seed),
             tally: Tally::default(),
             calls: Vec::new(),
@@ -48,7 +50,11 @@ impl Soak {
         if let Err(message) = outcome {
             self.failures.fetch_add(1, Ordering::Relaxed);
             let calls: Vec<String> = case.calls.iter().map(|call| call.shown()).collect();
-            println!("soak/run {seed} 1\n{message}\n{}", calls.join("\n"));
+            let threads = if self.all_threads { "--threads " } else { "" };
+            println!(
+                "soak/run {threads}{seed} 1\n{message}\n{}",
+                calls.join("\n")
+            );
         }
     }
 
@@ -67,13 +73,14 @@ impl Soak {
 fn number(word: Option<String>, default: u64) -> u64 {
     let word = word.map_or(Some(default), |word| word.parse().ok());
     word.unwrap_or_else(|| {
-        eprintln!("usage: soak [FIRST_SEED] [RUNS]");
+        eprintln!("usage: soak [--threads] [FIRST_SEED] [RUNS]");
         process::exit(2)
     })
 }
 
 fn main() {
-    let mut words = env::args().skip(1);
+    let mut words = env::args().skip(1).peekable();
+    let all_threads = words.next_if_eq("--threads").is_some();
     let first = number(words.next(), 1);
     let runs = number(words.next(), 1_000);
     let program =
@@ -88,6 +95,7 @@ fn main() {
     let start = Instant::now();
     let soak = Soak {
         program: Program::new(program),
+        all_threads,
         next: AtomicU64::new(first),
         last: first.saturating_add(runs),
         failures: AtomicU64::new(0),
@@ -112,11 +120,12 @@ fn main() {
     let failures = soak.failures.load(Ordering::Relaxed);
     let tally = soak.tally.lock().unwrap();
     println!(
-        "{runs} runs, {} calls, {} groups, {} crashes, {} stops that hit, {} chains, {} rounds of a log, {} refused, {failures} failures, {} seconds",
+        "{runs} runs, {} calls, {} groups, {} crashes, {} stops that hit, {} runs in threads, {} chains, {} rounds of a log, {} refused, {failures} failures, {} seconds",
         tally.calls,
         tally.groups,
         tally.crashes,
         tally.stops,
+        tally.threads,
         tally.chains,
         tally.rounds,
         tally.refused,

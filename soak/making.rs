@@ -65,12 +65,37 @@ pub fn draw_script(draws: &mut Draws, shape: &Shape, is_wide: bool) -> Vec<Line>
     }
     let count = draws.within(taste.least_lines, taste.most_lines);
     (0..count)
-        .map(|_| Line {
-            user: draws.one_of(&users),
-            mode: draws.one_of(&taste.modes),
-            ops: draw_ops(draws, shape, taste),
+        .map(|_| {
+            let user = draws.one_of(&users);
+            draw_line(draws, shape, taste, user)
         })
         .collect()
+}
+
+/// A script of all users, each with a line at least.
+pub fn draw_full_script(draws: &mut Draws, shape: &Shape, is_wide: bool) -> Vec<Line> {
+    let taste = if is_wide { WIDE } else { draw_taste(draws) };
+    let users = u64::from(MOST_USERS);
+    let count = users + draws.within(taste.least_lines, taste.most_lines);
+    let first = draws.below(users);
+    (0..count)
+        .map(|number| {
+            let place = if number < users {
+                first + number
+            } else {
+                draws.below(users)
+            };
+            draw_line(draws, shape, taste, 1 + (place % users) as u32)
+        })
+        .collect()
+}
+
+fn draw_line(draws: &mut Draws, shape: &Shape, taste: Taste, user: u32) -> Line {
+    Line {
+        user,
+        mode: draws.one_of(&taste.modes),
+        ops: draw_ops(draws, shape, taste),
+    }
 }
 
 fn draw_users(draws: &mut Draws) -> Vec<u32> {

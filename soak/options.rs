@@ -1,4 +1,4 @@
-//! The words of a run: its turns, its stops, its pick.
+//! The words of a run: its turns or threads, its stops, its pick.
 
 use crate::draws::Draws;
 
@@ -8,6 +8,7 @@ pub struct Options {
     pub crashes: bool,
     pub files: bool,
     pub log_only: bool,
+    pub threads: bool,
     pub turns: Option<u64>,
     pub most_turns: Option<u64>,
     pub stop_log: Option<u64>,
@@ -16,7 +17,7 @@ pub struct Options {
 }
 
 impl Options {
-    pub fn draw(draws: &mut Draws, files: bool, groups: usize) -> Options {
+    pub fn draw(draws: &mut Draws, files: bool, threads: bool, groups: usize) -> Options {
         let crashes = !draws.once_in(8);
         let stops = crashes && !draws.once_in(4);
         let which = draws.below(3);
@@ -24,6 +25,7 @@ impl Options {
             crashes,
             files,
             log_only: draws.once_in(6),
+            threads,
             turns: draw_turns(draws),
             most_turns: draws
                 .once_in(40)
@@ -40,6 +42,7 @@ impl Options {
             crashes: true,
             files: false,
             log_only: false,
+            threads: false,
             turns: Some(seed),
             most_turns: None,
             stop_log: None,
@@ -71,7 +74,11 @@ impl Options {
                 words.extend([name.to_string(), number.to_string()]);
             }
         }
-        let flags = [("--files", self.files), ("--log-only", self.log_only)];
+        let flags = [
+            ("--files", self.files),
+            ("--log-only", self.log_only),
+            ("--threads", self.threads),
+        ];
         words.extend(
             flags
                 .iter()

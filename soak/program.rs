@@ -1,8 +1,14 @@
 //! Calls of the program.
 
-use std::io::{ErrorKind, Write};
+use std::io::{ErrorKind, Read, Write};
 use std::path::{Path, PathBuf};
-use std::process::{Command, Stdio};
+use std::process::{Child, Command, Stdio};
+use std::sync::mpsc;
+use std::thread;
+use std::time::Duration;
+
+/// A call that takes longer hangs.
+const LONGEST: Duration = Duration::from_secs(60);
 
 pub struct Program {
     path: PathBuf,
@@ -68,14 +74,30 @@ impl Program {
                 _ => {}
             }
         }
-        let output = child
-            .wait_with_output()
-            .map_err(|error| error.to_string())?;
+        let printed = read_all(&mut child)?;
+        let status = child.wait().map_err(|error| error.to_string())?;
         Ok(Call {
             words: words.to_vec(),
             script: script.to_string(),
-            status: output.status.code().unwrap_or(-1),
-            printed: String::from_utf8_lossy(&output.stdout).into_owned(),
+            status: status.code().unwrap_or(-1),
+            printed: String::from_utf8_lossy(&printed).into_owned(),
         })
     }
+}
+
+/// What the program prints until it ends. One that hangs is ended, and prints no more.
+fn read_all(child: &mut Child) -> Result<Vec<u8>, String> {
+    let mut stdout = child.stdout.take().ok_or("no standard output")?;
+    let (sender, receiver) = mpsc::channel();
+    let reader = thread::spawn(move || {
+        let mut printed = Vec::new();
+        let read = stdout.read_to_end(&mut printed);
+        // who waits for it may have given up
+        let _ = sender.send(());
+        read.map(|_| printed)
+    });
+    if receiver.recv_timeout(LONGEST).is_err() {
+        child.kill().map_err(|error| error.to_string())?;
+    }
+    reader.join().unwrap().map_err(|error| error.to_string())
 }

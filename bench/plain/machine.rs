@@ -5,21 +5,24 @@ mod checkpointer;
 mod cleaner;
 mod closer;
 mod flusher;
-mod lsn;
-mod parts;
+pub mod lsn;
+pub mod parts;
+pub mod threads;
 mod user;
-mod words;
+pub mod words;
 mod writer;
 
+use crate::device::Failure;
 use crate::group::{changes, encode};
-use crate::log::BLOCK_HEADER;
+use crate::log::{BLOCK_HEADER, BLOCK_SIZE, Device, HEADER_BYTES};
 use crate::script::ScriptLine;
 use checkpointer::Checkpointer;
 use cleaner::Cleaner;
 use closer::Closer;
 use flusher::Flusher;
 use lsn::{floor, lsn_of, sn_of};
-use parts::{DataPart, Failure, LogPart};
+use parts::{DataPart, LogPart, data_length};
+pub use user::FREE_MARGIN;
 use user::{Line, User};
 use words::*;
 use writer::Writer;
@@ -27,7 +30,7 @@ use writer::Writer;
 /// The sizes of a store that is formatted without an option, and where its first run starts.
 const PAGES: u32 = 8;
 const LOG_BLOCKS: u64 = 2_048;
-const START: u64 = 8_204;
+pub const START: u64 = 8_204;
 const USERS: u32 = 16;
 
 enum Actor {
@@ -63,37 +66,58 @@ impl Actor {
     }
 }
 
-/// The users that have lines, and behind them the other actors.
-fn seat_actors(script: &[ScriptLine]) -> Vec<Actor> {
+/// The sizes of a store, and whether its log runs alone.
+#[derive(Clone, Copy)]
+pub struct Sizes {
+    pub pages: u32,
+    pub log_blocks: u64,
+    pub log_only: bool,
+}
+
+const DEFAULT_SIZES: Sizes = Sizes {
+    pages: PAGES,
+    log_blocks: LOG_BLOCKS,
+    log_only: false,
+};
+
+/// The users that have lines, and after them the other actors.
+fn seat_actors(script: &[ScriptLine], sizes: Sizes) -> Vec<Actor> {
     let mut actors = Vec::new();
     for number in 1..=USERS {
         let own = script.iter().filter(|line| line.user == number);
-        let lines: Vec<Line> = own.map(line_of).collect();
+        let lines: Vec<Line> = own.map(|line| line_of(line, sizes.log_only)).collect();
         if !lines.is_empty() {
-            actors.push(Actor::User(User::new(number, lines, LOG_BLOCKS)));
+            actors.push(Actor::User(User::new(number, lines, sizes.log_blocks)));
         }
     }
-    actors.push(Actor::Writer(Writer::new(START, LOG_BLOCKS)));
+    actors.push(Actor::Writer(Writer::new(START, sizes.log_blocks)));
     actors.push(Actor::Flusher(Flusher::new(START)));
-    actors.push(Actor::Closer(Closer::new(START)));
-    actors.push(Actor::Cleaner(Cleaner::new(PAGES)));
-    actors.push(Actor::Checkpointer(Checkpointer::new(START)));
+    if !sizes.log_only {
+        actors.push(Actor::Closer(Closer::new(START)));
+        actors.push(Actor::Cleaner(Cleaner::new(sizes.pages)));
+        actors.push(Actor::Checkpointer(Checkpointer::new(START)));
+    }
     actors
 }
 
-fn line_of(line: &ScriptLine) -> Line {
+fn line_of(line: &ScriptLine, log_only: bool) -> Line {
+    let pages = if log_only {
+        Vec::new()
+    } else {
+        changes(&line.items)
+    };
     Line {
         mode: line.mode,
         bytes: encode(&line.items),
-        pages: changes(&line.items),
+        pages,
     }
 }
 
 /// The words, both device parts, and the flush lists, each of pages with their oldest modifications.
 struct Parts {
     words: Vec<u64>,
-    log: LogPart,
-    data: DataPart,
+    log: LogPart<Device>,
+    data: DataPart<Device>,
     lists: [Vec<(u32, u64)>; LISTS],
 }
 
@@ -104,21 +128,32 @@ fn called(answer: Result<(), Failure>, told: u64, code: u32) -> Answer {
     }
 }
 
+/// The words as a run begins on a new store.
+fn start_words(pages: u32) -> Vec<u64> {
+    let mut words = vec![0; count(pages as usize)];
+    words[SN] = sn_of(START);
+    for mark in [WRITE, WTAIL, FLUSHED, CTAIL] {
+        words[mark] = START;
+    }
+    words[CKPT] = floor(START);
+    words[first(START)] = BLOCK_HEADER as u64;
+    words
+}
+
+/// Bytes of the log device of so many blocks.
+pub fn log_length(log_blocks: u64) -> usize {
+    HEADER_BYTES + log_blocks as usize * BLOCK_SIZE
+}
+
 impl Parts {
-    fn new() -> Parts {
-        let mut words = vec![0; count(PAGES as usize)];
-        words[SN] = sn_of(START);
-        for mark in [WRITE, WTAIL, FLUSHED, CTAIL] {
-            words[mark] = START;
-        }
-        words[CKPT] = floor(START);
-        words[first(START)] = BLOCK_HEADER as u64;
-        Parts {
-            words,
-            log: LogPart::new(LOG_BLOCKS, START),
-            data: DataPart::new(PAGES),
+    fn new() -> Result<Parts, Failure> {
+        let log = Device::new(log_length(LOG_BLOCKS));
+        Ok(Parts {
+            words: start_words(PAGES),
+            log: LogPart::new(log, LOG_BLOCKS, START)?,
+            data: DataPart::new(Device::new(data_length(PAGES))),
             lists: Default::default(),
-        }
+        })
     }
 
     fn put(&mut self, word: usize, number: u64) -> u64 {
@@ -229,11 +264,11 @@ pub struct Entry {
 
 impl Machine {
     /// A new store as a run of the script begins on it.
-    pub fn new(script: &[ScriptLine]) -> Machine {
-        Machine {
-            parts: Parts::new(),
-            actors: seat_actors(script),
-        }
+    pub fn new(script: &[ScriptLine]) -> Result<Machine, Failure> {
+        Ok(Machine {
+            parts: Parts::new()?,
+            actors: seat_actors(script, DEFAULT_SIZES),
+        })
     }
 
     fn open_user(&self) -> Option<u32> {
@@ -267,16 +302,8 @@ impl Machine {
         self.open_user().map_or(Ran::Done, Ran::Spent)
     }
 
-    /// The groups of all users in lsn order.
     pub fn history(&self) -> Vec<Entry> {
-        let marks = self.marks();
-        let entries = self
-            .actors
-            .iter()
-            .flat_map(|actor| entries_of(actor, marks));
-        let mut entries: Vec<Entry> = entries.collect();
-        entries.sort_unstable_by_key(|entry| entry.start);
-        entries
+        history_of(&self.actors, self.marks())
     }
 
     /// WTAIL, WRITE, FLUSHED and CKPT.
@@ -288,6 +315,14 @@ impl Machine {
     pub fn sums(&self) -> [u64; 2] {
         [self.parts.log.sum(), self.parts.data.sum()]
     }
+}
+
+/// The groups of all users in lsn order.
+fn history_of(actors: &[Actor], marks: [u64; 4]) -> Vec<Entry> {
+    let entries = actors.iter().flat_map(|actor| entries_of(actor, marks));
+    let mut entries: Vec<Entry> = entries.collect();
+    entries.sort_unstable_by_key(|entry| entry.start);
+    entries
 }
 
 fn entries_of(actor: &Actor, marks: [u64; 4]) -> Vec<Entry> {

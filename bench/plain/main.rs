@@ -1,8 +1,10 @@
-//! The same work as the proved program, in plain Rust. `plain write` leaves the bytes that both work on in the current
-//! folder, and `plain time` times the work over them.
+//! The same work as the proved programs, in plain Rust. `plain write` leaves the bytes that both work on in the current
+//! folder, and `plain time` times the work over them. `plain script` prints a script, and `plain threads` times its runs in
+//! threads.
 
 mod checksum;
 mod decoder;
+mod device;
 mod generator;
 mod group;
 mod log;
@@ -12,10 +14,12 @@ mod recovery;
 mod script;
 mod scripts;
 mod store;
+mod threads;
 mod turning;
 
 use decoder::{Got, Rec, decode};
 use std::hint::black_box;
+use std::io::Write;
 use std::time::{Duration, Instant};
 use std::{env, fs, io, process};
 
@@ -52,7 +56,12 @@ fn time() -> io::Result<()> {
     report("decode", stream.len(), best, &tally);
     let mut device = log::Device::new(log::LENGTH);
     let (best, ()) = fastest(|| log::write_all(black_box(&mut device), black_box(&noise)));
-    report("write_to", log::MARK * log::MARKS, best, &format!("{:08x}", device.sum_from(0)));
+    report(
+        "write_to",
+        log::MARK * log::MARKS,
+        best,
+        &format!("{:08x}", device.sum_from(0)),
+    );
     recovering::time(fs::read(LOG_FILE)?, fs::read(DATA_FILE)?);
     turning::time_turns(&fs::read(TURNS_FILE)?);
     turning::time_parser(&fs::read(SCRIPT_FILE)?);
@@ -121,14 +130,31 @@ fn report(name: &str, length: usize, best: Duration, outcome: &str) {
     println!("{name} {length} {} {outcome}", best.as_nanos());
 }
 
+fn number(word: &str) -> u32 {
+    word.parse().unwrap_or_else(|_| usage())
+}
+
+fn usage() -> ! {
+    eprintln!(
+        "usage: plain write|logs|time|script USERS BYTES MODE GROUPS|threads WHAT memory|files SCRIPT ROUNDS"
+    );
+    process::exit(2)
+}
+
 fn main() -> io::Result<()> {
-    match env::args().nth(1).as_deref() {
-        Some("write") => write(),
-        Some("logs") => write_logs(),
-        Some("time") => time(),
-        _ => {
-            eprintln!("usage: plain write|logs|time");
-            process::exit(2)
+    let words: Vec<String> = env::args().skip(1).collect();
+    let words: Vec<&str> = words.iter().map(String::as_str).collect();
+    match words[..] {
+        ["write"] => write(),
+        ["logs"] => write_logs(),
+        ["time"] => time(),
+        ["script", users, bytes, mode, groups] => {
+            let text = threads::script_text(number(users), number(bytes), mode, number(groups));
+            io::stdout().write_all(text.as_bytes())
         }
+        ["threads", what, place, script, rounds] => {
+            threads::time(what, place, script, number(rounds))
+        }
+        _ => usage(),
     }
 }

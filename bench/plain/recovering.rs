@@ -28,12 +28,21 @@ pub fn time(log: Vec<u8>, data: Vec<u8>) {
     report("-decode", length, start.elapsed(), &tally);
     let start = Instant::now();
     let pages = black_box(apply_all(black_box(&recovered)));
-    report("-apply", length, start.elapsed(), &format!("{:x}", sum_of(&pages)));
+    report(
+        "-apply",
+        length,
+        start.elapsed(),
+        &format!("{:x}", sum_of(&pages)),
+    );
 }
 
 fn outcome(recovered: &Recovered) -> String {
     let (blocks, groups) = (recovered.views.len(), recovered.groups.len());
-    format!("{blocks} {groups} {} {:x}", recovered.end, sum_of(&recovered.pages))
+    format!(
+        "{blocks} {groups} {} {:x}",
+        recovered.end,
+        sum_of(&recovered.pages)
+    )
 }
 
 /// A sum over the pages.
@@ -45,13 +54,18 @@ fn sum_of(pages: &Pages) -> u64 {
 /// The sum of the checksums of the blocks.
 fn checksums(blocks: &[u8]) -> u64 {
     let blocks = blocks.chunks_exact(BLOCK_SIZE);
-    blocks.map(|block| u64::from(crc32c(&block[..BLOCK_HEADER + BLOCK_DATA]))).sum()
+    blocks
+        .map(|block| u64::from(crc32c(&block[..BLOCK_HEADER + BLOCK_DATA])))
+        .sum()
 }
 
 /// The data of the blocks; the unused bytes of the last one stand behind the groups.
 fn joined(blocks: &[u8]) -> Vec<u8> {
     let blocks = blocks.chunks_exact(BLOCK_SIZE);
-    blocks.flat_map(|block| &block[BLOCK_HEADER..BLOCK_HEADER + BLOCK_DATA]).copied().collect()
+    blocks
+        .flat_map(|block| &block[BLOCK_HEADER..BLOCK_HEADER + BLOCK_DATA])
+        .copied()
+        .collect()
 }
 
 /// Blank pages with all the groups applied.

@@ -152,7 +152,8 @@ fn read_block(block: &[u8], lsn: u64) -> Option<View> {
     let first = usize::from(u16::from_be_bytes([block[6], block[7]]));
     let is_length = (BLOCK_HEADER..DATA_END).contains(&length) || length == BLOCK_SIZE;
     let is_first = first == 0 || first >= BLOCK_HEADER && first <= length.min(DATA_END - 1);
-    let is_sound = field32(block, 0) & 0x7FFF_FFFF == number && is_length && is_first && is_sealed(block);
+    let is_sound =
+        field32(block, 0) & 0x7FFF_FFFF == number && is_length && is_first && is_sealed(block);
     is_sound.then_some(View { length, first })
 }
 
@@ -162,7 +163,12 @@ fn lsn_of(sn: u64) -> u64 {
 }
 
 /// The groups from the first one's start on, and the lsn behind the last; none where a group doesn't fit the store.
-fn read_groups(views: &[View], joined: &[u8], ckpt: u64, shape: &Shape) -> Option<(Vec<Whole>, u64)> {
+fn read_groups(
+    views: &[View],
+    joined: &[u8],
+    ckpt: u64,
+    shape: &Shape,
+) -> Option<(Vec<Whole>, u64)> {
     let Some(block) = views.iter().position(|view| view.first != 0) else {
         let length = BLOCK_SIZE * views.len() + BLOCK_HEADER;
         return Some((Vec::new(), ckpt + length as u64));
@@ -226,7 +232,9 @@ fn read_pages(data: &Device, shape: &Shape, end: u64) -> Option<Pages> {
         } else {
             sound(&place, number, shape).or_else(|| {
                 let copies = slots.chunks_exact(shape.page_size);
-                copies.filter_map(|copy| sound(copy, number, shape)).max_by_key(|copy| copy.0)
+                copies
+                    .filter_map(|copy| sound(copy, number, shape))
+                    .max_by_key(|copy| copy.0)
             })
         };
         let (lsn, page) = kept?;

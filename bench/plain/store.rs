@@ -34,11 +34,22 @@ pub fn log_of_large() -> Vec<u8> {
 fn log_of(log_blocks: usize, stream: &[u8]) -> Vec<u8> {
     let mut log = vec![0; HEADER_BYTES + BLOCK_SIZE * log_blocks];
     head(&mut log[..BLOCK_SIZE], log_blocks);
-    checkpoint(&mut log[BLOCK_SIZE..2 * BLOCK_SIZE], 0, START_LSN, HEADER_BYTES as u64);
+    checkpoint(
+        &mut log[BLOCK_SIZE..2 * BLOCK_SIZE],
+        0,
+        START_LSN,
+        HEADER_BYTES as u64,
+    );
     let blocks = log[HEADER_BYTES..].chunks_exact_mut(BLOCK_SIZE);
     for (i, (block, data)) in blocks.zip(stream.chunks(BLOCK_DATA)).enumerate() {
         let first = if i == 0 { BLOCK_HEADER } else { 0 };
-        fill(block, START_LSN + (BLOCK_SIZE * i) as u64, data, first as u16, 0);
+        fill(
+            block,
+            START_LSN + (BLOCK_SIZE * i) as u64,
+            data,
+            first as u16,
+            0,
+        );
     }
     log
 }
@@ -54,14 +65,35 @@ fn seal(block: &mut [u8], fields: &[&[u8]]) {
 fn head(block: &mut [u8], log_blocks: usize) {
     let mut creator = [0; 32];
     creator[..9].copy_from_slice(b"redolab 1");
-    let sizes = [PAGE_SIZE as u32, PAGES as u32, SPACE, log_blocks as u32, SLOTS as u32];
+    let sizes = [
+        PAGE_SIZE as u32,
+        PAGES as u32,
+        SPACE,
+        log_blocks as u32,
+        SLOTS as u32,
+    ];
     let sizes = sizes.map(u32::to_be_bytes).concat();
-    seal(block, &[&1u32.to_be_bytes(), &[0; 4], &START_LSN.to_be_bytes(), &creator, &sizes]);
+    seal(
+        block,
+        &[
+            &1u32.to_be_bytes(),
+            &[0; 4],
+            &START_LSN.to_be_bytes(),
+            &creator,
+            &sizes,
+        ],
+    );
 }
 
 /// The checkpoint of a number at an lsn, whose block stands there on the device.
 pub fn checkpoint(block: &mut [u8], number: u64, lsn: u64, place: u64) {
-    seal(block, &[number, lsn, place, RING].map(u64::to_be_bytes).each_ref().map(|field| &field[..]));
+    seal(
+        block,
+        &[number, lsn, place, RING]
+            .map(u64::to_be_bytes)
+            .each_ref()
+            .map(|field| &field[..]),
+    );
 }
 
 /// What the checkpoint says of the ring, which has no other value.

@@ -43,7 +43,7 @@ struct Run {
 }
 
 fn run(script: &[ScriptLine], turns: u64) -> Run {
-    let mut machine = Machine::new(script);
+    let mut machine = Machine::new(script).unwrap_or_else(|_| unreachable!("memory fails no call"));
     let ran = machine.run(SEED, turns);
     let entries = machine.history();
     Run {

@@ -3,18 +3,15 @@
 use super::cleaner::{USER_END, USER_START};
 use super::lsn::floor;
 use super::words::{LOG_BUFFER, PAGE_SIZE};
+use crate::device::{Failure, Sectors};
 use crate::log::{BLOCK_DATA, BLOCK_SIZE, Device, HEADER_BYTES, START_LSN, fill};
 use crate::store::{SLOTS, checkpoint, seal_page};
 use std::collections::VecDeque;
 
 const USERS: usize = USER_END - USER_START;
 
-/// A call that its device failed.
-#[derive(Clone, Copy)]
-pub struct Failure;
-
-pub struct LogPart {
-    device: Device,
+pub struct LogPart<D> {
+    device: D,
     blocks: u64,
     written: u64,
     pub stable: u64,
@@ -23,11 +20,11 @@ pub struct LogPart {
     pub failed: Option<Failure>,
 }
 
-impl LogPart {
+impl<D: Sectors> LogPart<D> {
     /// The log part of a run that starts there, on a device with the two checkpoints that formatting and opening leave.
-    pub fn new(blocks: u64, start: u64) -> LogPart {
+    pub fn new(device: D, blocks: u64, start: u64) -> Result<LogPart<D>, Failure> {
         let mut part = LogPart {
-            device: Device::new(HEADER_BYTES + blocks as usize * BLOCK_SIZE),
+            device,
             blocks,
             written: start,
             stable: start,
@@ -35,10 +32,10 @@ impl LogPart {
             buffer: vec![0; LOG_BUFFER as usize],
             failed: None,
         };
-        part.put_checkpoint(floor(start));
+        part.put_checkpoint(floor(start))?;
         part.number = 1;
-        part.put_checkpoint(floor(start));
-        part
+        part.put_checkpoint(floor(start))?;
+        Ok(part)
     }
 
     fn offset_of(&self, lsn: u64) -> usize {
@@ -58,49 +55,55 @@ impl LogPart {
         let end = HEADER_BYTES + self.blocks as usize * BLOCK_SIZE;
         let length = firsts.len() * BLOCK_SIZE;
         let (front, back) = self.buffer[..length].split_at(length.min(end - at));
-        self.device.write(at, front);
+        self.device.write(at, front)?;
         if !back.is_empty() {
-            self.device.write(HEADER_BYTES, back);
+            self.device.write(HEADER_BYTES, back)?;
         }
         self.written = mark;
         Ok(())
     }
 
     pub fn sync(&mut self) -> Result<(), Failure> {
-        self.device.sync();
+        self.device.sync()?;
         self.stable = self.written;
         Ok(())
     }
 
     pub fn checkpoint(&mut self, lsn: u64) -> Result<(), Failure> {
         self.number += 1;
-        self.put_checkpoint(lsn);
-        Ok(())
+        self.put_checkpoint(lsn)
     }
 
-    fn put_checkpoint(&mut self, lsn: u64) {
+    fn put_checkpoint(&mut self, lsn: u64) -> Result<(), Failure> {
         let mut block = [0; BLOCK_SIZE];
         checkpoint(&mut block, self.number, lsn, self.offset_of(lsn) as u64);
         let place = if self.number.is_multiple_of(2) { 1 } else { 3 };
-        self.device.write(place * BLOCK_SIZE, &block);
-        self.device.sync();
+        self.device.write(place * BLOCK_SIZE, &block)?;
+        self.device.sync()
     }
+}
 
+impl LogPart<Device> {
     /// The sum of the checksums of the sectors behind the header's.
     pub fn sum(&self) -> u64 {
         self.device.sum_from(1)
     }
 }
 
-pub struct DataPart {
-    device: Device,
+pub struct DataPart<D> {
+    device: D,
     buffer: Vec<u8>,
 }
 
-impl DataPart {
-    pub fn new(pages: u32) -> DataPart {
+/// Bytes of the data device of a store of so many pages.
+pub fn data_length(pages: u32) -> usize {
+    (SLOTS + pages as usize) * PAGE_SIZE
+}
+
+impl<D: Sectors> DataPart<D> {
+    pub fn new(device: D) -> DataPart<D> {
         DataPart {
-            device: Device::new((SLOTS + pages as usize) * PAGE_SIZE),
+            device,
             buffer: vec![0; SLOTS * PAGE_SIZE],
         }
     }
@@ -116,16 +119,17 @@ impl DataPart {
             seal_page(text, *number, *lsn);
         }
         self.device
-            .write(0, &self.buffer[..batch.len() * PAGE_SIZE]);
-        self.device.sync();
+            .write(0, &self.buffer[..batch.len() * PAGE_SIZE])?;
+        self.device.sync()?;
         for (text, (number, _)) in self.buffer.chunks_exact(PAGE_SIZE).zip(batch) {
             self.device
-                .write((SLOTS + *number as usize) * PAGE_SIZE, text);
+                .write((SLOTS + *number as usize) * PAGE_SIZE, text)?;
         }
-        self.device.sync();
-        Ok(())
+        self.device.sync()
     }
+}
 
+impl DataPart<Device> {
     /// The sum of the checksums of the sectors.
     pub fn sum(&self) -> u64 {
         self.device.sum_from(0)

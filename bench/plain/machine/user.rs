@@ -6,7 +6,7 @@ use super::words::*;
 use crate::group::ChangedPage;
 use crate::log::{BLOCK_DATA, BLOCK_SIZE};
 
-const FREE_MARGIN: u64 = 278_528;
+pub const FREE_MARGIN: u64 = 278_528;
 
 pub struct Line {
     pub mode: u32,
@@ -98,7 +98,11 @@ impl User {
     fn frame_cells(&self) -> &[(u16, u8)] {
         let cells = &self.line().pages[self.page].cells[self.cell..];
         let word = cells[0].0 / 8;
-        let count = cells.iter().take(8).take_while(|cell| cell.0 / 8 == word).count();
+        let count = cells
+            .iter()
+            .take(8)
+            .take_while(|cell| cell.0 / 8 == word)
+            .count();
         &cells[..count]
     }
 
@@ -143,7 +147,10 @@ impl User {
                 for &(at, value) in self.frame_cells() {
                     lanes[usize::from(at) % 8] = value;
                 }
-                Op::Store(frame(self.page_number(), self.frame_word()), u64::from_le_bytes(lanes))
+                Op::Store(
+                    frame(self.page_number(), self.frame_word()),
+                    u64::from_le_bytes(lanes),
+                )
             }
             Step::StoreNewest => Op::Store(newest(self.page_number()), self.end()),
             Step::LoadOldest => Op::Load(oldest(self.page_number())),

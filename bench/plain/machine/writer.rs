@@ -166,18 +166,26 @@ impl Writer {
                 self.goes_on(Step::LoadCell)
             }
             Step::LoadCell => {
-                let (left, below) = (left_in_word(self.place()), self.tail.saturating_sub(self.place()));
+                let (left, below) = (
+                    left_in_word(self.place()),
+                    self.tail.saturating_sub(self.place()),
+                );
                 if left <= below {
                     self.word = n;
                     return self.goes_on(Step::ClearCell);
                 }
                 let lane = (self.place() % 8) as usize;
-                self.kept.extend_from_slice(&n.to_le_bytes()[lane..lane + below as usize]);
+                self.kept
+                    .extend_from_slice(&n.to_le_bytes()[lane..lane + below as usize]);
                 self.goes_on(Step::TakeDevice)
             }
             Step::ClearCell => {
-                let (lane, left) = ((self.place() % 8) as usize, left_in_word(self.place()) as usize);
-                self.kept.extend_from_slice(&self.word.to_le_bytes()[lane..lane + left]);
+                let (lane, left) = (
+                    (self.place() % 8) as usize,
+                    left_in_word(self.place()) as usize,
+                );
+                self.kept
+                    .extend_from_slice(&self.word.to_le_bytes()[lane..lane + left]);
                 if self.place() == self.tail {
                     self.goes_on(Step::TakeDevice)
                 } else {

@@ -14,9 +14,9 @@ ghost use Rattle.redo_store.specs.Part as store_dev;
 ghost use Rattle.redo_words.specs.{Lends};
 
 use crate::data_calls::write_batch;
+use crate::log_calls::write_to;
 use redo_disk::Sectors;
 use redo_logdev::LogPart;
-use crate::log_calls::write_to;
 use redo_store::DataPart;
 use redo_words::{Answer, Lent};
 

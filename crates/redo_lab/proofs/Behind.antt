@@ -1,8 +1,6 @@
 -- What the calls of the layers below leave of a device behind its fuse.
-use Rattle.std.proofs.Common.{ℕ, ◌≡◌, List, [], ◌∷◌, Option, Result, Ok, Err, ap, subst, ◌∙◌, ⊎_elim}
-use Rattle.std.specs.List.{AllByRecursion}
-use Rattle.model_device.specs.Disk.{Disk}
-use Rattle.redo_disk.specs.{AreReads, Call, EndWith, failures, MakesCalls, MayEndWith, Reads, ReadsMayEndWith, Syncs, Writes}
+use Rattle.std.proofs.Common.{ℕ, ◌≡◌, Option, Result, Ok, Err, ap, subst, ◌∙◌, ⊎_elim}
+use Rattle.redo_disk.specs.{Call, EndWith, failures, MakesCalls, MayEndWith, ReadsMayEndWith}
 use Rattle.redo_disk.specs.Seen.{Seen}
 use Rattle.redo_disk.specs.declared.error.DevError.{DevError}
 use Rattle.redo_disk.proofs.Calls.{MayEndWith-ends}
@@ -15,7 +13,6 @@ use Rattle.redo_memdisk.specs.declared.fused.Fused.{Fused}
 use Rattle.redo_open.specs.{FormatCalls}
 use Rattle.redo_recover.specs.{ReadsLog}
 use Rattle.redo_recover.specs.declared.fault.RecFault.{RecFault}
-use Rattle.redo_recover.specs.declared.recovered.Recovered.{Recovered}
 use Rattle.redo_recover.specs.declared.fault.RecFault.TheVariants.{SmallLog, NotFormatted, BadFormat, SmallData, NoCheckpoint, BadRecord, PageLost, PageAhead, LogDev, DataDev, NoMemory}
 use Rattle.redo_lab.proofs.Stages.{unarmed-calls, unarmed-fresh}
 use Rattle.redo_lab.proofs.Telling.{reads-keep}

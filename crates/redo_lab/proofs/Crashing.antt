@@ -17,8 +17,7 @@ use Rattle.redo_memdisk.specs.declared.fuse.Fuse.{Fuse}
 use Rattle.redo_memdisk.specs.declared.fuse.Stage.{Stage}
 use Rattle.redo_memdisk.specs.declared.fuse.Stage.TheVariants.{Before, Stopping, Crashed}
 use Rattle.redo_memdisk.specs.declared.fused.Fused.{Fused}
-use Rattle.redo_recover.specs.{data_error, data_error_of, HasCauseIn, log_error, log_error_of, OnContents, ReadsLog}
-use Rattle.redo_recover.specs.declared.recovered.Recovered.{Recovered}
+use Rattle.redo_recover.specs.{data_error, HasCauseIn, log_error, OnContents, ReadsLog}
 use Rattle.redo_recover.specs.declared.fault.RecFault.{RecFault}
 use Rattle.redo_recover.specs.declared.fault.RecFault.TheVariants.{SmallLog, NotFormatted, BadFormat, SmallData, NoCheckpoint, BadRecord, PageLost, PageAhead, LogDev, DataDev, NoMemory}
 use Rattle.redo_lab.specs.declared.outcome.Outcome.TheVariants as outcome

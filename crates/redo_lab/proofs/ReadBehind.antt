@@ -1,6 +1,5 @@
 -- Two devices that are read behind a run.
 use Rattle.std.proofs.Common.{ℕ, ◌≡◌, List, Option, Result, Ok, Err, IfOk}
-use Rattle.model_device.specs.Disk.{Disk}
 use Rattle.model_store.specs.{IsReading}
 use Rattle.model_store.specs.Reading.{Reading}
 use Rattle.model_theorem.specs.{Ran}
@@ -11,8 +10,7 @@ use Rattle.redo_disk.proofs.Made.{weaker_calls}
 use Rattle.redo_memdisk.specs.{CallsThrough}
 use Rattle.redo_memdisk.specs.declared.fused.Fused.{Fused}
 use Rattle.redo_memdisk.proofs.Behind.{counts-calls}
-use Rattle.redo_recover.specs.{data_error, data_error_of, HasCauseIn, log_error, log_error_of, OnContents, ReadsLog}
-use Rattle.redo_recover.specs.declared.recovered.Recovered.{Recovered}
+use Rattle.redo_recover.specs.{data_error, HasCauseIn, log_error, OnContents, ReadsLog}
 use Rattle.redo_recover.specs.declared.fault.RecFault.{RecFault}
 use Rattle.redo_lab.specs.declared.outcome.Outcome.TheVariants as outcome
 use Rattle.redo_lab.proofs.Crashing.{IsAsMet, reading-fails, store-read}

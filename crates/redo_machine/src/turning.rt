@@ -28,7 +28,11 @@ fn serve<L: Sectors, D: Sectors>(parts: &mut Parts<L, D>, actor: &mut Actor) -> 
 }
 
 /// Gives the actor at a seat its turn.
-fn turn<L: Sectors, D: Sectors>(parts: &mut Parts<L, D>, actors: &mut Vec<Actor>, seat: usize) -> Step
+fn turn<L: Sectors, D: Sectors>(
+    parts: &mut Parts<L, D>,
+    actors: &mut Vec<Actor>,
+    seat: usize,
+) -> Step
     requires on_run { IsOnRun L.seen D.seen parts.old actors.old.items }
     requires seat { seat < length actors.old.items }
     ensures turn { (run : RunOf L D) → RunsOn L.seen D.seen run parts.old actors.old.items

@@ -28,7 +28,6 @@ has-blocks shape ckpt start may = record { some = omega (arith, may.limits.many_
 abbrev pub zeros_at : Shape → ℕ → ℕ → Write
 zeros_at shape at count = record { at = offset_of at shape.log_blocks; bytes = replicate count 0 }
 
-
 -- a sector that it covers is that of a block outside the kept range, and becomes zero
 record IsOf (shape : Shape) (ckpt start at count k : ℕ) : Type 0 where
   b : ℕ

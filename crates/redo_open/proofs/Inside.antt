@@ -4,7 +4,7 @@ use Rattle.std.specs.Int.{bytes_high_first}
 use Rattle.model_base.specs.declared.shape.Shape.{Shape}
 use Rattle.model_device.specs.{IsWithin}
 use Rattle.model_device.specs.declared.write.Write.{Write}
-use Rattle.model_log.specs.{checkpoint_text, log_device_length, offset_of, place_of}
+use Rattle.model_log.specs.{checkpoint_text, log_device_length, offset_of}
 use Rattle.model_log.specs.declared.layout.TheConstants.{RING_SIZE}
 use Rattle.model_log.proofs.Sealed.{length-padded, length-sealed}
 use Rattle.model_number.specs.{padded_to}

@@ -1,5 +1,5 @@
 -- Calls that read nothing.
-use Rattle.std.proofs.Common.{◌≡◌, ◌++◌, List, [], ◌∷◌, map, Option, Some, None, refl, subst}
+use Rattle.std.proofs.Common.{◌++◌, List, [], ◌∷◌, map, Option, None, refl, subst}
 use Rattle.std.specs.List.{AllByRecursion}
 use Rattle.model_device.specs.declared.write.Write.{Write}
 use Rattle.redo_disk.specs.{answer_of, Call, error_of, MakesCall, MakesCalls, put_requests, Reads, Request, Serve, Syncs, ToRead, ToSync, ToWrite, Writes}

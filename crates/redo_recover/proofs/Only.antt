@@ -4,13 +4,13 @@ use Rattle.std.proofs.lemmas.Bool.{cases_lt}
 use Rattle.std.specs.Prelude.{IsErrOf}
 use Rattle.model_base.specs.{HasRisen}
 use Rattle.model_log.specs.declared.layout.TheConstants.{HEADER_BYTES}
-use Rattle.redo_disk.specs.{Answer, Call, MakesCall, MakesCalls, MayEndWith, ReadStep, Reads, ReadsMayEndWith, error_of}
+use Rattle.redo_disk.specs.{Answer, Call, MakesCall, MayEndWith, ReadStep, Reads, ReadsMayEndWith, error_of}
 use Rattle.redo_disk.specs.Seen.{Seen}
 use Rattle.redo_disk.specs.declared.error.DevError.{DevError}
 use Rattle.redo_disk.specs.declared.error.DevError.TheVariants as device
 use Rattle.redo_disk.proofs.Calls.{AreReads-append, MayEndWith-append, MayEndWith-ends, MayEndWith-no_memory}
 use Rattle.redo_disk.proofs.Made.{EndWith-one, joined_calls, no_calls, one_call, weaker_calls}
-use Rattle.redo_recover.specs.Devices.{IsUnchanged, data_fault_of, log_fault_of}
+use Rattle.redo_recover.specs.Devices.{data_fault_of, log_fault_of}
 use Rattle.redo_recover.specs.Reads.{IsLogRead, IsOnlyRead, MayBeOwn, ReadsLog, data_error, log_error}
 use Rattle.redo_recover.specs.declared.fault.RecFault.{RecFault}
 use Rattle.redo_recover.proofs.Unchanged.{IsUnchanged-then}

@@ -1,5 +1,5 @@
 -- Which faults are no device's.
-use Rattle.std.proofs.Common.{◌≡◌, ℕ, List, Option, Some, None}
+use Rattle.std.proofs.Common.{ℕ, List, Option, Some, None}
 use Rattle.model_base.specs.declared.shape.Shape.{Shape}
 use Rattle.model_device.specs.Disk.{Disk}
 use Rattle.redo_disk.specs.declared.error.DevError.{DevError}
@@ -10,7 +10,7 @@ use Rattle.redo_recover.specs.Pages.{IsFirstLostFault}
 use Rattle.redo_recover.specs.Reads.{MayBeOwn, data_error, log_error}
 use Rattle.redo_recover.specs.Start.{IsHeadFault, IsLengthFault}
 use Rattle.redo_recover.specs.declared.fault.RecFault.{RecFault}
-use Rattle.redo_recover.specs.declared.fault.RecFault.TheVariants.{SmallLog, NotFormatted, BadFormat, SmallData, NoCheckpoint, BadRecord, PageLost, PageAhead, LogDev, DataDev, NoMemory}
+use Rattle.redo_recover.specs.declared.fault.RecFault.TheVariants.{SmallLog, NotFormatted, BadFormat, SmallData, BadRecord, PageLost, DataDev, NoMemory}
 
 abbrev pub AreBothOwn : RecFault → Type 0
 AreBothOwn fault = MayBeOwn (log_error fault) × MayBeOwn (data_error fault)

@@ -8,7 +8,7 @@ use Rattle.model_log.specs.{data_of, is_full, log_block, offset_of, read_block, 
 use Rattle.model_log.specs.declared.block.BlockView.{BlockView}
 use Rattle.model_log.specs.declared.layout.TheConstants.{BLOCK_DATA}
 use Rattle.model_store.specs.{data_at, joined, lsn_at, view_at}
-use Rattle.model_store.proofs.Places.{has_place, push_place, place_push}
+use Rattle.model_store.proofs.Places.{push_place, place_push}
 use Rattle.model_store.proofs.Taking.{view_at-is, data_at-some}
 use Rattle.redo_recover.specs.Blocks.{AreBlocksOf}
 use Rattle.redo_recover.specs.Piece.{IsPieceOf, HasSector}

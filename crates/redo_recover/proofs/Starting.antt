@@ -15,9 +15,9 @@ use Rattle.redo_disk.specs.{HasSize, part}
 use Rattle.redo_recover.specs.Devices.{OnContent, OnContents, HasCauseIn}
 use Rattle.redo_recover.specs.Start.{IsHeadFault, IsLengthFault, IsStart}
 use Rattle.redo_recover.specs.declared.fault.RecFault.{RecFault}
-use Rattle.redo_recover.specs.declared.fault.RecFault.TheVariants.{SmallLog, NotFormatted, BadFormat, SmallData, NoCheckpoint, BadRecord, PageLost, PageAhead, LogDev, DataDev, NoMemory}
+use Rattle.redo_recover.specs.declared.fault.RecFault.TheVariants.{SmallLog, NotFormatted, BadFormat, SmallData, NoCheckpoint}
 use Rattle.redo_recover.specs.declared.start.Start.{Start}
-use Rattle.redo_recover.proofs.Contents.{content-any, content-both, content-weaker, contents-from}
+use Rattle.redo_recover.proofs.Contents.{content-any, content-both, contents-from}
 
 -- a sector of a stretch is one of the device
 pub sector-part : (content : List ℕ) (at count k : ℕ) → k + BLOCK_SIZE ≤ count → sector_at k (part content at count) ≡ sector_at (at + k) content

@@ -174,6 +174,7 @@ module _ {L D : Type 0} (log_seen : L → Seen) (log_gives : L → Call → L �
         keeper = R.keeper;
         out = true;
         data_home = λ z. absurd (cc);
+        told = R.told;
         taken = R.taken;
         knows = λ j u h. ⊎_elim (λ t. subst (λ (z : View L D). Knows R.parts R.actors R.seat_of R.keeper true j z) t.1 (subst (λ (n : ℕ). Knows R.parts R.actors R.seat_of R.keeper true n w) (sym t.0) here)) (λ t. others j u t.0 t.1) (at_set s.views id j w u h);
       } in (

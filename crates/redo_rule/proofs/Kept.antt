@@ -7,13 +7,18 @@ use mathlib.Core.Option as maybe
 use native.Mathlib.Decide.{ℕ_discrete}
 use Rattle.atomic_table.specs.Table.{State}
 use Rattle.model_core.proofs.Lists.{at_set, set_else}
-use Rattle.model_core.specs.{answer_of, lent, lsn, next, OpWords, step_of, took}
+use Rattle.model_core.specs.{answer_of, lent, lsn, next, OpWords, SharedWords, step_of, took, UserState}
 use Rattle.model_core.specs.Actors as model
 use Rattle.model_core.specs.AnswerFits.{AnswerFits}
-use Rattle.model_core.specs.Turn.{Turn}
+use Rattle.model_core.specs.LogSide.{LogSide}
+use Rattle.model_core.specs.Setup.{Setup}
+use Rattle.model_core.specs.Turn.{LogServed, Turn}
 use Rattle.model_core.specs.declared.ops.Answer.{Answer}
 use Rattle.model_core.specs.declared.ops.Op.{Op}
 use Rattle.model_logcore.proofs.Frame.{set_at}
+use Rattle.model_core.specs.declared.steps.UserStep.TheVariants as user_step
+use Rattle.model_logcore.specs.{CheckpointerAt, FlusherAt, LogGhost, UserAt, UserFits, WriterAt}
+use Rattle.model_logcore.specs.LogFits.{Fits}
 use Rattle.model_logcore.specs.LogLaws.{LogLaws}
 use Rattle.model_pagecore.specs.DataLaws.{DataLaws}
 use Rattle.model_running.proofs.EachTurn.{turn_keeps}
@@ -37,8 +42,10 @@ use Rattle.redo_drive.specs.Turning.{core_of, MayServe}
 use Rattle.redo_drive.specs.Views.{view_of, views_of}
 use Rattle.redo_drive.specs.declared.actor.Actor.{Actor}
 use Rattle.redo_drive.specs.declared.parts.Parts.{Parts}
+use Rattle.redo_rule.proofs.Gives.{gives_hand, has_stored, HasStored, stores}
 use Rattle.redo_rule.proofs.Hands.{stays_free}
 use Rattle.redo_rule.proofs.Retook.{at_map, view_retook}
+use Rattle.redo_rule.specs.Failing.{GivesFailed}
 use Rattle.redo_rule.specs.Hands.{hand, IsFreeToCheck}
 use Rattle.redo_rule.specs.Plays.{behind, MayGo, retook, Shown, Stepped}
 use Rattle.redo_rule.specs.Ruled.{content_at, HasHolder, Knows, Ruled}
@@ -97,6 +104,23 @@ laws_of_log log_seen data_seen run = log_laws log_seen (log_seen run.first_log.d
 pub laws_of_data : {L D : Type 0} (log_seen : L → Seen) (data_seen : D → Seen) (run : RunOf L D) → DataLaws (data_of log_seen data_seen run)
 laws_of_data log_seen data_seen run = data_laws data_seen (data_seen run.first_data.dev).faults run.shape (data_part.HasBegun data_seen run.setup.opened run.first_data)
 
+-- who has stored a failed call's code in FAILED, about to give the log part back, has a code that the part has
+stored_cause : (E : LogSide) (c : Setup) (m : SharedWords) (g : LogGhost) (p : E.Part) (n : ℕ) (a : model.Actor) (code : ℕ) → HasStored a code → Fits E c m g p n a → E.Cause p code
+stored_cause E c m g p n (model.Writer s) code h fits = subst (E.Cause p) h.1 (subst (WriterAt E c m g p n s) h.0 fits.step).1
+stored_cause E c m g p n (model.Flusher f) code h fits = subst (E.Cause p) h.1 (subst (FlusherAt E c m g p f) h.0 fits.step).1
+stored_cause E c m g p n (model.Checkpointer t) code h fits = subst (E.Cause p) h.1 (subst (CheckpointerAt E c m g p t) h.0 fits.step).1
+stored_cause E c m g p n (model.User u) code h fits = absurd h
+stored_cause E c m g p n (model.Closer t) code h fits = absurd h
+stored_cause E c m g p n (model.Cleaner v) code h fits = absurd h
+stored_cause E c m g p n (model.Joined es) code h fits = absurd h
+
+-- a user that has ended well
+pub all_answered : (E : LogSide) (c : Setup) (m : SharedWords) (g : LogGhost) (p : E.Part) (n : ℕ) (u : UserState) → u.step ≡ user_step.Done → UserFits E c m g p n u → u.k ≡ length u.lines
+all_answered E c m g p n u at_end fits = (subst (UserAt E c m g p n u) at_end fits.step).1
+
+pub done_is_free : (E : LogSide) (c : Setup) (m : SharedWords) (g : LogGhost) (p : E.Part) (n : ℕ) (u : UserState) → u.step ≡ user_step.Done → UserFits E c m g p n u → u.checks ≡ false
+done_is_free E c m g p n u at_end fits = (subst (UserAt E c m g p n u) at_end fits.step).2
+
 module _ {L D : Type 0} (log_seen : L → Seen) (data_seen : D → Seen) (run : RunOf L D) (parts : Parts L D) (actors : List Actor) (runs : RunsOn log_seen data_seen run parts actors) (n : ℕ) (a : model.Actor) (at : get_elem? (views_of actors) n ≡ maybe.some a) where
   pub serves : MayServe parts a
   serves = may_serve log_seen data_seen run parts actors runs (laws_of_log log_seen data_seen run) (laws_of_data log_seen data_seen run) n a at
@@ -113,6 +137,7 @@ module _ {L D : Type 0} (log_seen : L → Seen) (data_seen : D → Seen) (run : 
     data_part = λ d is l lends. subst (λ (e : store.Part D). DataReady e l (next a)) (sym (with_data d is)) ((serves.playable l lends).data_part);
     whole = serves.whole;
     free = free;
+    done = λ u is at_end. all_answered (log_of log_seen data_seen run) run.setup runs.running.shared runs.running.log_ghost parts.log n u at_end (runs.running.both.logged.each n (model.User u) (at ∙ ap (λ (z : model.Actor). maybe.some z) is));
     rest = λ e. subst (λ (o : Op). AnswerFits a (answer_of (lists_of parts.lists) (log_part.has_failed parts.log.failed) 0 0 parts.words.words o)) e (serves.fits 0 0);
   }
 
@@ -182,7 +207,26 @@ module _ {L D : Type 0} (log_seen : L → Seen) (log_gives : L → Call → L �
     }
 
     pub shown : Shown log_seen data_seen x.number a r
-    shown = record { run = R.run; old = R.parts; actors = R.actors; runs = R.runs; new = new; after = after; runs_on = runs_behind; at = there; turn = turn }
+    shown = record {
+      run = R.run;
+      old = R.parts;
+      actors = R.actors;
+      runs = R.runs;
+      new = new;
+      after = after;
+      runs_on = runs_behind;
+      at = there;
+      told = λ code gives. R.told x.number x.actor code here gives;
+      turn = turn;
+    }
+
+    -- this actor, if it has stored its code now
+    told_here : (code : ℕ) → GivesFailed b code → (log_of log_seen data_seen R.run).Cause new.log code
+    told_here code gives =
+        let h = has_stored a r code is_free gives in
+        let same_part : new.log ≡ R.parts.log = subst (λ (o : Op). LogServed (log_of log_seen data_seen R.run) R.parts.log (lent a) o played.code new.log) (stores a code h.0 h.1) played.log_served in
+        subst (λ (p : log.Part L). (log_of log_seen data_seen R.run).Cause p code) (sym same_part)
+        (stored_cause (log_of log_seen data_seen R.run) R.run.setup R.runs.running.shared R.runs.running.log_ghost R.parts.log x.number a code h.1 (R.runs.running.both.logged.each x.number a there))
 
     pub there_behind : get_elem? (views_of after) x.number ≡ maybe.some b
     there_behind = at_map view_of after x.number (retook x.actor r) (set_at R.actors x.number x.actor (retook x.actor r) here) ∙ ap (λ (z : model.Actor). maybe.some z) (view_retook x.actor r)
@@ -226,6 +270,14 @@ module _ {L D : Type 0} (log_seen : L → Seen) (log_gives : L → Call → L �
               data_part = λ d f. data_others j u d ne e f;
             }
 
+        told_behind : (n : ℕ) (c : Actor) (code : ℕ) → get_elem? after n ≡ maybe.some c → GivesFailed (view_of c) code → (log_of log_seen data_seen R.run).Cause new.log code
+        told_behind n c code e gives = ⊎_elim
+            (λ t. told_here code (subst (λ (z : model.Actor). GivesFailed z code) (sym (ap view_of t.1) ∙ view_retook x.actor r) gives))
+            (λ t. subst (λ (p : log.Part L). (log_of log_seen data_seen R.run).Cause p code)
+            (same_log R.parts.log new.log (others n (view_of c) 0 t.0 (at_map view_of R.actors n c t.1) (gives_hand (view_of c) code gives)))
+            (R.told n c code t.1 gives))
+            (at_set R.actors x.number n (retook x.actor r) c e)
+
         pub kept : (hs : List (maybe.Option (Slot L D))) → AreLists new.lists
             → CallsOn log_gives about.opened.value.log.dev about.opened.value.log.failed new.log.dev new.log.failed → CallsOn data_gives about.opened.value.store.dev about.opened.value.store.failed new.store.dev new.store.failed
             → new.log.shape ≡ R.parts.log.shape → length hs ≡ 6 → ((k : ℕ) → k < 5 → slice_index new.words.words (7 + k) ≡ 0 → get_elem? hs k ≡ maybe.some (maybe.some (content_at new k)))
@@ -250,6 +302,7 @@ module _ {L D : Type 0} (log_seen : L → Seen) (log_gives : L → Call → L �
           keeper = R.keeper;
           out = out;
           data_home = data_home;
+          told = told_behind;
           taken = λ k l busy. ⊎_elim (λ t. holds_behind k t) (λ t. held_still k (R.taken k l t.0) t.1) (turned k l busy);
           knows = λ j u e. ⊎_elim (λ t. subst (λ (z : View L D). Knows new after R.seat_of R.keeper out j z) t.1 (subst (λ (i : ℕ). Knows new after R.seat_of R.keeper out i w) (sym t.0) knows_w)) (λ t. knows_others j u t.0 t.1) (at_set s.views id j w u e);
         }

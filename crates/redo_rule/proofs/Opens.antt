@@ -23,6 +23,8 @@ use Rattle.redo_drive.specs.Views.{view_of}
 use Rattle.redo_drive.specs.declared.actor.Actor.{Actor}
 use Rattle.redo_drive.specs.declared.making.Beginning.{Beginning}
 use Rattle.redo_drive.specs.declared.parts.Parts.{Parts}
+use Rattle.redo_rule.proofs.Gives.{gives_hand}
+use Rattle.redo_rule.proofs.Holders.{holding}
 use Rattle.redo_rule.proofs.Retook.{at_map}
 use Rattle.redo_rule.specs.Hands.{checkpointer_hand, cleaner_hand, flusher_hand, hand, user_hand, writer_hand}
 use Rattle.redo_rule.specs.Ruled.{content_at, first_view, Knows, numbered, Ruled}
@@ -129,6 +131,7 @@ module _ {L D : Type 0} (log_seen : L → Seen) (log_gives : L → Call → L �
     keeper = 0;
     out = false;
     data_home = λ z. refl;
+    told = λ n a code at g. let held = (holding log_seen data_seen B.run start.parts start.actors.items B.runs n (view_of a) (at_map view_of start.actors.items n a at) 0 (gives_hand (view_of a) code g)).word_is in let free = free_word 0 (omega arith) in absurd (omega arith);
     taken = λ k l busy. absurd (busy (free_word k l));
     knows = one_view;
   }

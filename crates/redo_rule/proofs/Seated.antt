@@ -102,6 +102,7 @@ module _ {L D : Type 0} (log_seen : L → Seen) (log_gives : L → Call → L �
         keeper = keeper;
         out = R.out;
         data_home = R.data_home;
+        told = R.told;
         taken = R.taken;
         knows = λ j u e. ⊎_elim
             (λ t. ⊎_elim (λ q. subst (λ (z : View L D). Knows R.parts R.actors seat_of keeper R.out j z) q.1 (subst (λ (i : ℕ). Knows R.parts R.actors seat_of keeper R.out i (cut_left v)) (sym q.0) left)) (λ q. others j u q.0 q.1) (at_set s.views id j (cut_left v) u t.1))
@@ -170,6 +171,7 @@ module _ {L D : Type 0} (log_seen : L → Seen) (log_gives : L → Call → L �
         keeper = keeper;
         out = R.out;
         data_home = R.data_home;
+        told = R.told;
         taken = R.taken;
         knows = λ j u e. ⊎_elim
             (λ t. subst (λ (z : View L D). Knows R.parts R.actors seat_of keeper R.out j z) t.1 (subst (λ (i : ℕ). Knows R.parts R.actors seat_of keeper R.out i spent) (sym t.0) gone))

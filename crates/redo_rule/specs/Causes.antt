@@ -1,12 +1,26 @@
 -- Why an answer of `play` came.
-use Rattle.std.specs.Prelude.{false, true, ℕ, ◌≡◌}
-use Rattle.model_core.specs.{is_checking}
+use Rattle.std.specs.Prelude.{false, length, true, ℕ, ◌≡◌, ◌⊎◌}
+use Rattle.model_core.specs.{is_checking, next}
 use Rattle.model_core.specs.Actors as model
-use Rattle.model_core.specs.Waiting.{waits}
+use Rattle.model_core.specs.Waiting.{ending, waits}
 use Rattle.model_core.specs.declared.ops.Answer.{Answer}
+use Rattle.model_core.specs.declared.ops.Op.TheVariants as op
+use Rattle.model_core.specs.declared.ops.Step.TheVariants as step
+use Rattle.model_core.specs.declared.steps.UserStep.TheVariants as user_step
+use Rattle.model_core.specs.declared.words.Word.TheVariants as word
 use Rattle.redo_disk.specs.Seen.{Seen}
-use Rattle.redo_drive.specs.Turning.{HasCause}
+use Rattle.redo_drive.specs.Turning.{code_in}
+use Rattle.redo_rule.specs.Failing.{CodeHasCause, GivesFailed, StoresFailed}
 use Rattle.redo_rule.specs.Plays.{Shown}
+
+-- it is a user that has ended: the commit of its last line is answered
+abbrev pub IsAnswered : model.Actor → Type 0
+IsAnswered (model.User u) = (u.step ≡ user_step.Done) × (u.k ≡ length u.lines)
+IsAnswered _ = ⊥
+
+-- it rests, since it had ended by a failure of this code
+abbrev pub HasEndedBy : model.Actor → ℕ → Type 0
+HasEndedBy a code = (next a ≡ op.Rest) × (ending a ≡ step.Failed code)
 
 module _ {L D : Type 0} (log_seen : L → Seen) (data_seen : D → Seen) where
   -- at that moment the condition of its step didn't hold yet
@@ -17,9 +31,12 @@ module _ {L D : Type 0} (log_seen : L → Seen) (data_seen : D → Seen) where
     pub goes_on : is_checking a ≡ false
     pub waits : waits a answer ≡ true
 
-  -- at that moment FAILED's code was one that a failed call of a part has
-  pub record HasMetFailure (a : model.Actor) : Type 0 where
+  -- THE CODE BY WHICH ITS STEP ENDED, at that moment: the actor found it in FAILED; or its own device call had failed with it,
+  -- and it had stored it and gave the log part back, or, having none, stored it. The code has its cause in what the devices
+  -- had met since the run began.
+  pub record HasMetFailure (a : model.Actor) (code : ℕ) : Type 0 where
     pub number : ℕ
     pub answer : Answer
     pub shown : Shown log_seen data_seen number a answer
-    pub cause : HasCause log_seen data_seen shown.run shown.new
+    pub way : ((next a ≡ op.Load word.Failed) × (code ≡ code_in shown.old)) ⊎ (GivesFailed a code ⊎ StoresFailed a code)
+    pub cause : CodeHasCause log_seen data_seen code shown.run.first_log shown.old.log shown.run.first_data shown.old.store

@@ -2,10 +2,12 @@ pub mod Causes
 pub mod Closing
 pub mod Cutting
 pub mod Ending
+pub mod Failing
 pub mod Gathering
 pub mod Hands
 pub mod Mine
 pub mod Plays
+pub mod Reached
 pub mod Ruled
 pub mod Seating
 pub mod Seats

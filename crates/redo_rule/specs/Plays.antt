@@ -1,9 +1,9 @@
 -- What each step of the table tells its seat: the actor's state took an answer, and what it may do next.
-use Rattle.std.specs.Prelude.{Bool, List, None, Option, Some, [], cond, false, map, true, suc, zero, ℕ, ◌%◌, ◌++◌, ◌+◌, ◌==◌, ◌∷◌, ◌≡◌, ◌≢◌}
+use Rattle.std.specs.Prelude.{Bool, List, None, Option, Some, [], cond, false, length, map, true, suc, zero, ℕ, ◌%◌, ◌++◌, ◌+◌, ◌==◌, ◌∷◌, ◌≡◌, ◌≢◌}
 use lib.ListN.{get_elem?}
 use mathlib.Core.Option.{some}
 use Rattle.atomic_table.specs.Table.{Me, rest}
-use Rattle.model_core.specs.{checkpointer_after, cleaner_after, closer_after, flusher_after, heard, lent, next, old_of, oldest_end, OpWords, step_of, took, user_checked, user_took, writer_after}
+use Rattle.model_core.specs.{checkpointer_after, cleaner_after, closer_after, flusher_after, heard, lent, next, old_of, oldest_end, OpWords, step_of, took, user_checked, user_took, UserState, writer_after}
 use Rattle.model_core.specs.Actors as model
 use Rattle.model_core.specs.AnswerFits.{AnswerFits}
 use Rattle.model_core.specs.Turn.{Turn}
@@ -12,6 +12,7 @@ use Rattle.model_core.specs.declared.ops.Answer.{Answer}
 use Rattle.model_core.specs.declared.ops.Answer.TheVariants as answer
 use Rattle.model_core.specs.declared.ops.Op.{Op}
 use Rattle.model_core.specs.declared.ops.Op.TheVariants as op
+use Rattle.model_core.specs.declared.steps.UserStep.TheVariants as user_step
 use Rattle.redo_disk.specs.Seen.{Seen}
 use Rattle.redo_disk.specs.declared.error.DevError.{DevError}
 use Rattle.redo_flushlist.specs.{Listing, without}
@@ -27,6 +28,7 @@ use Rattle.redo_drive.specs.Views.{view_of, views_of}
 use Rattle.redo_drive.specs.declared.actor.Actor.{Actor}
 use Rattle.redo_drive.specs.declared.actor.Actor.TheVariants as own
 use Rattle.redo_drive.specs.declared.parts.Parts.{Parts}
+use Rattle.redo_rule.specs.Failing.{GivesFailed}
 use Rattle.redo_rule.specs.Hands.{hand, IsFreeToCheck}
 use Rattle.redo_rule.specs.declared.law.Keeping.{Keeping}
 use Rattle.redo_rule.specs.declared.law.Numbered.{Numbered}
@@ -107,6 +109,8 @@ module _ {L D : Type 0} where
     pub whole : HasWholePages (next a) (lent a)
     pub free : IsFreeToCheck a
     pub rest : next a ≡ op.Rest → AnswerFits a answer.Rested
+    -- a user that has ended well has all its commits answered
+    pub done : (u : UserState) → a ≡ model.User u → u.step ≡ user_step.Done → u.k ≡ length u.lines
 
   -- a seat carries the slot that its actor holds
   abbrev pub Carries : Option ℕ → Me (Slot L D) (View L D) → Type 0
@@ -130,6 +134,8 @@ module _ {L D : Type 0} (log_seen : L → Seen) (data_seen : D → Seen) where
     pub after : List Actor
     pub runs_on : RunsOn log_seen data_seen run new after
     pub at : get_elem? (views_of actors) number ≡ some a
+    -- where it gives the log part back behind a failed call, its code is one that the part has
+    pub told : (code : ℕ) → GivesFailed a code → (log_of log_seen data_seen run).Cause old.log code
     pub turn : Turn (log_of log_seen data_seen run) (data_of log_seen data_seen run) (core_of log_seen data_seen run old actors) number r (step_of a r) (core_of log_seen data_seen run new after)
 
   -- the seat's actor took an answer

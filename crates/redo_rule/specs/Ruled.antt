@@ -11,11 +11,12 @@ use Rattle.redo_disk.specs.Seen.{Seen}
 use Rattle.redo_drive.specs.Beginning.{HaveBegun, IsOpenedAs, IsRunOfOpened}
 use Rattle.redo_drive.specs.Calls.{CallsOn}
 use Rattle.redo_drive.specs.Lists.{AreLists, listing_at}
-use Rattle.redo_drive.specs.Playing.{RunOf}
+use Rattle.redo_drive.specs.Playing.{RunOf, log_of}
 use Rattle.redo_drive.specs.Running.{RunsOn}
 use Rattle.redo_drive.specs.Views.{view_of}
 use Rattle.redo_drive.specs.declared.actor.Actor.{Actor}
 use Rattle.redo_drive.specs.declared.parts.Parts.{Parts}
+use Rattle.redo_rule.specs.Failing.{GivesFailed}
 use Rattle.redo_rule.specs.Hands.{hand, IsFreeToCheck}
 use Rattle.redo_rule.specs.declared.law.About.{About}
 use Rattle.redo_rule.specs.declared.law.Keeping.{Keeping}
@@ -82,6 +83,8 @@ pub record Ruled {L D : Type 0} (log_seen : L → Seen) (log_gives : L → Call 
   -- what isn't held is at home
   pub slots : length s.homes ≡ 6
   pub home : (k : ℕ) → k < 5 → slice_index s.words (7 + k) ≡ 0 → get_elem? s.homes k ≡ some (some (content_at parts k))
+  -- who gives the log part back behind a failed call has a code that the part has
+  pub told : (n : ℕ) (a : Actor) (code : ℕ) → get_elem? actors n ≡ some a → GivesFailed (view_of a) code → (log_of log_seen data_seen run).Cause parts.log code
   -- a turn word that isn't 0 has an actor that holds it
   pub taken : (k : ℕ) → k < 5 → slice_index s.words (7 + k) ≢ 0 → HasHolder actors k
   pub seat_of : ℕ → ℕ

@@ -6,6 +6,8 @@ ghost use Rattle.redo_drive.specs.History.{ListsInOrder};
 ghost use Rattle.redo_drive.specs.Leaving.{LeavesRun};
 ghost use Rattle.redo_rule.specs.Closing.{IsOwedRun, LeavesParts, MayClose};
 ghost use Rattle.redo_rule.specs.Cutting.{HoldNothing};
+ghost use Rattle.redo_rule.specs.Failing.{CodeHasCause};
+ghost use Rattle.redo_rule.specs.Reached.{ReachesAll};
 ghost use Rattle.redo_rule.specs.Sharing.{AreSeatsOf, IsSeated, opened_of, script_of, starts_of, table_of};
 
 use crate::law::{Seat, Slot};
@@ -15,8 +17,8 @@ use crate::slots::{data_in, drop_list, log_in};
 use atomic_table::Closed as ClosedTable;
 use model_history::Marks;
 use redo_disk::Sectors;
-use redo_logdev::LogPart;
 use redo_drive::{Actor, history_of};
+use redo_logdev::LogPart;
 use redo_pageactors::Closed;
 use redo_store::DataPart;
 use redo_words::{Word, number_of};
@@ -87,6 +89,8 @@ impl<L: Sectors, D: Sectors> Shared<L, D> {
         ensures leaves { LeavesRun L.seen L.gives D.seen D.gives (opened_of self) (script_of self) self.board.shared.key.log_only actors.now result }
         ensures listed { ListsInOrder result.marks actors.now result.history }
         ensures owed { IsOwedRun L.seen L.gives D.seen D.gives (opened_of self) (script_of self) actors.now result }
+        ensures reaches { ReachesAll actors.now result }
+        ensures cause { CodeHasCause L.seen D.seen result.code (opened_of self).log result.log (opened_of self).store result.store }
     {
         let Shared {
             board,

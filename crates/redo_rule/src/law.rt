@@ -2,9 +2,9 @@
 use atomic_table::{Shared, TableRule};
 use model_script::Script;
 use redo_disk::Sectors;
+use redo_drive::Actor;
 use redo_flushlist::FlushList;
 use redo_logdev::LogPart;
-use redo_drive::Actor;
 use redo_pageactors::Opened;
 use redo_store::DataPart;
 use std::collections::LinkedList;

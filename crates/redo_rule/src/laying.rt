@@ -12,8 +12,8 @@ use crate::shared::Board;
 use crate::slots::{data_in, drop_list, log_in};
 use atomic_table::Table;
 use redo_disk::Sectors;
-use redo_logdev::LogPart;
 use redo_drive::FlushLists;
+use redo_logdev::LogPart;
 use redo_store::DataPart;
 use std::alloc::Global;
 

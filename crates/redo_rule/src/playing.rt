@@ -1,9 +1,8 @@
 // One Op of one actor, on the shared table.
 ghost use Rattle.std.specs.Prelude.{ℕ, ◌≡◌, ◌⊎◌};
 ghost use Rattle.model_core.specs.{next};
-ghost use Rattle.model_core.specs.Waiting.{ending};
 ghost use Rattle.redo_drive.specs.Views.{view_of};
-ghost use Rattle.redo_rule.specs.Causes.{HasMetFailure, HasWaited};
+ghost use Rattle.redo_rule.specs.Causes.{HasEndedBy, HasMetFailure, HasWaited, IsAnswered};
 ghost use Rattle.redo_rule.specs.Mine.{HasGone, HasPlayed, Mine, Stays, number_of};
 ghost use Rattle.redo_rule.specs.Seating.{IsBare, IsSeatOf};
 
@@ -79,8 +78,8 @@ pub fn play<L: Sectors, D: Sectors>(
     ensures number { number_of seat.new.me.0 ≡ number_of seat.old.me.0 }
     ensures played { HasGone L.seen D.seen (view_of actor.old) result (view_of actor.new) }
     ensures idle { result ≡ Step.Idle → HasWaited L.seen D.seen (view_of actor.old) }
-    ensures ended { result ≡ Step.Ended → ending (view_of actor.new) ≡ Step.Ended }
-    ensures failed { (code : ℕ) → result ≡ Step.Failed code → (next (view_of actor.old) ≡ Op.Rest) ⊎ HasMetFailure L.seen D.seen (view_of actor.old) }
+    ensures ended { (result ≡ Step.Ended → IsAnswered (view_of actor.new)) × (IsAnswered (view_of actor.new) → result ≡ Step.Ended) }
+    ensures failed { (code : ℕ) → result ≡ Step.Failed code → HasEndedBy (view_of actor.old) code ⊎ HasMetFailure L.seen D.seen (view_of actor.old) code }
 {
     play_next(table, seat, actor)
 }

@@ -17,8 +17,8 @@ ghost use Rattle.redo_words.specs.{Lends};
 
 use crate::law::Slot;
 use redo_disk::Sectors;
-use redo_logdev::LogPart;
 use redo_drive::{call_batch, call_write, checkpoint, sync};
+use redo_logdev::LogPart;
 use redo_store::DataPart;
 use redo_words::{Answer, Lent};
 

@@ -1,4 +1,5 @@
 // Runs of seats that one thread plays in turn, worked out by hand to the Op.
+mod bounds;
 mod runs;
 mod store;
 mod turns;

@@ -40,21 +40,13 @@ fn two_writes(alloc: Global) -> Result<Vec<Write>, AllocError> {
 }
 
 #[test]
-fn the_last_write_counts(rt: HostRuntime) -> Result<(), Fail> {
+fn the_last_write_counts_by_whole_sectors(rt: HostRuntime) -> Result<(), Fail> {
     let alloc = rt.alloc();
     let base = two_sectors(alloc, 0, 7)?;
     let writes = two_writes(alloc)?;
     assert!(rt; are_within(base.len(), writes.as_slice()));
     let after = apply_writes(alloc, base.as_slice(), writes.as_slice())?;
-    assert_eq!(rt; after.as_slice(), two_sectors(alloc, 2, 7)?.as_slice());
-    Ok(())
-}
-
-#[test]
-fn an_image_has_whole_sectors(rt: HostRuntime) -> Result<(), Fail> {
-    let alloc = rt.alloc();
-    let base = two_sectors(alloc, 0, 7)?;
-    let writes = two_writes(alloc)?;
+    assert!(rt; after == two_sectors(alloc, 2, 7)?);
     // what stands at the two offsets in the first sector, and whether that is an image
     for (front, back, want) in [
         (0, 0, true),
@@ -67,7 +59,7 @@ fn an_image_has_whole_sectors(rt: HostRuntime) -> Result<(), Fail> {
         let mut image = two_sectors(alloc, front, 7)?;
         image[256..512].fill(back);
         let found = is_image(base.as_slice(), writes.as_slice(), image.as_slice());
-        assert_eq!(rt; found, want, "{front} and {back}");
+        assert!(rt; found == want, "{front} and {back}");
     }
     Ok(())
 }

@@ -14,10 +14,6 @@ mod files;
 #[cfg(test)]
 mod images;
 #[cfg(test)]
-mod log;
-#[cfg(test)]
-mod log_reader;
-#[cfg(test)]
 mod memdisk;
 #[cfg(test)]
 mod parts;

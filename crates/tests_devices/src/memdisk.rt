@@ -70,29 +70,9 @@ fn a_crash_keeps_the_sectors_of_its_pick(rt: HostRuntime) -> Result<(), Fail> {
         (5, [1, 0, 3, 0]),
     ] {
         let mut device = blank(rt.alloc())?;
-        let found = written_and_crashed(&mut device, pick);
-        assert_eq!(rt; found, Ok(want), "at the pick {pick}");
+        let found = written_and_crashed(&mut device, pick)?;
+        assert!(rt; found == want, "at the pick {pick}");
     }
-    Ok(())
-}
-
-/// Writes a sector twice, and syncs. Answers what it begins with then, and behind a crash that keeps nothing else.
-fn written_twice<D: Sectors>(device: &mut D) -> Result<(u8, u8), DevError>
-    requires { LEN ≤ (D.seen device.old).size }
-    ensures { (D.seen device.new).size ≡ (D.seen device.old).size }
-{
-    fill(device, 1, 1)?;
-    write_and_sync(device, 512, &[2; 512])?;
-    let before = first_byte(device, 1)?;
-    device.crash(0);
-    Ok((before, first_byte(device, 1)?))
-}
-
-#[test]
-fn the_last_of_two_writes_is_read(rt: HostRuntime) -> Result<(), Fail> {
-    let mut device = blank(rt.alloc())?;
-    assert_eq!(rt; written_twice(&mut device), Ok((2, 2)));
-    assert_eq!(rt; device.len(), 2048);
     Ok(())
 }
 
@@ -105,82 +85,84 @@ fn code_of<T: Drop>(answer: Result<T, DevError>) -> u8 {
     }
 }
 
-/// The codes of three calls: a write of sevens into the first sector, a sync and a read. Behind them comes a crash.
-fn codes_of_three<D: Sectors>(device: &mut D, pick: u64) -> [u8; 3]
+/// The codes of four calls: a write into the first sector, one into the second, a sync and a read. After them comes a crash.
+fn codes_of_four<D: Sectors>(device: &mut D, pick: u64) -> [u8; 4]
     requires { LEN ≤ (D.seen device.old).size }
     ensures { (D.seen device.new).size ≡ (D.seen device.old).size }
 {
-    let wrote = fill(device, 0, 7);
+    let first = fill(device, 0, 7);
+    let second = fill(device, 1, 8);
     let synced = device.sync();
     let read = first_byte(device, 0);
     device.crash(pick);
-    [code_of(wrote), code_of(synced), code_of(read)]
-}
-
-/// A device in memory that fails the call of this number.
-fn failing(alloc: Global, number: u64) -> Result<MemDisk, AllocError>
-    ensures { IfOk result (λ memory. (⟦<MemDisk as Sectors>⟧.seen memory).size ≡ LEN) }
-{
-    MemDisk::failing(alloc, LEN, vec![in alloc; number]?)
+    [
+        code_of(first),
+        code_of(second),
+        code_of(synced),
+        code_of(read),
+    ]
 }
 
 #[test]
 fn a_named_call_fails(rt: HostRuntime) -> Result<(), Fail> {
-    // the call, the codes of the three, and what a crash that keeps nothing leaves
-    for (number, want, left) in [(0, [1, 0, 0], 7), (1, [0, 1, 0], 0), (2, [0, 0, 1], 7)] {
-        let mut device = failing(rt.alloc(), number)?;
-        let codes = codes_of_three(&mut device, 0);
-        let found = first_byte(&mut device, 0);
-        assert_eq!(rt; (codes, found), (want, Ok(left)), "at the call {number}");
+    // the call, the codes of the four, and what a crash that keeps nothing leaves; a write that fails is pending
+    for (number, codes, left) in [
+        (0, [1, 0, 0, 0], [7, 8, 0, 0]),
+        (1, [0, 1, 0, 0], [7, 8, 0, 0]),
+        (2, [0, 0, 1, 0], [0, 0, 0, 0]),
+        (3, [0, 0, 0, 1], [7, 8, 0, 0]),
+    ] {
+        let mut device = MemDisk::failing(rt.alloc(), LEN, vec![in rt.alloc(); number]?)?;
+        let found = codes_of_four(&mut device, 0);
+        let bytes = first_bytes(&mut device)?;
+        assert!(rt; found == codes && bytes == left, "at the call {number}");
     }
     Ok(())
 }
 
 #[test]
 fn a_fuse_stops_a_device(rt: HostRuntime) -> Result<(), Fail> {
-    // the limit, the codes of the three calls, and how many of them fail; a crash that keeps all leaves the sevens
-    for (limit, want, failed) in [
-        (Some(0), [1, 1, 1], 3),
-        (Some(1), [0, 1, 1], 2),
-        (Some(2), [0, 0, 1], 1),
-        (Some(3), [0, 0, 0], 0),
-        (None, [0, 0, 0], 0),
+    // the limit, the codes of the four calls, how many of them fail, and what a crash that keeps all leaves: also the write
+    // at which the device stops, and none that comes later
+    for (limit, codes, failed, left) in [
+        (Some(0), [1, 1, 1, 1], 4, [7, 0, 0, 0]),
+        (Some(1), [0, 1, 1, 1], 3, [7, 8, 0, 0]),
+        (Some(2), [0, 0, 1, 1], 2, [7, 8, 0, 0]),
+        (Some(3), [0, 0, 0, 1], 1, [7, 8, 0, 0]),
+        (None, [0, 0, 0, 0], 0, [7, 8, 0, 0]),
     ] {
         let mut fused = Fused::new(blank(rt.alloc())?, limit);
-        let codes = codes_of_three(&mut fused, u64::MAX);
-        let found = first_byte(&mut fused, 0);
+        let found = codes_of_four(&mut fused, u64::MAX);
         let fuse = fused.fuse();
         let counts = (fuse.mid, fuse.own, fuse.pick);
-        assert_eq!(rt; (codes, found), (want, Ok(7)), "at the limit {limit:?}");
-        assert_eq!(rt; counts, (failed, failed, Some(u64::MAX)));
+        let bytes = first_bytes(&mut fused)?;
+        assert!(rt; found == codes && bytes == left, "at the limit {limit:?}");
+        assert!(rt; counts == (failed, failed, Some(u64::MAX)));
     }
     Ok(())
 }
 
-/// The codes of a write before the fuse is armed, and of two at which the device is stopped.
+/// The codes of a write before the fuse is armed, of one at which the device is stopped, and of one after the crash.
 fn codes_of_a_stop<D: Sectors>(fused: &mut Fused<D>) -> [u8; 3]
     requires fuse { fuse_of fused.old ≡ fresh }
     requires size { LEN ≤ (⟦<Fused<D> as Sectors>⟧.seen fused.old).size }
     ensures { (⟦<Fused<D> as Sectors>⟧.seen fused.new).size ≡ (⟦<Fused<D> as Sectors>⟧.seen fused.old).size }
 {
-    let before = fused.write(0, &[1; 512]);
+    let early = fused.write(0, &[1; 512]);
     fused.arm(Some(0));
-    let first = fill(fused, 1, 2);
-    let second = fill(fused, 2, 3);
-    [code_of(before), code_of(first), code_of(second)]
+    let stopped = fill(fused, 1, 2);
+    fused.crash(0);
+    let late = fill(fused, 3, 4);
+    [code_of(early), code_of(stopped), code_of(late)]
 }
 
 #[test]
-fn a_stopped_device_takes_no_second_write(rt: HostRuntime) -> Result<(), Fail> {
+fn a_crash_ends_a_stop(rt: HostRuntime) -> Result<(), Fail> {
     let mut fused = Fused::plain(blank(rt.alloc())?);
-    assert_eq!(rt; codes_of_a_stop(&mut fused), [0, 1, 1]);
-    fused.crash(u64::MAX);
-    assert_eq!(rt; fused.fuse().late_changes, 0);
-    let late = [code_of(fill(&mut fused, 3, 4)), code_of(fused.sync())];
-    assert_eq!(rt; late, [0, 0]);
+    assert!(rt; codes_of_a_stop(&mut fused) == [0, 1, 0]);
     let fuse = fused.fuse();
-    assert_eq!(rt; (fuse.late_changes, fuse.early_calls), (2, 1));
+    assert!(rt; (fuse.late_changes, fuse.early_calls) == (1, 1));
     let mut device = fused.into_inner();
-    assert_eq!(rt; first_bytes(&mut device), Ok([1, 2, 0, 4]));
+    assert!(rt; first_bytes(&mut device)? == [0, 0, 0, 4]);
     Ok(())
 }

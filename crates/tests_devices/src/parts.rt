@@ -31,8 +31,8 @@ pub const PAGE: usize = PAGE_SIZE as usize;
 /// User bytes of a page.
 pub const USER: usize = USER_BYTES as usize;
 
-/// Where a run starts, so that the log wraps behind its second block.
-pub const BEFORE_THE_WRAP: u64 = 531_468;
+/// Where a run starts.
+pub const START: u64 = 8_204;
 
 /// A device in memory that is so long.
 pub fn blank(alloc: Global, len: u64) -> Result<MemDisk, AllocError>
@@ -42,26 +42,17 @@ pub fn blank(alloc: Global, len: u64) -> Result<MemDisk, AllocError>
     MemDisk::new(alloc, len)
 }
 
-/// A log part on a device on which a run starts there.
-pub fn log_part_on<L: Sectors + Drop>(
-    rt: &impl Abort,
-    alloc: Global,
-    device: L,
-    start: u64,
-) -> LogPart<L>
+/// A log part on a device on which a run starts.
+pub fn log_part_on<L: Sectors + Drop>(rt: &impl Abort, alloc: Global, device: L) -> LogPart<L>
     requires size { LOG ≤ (L.seen device).size }
-    requires first { 8204 ≤ start }
-    requires small { start ≤ BEFORE_THE_WRAP }
-    requires place { start % 512 ≡ 12 }
-    ensures dev { result.dev ≡ device }
     ensures live { result.failed ≡ None }
     ensures blocks { result.shape.log_blocks ≡ 1024 }
-    ensures written { result.marks.written ≡ start }
-    ensures stable { result.marks.stable ≡ start }
-    ensures ckpt { result.marks.ckpt + 12 ≡ start }
-    ensures asked { result.marks.asked + 12 ≡ start }
+    ensures written { result.marks.written ≡ START }
+    ensures stable { result.marks.stable ≡ START }
+    ensures ckpt { result.marks.ckpt + 12 ≡ START }
+    ensures asked { result.marks.asked + 12 ≡ START }
 {
-    let Ok(part) = LogPart::new(alloc, device, &SHAPE, start, 1) else {
+    let Ok(part) = LogPart::new(alloc, device, &SHAPE, START, 1) else {
         panic!(rt; "no memory");
     };
     part

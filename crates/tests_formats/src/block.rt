@@ -2,13 +2,10 @@
 ghost use Rattle.std.specs.Prelude.{◌<◌, ◌^◌};
 
 use crate::table::{bytes, number, number32, optional};
-use redo_block::{
-    BlockView, are_firsts, fill, frame, frame_into, is_first, length_of, read, unframe,
-};
+use redo_block::{BlockView, are_firsts, fill, frame, frame_into, read, unframe};
 use redo_crc::sector::{put, seal};
 use std::alloc::Global;
 use std::str::SplitWhitespace;
-use std::test::Fail;
 
 fn view(length: u32, first: u32, ckpt: u32) -> Option<BlockView> {
     Some(BlockView {
@@ -27,39 +24,6 @@ fn block_of_one_group(rt: HostRuntime) {
     assert!(rt; read(&block, 8192) == view(18, 12, 1));
     // At another lsn.
     assert!(rt; read(&block, 8704).is_none());
-}
-
-// A block at lsn 9216 with so many bytes of the stream is filled, and read.
-fn fills(stream: &[u8; 496], count: usize, first: u32, length: u32) -> bool {
-    if count > 496 || !is_first(u32::from(length_of(count)), first) {
-        return false;
-    }
-    let mut block = [0xFF; 512];
-    fill(&mut block, 9216, &stream[..count], first, 0x0102_0304);
-    block[..4].starts_with(b"\0\0\0\x13")
-        && block[8..12].starts_with(b"\x01\x02\x03\x04")
-        && read(&block, 9216) == view(length, first, 0x0102_0304)
-}
-
-#[test]
-fn blocks_of_each_length(rt: HostRuntime) {
-    for (count, first, length) in [
-        (0, 0, 12),
-        (0, 12, 12),
-        (1, 0, 13),
-        (1, 12, 13),
-        (1, 13, 13),
-        (495, 0, 507),
-        (495, 507, 507),
-        (496, 0, 512),
-        (496, 12, 512),
-        (496, 507, 512),
-    ] {
-        assert!(rt;
-            fills(&[b'x'; 496], count, first, length),
-            "{count} {first}"
-        );
-    }
 }
 
 // A block of six bytes at lsn 8192, under checkpoint 1: the offset at which other bytes are written, those, what is
@@ -139,30 +103,10 @@ const STREAM: [u8; 1200] = [b'x'; 1200];
 // Where their first groups begin.
 const FIRSTS: [u32; 3] = [12, 0, 220];
 
-#[test]
-fn firsts_of_three_blocks(rt: HostRuntime) {
-    assert!(rt; are_firsts(&STREAM, &FIRSTS));
-    assert!(rt; !are_firsts(&STREAM, &[12, 0]));
-    assert!(rt; !are_firsts(&STREAM, &[12, 0, 221]));
-}
-
 // What is read of the block at an lsn, of those that stand side by side from 8192 on.
 fn read_at(blocks: &[u8; 1536], lsn: u64) -> Option<BlockView> {
     let at = lsn.checked_sub(8192)? as usize;
     read(blocks.get(at..)?.first_chunk::<512>()?, lsn)
-}
-
-#[test]
-fn three_blocks(rt: HostRuntime) -> Result<(), Fail> {
-    assert!(rt; are_firsts(&STREAM, &FIRSTS));
-    let mut room = [0xFF; 1536];
-    frame_into(&mut room, &STREAM, 8204, &FIRSTS, 1);
-    assert!(rt; read_at(&room, 8192) == view(512, 12, 1));
-    assert!(rt; read_at(&room, 8704) == view(512, 0, 1));
-    assert!(rt; read_at(&room, 9216) == view(220, 220, 1));
-    let framed = frame(rt.alloc(), &STREAM, 8204, &FIRSTS, 1)?;
-    assert!(rt; framed.as_slice() == room.as_slice());
-    Ok(())
 }
 
 // The blocks, the first of them at this lsn, are joined to these bytes.
@@ -174,25 +118,42 @@ fn is_joined(alloc: Global, blocks: &[u8], from: u64, stream: &[u8]) -> Option<b
     Some(joined.as_slice() == stream)
 }
 
-#[test]
-fn three_blocks_joined(rt: HostRuntime) {
-    assert!(rt; are_firsts(&STREAM, &FIRSTS));
-    let mut room = [0xFF; 1536];
-    frame_into(&mut room, &STREAM, 8204, &FIRSTS, 1);
-    // All; up to half of the second block; at another lsn; the third block alone.
+// Stretches of the three blocks are joined: all; up to half of the second block; at another lsn; the third block alone.
+fn are_joined(alloc: Global, room: &[u8; 1536]) -> Option<bool> {
     for (start, end, from, count) in [
         (0, 1536, 8204, 1200),
         (0, 1023, 8204, 496),
         (0, 1536, 8704, 0),
         (1024, 1536, 9228, 208),
     ] {
-        assert!(rt; start <= end && end <= 1536 && count <= 1200);
-        let blocks = &room[start..end];
-        assert!(rt;
-            is_joined(rt.alloc(), blocks, from, &STREAM[..count]) == Some(true),
-            "{count}"
-        );
+        let blocks = room.get(start..end)?;
+        let stream = STREAM.get(..count)?;
+        if !is_joined(alloc, blocks, from, stream)? {
+            return Some(false);
+        }
     }
+    Some(true)
+}
+
+// The three blocks are framed, read one by one, and joined.
+fn are_three_blocks(alloc: Global) -> Option<bool> {
+    if !are_firsts(&STREAM, &FIRSTS) {
+        return None;
+    }
+    let mut room = [0xFF; 1536];
+    frame_into(&mut room, &STREAM, 8204, &FIRSTS, 1);
+    let framed = frame(alloc, &STREAM, 8204, &FIRSTS, 1).ok()?;
+    let is_framed = framed.as_slice() == room.as_slice()
+        && read_at(&room, 8192) == view(512, 12, 1)
+        && read_at(&room, 8704) == view(512, 0, 1)
+        && read_at(&room, 9216) == view(220, 220, 1);
+    Some(is_framed && are_joined(alloc, &room)?)
+}
+
+#[test]
+fn three_blocks(rt: HostRuntime) {
+    assert!(rt; !are_firsts(&STREAM, &[12, 0]) && !are_firsts(&STREAM, &[12, 0, 221]));
+    assert!(rt; are_three_blocks(rt.alloc()) == Some(true));
 }
 
 // A block that holds five bytes.
@@ -204,9 +165,9 @@ fn part_block(lsn: u64, content: &[u8; 5]) -> [u8; 512]
     block
 }
 
-// What stands behind a block that isn't full isn't joined.
+// What stands after a block that isn't full isn't joined.
 #[test]
-fn behind_a_part_block(rt: HostRuntime) {
+fn after_a_part_block(rt: HostRuntime) {
     let blocks = [part_block(8192, b"first"), part_block(8704, b"other")];
     let joined = is_joined(rt.alloc(), blocks.as_flattened(), 8204, b"first");
     assert!(rt; joined == Some(true));

@@ -181,10 +181,7 @@ fn damaged_checkpoints(rt: HostRuntime) {
 fn newer_of_two(rt: HostRuntime) {
     let old = Some((3, 8192));
     let new = Some((4, 8704));
-    assert!(rt; newer(None, None).is_none());
-    assert!(rt; newer(None, old) == old);
-    assert!(rt; newer(new, None) == new);
-    assert!(rt; newer(new, old) == new);
-    assert!(rt; newer(old, new) == new);
+    assert!(rt; newer(None, None).is_none() && newer(None, old) == old);
+    assert!(rt; newer(new, None) == new && newer(new, old) == new && newer(old, new) == new);
     assert!(rt; place_of(0) == 1 && place_of(4) == 1 && place_of(3) == 3);
 }

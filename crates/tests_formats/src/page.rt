@@ -47,8 +47,7 @@ fn a_page_is_sound(rt: HostRuntime) {
     let page = page_bytes(5, 0x1_0000_2710);
     assert!(rt; check(&page) == PageState::Sound(5, 1, 0x1_0000_2710));
     // The neighbours, the type and the flush lsn are 0 whatever stood there; the user bytes stay.
-    assert!(rt; page[8..16].iter().all(|byte| *byte == 0));
-    assert!(rt; page[24..34].iter().all(|byte| *byte == 0));
+    assert!(rt; page[8..].starts_with(&[0; 8]) && page[24..].starts_with(&[0; 10]));
     assert!(rt; page[38] == user_byte(0x1_0000_2710) && page[4087] == user_byte(0x1_0000_2710));
 }
 
@@ -145,7 +144,7 @@ fn is_kept(alloc: Global, row: &str) -> Option<bool> {
     let want = number(&mut words)?;
     let kept = kept_page(alloc, image.as_flattened(), &Shape::default_shape(), 5).ok()??;
     let user = kept.user.as_slice();
-    Some(kept.lsn == want && user.len() == 4050 && user.iter().all(|byte| *byte == user_byte(want)))
+    Some(kept.lsn == want && user == [user_byte(want); 4050].as_slice())
 }
 
 #[test]

@@ -114,30 +114,6 @@ fn short_and_bad_bytes(rt: HostRuntime) {
     }
 }
 
-// One byte more than a group may have: a string of 8,186 bytes alone, and one of 8,182 with an `Init` and the end mark.
-const LONG: &str = "\
-9E010300261FFA 07*8186
-1E010300261FF6 07*8182 3B0103 1F
-";
-
-// 8,193 bytes that are bad, as 8,192 of them are; 8,191 are short.
-fn is_one_too_long(alloc: Global, row: &str) -> Option<bool> {
-    let text = joined(alloc, row)?;
-    Some(
-        text.len() == 8193
-            && taken(alloc, &text)? == Got::Bad
-            && taken(alloc, front(&text, 8192))? == Got::Bad
-            && taken(alloc, front(&text, 8191))? == Got::Short,
-    )
-}
-
-#[test]
-fn texts_of_8193_bytes(rt: HostRuntime) {
-    for row in LONG.lines() {
-        assert!(rt; is_one_too_long(rt.alloc(), row) == Some(true), "{row}");
-    }
-}
-
 // A group, and whether it fits a store of the default shape.
 const FITTING: &str = "\
 num 1 1 3 4087 255                 =  yes

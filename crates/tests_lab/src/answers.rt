@@ -48,6 +48,7 @@ fn reads_what_was_kept(rt: HostRuntime) -> Result<(), Fail> {
 new | crash                                 | 1 f b1 3 100 7 | 0 | open 8204 / g 8204 8210 1 0 flushed / marks 8210 8210 8210 8192 / recovered 1 8210 / p 3 8210 (00*62)07
 new | crash --log-only                      | 1 f b1 3 100 7 | 0 | open 8204 / g 8204 8210 1 0 flushed / marks 8210 8210 8210 8192 / recovered 1 8210 / p 3 8210 (00*62)07
 new | crash --threads --log-only            | 1 f b1 3 100 7 | 0 | open 8204 / g 8204 8210 1 0 flushed / marks 8210 8210 8210 8192 / recovered 1 8210 / p 3 8210 (00*62)07
+new | crash --threads                       | 1 f b1 3 100 7 | 0 | open 8204 / g 8204 8210 1 0 flushed / marks 8210 8210 8210 8192 / recovered 1 8210 / p 3 8210 (00*62)07
 new | crash --workers 16                    | 1 f b1 3 100 7 | 0 | open 8204 / g 8204 8210 1 0 flushed / marks 8210 8210 8210 8192 / recovered 1 8210 / p 3 8210 (00*62)07
 new | crash --turns 5 --max 1000000         | 1 f b1 3 100 7 | 0 | open 8204 / g 8204 8210 1 0 flushed / marks 8210 8210 8210 8192 / recovered 1 8210 / p 3 8210 (00*62)07
 new | crash --stop-log 18446744073709551615 | 1 f b1 3 100 7 | 0 | open 8204 / g 8204 8210 1 0 flushed / marks 8210 8210 8210 8192 / recovered 1 8210 / p 3 8210 (00*62)07
@@ -100,7 +101,9 @@ fn refuses_a_script_for_which_the_log_alone_has_no_room(rt: HostRuntime) -> Resu
 fn frees_the_log_by_checkpoints(rt: HostRuntime) -> Result<(), Fail> {
     let script = spelled(rt.alloc(), MANY_LINES)?;
     let lines = ["g 1099052 1107516 1 129 flushed", "recovered 130 1107516"];
-    assert!(rt; has_lines(&rt, "crash", &script, lines)?);
+    for words in ["crash", "crash --threads"] {
+        assert!(rt; has_lines(&rt, words, &script, lines)?, "at {words}");
+    }
     Ok(())
 }
 

@@ -3,9 +3,11 @@ use crate::devices::{Devices, blank};
 use redo_io::{MemSink, MemSource};
 use redo_lab::lab;
 use redo_memdisk::Fuse;
-use redo_threads::NoGate;
+use redo_threads::{Gate, NoGate};
 use std::alloc::{AllocError, Global};
+use std::sync::Wait;
 use std::test::Fail;
+use std::thread::Threads;
 
 /// The script of most calls.
 pub(crate) const LINE: &str = "1 f b1 3 100 7";
@@ -33,13 +35,14 @@ pub(crate) fn source_of(alloc: Global, text: &str) -> Result<MemSource, AllocErr
     Ok(MemSource::new(text.as_bytes().to_vec(alloc)?))
 }
 
-/// A call with this source and this sink on these devices.
-pub(crate) fn call_with(
-    rt: &HostRuntime,
+/// A call with this source and this sink on these devices, whose users this gate may hold.
+pub(crate) fn call_gated<G: Gate>(
+    rt: &(impl AllocGlobal + Threads + Wait + Sync),
     words: &[String],
     mut source: MemSource,
     mut sink: MemSink,
     devices: Devices,
+    gate: &G,
 ) -> Called {
     let Devices { log, store } = devices;
     let ended = lab(
@@ -50,7 +53,7 @@ pub(crate) fn call_with(
         &mut sink,
         log,
         store,
-        &NoGate,
+        gate,
     );
     Called {
         status: ended.status,
@@ -63,9 +66,20 @@ pub(crate) fn call_with(
     }
 }
 
+/// A call with this source and this sink on these devices.
+pub(crate) fn call_with(
+    rt: &(impl AllocGlobal + Threads + Wait + Sync),
+    words: &[String],
+    source: MemSource,
+    sink: MemSink,
+    devices: Devices,
+) -> Called {
+    call_gated(rt, words, source, sink, devices, &NoGate)
+}
+
 /// A call on these devices, with this script on its source.
 pub(crate) fn call_on(
-    rt: &HostRuntime,
+    rt: &(impl AllocGlobal + Threads + Wait + Sync),
     text: &str,
     script: &str,
     devices: Devices,
@@ -77,13 +91,19 @@ pub(crate) fn call_on(
 }
 
 /// A call on devices that hold zeros.
-pub(crate) fn call(rt: &HostRuntime, text: &str, script: &str) -> Result<Called, AllocError> {
+pub(crate) fn call(
+    rt: &(impl AllocGlobal + Threads + Wait + Sync),
+    text: &str,
+    script: &str,
+) -> Result<Called, AllocError> {
     let alloc = rt.alloc();
     call_on(rt, text, script, blank(alloc)?)
 }
 
 /// How many calls of the log device a call on devices that hold zeros makes before its opening, and in its opening.
-pub(crate) fn calls_of_opening(rt: &HostRuntime) -> Result<(u64, u64), AllocError> {
+pub(crate) fn calls_of_opening(
+    rt: &(impl AllocGlobal + Threads + Wait + Sync),
+) -> Result<(u64, u64), AllocError> {
     let fuse = call(rt, "run", "")?.log_fuse;
     Ok((fuse.early_calls, fuse.passed))
 }
@@ -102,7 +122,7 @@ pub(crate) fn prints(called: &Called, lines: [&str; 2]) -> Result<bool, Fail> {
 
 /// Whether a call on devices that hold zeros ends with status 0 and prints these two lines, among others.
 pub(crate) fn has_lines(
-    rt: &HostRuntime,
+    rt: &(impl AllocGlobal + Threads + Wait + Sync),
     words: &str,
     script: &str,
     lines: [&str; 2],

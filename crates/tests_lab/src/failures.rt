@@ -4,7 +4,9 @@ use crate::devices::{blank, new_devices};
 use crate::tables::{expect, play, play_at};
 use redo_io::{MemSink, MemSource};
 use std::alloc::AllocError;
+use std::sync::Wait;
 use std::test::Fail;
+use std::thread::Threads;
 
 /// Behind the opening comes the write of the first line's block, and then its sync.
 #[test]
@@ -21,7 +23,11 @@ new | crash --log-only --stop-log @ | 1 f b1 3 100 7 / 1 f b1 3 100 8 / | 0 | op
 }
 
 /// Whether a crash with this stop of the log device ends with status 0, and tells of an opening that was stopped just where it was.
-fn tells_of_opening(rt: &HostRuntime, stop: u64, is_stopped: bool) -> Result<bool, AllocError> {
+fn tells_of_opening(
+    rt: &(impl AllocGlobal + Threads + Wait + Sync),
+    stop: u64,
+    is_stopped: bool,
+) -> Result<bool, AllocError> {
     let alloc = rt.alloc();
     let words = format!(in alloc; "crash --stop-log {stop}")?;
     let called = call(rt, &words, LINE)?;
@@ -34,10 +40,7 @@ fn tells_of_opening(rt: &HostRuntime, stop: u64, is_stopped: bool) -> Result<boo
 fn opens_nothing_where_opening_is_stopped(rt: HostRuntime) -> Result<(), Fail> {
     let (_, opening) = calls_of_opening(&rt)?;
     for stop in [0, opening.saturating_sub(1), opening] {
-        assert!(rt;
-            tells_of_opening(&rt, stop, stop < opening)?,
-            "at {stop}"
-        );
+        assert!(rt; tells_of_opening(&rt, stop, stop < opening)?, "at {stop}");
     }
     Ok(())
 }
@@ -76,7 +79,7 @@ data fails 0 | crash   | 1 f b1 3 100 7 | 7 | fault data device
 
 /// A call with this source and this sink on devices that hold zeros.
 fn call_by(
-    rt: &HostRuntime,
+    rt: &(impl AllocGlobal + Threads + Wait + Sync),
     text: &str,
     source: MemSource,
     sink: MemSink,
@@ -98,14 +101,22 @@ fn reads_and_prints_in_pieces(rt: HostRuntime) -> Result<(), Fail> {
 }
 
 /// The status of a run of the line on new devices of which this one fails this call.
-fn status_failing(rt: &HostRuntime, device: &str, call: u64) -> Result<u8, Fail> {
+fn status_failing(
+    rt: &(impl AllocGlobal + Threads + Wait + Sync),
+    device: &str,
+    call: u64,
+) -> Result<u8, Fail> {
     let alloc = rt.alloc();
     let name = format!(in alloc; "{device} fails {call}")?;
     Ok(call_on(rt, "run", LINE, new_devices(alloc, &name)?)?.status)
 }
 
 /// How many calls of this device fail a run with this status, each alone, before the first that the run doesn't make.
-fn failing_calls(rt: &HostRuntime, device: &str, status: u8) -> Result<u64, Fail> {
+fn failing_calls(
+    rt: &(impl AllocGlobal + Threads + Wait + Sync),
+    device: &str,
+    status: u8,
+) -> Result<u64, Fail> {
     for call in 0..200u64 {
         if status_failing(rt, device, call)? != status {
             return Ok(call);

@@ -28,6 +28,8 @@ mod summaries;
 #[cfg(test)]
 mod tables;
 #[cfg(test)]
+mod threads;
+#[cfg(test)]
 mod turns;
 #[cfg(test)]
 mod worn_disk;

@@ -33,8 +33,9 @@ fn lists_the_blocks_of_one_line(rt: HostRuntime) -> Result<(), Fail> {
     play(
         &rt,
         "
-new  | run  | 1 f b1 3 100 7 | 0 | open 8204 / g 8204 8210 1 0 flushed / marks 8210 8210 8210 8192
-same | dump |                | 0 | store 4096 8 1 2048 8 / checkpoint 1 8192 / block 8192 17 18 12 1 / group 8204 8210 1 / rec b1 3 100 7 / end 8210
+new  | run        | 1 f b1 3 100 7 | 0 | open 8204 / g 8204 8210 1 0 flushed / marks 8210 8210 8210 8192
+same | dump       |                | 0 | store 4096 8 1 2048 8 / checkpoint 1 8192 / block 8192 17 18 12 1 / group 8204 8210 1 / rec b1 3 100 7 / end 8210
+same | dump --why |                | 0 | store 4096 8 1 2048 8 / checkpoint 1 8192 / block 8192 17 18 12 1 / stop 8192 partial / group 8204 8210 1 / rec b1 3 100 7 / end 8210
 ",
     )
 }
@@ -66,8 +67,10 @@ fn ends_before_a_block_of_no_length(rt: HostRuntime) -> Result<(), Fail> {
     play(
         &rt,
         "
-new       | format  | | 0 | formatted 8192
-no length | recover | | 0 | read 0 8204
+new       | format     | | 0 | formatted 8192
+same      | dump --why | | 0 | store 4096 8 1 2048 8 / checkpoint 1 8192 / stop 8192 number / end 8204
+no length | recover    | | 0 | read 0 8204
+same      | dump --why | | 0 | store 4096 8 1 2048 8 / checkpoint 1 8192 / stop 8192 length / end 8204
 ",
     )
 }

@@ -12,7 +12,10 @@ use redo_memdisk::MemDisk;
 use redo_page::{PageState, check};
 use redo_threads::NoGate;
 use std::alloc::{AllocError, Global};
+use std::process::Abort;
+use std::sync::Wait;
 use std::test::Fail;
+use std::thread::Threads;
 
 /// All premises hold: on new devices, on a store in use, and there also where the log device stops. The first run ends at 8210
 /// and the second at 8722, so the next ones start in the blocks behind, at 8704 + 12 and 9216 + 12. The third opening makes 22
@@ -135,7 +138,7 @@ fn silent_devices(
 
 /// Makes a call on these devices, which is to come to this; the devices behind it.
 fn expect_on<L: Sectors + Send + Drop, D: Sectors + Send + Drop>(
-    rt: &HostRuntime,
+    rt: &(impl Abort + AllocGlobal + Threads + Wait + Sync),
     (log, store): (L, D),
     asked: &str,
     script: &str,

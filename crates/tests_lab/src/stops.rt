@@ -3,7 +3,10 @@ use crate::calls::{Called, call_on};
 use crate::devices::Devices;
 use redo_memdisk::MemDisk;
 use std::alloc::{AllocError, Global};
+use std::process::Abort;
+use std::sync::Wait;
 use std::test::Fail;
+use std::thread::Threads;
 
 /// Four lines of two users, in each mode.
 const SCRIPT: &str = "1 f b1 3 100 7\n2 w s 4 38 0102\n1 n i 3\n2 f b8 5 40 1;b1 3 101 9\n";
@@ -175,7 +178,10 @@ fn is_stopped(report: &str) -> bool {
 }
 
 /// A crash of the four lines on a small store that was just formatted.
-fn crash(rt: &HostRuntime, words: &str) -> Result<Called, AllocError> {
+fn crash(
+    rt: &(impl AllocGlobal + Threads + Wait + Sync),
+    words: &str,
+) -> Result<Called, AllocError> {
     let alloc = rt.alloc();
     let devices = Devices {
         log: MemDisk::new(alloc, SMALL_LOG)?,
@@ -187,7 +193,10 @@ fn crash(rt: &HostRuntime, words: &str) -> Result<Called, AllocError> {
 
 /// Crashes under these options with each pick: whether no stop shows in any report. Of each crash, groups that are printed
 /// as flushed are kept, and what is read is what the kept groups make of the pages.
-fn crash_with_each_pick(rt: &HostRuntime, options: &str) -> Result<bool, Fail> {
+pub(crate) fn crash_with_each_pick(
+    rt: &(impl Abort + AllocGlobal + Threads + Wait + Sync),
+    options: &str,
+) -> Result<bool, Fail> {
     let alloc = rt.alloc();
     let mut is_whole = true;
     for pick in PICKS {
@@ -214,7 +223,10 @@ fn keeps_flushed_lines_under_each_schedule(rt: HostRuntime) -> Result<(), Fail> 
 }
 
 /// Crashes with these stops, where `@` is the number of calls before them: from 0 on, up to where no stop comes before a call.
-fn stop_at_each_call(rt: &HostRuntime, stops: &str) -> Result<(), Fail> {
+fn stop_at_each_call(
+    rt: &(impl Abort + AllocGlobal + Threads + Wait + Sync),
+    stops: &str,
+) -> Result<(), Fail> {
     for calls in 0..MANY_CALLS {
         let calls = format!(in rt.alloc(); "{calls}")?;
         let options = stops.replace(rt.alloc(), "@", &calls)?;

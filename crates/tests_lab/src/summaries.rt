@@ -2,7 +2,9 @@
 use crate::calls::call;
 use crate::tables::{play, play_at, told};
 use std::alloc::AllocError;
+use std::sync::Wait;
 use std::test::Fail;
+use std::thread::Threads;
 
 /// The script of `gen 11 1 1` is one line, `1 f b2 4 3710 23702`; of `gen 7 3 4`, three users and five others take turns, of which
 /// none goes to user 1.
@@ -20,7 +22,7 @@ new | gen 7 3 4 --run --max 5 | 1 f b1 3 100 7 | 9 | fault turns 5 user 1
 
 /// A long run on devices that hold zeros: its status, and what it prints. Another implementation of the same actors comes to the
 /// same numbers.
-fn long_run(rt: &HostRuntime) -> Result<String, Fail> {
+fn long_run(rt: &(impl AllocGlobal + Threads + Wait + Sync)) -> Result<String, Fail> {
     let alloc = rt.alloc();
     let called = call(rt, "gen 7 16 1000 --run --max 1000000000", "")?;
     told(alloc, called.status, called.sink.bytes())
@@ -59,7 +61,10 @@ same | recover          | | 0 | read 1 8212 / p 4 8212 (00*3672)5c96
 }
 
 /// How many calls of the log device this makes.
-fn log_calls(rt: &HostRuntime, words: &str) -> Result<u64, AllocError> {
+fn log_calls(
+    rt: &(impl AllocGlobal + Threads + Wait + Sync),
+    words: &str,
+) -> Result<u64, AllocError> {
     let fuse = call(rt, words, "")?.log_fuse;
     Ok(fuse.early_calls.saturating_add(fuse.passed))
 }

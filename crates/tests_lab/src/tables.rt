@@ -7,7 +7,10 @@
 use crate::calls::{Called, call_on};
 use crate::devices::{Devices, change, new_devices};
 use std::alloc::{AllocError, Global};
+use std::process::Abort;
+use std::sync::Wait;
 use std::test::Fail;
+use std::thread::Threads;
 
 /// The text of `TEXT*COUNT`: so many times in a row.
 fn repeated(alloc: Global, text: &str) -> Result<String, Fail> {
@@ -55,7 +58,11 @@ fn devices_of(alloc: Global, name: &str, left: Devices) -> Result<Devices, Fail>
 }
 
 /// The call of a row, and what it is to come to.
-fn call_of<'a>(rt: &HostRuntime, row: &'a str, left: Devices) -> Result<(Called, &'a str), Fail> {
+fn call_of<'a>(
+    rt: &(impl AllocGlobal + Threads + Wait + Sync),
+    row: &'a str,
+    left: Devices,
+) -> Result<(Called, &'a str), Fail> {
     let alloc = rt.alloc();
     let (name, rest) = cell(row);
     let (words, rest) = cell(rest);
@@ -81,7 +88,7 @@ pub(crate) fn told(alloc: Global, status: u8, printed: &[u8]) -> Result<String, 
 
 /// A call that ended with this status and printed this came to `STATUS | PRINTED`. The row is named where it didn't.
 pub(crate) fn expect(
-    rt: &HostRuntime,
+    rt: &(impl Abort + AllocGlobal),
     row: &str,
     status: u8,
     printed: &[u8],
@@ -94,14 +101,21 @@ pub(crate) fn expect(
 }
 
 /// Makes the call of a row, which is to come to what the row says; the devices behind it.
-fn play_row(rt: &HostRuntime, row: &str, left: Devices) -> Result<Devices, Fail> {
+fn play_row(
+    rt: &(impl Abort + AllocGlobal + Threads + Wait + Sync),
+    row: &str,
+    left: Devices,
+) -> Result<Devices, Fail> {
     let (called, outcome) = call_of(rt, row, left)?;
     expect(rt, row, called.status, called.sink.bytes(), outcome)?;
     Ok(called.devices)
 }
 
 /// Plays a table, row by row; the devices behind it.
-pub(crate) fn left_by(rt: &HostRuntime, table: &str) -> Result<Devices, Fail> {
+pub(crate) fn left_by(
+    rt: &(impl Abort + AllocGlobal + Threads + Wait + Sync),
+    table: &str,
+) -> Result<Devices, Fail> {
     let mut left = new_devices(rt.alloc(), "new")?;
     for row in table.trim().lines() {
         left = play_row(rt, row, left)?;
@@ -110,14 +124,17 @@ pub(crate) fn left_by(rt: &HostRuntime, table: &str) -> Result<Devices, Fail> {
 }
 
 /// Plays a table, row by row.
-pub(crate) fn play(rt: &HostRuntime, table: &str) -> Result<(), Fail> {
+pub(crate) fn play(
+    rt: &(impl Abort + AllocGlobal + Threads + Wait + Sync),
+    table: &str,
+) -> Result<(), Fail> {
     let _devices = left_by(rt, table)?;
     Ok(())
 }
 
 /// Plays a table in which `@` stands for this number.
 pub(crate) fn play_at(
-    rt: &HostRuntime,
+    rt: &(impl Abort + AllocGlobal + Threads + Wait + Sync),
     number: u64,
     table: &str,
 ) -> Result<(), Fail> {

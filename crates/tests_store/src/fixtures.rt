@@ -6,7 +6,7 @@ use redo_memdisk::MemDisk;
 use redo_open::{format, open_store};
 use redo_pageactors::Opened;
 use redo_recover::{RecFault, Recovered, recover};
-use std::alloc::Global;
+use std::alloc::{AllocError, Global};
 use std::test::Fail;
 
 /// The smallest log, and three pages.
@@ -101,4 +101,17 @@ pub fn torn_store(alloc: Global) -> Result<Store, Fail> {
     store.put_page(9, 1, 9000, 4);
     store.put_page(10, 2, 9000, 8);
     Ok(store)
+}
+
+/// Each page with an lsn above 0: its number, its lsn, and its byte at offset 100.
+pub fn pages_of(alloc: Global, read: &Recovered) -> Result<String, AllocError> {
+    let mut text = String::new(alloc);
+    for page in 0..read.pages.len().min(64) as u32 {
+        let lsn = read.pages.lsn(page);
+        if lsn > 0 {
+            let byte = read.pages.user_bytes(page).get(62).copied().unwrap_or(0);
+            text.push_str(&format!(in alloc; "{page} {lsn} {byte};")?)?;
+        }
+    }
+    Ok(text)
 }

@@ -2,9 +2,9 @@
 ghost use Rattle.std.specs.Prelude.{IfOk};
 ghost use Rattle.redo_pageactors.specs.{IsRunnable};
 
-use crate::fixtures::{SHAPE, formatted, open_to_end, read_back};
+use crate::fixtures::{SHAPE, formatted, open_to_end, pages_of, read_back};
 use crate::store::Store;
-use model_base::{BLOCK_SIZE, Shape};
+use model_base::BLOCK_SIZE;
 use redo_block::are_firsts;
 use redo_disk::{DevError, Sectors};
 use redo_lsn::{block_of, is_data_lsn, sn_of};
@@ -34,34 +34,12 @@ fn open_on(
     }
 }
 
-/// How many calls of the log device it takes to open the store.
-fn log_calls(rt: &(impl Abort + AllocGlobal), store: &Store) -> Result<u64, Fail> {
-    let (log, data) = store.devices(rt.alloc())?;
-    let (log, _, fault) = open_to_end(rt.alloc(), Fused::new(log, None), data);
-    assert_eq!(rt; fault, None);
-    Ok(log.fuse().passed)
-}
-
-/// How a run begins: the sizes of the store, the lsn of its start, the marks of the log, and the number of its checkpoint.
-#[derive(Clone, Copy, Debug, PartialEq, Eq)]
-struct Start {
-    shape: Shape,
-    start: u64,
-    written: u64,
-    stable: u64,
-    number: u64,
-}
-
-/// How a run on the store begins.
-fn start_of(rt: &(impl Abort + AllocGlobal), store: &Store) -> Result<Start, Fail> {
+/// Where a run on the store starts, and the number of its checkpoint.
+fn start_of(rt: &(impl Abort + AllocGlobal), store: &Store) -> Result<(u64, u64), Fail> {
     let opened = open_on(rt, store, None)?;
-    Ok(Start {
-        shape: opened.shape,
-        start: opened.start,
-        written: opened.log.written(),
-        stable: opened.log.stable(),
-        number: opened.log.number(),
-    })
+    let (written, stable) = (opened.log.written(), opened.log.stable());
+    assert!(rt; written == opened.start && stable == opened.start);
+    Ok((opened.start, opened.log.number()))
 }
 
 /// What a crash with this pick leaves.
@@ -149,159 +127,94 @@ fn write_and_crash(
     Ok((crashed(rt.alloc(), opened, pick)?, answer))
 }
 
-/// Reads the store, and sees so many groups up to this end.
-fn see_groups(
-    rt: &(impl Abort + AllocGlobal),
-    store: &Store,
-    count: usize,
-    end: u64,
-) -> Result<(), Fail> {
-    let read = read_back(rt.alloc(), store)?;
-    assert_eq!(rt; (read.groups.len(), read.end), (count, end));
-    Ok(())
-}
-
-/// Formatting leaves a store whose pages were never written, whatever stood on the devices before.
-#[test]
-fn formatted_pages_are_blank(rt: HostRuntime) -> Result<(), Fail> {
-    let read = read_back(rt.alloc(), &formatted(rt.alloc())?)?;
-    assert_eq!(rt; (read.shape, read.number, read.ckpt), (SHAPE, 0, 8192));
-    assert_eq!(rt;
-        (read.views.len(), read.groups.len(), read.end),
-        (0, 0, 8204)
-    );
-    assert_eq!(rt; read.pages.len(), 3);
-    for page in 0..3u32 {
-        let is_zero = read.pages.user_bytes(page).iter().all(|byte| *byte == 0);
-        assert!(rt; is_zero && read.pages.lsn(page) == 0, "page {page}");
-    }
-    Ok(())
-}
-
-/// A run on a formatted store starts at the log's first data byte, under the next checkpoint.
-#[test]
-fn a_formatted_store_starts_at_the_front(rt: HostRuntime) -> Result<(), Fail> {
-    let found = start_of(&rt, &formatted(rt.alloc())?)?;
-    let want = Start {
-        shape: SHAPE,
-        start: 8204,
-        written: 8204,
-        stable: 8204,
-        number: 1,
+/// How many groups are read of the store, where the first of them starts, and where the log ends.
+fn groups_of(alloc: Global, store: &Store) -> Result<(usize, Option<u64>, u64), Fail> {
+    let read = read_back(alloc, store)?;
+    let first = match read.groups.as_slice() {
+        [first, ..] => Some(first.start),
+        [] => None,
     };
-    assert_eq!(rt; found, want);
-    Ok(())
+    Ok((read.groups.len(), first, read.end))
 }
 
-/// Three groups are written on a formatted store, of which a crash loses the second and leaves the third behind the log's
-/// end.
-fn with_an_old_block(rt: &(impl Abort + AllocGlobal)) -> Result<Store, Fail> {
+/// Formatting leaves a store whose pages were never written, whatever stood on the devices before. A run on it starts at the
+/// log's first data byte, under the next checkpoint.
+#[test]
+fn a_formatted_store_is_blank(rt: HostRuntime) -> Result<(), Fail> {
     let store = formatted(rt.alloc())?;
-    let calls = log_calls(rt, &store)?;
-    let (left, answer) = write_and_crash(rt, &store, Some(calls), Task::Groups(3), 5)?;
-    assert_eq!(rt; answer, Err(DevError::Failed));
-    Ok(left)
-}
-
-/// Sees that one group is read of the store, from one lsn up to another, at which the log ends.
-fn see_one_group(
-    rt: &(impl Abort + AllocGlobal),
-    store: &Store,
-    start: u64,
-    end: u64,
-) -> Result<(), Fail> {
-    let read = read_back(rt.alloc(), store)?;
-    let [whole] = read.groups.as_slice() else {
-        panic!(rt; "not one group");
-    };
-    assert_eq!(rt; (whole.start, whole.end, read.end), (start, end, end));
+    let read = read_back(rt.alloc(), &store)?;
+    assert!(rt; read.shape == SHAPE && read.number == 0 && read.ckpt == 8192);
+    assert!(rt; read.views.is_empty() && read.groups.is_empty() && read.end == 8204);
+    assert!(rt; read.pages.len() == 3 && pages_of(rt.alloc(), &read)?.is_empty());
+    assert!(rt; start_of(&rt, &store)? == (8204, 1));
     Ok(())
 }
 
-/// Of three groups the second is lost, and the third stands behind the log's end. Opening takes it away: a new group where
-/// the second stood is read alone.
+/// How many calls of the log device it takes to open the formatted store: two of reading, eight writes of 128 blocks at the
+/// most, a sync, and two for the checkpoint.
+const CALLS: u64 = 2 + 8 + 1 + 2;
+
+/// Of three groups a crash loses the second, and the third stands after the log's end. Opening takes it away: a new group
+/// where the second stood is read alone.
 #[test]
 fn an_old_block_is_gone(rt: HostRuntime) -> Result<(), Fail> {
-    let store = with_an_old_block(&rt)?;
-    see_groups(&rt, &store, 1, 8716)?;
-    assert_eq!(rt; start_of(&rt, &store)?.start, 8716);
-    let (left, answer) = write_and_crash(&rt, &store, None, Task::Groups(1), 0)?;
-    assert_eq!(rt; answer, Ok(()));
-    see_one_group(&rt, &left, 8716, 9228)
+    let alloc = rt.alloc();
+    let store = formatted(alloc)?;
+    let (old, answer) = write_and_crash(&rt, &store, Some(CALLS), Task::Groups(3), 5)?;
+    assert!(rt; answer == Err(DevError::Failed));
+    assert!(rt; groups_of(alloc, &old)? == (1, Some(8204), 8716));
+    assert!(rt; start_of(&rt, &old)?.0 == 8716);
+    let (left, answer) = write_and_crash(&rt, &old, None, Task::Groups(1), 0)?;
+    assert!(rt; answer.is_ok());
+    assert!(rt; groups_of(alloc, &left)? == (1, Some(8716), 9228));
+    Ok(())
 }
 
 /// A block that was synced is written again by a write that fails: a crash keeps it as it was, or as that write makes it.
 #[test]
 fn a_failed_second_write_may_stay(rt: HostRuntime) -> Result<(), Fail> {
     let store = formatted(rt.alloc())?;
-    let limit = log_calls(&rt, &store)?.saturating_add(2);
     for (pick, count, end) in [(0, 1, 8210), (1, 2, 8216)] {
-        let (left, answer) = write_and_crash(&rt, &store, Some(limit), Task::Twice, pick)?;
-        assert_eq!(rt; answer, Err(DevError::Failed));
-        see_groups(&rt, &left, count, end)?;
+        let (left, answer) = write_and_crash(&rt, &store, Some(CALLS + 2), Task::Twice, pick)?;
+        assert!(rt; answer == Err(DevError::Failed));
+        assert!(rt; groups_of(rt.alloc(), &left)? == (count, Some(8204), end));
     }
     Ok(())
 }
 
 /// The newest checkpoint's block is full and no group begins in it, and the next block is zero: the run starts in the block
-/// behind that.
+/// after that.
 #[test]
 fn a_full_block_without_a_group_is_passed(rt: HostRuntime) -> Result<(), Fail> {
     let mut store = formatted(rt.alloc())?;
     store.put_ckpt(&SHAPE, 1, 8704);
     store.put_block(&SHAPE, 1, 8704, &[5; 496], false);
-    see_groups(&rt, &store, 0, 9228)?;
-    let found = start_of(&rt, &store)?;
-    assert_eq!(rt; (found.start, found.number), (9228, 2));
+    assert!(rt; groups_of(rt.alloc(), &store)? == (0, None, 9228));
+    assert!(rt; start_of(&rt, &store)? == (9228, 2));
     Ok(())
 }
 
-/// A block whose length isn't one ends the log, and the run starts before it.
-#[test]
-fn a_block_of_a_bad_length_ends_the_log(rt: HostRuntime) -> Result<(), Fail> {
-    let mut store = formatted(rt.alloc())?;
-    store.put_block(&SHAPE, 1, 8192, &long_groups(), true);
-    store.put_sealed(2048 + 4, &[2, 1]);
-    see_groups(&rt, &store, 0, 8204)?;
-    assert_eq!(rt; start_of(&rt, &store)?.start, 8204);
-    Ok(())
+/// Whether opening refuses the store with this fault, and leaves both devices as they were.
+fn is_refused(alloc: Global, store: &Store, want: RecFault) -> Result<bool, Fail> {
+    let (log, data) = store.devices(alloc)?;
+    let (mut log, mut data, fault) = open_to_end(alloc, log, data);
+    let left = Store::of(alloc, &mut log, &mut data)?;
+    Ok(fault == Some(want) && left.log == store.log && left.data == store.data)
 }
 
-/// Sees that opening refuses the store with this fault, and leaves both devices as they were.
-fn see_refusal(rt: &(impl Abort + AllocGlobal), store: &Store, want: RecFault) -> Result<(), Fail> {
-    let (log, data) = store.devices(rt.alloc())?;
-    let (mut log, mut data, fault) = open_to_end(rt.alloc(), log, data);
-    let left = Store::of(rt.alloc(), &mut log, &mut data)?;
-    assert_eq!(rt; fault, Some(want));
-    let is_log_same = left.log.as_slice() == store.log.as_slice();
-    let is_data_same = left.data.as_slice() == store.data.as_slice();
-    assert!(rt; is_log_same && is_data_same, "{want}");
-    Ok(())
-}
-
-/// A record of an unknown type is refused, and nothing is written.
+/// A page that is lost, one above the log's end, a record of an unknown type, and a log of another format.
 #[test]
-fn a_refused_record_writes_nothing(rt: HostRuntime) -> Result<(), Fail> {
-    let mut store = formatted(rt.alloc())?;
-    store.put_block(&SHAPE, 1, 8192, &[9, 1, 1, 0, 100, 7], true);
-    see_refusal(&rt, &store, RecFault::BadRecord(8204))
-}
-
-/// A lost page is refused, a page above the log's end in a lost one's store too, and nothing is written.
-#[test]
-fn a_refused_page_writes_nothing(rt: HostRuntime) -> Result<(), Fail> {
-    let mut store = formatted(rt.alloc())?;
+fn a_refused_store_stays_as_it_was(rt: HostRuntime) -> Result<(), Fail> {
+    let alloc = rt.alloc();
+    let mut store = formatted(alloc)?;
     store.put_page_byte(9, 0, 1);
-    see_refusal(&rt, &store, RecFault::PageLost(1))?;
+    assert!(rt; is_refused(alloc, &store, RecFault::PageLost(1))?);
     store.put_page(1, 1, 9000, 3);
     store.put_page(6, 1, 8500, 3);
-    see_refusal(&rt, &store, RecFault::PageAhead(1, 9000))
-}
-
-/// A log of another format is refused, and nothing is written.
-#[test]
-fn a_refused_format_writes_nothing(rt: HostRuntime) -> Result<(), Fail> {
-    let mut store = formatted(rt.alloc())?;
+    assert!(rt; is_refused(alloc, &store, RecFault::PageAhead(1, 9000))?);
+    store.put_block(&SHAPE, 1, 8192, &[9, 1, 1, 0, 100, 7], true);
+    assert!(rt; is_refused(alloc, &store, RecFault::BadRecord(8204))?);
     store.put_sealed(0, &[1]);
-    see_refusal(&rt, &store, RecFault::BadFormat(0x0100_0001))
+    assert!(rt; is_refused(alloc, &store, RecFault::BadFormat(0x0100_0001))?);
+    Ok(())
 }

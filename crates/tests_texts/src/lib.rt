@@ -1,4 +1,4 @@
-//! The tests of the texts: the edge for text, scripts, reports and fault lines, and the words of a call.
+//! The tests of the texts: the edge for text, scripts and fault lines, and the words of a call.
 #![tactic(auto)]
 
 #[cfg(test)]
@@ -15,8 +15,6 @@ mod misfits;
 mod no_commands;
 #[cfg(test)]
 mod printed;
-#[cfg(test)]
-mod reports;
 #[cfg(test)]
 mod rows;
 #[cfg(test)]

@@ -3,7 +3,6 @@ use crate::rows::{columns, text_of};
 use model_base::{DEFAULT_LOG_BLOCKS, DEFAULT_PAGES, DEFAULT_SPACE, PAGE_SIZE, SLOTS, Shape};
 use redo_script::{judge, parse};
 use std::alloc::{AllocError, Global};
-use std::process::Abort;
 use std::test::Fail;
 
 const DEFAULT: Shape = Shape {
@@ -16,19 +15,11 @@ const DEFAULT: Shape = Shape {
 // Where a log that no checkpoint frees has one round of room.
 const ROOM_END: Option<u64> = Some(1_056_768);
 
-// Judges a script for a store of the default sizes whose run starts behind its first block header.
-fn expect_judged(
-    rt: &(impl Abort + AllocGlobal),
-    text: &str,
-    room_end: Option<u64>,
-    want: &str,
-) -> Result<(), Fail> {
-    let alloc = rt.alloc();
-    let script = parse(alloc, text.as_bytes()).ok().expect(rt, text);
+// What is judged of a script for a store of the default sizes whose run starts after its first block header.
+fn judged(alloc: Global, text: &str, room_end: Option<u64>) -> Result<String, Fail> {
+    let script = parse(alloc, text.as_bytes())?;
     let judged = judge(alloc, &DEFAULT, 8_204, room_end, &script);
-    let shown = format!(in alloc; "{judged:?}")?;
-    assert_eq!(rt; shown.as_str(), want, "of {text:?}");
-    Ok(())
+    Ok(format!(in alloc; "{judged:?}")?)
 }
 
 // Below the first line: a script, and what is judged of it.
@@ -47,10 +38,11 @@ const SCRIPTS: &str = r#"
 
 #[test]
 fn scripts_that_dont_fit(rt: HostRuntime) -> Result<(), Fail> {
+    let alloc = rt.alloc();
     for row in SCRIPTS.lines().skip(1) {
         let (text, want) = columns(row);
-        let text = text_of(rt.alloc(), text)?;
-        expect_judged(&rt, text.as_str(), ROOM_END, want)?;
+        let found = judged(alloc, &text_of(alloc, text)?, ROOM_END)?;
+        assert!(rt; found.as_str() == want, "of {row}");
     }
     Ok(())
 }
@@ -62,16 +54,18 @@ fn three_strings(alloc: Global, last: usize) -> Result<String, AllocError> {
     format!(in alloc; "1 f s 0 38 {digits};s 1 38 {digits};s 2 38 {last}\n")
 }
 
+const GROUP: &str = "Err(Misfit(Misfit { quantity: Group, number: 8193 }))";
+
+const TOTAL: &str = "Err(Misfit(Misfit { quantity: Total, number: 1107516 }))";
+
 #[test]
 fn long_scripts(rt: HostRuntime) -> Result<(), Fail> {
     let alloc = rt.alloc();
-    let long = three_strings(alloc, 71)?;
-    let group = "Err(Misfit(Misfit { quantity: Group, number: 8193 }))";
-    expect_judged(&rt, long.as_str(), None, group)?;
     let line = three_strings(alloc, 70)?;
-    expect_judged(&rt, line.as_str(), ROOM_END, "Ok(())")?;
+    assert!(rt; judged(alloc, &three_strings(alloc, 71)?, None)?.as_str() == GROUP);
+    assert!(rt; judged(alloc, &line, ROOM_END)?.as_str() == "Ok(())");
     let many = line.as_str().repeat(alloc, 130)?;
-    let total = "Err(Misfit(Misfit { quantity: Total, number: 1107516 }))";
-    expect_judged(&rt, many.as_str(), ROOM_END, total)?;
-    expect_judged(&rt, many.as_str(), None, "Ok(())")
+    assert!(rt; judged(alloc, &many, ROOM_END)?.as_str() == TOTAL);
+    assert!(rt; judged(alloc, &many, None)?.as_str() == "Ok(())");
+    Ok(())
 }

@@ -1,7 +1,6 @@
 // Words that are no command.
 use crate::rows::asked_of;
 use redo_command::WordsFault;
-use std::process::Abort;
 use std::test::Fail;
 
 const NO_COMMANDS: &str = "\
@@ -220,26 +219,9 @@ recover recover
 dump --max=5
 ";
 
-fn expect_none(rt: &(impl Abort + AllocGlobal), line: &str) -> Result<(), Fail> {
-    let fault = asked_of(rt.alloc(), line)?.err();
-    assert_eq!(rt; fault, Some(WordsFault::NotCommand), "of {line:?}");
-    Ok(())
-}
-
-#[test]
-fn words_that_are_none(rt: HostRuntime) -> Result<(), Fail> {
-    expect_none(&rt, "")?;
-    for line in NO_COMMANDS.lines() {
-        expect_none(&rt, line)?;
-    }
-    for line in REFUSED.lines() {
-        expect_none(&rt, line)?;
-    }
-    Ok(())
-}
-
-// Lines with an empty word, between bars.
+// No word, and lines with an empty word, between bars.
 const EMPTY_WORDS: &str = "\
+||
 | |
 |run |
 |run  --threads|
@@ -251,10 +233,12 @@ const EMPTY_WORDS: &str = "\
 ";
 
 #[test]
-fn empty_words(rt: HostRuntime) -> Result<(), Fail> {
-    for row in EMPTY_WORDS.lines() {
-        let asked = asked_of(rt.alloc(), row.trim_matches('|'))?;
-        assert!(rt; asked.is_err(), "of {row}");
+fn words_that_are_none(rt: HostRuntime) -> Result<(), Fail> {
+    for table in [NO_COMMANDS, REFUSED, EMPTY_WORDS] {
+        for row in table.lines() {
+            let asked = asked_of(rt.alloc(), row.trim_matches('|'))?;
+            assert!(rt; asked == Err(WordsFault::NotCommand), "of {row}");
+        }
     }
     Ok(())
 }

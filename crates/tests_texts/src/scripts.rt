@@ -2,7 +2,7 @@
 use crate::printed::printed;
 use crate::rows::{columns, text_of};
 use redo_script::{ScriptFault, parse};
-use std::process::Abort;
+use std::alloc::Global;
 use std::test::Fail;
 
 // Below the first line: a text, and the lines of the script that it is, as they are printed.
@@ -49,23 +49,8 @@ const SCRIPTS: &str = r##"
 "1 n b8 3 3089 5627;b1 3 250 246"   | "1 n b8 3 3089 5627;b1 3 250 246"
 "##;
 
-#[test]
-fn texts_that_are_scripts(rt: HostRuntime) -> Result<(), Fail> {
-    let alloc = rt.alloc();
-    for row in SCRIPTS.lines().skip(1) {
-        let (text, want) = columns(row);
-        let script = parse(alloc, text_of(alloc, text)?.as_bytes())
-            .ok()
-            .expect(&rt, row);
-        let lines = printed(alloc, &script)?;
-        let want = text_of(alloc, want)?;
-        assert_eq!(rt; lines.as_str(), want.as_str(), "of {row}");
-    }
-    Ok(())
-}
-
-// Below the first line: texts of which the first line is bad.
-const BAD_TEXTS: &str = r#"
+// Below the first line: texts that are none, and the first line that is bad, where that isn't the first.
+const BAD_TEXTS: &str = r##"
 " "
 "\t"
 "\r\r"
@@ -146,25 +131,37 @@ const BAD_TEXTS: &str = r#"
 ";"
 "x\ny"
 "1 f i 3\r\r\n1 f i 4"
-"#;
+"1 f i 3\nx"              | 2
+"1 f i 3\n\nx"            | 3
+"# c\nx"                  | 2
+"\n\n\nx\ny"              | 4
+"# comment\n\n17 f i 3 " | 3
+"1 f i 3\n1 f i 3;"       | 2
+"1 f i 1\n \n1 f i 2"     | 2
+"##;
 
-fn expect_bad_line(rt: &(impl Abort + AllocGlobal), text: &str, line: u64) -> Result<(), Fail> {
-    let fault = parse(rt.alloc(), text.as_bytes()).err();
-    assert_eq!(rt; fault, Some(ScriptFault::Line(line)), "of {text:?}");
+// Whether a text is a script with these lines.
+fn is_script(alloc: Global, text: &str, lines: &str) -> Result<bool, Fail> {
+    let script = parse(alloc, text_of(alloc, text)?.as_bytes())?;
+    Ok(printed(alloc, &script)? == text_of(alloc, lines)?)
+}
+
+#[test]
+fn texts_that_are_scripts(rt: HostRuntime) -> Result<(), Fail> {
+    for row in SCRIPTS.lines().skip(1) {
+        let (text, lines) = columns(row);
+        assert!(rt; is_script(rt.alloc(), text, lines)?, "of {row}");
+    }
     Ok(())
 }
 
 #[test]
 fn texts_with_a_bad_line(rt: HostRuntime) -> Result<(), Fail> {
     for row in BAD_TEXTS.lines().skip(1) {
-        expect_bad_line(&rt, text_of(rt.alloc(), row)?.as_str(), 1)?;
+        let (text, line) = columns(row);
+        let bad = parse(rt.alloc(), text_of(rt.alloc(), text)?.as_bytes()).err();
+        let line = line.parse::<u64>().unwrap_or(1);
+        assert!(rt; bad == Some(ScriptFault::Line(line)), "of {row}");
     }
-    expect_bad_line(&rt, "1 f i 3\nx", 2)?;
-    expect_bad_line(&rt, "1 f i 3\n\nx", 3)?;
-    expect_bad_line(&rt, "# c\nx", 2)?;
-    expect_bad_line(&rt, "\n\n\nx\ny", 4)?;
-    expect_bad_line(&rt, "# comment\n\n17 f i 3 ", 3)?;
-    expect_bad_line(&rt, "1 f i 3\n1 f i 3;", 2)?;
-    expect_bad_line(&rt, "1 f i 1\n \n1 f i 2", 2)?;
     Ok(())
 }

@@ -7,6 +7,7 @@ use model_history::State::{Flushed, Lost, Written};
 use redo_disk::Sectors;
 use redo_pageactors::Closed;
 use redo_words::Step::{Ended, Idle, Moved};
+use std::alloc::Global;
 use std::process::Abort;
 use std::test::Fail;
 
@@ -31,8 +32,10 @@ fn byte_in_place(rt: &impl Abort, store: &mut Device, page: u32, at: usize) -> R
     Ok(bytes[at])
 }
 
-/// The user reserves by its fifth call, and its group of six bytes is linked by the sixth from there on: the writer waits until
-/// then, and moves the tail behind it.
+/// The user reserves by its fifth call, behind those on FAILED, CKPT, SN and the latch. Its group of six bytes at 8204 fills parts of
+/// two words: so it is linked by the sixth call from the reservation on, 2 + 4. The writer waits until then. By its 16th call from
+/// there on it waits again: FAILED, the link, its clearing, the next link, WTAIL, CKPT, FIRST, its clearing, the first word, its
+/// clearing, the second word, four with the device, and a link. A word whose bytes aren't all written yet isn't cleared.
 #[test]
 fn a_link_comes_six_calls_from_the_reservation(rt: HostRuntime) -> Result<(), Fail> {
     let (user, writer) = (0, 1);
@@ -45,6 +48,38 @@ fn a_link_comes_six_calls_from_the_reservation(rt: HostRuntime) -> Result<(), Fa
     ];
     let closed = left_by(&rt, rt.alloc(), ONE_LINE, (None, None), &turns, 0)?;
     assert_eq!(rt; (closed.marks.wtail, closed.code), (8210, 0));
+    Ok(())
+}
+
+/// A line of a text of 489 bytes, whose group of 496 fills the data of a block.
+fn long_line(alloc: Global) -> Result<Vec<u8>, Fail> {
+    let mut text = Vec::new(alloc);
+    text.extend_from_slice(b"1 n s 3 38 ")?;
+    for _ in 0..489 {
+        text.extend_from_slice(b"07")?;
+    }
+    text.push(b'\n')?;
+    Ok(text)
+}
+
+/// A group of 496 bytes from 8204 on ends in the next block. Its bytes fill 63 words, those of lsns 8200 to 8703, and the end's
+/// first offset is stored too: so it is linked by the 68th call from the reservation on, 63 + 4 + 1.
+#[test]
+fn a_long_link_comes_68_calls_from_the_reservation(rt: HostRuntime) -> Result<(), Fail> {
+    let (user, writer) = (0, 1);
+    let turns = [
+        (user, 4 + 67, Moved),
+        (writer, 1, Idle),
+        (writer, 2, Idle),
+        (user, 1, Moved),
+        (writer, 3, Moved),
+    ];
+    let line = long_line(rt.alloc())?;
+    let closed = left_by(&rt, rt.alloc(), line.as_slice(), (None, None), &turns, 0)?;
+    assert_eq!(rt; closed.history.0.len(), 1);
+    for entry in closed.history.0.iter() {
+        assert_eq!(rt; (entry.start, entry.end), (8204, 8716));
+    }
     Ok(())
 }
 
@@ -79,7 +114,8 @@ fn second_links_first(rt: HostRuntime) -> Result<(), Fail> {
     Ok(())
 }
 
-/// Two users on one page: the second waits until the first has released the latch. The cleaner writes both bytes.
+/// Two users on one page: the second waits until the first has released the latch. The cleaner writes both bytes, and as the page's
+/// lsn the end of the second group.
 #[test]
 fn two_seats_write_one_page(rt: HostRuntime) -> Result<(), Fail> {
     let (first, second, writer, flusher, cleaner) = (0, 1, 2, 3, 5);
@@ -101,12 +137,19 @@ fn two_seats_write_one_page(rt: HostRuntime) -> Result<(), Fail> {
     let mut store = closed.store.into_dev();
     assert_eq!(rt; byte_in_place(&rt, &mut store, 3, 100)?, 7);
     assert_eq!(rt; byte_in_place(&rt, &mut store, 3, 101)?, 8);
+    let lsn = (
+        byte_in_place(&rt, &mut store, 3, 22)?,
+        byte_in_place(&rt, &mut store, 3, 23)?,
+    );
+    assert_eq!(rt; lsn, (0x20, 0x18), "8216, of which the other bytes are 0");
     Ok(())
 }
 
 /// A device fails at each of its calls: the log device where the group is written and where it is synced, and the data device at
-/// each of the five of a batch of two pages. The user finds the failure before it looks at its mark again, so it is never
-/// answered. One call more, and nothing fails.
+/// each of the five of a batch of two pages. In the first round the user comes to wait for FLUSHED; in the second all others go
+/// before it, so the call fails, and FAILED has its code, 1 or 2. The user's next step is the load of FAILED: so it ends by the
+/// failure, and its group is lost, even where FLUSHED has passed its end. One call more, and nothing fails: no checkpoint is
+/// written, since CTAIL, rounded down, is still that of opening.
 #[test]
 fn a_device_fails_at_each_call(rt: HostRuntime) -> Result<(), Fail> {
     for calls in 0..3 {

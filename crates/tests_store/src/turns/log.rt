@@ -1,9 +1,7 @@
 // Runs up to the log device.
 use super::runs::{Run, marks, outcome_of, see_left};
-use super::store::LOG_CALLS;
-use redo_drive::RunEnd;
-use redo_machine::Turned::{Ended, Failed, Idle, Moved};
 use model_history::State::{Lost, Written};
+use redo_machine::Turned::{Ended, Idle, Moved};
 use std::test::Fail;
 
 /// One line, whose group has six bytes and is answered once it is written.
@@ -12,19 +10,16 @@ const ONE_LINE: &[u8] = b"1 w b1 3 100 7\n";
 /// A line of each of two users.
 const TWO_USERS: &[u8] = b"1 w b1 3 100 7\n2 w b1 4 100 8\n";
 
-/// Lines of three users: the second one's is answered once it is written, the others' once they are flushed.
-const THREE_USERS: &[u8] = b"1 f b1 3 100 7\n1 f b1 3 100 8\n2 w b1 4 100 8\n3 f b1 5 100 9\n";
-
 /// A group that is written, and never flushed, is lost in the crash: its user was answered for the write alone.
 #[test]
 fn written_is_not_flushed(rt: HostRuntime) -> Result<(), Fail> {
     let (user, writer) = (0, 1);
     let turns = [(user, 20, Moved), (writer, 13, Moved), (user, 1, Ended)];
     let outcome = outcome_of(&rt, rt.alloc(), &Run::by_hand(ONE_LINE, &turns))?;
-    assert_eq!(rt; (outcome.ended, outcome.code), (RunEnd::Done, 0));
+    assert!(rt; outcome.is_done());
     let history = [(1, 0, 8204, 8210, Written)];
     see_left(&rt, &outcome, &history, marks(8210, 8210, 8204, 8192));
-    assert_eq!(rt; outcome.read, (0, 8204));
+    assert!(rt; outcome.read == (0, 8204));
     Ok(())
 }
 
@@ -47,7 +42,7 @@ fn a_link_comes_behind_its_words(rt: HostRuntime) -> Result<(), Fail> {
             (writer, 2, Moved),
         ];
         let outcome = outcome_of(&rt, rt.alloc(), &Run::by_hand(text, &turns))?;
-        assert_eq!(rt; outcome.history.0.len(), 1);
+        assert!(rt; outcome.history.0.len() == 1);
     }
     Ok(())
 }
@@ -72,32 +67,6 @@ fn second_links_first(rt: HostRuntime) -> Result<(), Fail> {
     let outcome = outcome_of(&rt, rt.alloc(), &Run::by_hand(TWO_USERS, &turns))?;
     let history = [(1, 0, 8204, 8210, Written), (2, 0, 8210, 8216, Written)];
     see_left(&rt, &outcome, &history, marks(8216, 8216, 8204, 8192));
-    assert_eq!(rt; (outcome.ended, outcome.code), (RunEnd::Done, 0));
-    Ok(())
-}
-
-/// The log's first sync fails while the first user awaits it: the group is lost, and the user's second line is left. The
-/// second user was answered before. The third one hasn't begun, and its line is left.
-#[test]
-fn a_failed_sync_ends_each_user(rt: HostRuntime) -> Result<(), Fail> {
-    let (first, second, third, writer, flusher) = (0, 1, 2, 3, 4);
-    let turns = [
-        (first, 21, Idle),
-        (second, 19, Moved),
-        (writer, 17, Moved),
-        (second, 1, Ended),
-        (flusher, 5, Failed(1)),
-        (first, 1, Failed(1)),
-        (third, 1, Failed(1)),
-    ];
-    let run = Run {
-        log_calls: Some(LOG_CALLS + 1),
-        ..Run::by_hand(THREE_USERS, &turns)
-    };
-    let outcome = outcome_of(&rt, rt.alloc(), &run)?;
-    assert_eq!(rt; (outcome.ended, outcome.code), (RunEnd::Done, 1));
-    let history = [(1, 0, 8204, 8210, Lost), (2, 0, 8210, 8216, Written)];
-    see_left(&rt, &outcome, &history, marks(8216, 8216, 8204, 8192));
-    assert_eq!(rt; outcome.read, (0, 8204));
+    assert!(rt; outcome.is_done());
     Ok(())
 }

@@ -1,10 +1,8 @@
 // Runs whose pages are written to the data device.
 use super::ring::add_full_line;
-use super::runs::{Run, byte_in_place, marks, outcome_of, page_read, see_full, see_left};
-use super::store::DATA_CALLS;
-use redo_drive::RunEnd;
-use redo_machine::Turned::{Ended, Failed, Idle, Moved};
+use super::runs::{Run, byte_in_place, marks, outcome_of, see_full, see_left};
 use model_history::State::Flushed;
+use redo_machine::Turned::{Ended, Idle, Moved};
 use std::test::Fail;
 
 /// A line of each of two users, on one page.
@@ -12,9 +10,6 @@ const ONE_PAGE: &[u8] = b"1 w b1 3 100 7\n2 w b1 3 101 8\n";
 
 /// Two lines of a user on one page, and a line of another user on another page.
 const THREE_LINES: &[u8] = b"1 n b1 3 100 7\n1 n b1 3 100 9\n2 n b1 4 100 8\n";
-
-/// A line whose group of 13 bytes is on two pages.
-const TWO_PAGES: &[u8] = b"1 f b1 3 100 7;b1 4 100 8\n";
 
 /// A line whose group of 29 bytes writes over its own bytes, with all of the page's user bytes set to 0 in between.
 const OVERLAPPING: &[u8] = b"1 f b8 3 40 1;i 3;s 3 41 0a0b;b2 3 42 7\n";
@@ -37,11 +32,11 @@ fn two_users_on_one_page(rt: HostRuntime) -> Result<(), Fail> {
         (cleaner, 528, Moved),
     ];
     let mut outcome = outcome_of(&rt, rt.alloc(), &Run::by_hand(ONE_PAGE, &turns))?;
-    assert_eq!(rt; (outcome.ended, outcome.code), (RunEnd::Done, 0));
+    assert!(rt; outcome.is_done());
     let history = [(1, 0, 8204, 8210, Flushed), (2, 0, 8210, 8216, Flushed)];
     see_left(&rt, &outcome, &history, marks(8216, 8216, 8216, 8192));
-    assert_eq!(rt; byte_in_place(&rt, &mut outcome, 3, 100)?, 7);
-    assert_eq!(rt; byte_in_place(&rt, &mut outcome, 3, 101)?, 8);
+    assert!(rt; byte_in_place(&rt, &mut outcome, 3, 100)? == 7);
+    assert!(rt; byte_in_place(&rt, &mut outcome, 3, 101)? == 8);
     Ok(())
 }
 
@@ -61,9 +56,9 @@ fn a_held_latch_is_left(rt: HostRuntime) -> Result<(), Fail> {
         (first, 12, Ended),
     ];
     let mut outcome = outcome_of(&rt, rt.alloc(), &Run::by_hand(THREE_LINES, &turns))?;
-    assert_eq!(rt; (outcome.ended, outcome.code), (RunEnd::Done, 0));
-    assert_eq!(rt; byte_in_place(&rt, &mut outcome, 3, 100)?, 0);
-    assert_eq!(rt; byte_in_place(&rt, &mut outcome, 4, 100)?, 8);
+    assert!(rt; outcome.is_done());
+    assert!(rt; byte_in_place(&rt, &mut outcome, 3, 100)? == 0);
+    assert!(rt; byte_in_place(&rt, &mut outcome, 4, 100)? == 8);
     Ok(())
 }
 
@@ -94,7 +89,7 @@ fn a_checkpoint_waits_for_old_pages(rt: HostRuntime) -> Result<(), Fail> {
         (checkpointer, 15, Moved),
     ];
     let outcome = outcome_of(&rt, rt.alloc(), &Run::by_hand(text.as_slice(), &turns))?;
-    assert_eq!(rt; (outcome.ended, outcome.code), (RunEnd::Done, 0));
+    assert!(rt; outcome.is_done());
     let history = [
         (1, 0, 8204, 16_652, Flushed),
         (2, 0, 16_652, 25_116, Flushed),
@@ -105,40 +100,9 @@ fn a_checkpoint_waits_for_old_pages(rt: HostRuntime) -> Result<(), Fail> {
         &history,
         marks(25_116, 25_116, 25_116, 25_088),
     );
-    assert_eq!(rt; outcome.read, (0, 25_116));
+    assert!(rt; outcome.read == (0, 25_116));
     see_full(&rt, &outcome, 3, 16_652, 0x55);
     see_full(&rt, &outcome, 4, 25_116, 0x66);
-    Ok(())
-}
-
-/// The data device fails in the middle of a batch of two pages, at each of its five calls, and the crash tears what was
-/// written since its last sync: the flushed group is on both pages.
-#[test]
-fn a_batch_is_stopped(rt: HostRuntime) -> Result<(), Fail> {
-    let (user, writer, flusher, cleaner) = (0, 1, 2, 4);
-    let turns = [
-        (user, 30, Moved),
-        (writer, 16, Moved),
-        (flusher, 5, Moved),
-        (user, 1, Ended),
-        (cleaner, 1039, Failed(2)),
-    ];
-    for calls in 0..5 {
-        for pick in [0, 0x5555_5555_5555_5555, u64::MAX] {
-            let run = Run {
-                data_calls: Some(DATA_CALLS + calls),
-                pick,
-                ..Run::by_hand(TWO_PAGES, &turns)
-            };
-            let outcome = outcome_of(&rt, rt.alloc(), &run)?;
-            assert_eq!(rt; (outcome.ended, outcome.code), (RunEnd::Done, 2));
-            assert_eq!(rt; outcome.read, (1, 8217));
-            for (page, byte) in [(3, 7), (4, 8)] {
-                let (lsn, user) = page_read(&rt, &outcome, page);
-                assert_eq!(rt; (lsn, user.get(62)), (8217, Some(&byte)), "page {page}");
-            }
-        }
-    }
     Ok(())
 }
 
@@ -153,8 +117,8 @@ fn records_write_over_one_another(rt: HostRuntime) -> Result<(), Fail> {
         ..Run::by_hand(OVERLAPPING, &turns)
     };
     let mut outcome = outcome_of(&rt, rt.alloc(), &run)?;
-    assert_eq!(rt; (outcome.ended, outcome.code), (RunEnd::Done, 0));
-    assert_eq!(rt; outcome.read, (1, 8233));
+    assert!(rt; outcome.is_done());
+    assert!(rt; outcome.read == (1, 8233));
     for (offset, byte) in [
         (38, 0),
         (40, 0),
@@ -164,11 +128,8 @@ fn records_write_over_one_another(rt: HostRuntime) -> Result<(), Fail> {
         (47, 0),
         (4087, 0),
     ] {
-        assert_eq!(rt;
-            byte_in_place(&rt, &mut outcome, 3, offset)?,
-            byte,
-            "offset {offset}"
-        );
+        let found = byte_in_place(&rt, &mut outcome, 3, offset)?;
+        assert!(rt; found == byte, "offset {offset}");
     }
     Ok(())
 }

@@ -2,9 +2,8 @@
 ghost use Rattle.std.specs.Prelude.{◌≤◌};
 
 use super::runs::{Run, marks, outcome_of, see_full};
-use redo_drive::RunEnd;
-use redo_machine::Turned::{Idle, Moved};
 use model_history::State::Flushed;
+use redo_machine::Turned::{Idle, Moved};
 use std::alloc::AllocError;
 use std::test::Fail;
 
@@ -68,53 +67,14 @@ fn a_full_ring(rt: HostRuntime) -> Result<(), Fail> {
         ..Run::by_hand(text.as_slice(), &turns)
     };
     let outcome = outcome_of(&rt, rt.alloc(), &run)?;
-    assert_eq!(rt; (outcome.ended, outcome.code), (RunEnd::Done, 0));
+    assert!(rt; outcome.is_done());
     let end = 75_852;
-    assert_eq!(rt; outcome.marks, marks(end, end, end, 75_776));
-    assert_eq!(rt; outcome.read, (0, end));
-    assert_eq!(rt; outcome.history.0.len(), 8);
+    assert!(rt; outcome.marks == marks(end, end, end, 75_776) && outcome.read == (0, end));
+    assert!(rt; outcome.history.0.len() == 8);
     for (k, entry) in outcome.history.0.iter().enumerate() {
         let found = (entry.user, entry.end, entry.state);
-        assert_eq!(rt; found, (1 + k as u32, full_end(k), Flushed));
+        assert!(rt; found == (1 + k as u32, full_end(k), Flushed));
         see_full(&rt, &outcome, k as u32, entry.end, 0x11 * (1 + k as u8));
-    }
-    Ok(())
-}
-
-/// How many lines come round the log twice, whose ring has 524,288 bytes.
-const LINES: usize = 130;
-
-/// A user's 130 lines come round the log twice. In each round it closes two groups and links a third, which is ahead of CTAIL
-/// by more than 16,384. So after 65 rounds 130 are closed, 129 are flushed, and the checkpoint stands at the block of the
-/// 128th one's end.
-#[test]
-fn the_log_comes_round_twice(rt: HostRuntime) -> Result<(), Fail> {
-    let mut text = Vec::new(rt.alloc());
-    for k in 0..LINES {
-        let (page, digit) = (b"01234567"[k % 8], b"123456789abcdef"[k % 15]);
-        add_full_line(&mut text, b'1', b'n', page, digit)?;
-    }
-    let run = Run {
-        rounds: LINES as u64 / 2,
-        ..Run::by_hand(text.as_slice(), &[])
-    };
-    let outcome = outcome_of(&rt, rt.alloc(), &run)?;
-    assert_eq!(rt; (outcome.ended, outcome.code), (RunEnd::Done, 0));
-    let end = 1_099_052;
-    assert_eq!(rt; outcome.marks, marks(end, end, end, 1_090_560));
-    assert_eq!(rt; outcome.read, (1, end));
-    assert_eq!(rt; outcome.history.0.len(), LINES);
-    for (k, entry) in outcome.history.0.iter().enumerate() {
-        assert_eq!(rt; entry.end, full_end(k));
-    }
-    for k in LINES - 9..LINES - 1 {
-        see_full(
-            &rt,
-            &outcome,
-            k as u32 % 8,
-            full_end(k),
-            0x11 * (1 + k as u8 % 15),
-        );
     }
     Ok(())
 }

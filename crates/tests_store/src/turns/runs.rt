@@ -1,13 +1,14 @@
 // Runs whose turns are given by hand, and what is read behind a crash.
 ghost use Rattle.redo_drive.specs.Running.{IsOnRun};
 
-use super::store::{Device, machine_on, opened};
-use redo_drive::RunEnd;
-use redo_machine::{Machine, Turned};
+use super::store::{machine_on, opened};
 use model_base::{PAGE_SIZE, SLOTS};
 use model_history::{History, Marks, State};
 use redo_apply::Pages;
 use redo_disk::Sectors;
+use redo_drive::RunEnd;
+use redo_machine::{Machine, Turned};
+use redo_memdisk::MemDisk;
 use redo_pageactors::Closed;
 use redo_recover::recover;
 use std::alloc::Global;
@@ -24,9 +25,6 @@ pub type Told = (u32, u64, u64, u64, State);
 #[derive(Clone, Copy)]
 pub struct Run<'a> {
     pub text: &'a [u8],
-    /// How many calls each device passes from the first call of opening on; all of them where there is no number.
-    pub log_calls: Option<u64>,
-    pub data_calls: Option<u64>,
     /// The turns that come first.
     pub turns: &'a [Turns],
     /// How many rounds come then. In a round each actor goes on until it doesn't move, the first one last.
@@ -36,12 +34,10 @@ pub struct Run<'a> {
 }
 
 impl<'a> Run<'a> {
-    /// These turns, on devices that pass all calls, and a crash that keeps nothing that wasn't synced.
+    /// These turns, and a crash that keeps nothing that wasn't synced.
     pub fn by_hand(text: &'a [u8], turns: &'a [Turns]) -> Self {
         Run {
             text,
-            log_calls: None,
-            data_calls: None,
             turns,
             rounds: 0,
             pick: 0,
@@ -59,7 +55,14 @@ pub struct Outcome {
     /// How many groups, up to which lsn.
     pub read: (usize, u64),
     pub pages: Pages,
-    pub store: Device,
+    pub store: MemDisk,
+}
+
+impl Outcome {
+    /// Whether each user has ended, and no device has failed.
+    pub fn is_done(&self) -> bool {
+        self.ended == RunEnd::Done && self.code == 0
+    }
 }
 
 /// Gives the actor at a seat turns until one doesn't move it on, at most so many. Answers how many, and how the last ends.
@@ -110,7 +113,7 @@ fn play<L: Sectors, D: Sectors>(rt: &impl Abort, machine: &mut Machine<L, D>, ru
 
 /// What comes of a run.
 pub fn outcome_of(rt: &impl Abort, alloc: Global, run: &Run) -> Result<Outcome, Fail> {
-    let opened = opened(rt, alloc, run.log_calls, run.data_calls)?;
+    let opened = opened(rt, alloc)?;
     let mut machine = machine_on(rt, alloc, opened, run.text);
     let ended = play(rt, &mut machine, run);
     let Closed {
@@ -147,12 +150,11 @@ pub fn marks(wtail: u64, write: u64, flushed: u64, ckpt: u64) -> Marks {
 
 /// Sees that a run left this history and these marks.
 pub fn see_left(rt: &impl Abort, outcome: &Outcome, history: &[Told], marks: Marks) {
-    assert_eq!(rt; outcome.history.0.len(), history.len());
+    assert!(rt; outcome.history.0.len() == history.len() && outcome.marks == marks);
     for (entry, told) in outcome.history.0.iter().zip(history) {
         let found = (entry.user, entry.k, entry.start, entry.end, entry.state);
-        assert_eq!(rt; found, *told);
+        assert!(rt; found == *told);
     }
-    assert_eq!(rt; outcome.marks, marks);
 }
 
 /// The lsn and the user bytes of a page that was read behind the crash.

@@ -1,5 +1,5 @@
 -- The store is read and opened.
-use Rattle.std.proofs.Common.{◌≢◌, ◌∙◌, Ok, Err, refl, sym, ap, subst, arith}
+use Rattle.std.proofs.Common.{◌≢◌, ◌∙◌, Err, sym, ap, subst, arith}
 use Rattle.std.specs.Prelude.{IfOk, IfErr, IfSome}
 use Rattle.model_opening.specs.{KeepsOpened}
 use Rattle.model_store.specs.Reading.{Reading}

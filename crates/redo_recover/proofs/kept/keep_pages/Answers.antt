@@ -1,5 +1,5 @@
 -- One page after another.
-use Rattle.std.proofs.Common.{◌≡◌, ℕ, Option, Some, None, arith, rules, subst}
+use Rattle.std.proofs.Common.{Option, Some, None, arith, rules, subst}
 use Rattle.std.proofs.lemmas.Result.{err_from_is_err_and}
 use Rattle.model_device.specs.Disk.{Disk}
 use Rattle.redo_disk.specs.declared.error.DevError.TheVariants.{NoMemory}

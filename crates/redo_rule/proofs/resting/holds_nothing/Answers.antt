@@ -1,6 +1,6 @@
 use Rattle.std.proofs.Common.{subst, sym}
 use Rattle.redo_drive.specs.Views.{view_of}
-use Rattle.redo_rule.proofs.Hands.{frees}
+use Rattle.redo_rule.proofs.Asks.{frees}
 use Rattle.redo_rule.specs.Hands.{IsFreeOp}
 use Rattle.redo_rule.proofs.resting.holds_nothing.Goals as goal
 

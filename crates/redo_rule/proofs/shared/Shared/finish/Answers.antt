@@ -1,5 +1,6 @@
 use Rattle.std.proofs.Common.{ap, arith, drop, length, refl, sym, ℕ, ◌∙◌}
 use Rattle.redo_rule.proofs.Finishing.{groups, has_room, is_owed, leaves, nothing_left}
+use Rattle.redo_rule.proofs.Reached.{code_has_cause, reaches_all}
 use Rattle.redo_rule.specs.Ruled.{numbered}
 use Rattle.redo_rule.proofs.shared.Shared.finish.Goals as goal
 
@@ -36,3 +37,11 @@ returns-clause-listed g c = c.history_of-history.ensures c.requires.seated.ready
 pub returns-clause-owed : goal.returns-clause-owed
 unfolding returns-clause-leaves
 returns-clause-owed g c = is_owed g.L.Sectors.seen g.L.Sectors.gives g.D.Sectors.seen g.D.Sectors.gives c.args.self.board.shared.key c.args.actors.now c.close_table-log.result c.close_table-log.ensures c.requires.seated.ready.may _ (returns-clause-leaves g c)
+
+pub returns-clause-reaches : goal.returns-clause-reaches
+unfolding returns-clause-leaves
+returns-clause-reaches g c = reaches_all g.L.Sectors.seen g.L.Sectors.gives g.D.Sectors.seen g.D.Sectors.gives c.args.self.board.shared.key.opened.value c.args.self.board.shared.key.script.value c.args.self.board.shared.key.log_only c.args.actors.now _ (returns-clause-leaves g c)
+
+pub returns-clause-cause : goal.returns-clause-cause
+unfolding returns-clause-leaves
+returns-clause-cause g c = code_has_cause g.L.Sectors.seen g.L.Sectors.gives g.D.Sectors.seen g.D.Sectors.gives c.args.self.board.shared.key.opened.value c.args.self.board.shared.key.script.value c.args.self.board.shared.key.log_only c.args.actors.now _ (returns-clause-leaves g c)

@@ -1,0 +1,160 @@
+-- What tells of an actor by the Op that it asks for: that it holds nothing, that it is the cleaner.
+use Rattle.std.proofs.Common.{Bool, None, Option, cond, false, refl, true, ℕ, ◌-◌, ◌≡◌}
+use Rattle.model_core.specs.{Actor, checkpointer_op, CheckpointerState, cleaner_op, CleanerState, closer_op, CloserState, flusher_op, FlusherState, next, user_op, UserState, writer_op, WriterState}
+use Rattle.model_core.specs.Actors as actor
+use Rattle.model_core.specs.declared.ops.Op.{Op}
+use Rattle.model_core.specs.declared.ops.Op.TheVariants as op
+use Rattle.model_core.specs.declared.words.Word.TheVariants as word
+use Rattle.model_core.specs.declared.steps.CheckpointerStep.{CheckpointerStep}
+use Rattle.model_core.specs.declared.steps.CheckpointerStep.TheVariants as checkpointer_step
+use Rattle.model_core.specs.declared.steps.CleanerStep.{CleanerStep}
+use Rattle.model_core.specs.declared.steps.CleanerStep.TheVariants as cleaner_step
+use Rattle.model_core.specs.declared.steps.CloserStep.{CloserStep}
+use Rattle.model_core.specs.declared.steps.CloserStep.TheVariants as closer_step
+use Rattle.model_core.specs.declared.steps.FlusherStep.{FlusherStep}
+use Rattle.model_core.specs.declared.steps.FlusherStep.TheVariants as flusher_step
+use Rattle.model_core.specs.declared.steps.UserStep.{UserStep}
+use Rattle.model_core.specs.declared.steps.UserStep.TheVariants as user_step
+use Rattle.model_core.specs.declared.steps.WriterStep.{WriterStep}
+use Rattle.model_core.specs.declared.steps.WriterStep.TheVariants as writer_step
+use Rattle.redo_rule.specs.Seating.{IsCleaner}
+use Rattle.redo_rule.specs.Hands.{IsFreeOp, IsFreeToCheck, checkpointer_hand, cleaner_hand, flusher_hand, hand, user_hand, writer_hand}
+
+-- whoever asks for such an Op holds nothing
+user_frees : (u : UserState) (f : UserStep) → IsFreeOp (user_op u f) → user_hand u f ≡ None
+user_frees u user_step.StoreOldest is = absurd is
+user_frees u user_step.GiveList is = absurd is
+user_frees u _ is = refl
+
+writer_frees : (s : WriterState) (f : WriterStep) → IsFreeOp (writer_op s f) → writer_hand f ≡ None
+writer_frees s writer_step.GiveBroken is = absurd is
+writer_frees s writer_step.WriteTo is = absurd is
+writer_frees s writer_step.StoreWrite is = absurd is
+writer_frees s writer_step.GiveDevice is = absurd is
+writer_frees s writer_step.StoreFailed is = absurd is
+writer_frees s writer_step.GiveFailed is = absurd is
+writer_frees s _ is = refl
+
+flusher_frees : (t : FlusherState) (f : FlusherStep) → IsFreeOp (flusher_op t f) → flusher_hand f ≡ None
+flusher_frees t flusher_step.GiveBroken is = absurd is
+flusher_frees t flusher_step.Sync is = absurd is
+flusher_frees t flusher_step.StoreFlushed is = absurd is
+flusher_frees t flusher_step.GiveDevice is = absurd is
+flusher_frees t flusher_step.StoreFailed is = absurd is
+flusher_frees t flusher_step.GiveFailed is = absurd is
+flusher_frees t _ is = refl
+
+cleaner_frees : (v : CleanerState) (f : CleanerStep) → IsFreeOp (cleaner_op v f) → cleaner_hand v f ≡ None
+cleaner_frees v cleaner_step.ClearOldest is = absurd is
+cleaner_frees v cleaner_step.GiveList is = absurd is
+cleaner_frees v _ is = refl
+
+checkpointer_frees : (t : CheckpointerState) (f : CheckpointerStep) → IsFreeOp (checkpointer_op t f) → checkpointer_hand t f ≡ None
+checkpointer_frees t checkpointer_step.GiveList is = absurd is
+checkpointer_frees t checkpointer_step.GiveBroken is = absurd is
+checkpointer_frees t checkpointer_step.Checkpoint is = absurd is
+checkpointer_frees t checkpointer_step.StoreCheckpoint is = absurd is
+checkpointer_frees t checkpointer_step.GiveDevice is = absurd is
+checkpointer_frees t checkpointer_step.StoreFailed is = absurd is
+checkpointer_frees t checkpointer_step.GiveFailed is = absurd is
+checkpointer_frees t _ is = refl
+
+free_by : (b : Bool) (o : Op) (h : Option ℕ) → (b ≡ true → h ≡ None) → (IsFreeOp o → h ≡ None) → IsFreeOp (cond b (op.Load word.Failed) o) → h ≡ None
+free_by true o h checking own is = checking refl
+free_by false o h checking own is = own is
+
+pub frees : (a : Actor) → IsFreeToCheck a → IsFreeOp (next a) → hand a ≡ None
+frees (actor.User u) free is = free_by u.checks (user_op u u.step) (user_hand u u.step) free (user_frees u u.step) is
+frees (actor.Writer s) free is = free_by s.checks (writer_op s s.step) (writer_hand s.step) free (writer_frees s s.step) is
+frees (actor.Flusher t) free is = free_by t.checks (flusher_op t t.step) (flusher_hand t.step) free (flusher_frees t t.step) is
+frees (actor.Closer t) free is = refl
+frees (actor.Cleaner v) free is = free_by v.checks (cleaner_op v v.step) (cleaner_hand v v.step) free (cleaner_frees v v.step) is
+frees (actor.Checkpointer t) free is = free_by t.checks (checkpointer_op t t.step) (checkpointer_hand t t.step) free (checkpointer_frees t t.step) is
+frees (actor.Joined es) free is = refl
+
+-- the cleaner alone writes batches
+user_batch : (u : UserState) (f : UserStep) → user_op u f ≡ op.WriteBatch → ⊥
+user_batch u user_step.LoadCheckpoint e = absurd (cc)
+user_batch u user_step.LoadSn e = absurd (cc)
+user_batch u user_step.TakeLatch e = absurd (cc)
+user_batch u user_step.Reserve e = absurd (cc)
+user_batch u user_step.LoadWrite e = absurd (cc)
+user_batch u user_step.AddCell e = absurd (cc)
+user_batch u user_step.StoreFirst e = absurd (cc)
+user_batch u user_step.LoadWtail e = absurd (cc)
+user_batch u user_step.StoreLink e = absurd (cc)
+user_batch u user_step.LoadCtail e = absurd (cc)
+user_batch u user_step.LoadFrame e = absurd (cc)
+user_batch u user_step.StoreFrame e = absurd (cc)
+user_batch u user_step.StoreNewest e = absurd (cc)
+user_batch u user_step.LoadOldest e = absurd (cc)
+user_batch u user_step.AddToList e = absurd (cc)
+user_batch u user_step.StoreOldest e = absurd (cc)
+user_batch u user_step.GiveList e = absurd (cc)
+user_batch u user_step.StoreClosedLink e = absurd (cc)
+user_batch u user_step.ReleaseLatch e = absurd (cc)
+user_batch u user_step.AwaitMark e = absurd (cc)
+user_batch u user_step.Done e = absurd (cc)
+user_batch u user_step.Failed e = absurd (cc)
+
+writer_batch : (s : WriterState) (f : WriterStep) → writer_op s f ≡ op.WriteBatch → ⊥
+writer_batch s writer_step.LoadLink e = absurd (cc)
+writer_batch s writer_step.ClearLink e = absurd (cc)
+writer_batch s writer_step.StoreWtail e = absurd (cc)
+writer_batch s writer_step.LoadCheckpoint e = absurd (cc)
+writer_batch s writer_step.LoadFirst e = absurd (cc)
+writer_batch s writer_step.ClearFirst e = absurd (cc)
+writer_batch s writer_step.LoadCell e = absurd (cc)
+writer_batch s writer_step.ClearCell e = absurd (cc)
+writer_batch s writer_step.TakeDevice e = absurd (cc)
+writer_batch s writer_step.GiveBroken e = absurd (cc)
+writer_batch s writer_step.WriteTo e = absurd (cc)
+writer_batch s writer_step.StoreWrite e = absurd (cc)
+writer_batch s writer_step.GiveDevice e = absurd (cc)
+writer_batch s writer_step.StoreFailed e = absurd (cc)
+writer_batch s writer_step.GiveFailed e = absurd (cc)
+writer_batch s writer_step.Failed e = absurd (cc)
+
+flusher_batch : (t : FlusherState) (f : FlusherStep) → flusher_op t f ≡ op.WriteBatch → ⊥
+flusher_batch t flusher_step.LoadWrite e = absurd (cc)
+flusher_batch t flusher_step.TakeDevice e = absurd (cc)
+flusher_batch t flusher_step.GiveBroken e = absurd (cc)
+flusher_batch t flusher_step.Sync e = absurd (cc)
+flusher_batch t flusher_step.StoreFlushed e = absurd (cc)
+flusher_batch t flusher_step.GiveDevice e = absurd (cc)
+flusher_batch t flusher_step.StoreFailed e = absurd (cc)
+flusher_batch t flusher_step.GiveFailed e = absurd (cc)
+flusher_batch t flusher_step.Failed e = absurd (cc)
+
+closer_batch : (t : CloserState) (f : CloserStep) → closer_op t f ≡ op.WriteBatch → ⊥
+closer_batch t closer_step.LoadClosedLink e = absurd (cc)
+closer_batch t closer_step.ClearClosedLink e = absurd (cc)
+closer_batch t closer_step.StoreCtail e = absurd (cc)
+closer_batch t closer_step.Failed e = absurd (cc)
+
+checkpointer_batch : (t : CheckpointerState) (f : CheckpointerStep) → checkpointer_op t f ≡ op.WriteBatch → ⊥
+checkpointer_batch t checkpointer_step.LoadCtail e = absurd (cc)
+checkpointer_batch t checkpointer_step.ReadList e = absurd (cc)
+checkpointer_batch t checkpointer_step.GiveList e = absurd (cc)
+checkpointer_batch t checkpointer_step.LoadFlushed e = absurd (cc)
+checkpointer_batch t checkpointer_step.TakeDevice e = absurd (cc)
+checkpointer_batch t checkpointer_step.GiveBroken e = absurd (cc)
+checkpointer_batch t checkpointer_step.Checkpoint e = absurd (cc)
+checkpointer_batch t checkpointer_step.StoreCheckpoint e = absurd (cc)
+checkpointer_batch t checkpointer_step.GiveDevice e = absurd (cc)
+checkpointer_batch t checkpointer_step.StoreFailed e = absurd (cc)
+checkpointer_batch t checkpointer_step.GiveFailed e = absurd (cc)
+checkpointer_batch t checkpointer_step.Failed e = absurd (cc)
+
+own_batch : (b : Bool) (o : Op) → cond b (op.Load word.Failed) o ≡ op.WriteBatch → o ≡ op.WriteBatch
+own_batch true o e = absurd (cc)
+own_batch false o e = e
+
+pub batch_cleaner : (a : Actor) → next a ≡ op.WriteBatch → IsCleaner a
+batch_cleaner (actor.User u) e = absurd (user_batch u u.step (own_batch u.checks (user_op u u.step) e))
+batch_cleaner (actor.Writer s) e = absurd (writer_batch s s.step (own_batch s.checks (writer_op s s.step) e))
+batch_cleaner (actor.Flusher t) e = absurd (flusher_batch t t.step (own_batch t.checks (flusher_op t t.step) e))
+batch_cleaner (actor.Closer t) e = absurd (closer_batch t t.step (own_batch t.checks (closer_op t t.step) e))
+batch_cleaner (actor.Cleaner v) e = tt
+batch_cleaner (actor.Checkpointer t) e = absurd (checkpointer_batch t t.step (own_batch t.checks (checkpointer_op t t.step) e))
+batch_cleaner (actor.Joined es) e = absurd (cc)

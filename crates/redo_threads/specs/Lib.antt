@@ -1,0 +1,4 @@
+pub mod Ended
+pub mod InThreads
+pub mod Later
+pub mod Working

@@ -1,0 +1,17 @@
+//! The drive of a run in threads: one for each actor, over the table that they share.
+//!
+//! `run_threads` gives each actor its seat, and plays each in a thread of its own until all users have ended and no other actor
+//! holds a turn. Where a thread can't be started, the caller plays its actor. A test may hold users at a gate.
+#![tactic(auto)]
+
+mod crew;
+mod drive;
+mod gate;
+mod pace;
+mod run;
+mod starting;
+mod work;
+
+pub use drive::drive_in_threads;
+pub use gate::{Gate, NoGate, Point};
+pub use run::run_threads;

@@ -1,0 +1,67 @@
+// How a thread waits.
+use crossbeam_utils::Backoff;
+use redo_words::Step;
+use std::sync::Wait;
+use std::thread::Parker;
+use std::time::Duration;
+
+/// How often a thread spins before it sleeps, each time for twice as long.
+const SPINS: u32 = 7;
+
+/// How long a thread sleeps, in microseconds.
+const NAP: u64 = 50;
+
+/// How a thread waits for another: it spins a little, and then sleeps for some microseconds at a time. It doesn't yield: with
+/// more threads than processors, those that yield keep the one that could go on from its turn.
+#[derive(Drop)]
+pub(crate) struct Pace {
+    backoff: Backoff,
+    spins: u32,
+    // nobody wakes the thread: it sleeps until its time is over
+    parker: Parker,
+    // the actor waited last, and checks for a failure before it tries again
+    waited: bool,
+}
+
+impl Pace {
+    pub(crate) fn new() -> Pace {
+        Pace {
+            backoff: Backoff::new(),
+            spins: 0,
+            parker: Parker::new(),
+            waited: false,
+        }
+    }
+
+    /// Waits a little, and longer from time to time.
+    pub(crate) fn wait<R: Wait>(&mut self, rt: &R) {
+        if self.spins < SPINS {
+            self.spins += 1;
+            self.backoff.spin();
+        } else {
+            self.parker.park_timeout(rt, Duration::from_micros(NAP));
+        }
+    }
+
+    /// Waits for as short as at first from now on.
+    pub(crate) fn reset(&mut self) {
+        self.spins = 0;
+        self.backoff.reset();
+    }
+
+    /// Waits after a step, if it ended so that there is something to wait for.
+    pub(crate) fn follow<R: Wait>(&mut self, rt: &R, step: Step) {
+        match step {
+            Step::Idle => {
+                self.waited = true;
+                self.wait(rt);
+            }
+            _ => {
+                if !self.waited {
+                    self.reset();
+                }
+                self.waited = false;
+            }
+        }
+    }
+}

@@ -1,0 +1,51 @@
+// A run of all actors, and what is left at its end.
+ghost use Rattle.std.specs.Prelude.{◌≡◌};
+ghost use Rattle.redo_drive.specs.Leaving.{LeavesRun};
+ghost use Rattle.redo_rule.specs.Closing.{IsOwedRun};
+ghost use Rattle.redo_rule.specs.Sharing.{IsUnseated, opened_of, script_of};
+ghost use Rattle.redo_threads.specs.Ended.{HaveRun};
+
+use crate::crew::Crew;
+use crate::gate::Gate;
+use crate::starting::play_all;
+use redo_disk::Sectors;
+use redo_drive::Actor;
+use redo_pageactors::Closed;
+use redo_rule::Shared;
+use std::sync::Wait;
+use std::sync::atomic::AtomicU64;
+use std::thread::Threads;
+
+/// Whether an actor is a user that hasn't ended.
+fn is_open(actor: &Actor) -> bool {
+    match actor {
+        Actor::User(user) => !user.has_ended(),
+        _ => false,
+    }
+}
+
+/// How many users haven't ended: each of these is counted down by its last Op.
+fn open_users(actors: &[Actor]) -> u64 {
+    actors.iter().filter(|actor| is_open(actor)).count() as u64
+}
+
+/// Plays the actors of a store that they share, each in a thread of its own where one can be started, until each user has ended
+/// and no other actor holds a turn. It takes no memory. With what the run leaves it gives the actors back.
+pub fn run_threads<R: Threads + Wait + Sync, L: Sectors + Send, D: Sectors + Send, G: Gate>(
+    rt: &R,
+    mut shared: Shared<L, D>,
+    actors: Vec<Actor>,
+    gate: &G,
+) -> (Closed<L, D>, Vec<Actor>)
+    requires { IsUnseated shared actors.items }
+    ensures run { HaveRun actors.items result.1.items result.0 }
+    ensures leaves { LeavesRun L.seen L.gives D.seen D.gives (opened_of shared) (script_of shared) shared.board.shared.key.log_only result.1.items result.0 }
+    ensures owed { IsOwedRun L.seen L.gives D.seen D.gives (opened_of shared) (script_of shared) result.1.items result.0 }
+{
+    let running = AtomicU64::new(open_users(actors.as_slice()));
+    let seats = shared.seats(actors.as_slice());
+    let crew = Crew { seats, actors };
+    let Crew { seats, actors } = play_all(rt, shared.ring(), &running, gate, crew);
+    let closed = shared.finish(seats, actors.as_slice());
+    (closed, actors)
+}

@@ -1,0 +1,118 @@
+// Runs in threads.
+use crate::calls::{call_gated, prints, source_of, words_of};
+use crate::devices::blank;
+use crate::stops::crash_with_each_pick;
+use redo_io::MemSink;
+use redo_threads::{Gate, Point};
+use std::sync::Wait;
+use std::sync::atomic::{AtomicU64, Ordering};
+use std::test::Fail;
+use std::thread::{Threads, yield_now};
+
+/// Holds user 1 at a point until user 2 came to another point so many times, and user 2 at its first reservation until user 1 came
+/// to its point.
+#[derive(Drop)]
+struct TwoUsers {
+    held_at: Point,
+    until: Point,
+    times: u64,
+    /// How often user 1 came to its point.
+    first: AtomicU64,
+    /// How often user 2 came to these.
+    reserved: AtomicU64,
+    linked: AtomicU64,
+    /// How often a user that was held saw what it waited for.
+    seen: AtomicU64,
+}
+
+impl TwoUsers {
+    fn new(held_at: Point, until: Point, times: u64) -> TwoUsers {
+        TwoUsers {
+            held_at,
+            until,
+            times,
+            first: AtomicU64::new(0),
+            reserved: AtomicU64::new(0),
+            linked: AtomicU64::new(0),
+            seen: AtomicU64::new(0),
+        }
+    }
+
+    /// Waits until a count is this high, for so many turns at most.
+    fn wait(&self, count: &AtomicU64, times: u64) {
+        for _ in 0..1_000_000 {
+            if count.load(Ordering::SeqCst) >= times {
+                self.seen.fetch_add(1, Ordering::SeqCst);
+                return;
+            }
+            yield_now();
+        }
+    }
+
+    /// How often user 2 came to the point that user 1 waits for.
+    fn awaited(&self) -> &AtomicU64 {
+        match self.until {
+            Point::Linked => &self.linked,
+            _ => &self.reserved,
+        }
+    }
+}
+
+impl Gate for TwoUsers {
+    fn pass(&self, who: u32, point: Point) {
+        match (who, point) {
+            (1, at) if at == self.held_at => {
+                self.first.fetch_add(1, Ordering::SeqCst);
+                self.wait(self.awaited(), self.times);
+            }
+            (2, Point::Reserved) => {
+                if self.reserved.fetch_add(1, Ordering::SeqCst) == 0 {
+                    self.wait(&self.first, 1);
+                }
+            }
+            (2, Point::Linked) => {
+                self.linked.fetch_add(1, Ordering::SeqCst);
+            }
+            _ => {}
+        }
+    }
+}
+
+/// A crash with a line of user 1 and two of user 2 on another page, held by this gate: both users see what they wait for, and all
+/// lines are read.
+fn meets(
+    rt: &(impl AllocGlobal + Threads + Wait + Sync),
+    words: &str,
+    gate: &TwoUsers,
+) -> Result<bool, Fail> {
+    let alloc = rt.alloc();
+    let words = words_of(alloc, words)?;
+    let source = source_of(alloc, "1 f b1 3 100 7\n2 f b1 4 100 8\n2 f b1 4 101 9\n")?;
+    let sink = MemSink::new(alloc);
+    let called = call_gated(rt, &words, source, sink, blank(alloc)?, gate);
+    let is_read = prints(&called, ["open 8204", "recovered 3 8222"])?;
+    Ok(is_read && gate.seen.load(Ordering::SeqCst) == 2)
+}
+
+/// While user 1 is held with a reserved place, user 2 links a group; while it is held with a linked one, user 2 is answered, and
+/// goes on. Each user waits for the other, so that the test fails where the actors play one after another.
+#[test]
+fn gate_two_users(rt: HostRuntime) -> Result<(), Fail> {
+    for words in ["crash --threads", "crash --threads --log-only"] {
+        let gate = TwoUsers::new(Point::Reserved, Point::Linked, 1);
+        assert!(rt; meets(&rt, words, &gate)?, "reserved: {words}");
+        let gate = TwoUsers::new(Point::Linked, Point::Reserved, 2);
+        assert!(rt; meets(&rt, words, &gate)?, "linked: {words}");
+    }
+    Ok(())
+}
+
+/// In threads no number of calls is sure to be all of them, so it isn't asked whether a stop shows.
+#[test]
+fn keeps_flushed_lines_where_the_log_device_stops_threads(rt: HostRuntime) -> Result<(), Fail> {
+    for calls in 0..61u64 {
+        let options = format!(in rt.alloc(); "--threads --stop-log {calls}")?;
+        let _is_whole = crash_with_each_pick(&rt, &options)?;
+    }
+    Ok(())
+}
