@@ -10,7 +10,6 @@ use Rattle.redo_io.specs.{SinkSeen, SourceSeen, TakesAtMost}
 use Rattle.redo_io.specs.declared.read.TheConstants.{PIECE}
 use Rattle.redo_lab.specs.declared.outcome.Done.{Done}
 use Rattle.redo_lab.specs.declared.outcome.Outcome.{Outcome}
-use Rattle.redo_lab.specs.declared.outcome.Outcome.TheVariants as outcome
 use Rattle.redo_lab.proofs.Behind.{alone-behind}
 use Rattle.redo_lab.proofs.Endings.{command-ends, nothing-ends}
 use Rattle.redo_lab.proofs.Keeping.{OpenableLaw}

@@ -10,7 +10,7 @@ use Rattle.model_device.specs.{synced}
 use Rattle.model_device.specs.Disk.{Disk}
 use Rattle.model_log.specs.{block_of, IsAtDataStart, start_after}
 use Rattle.model_log.specs.declared.layout.TheConstants.{BLOCK_HEADER}
-use Rattle.model_opening.specs.{formatted_store, IsFormatted, IsOpenable, IsReady, KeepsOpened}
+use Rattle.model_opening.specs.{formatted_store, IsFormatted, IsOpenable, IsReady}
 use Rattle.model_run.specs.{IsClosed, IsHeld, IsStart, opened_as}
 use Rattle.model_script.specs.{first_misfit, LineFits, ScriptFits}
 use Rattle.model_script.specs.declared.misfit.Misfit.{Misfit}
@@ -24,13 +24,13 @@ use Rattle.redo_disk.specs.declared.error.DevError.{DevError}
 use Rattle.redo_disk.specs.declared.error.DevError.TheVariants as device
 use Rattle.redo_memdisk.specs.{CallsThrough, seen_through}
 use Rattle.redo_memdisk.specs.declared.fused.Fused.{Fused}
-use Rattle.redo_open.specs.{IsOpenedReady, IsOpeningOf, WhereBothTell, OpensLog}
+use Rattle.redo_open.specs.{IsOpenedReady, IsOpeningOf, WhereBothTell}
 use Rattle.redo_pageactors.specs.{IsRunnable}
 use Rattle.redo_pageactors.specs.declared.opened.Opened.{Opened}
 use Rattle.redo_recover.specs.{OnContents}
 use Rattle.redo_disk.proofs.Made.{may_end}
 use Rattle.redo_drive.specs.{HasMemory, IsOwedWith, Owes, room_from}
-use Rattle.redo_drive.specs.Drive.{failed_in, HoldsRun as IsRunHeld}
+use Rattle.redo_drive.specs.Drive.{failed_in}
 use Rattle.redo_drive.specs.declared.drive.Driven.{Driven}
 use Rattle.redo_drive.specs.declared.drive.RunEnd.{RunEnd}
 use Rattle.redo_drive.specs.declared.drive.RunEnd.TheVariants.{Done, Spent}

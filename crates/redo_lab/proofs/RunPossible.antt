@@ -1,5 +1,5 @@
 -- A run that can be done isn't ended but by want of memory, or by its turns.
-use Rattle.std.proofs.Common.{ℕ, ◌≡◌, ◌≤◌, Bool, true, List, Option, Some, None, IfSome, sym, ap, subst, ◌∙◌, ⊎_elim, arith}
+use Rattle.std.proofs.Common.{ℕ, ◌≡◌, ◌≤◌, Bool, List, Option, Some, None, IfSome, sym, ap, subst, ◌∙◌, ⊎_elim, arith}
 use Rattle.model_base.specs.{default_shape}
 use Rattle.model_base.specs.declared.shape.Shape.{Shape}
 use Rattle.model_command.specs.declared.asked.Command.{Command}

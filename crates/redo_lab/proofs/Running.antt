@@ -1,7 +1,7 @@
 -- A command that runs a script: what it comes to where the run ended before its first line, or its turns were spent, or a device
 -- stopped opening.
 use Rattle.redo_disk.specs.Seen.{Seen}
-use Rattle.std.proofs.Common.{ℕ, ◌≡◌, ◌≢◌, ◌<◌, true, false, List, Option, Some, None, refl, sym, subst, inl, inr, ⊎_elim, arith, ap, ◌∙◌, Bool}
+use Rattle.std.proofs.Common.{ℕ, ◌≡◌, ◌≢◌, ◌<◌, true, false, List, Option, Some, None, refl, sym, subst, inl, inr, ⊎_elim, arith, ◌∙◌}
 use Rattle.std.proofs.lemmas.Bool.{false≢true}
 use Rattle.model_base.specs.{HasRisen}
 use Rattle.model_command.specs.declared.asked.Command.{Command}

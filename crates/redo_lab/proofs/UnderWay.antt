@@ -1,5 +1,5 @@
 -- Two devices from the arming of their fuses on, and a store that wasn't opened on them.
-use Rattle.std.proofs.Common.{ℕ, ◌≡◌, ◌≢◌, ◌≤◌, ◌<◌, ◌+◌, Bool, List, [], ◌∷◌, length, Option, Some, None, IfSome, refl, sym, ap, subst, ◌∙◌, inl, inr, ⊎_elim, arith, lit<, lit≤}
+use Rattle.std.proofs.Common.{ℕ, ◌≡◌, ◌≢◌, ◌≤◌, ◌<◌, ◌+◌, Bool, List, length, Option, Some, None, IfSome, refl, sym, ap, subst, ◌∙◌, inl, inr, ⊎_elim, arith, lit<, lit≤}
 use Rattle.model_base.specs.{default_shape, IsWithinLimits}
 use Rattle.model_device.specs.Disk.{Disk}
 use Rattle.model_log.specs.declared.layout.TheConstants.{HEADER_BYTES}
