@@ -20,6 +20,8 @@ use redo_threads::NoGate;
 use std::alloc::{AllocError, Global};
 use std::io::ErrorKind;
 use std::process::ExitCode;
+use std::sync::Wait;
+use std::thread::Threads;
 use std::{env, io};
 
 /// The file of the log device, where the devices are files.
@@ -78,6 +80,7 @@ fn in_files(
 /// Runs the command on these devices, and says its status.
 fn run_on<L: Sectors + Send + Drop, D: Sectors + Send + Drop>(
     rt: &HostRuntime,
+    threads: &(impl Threads + Wait + Sync),
     words: &[String],
     devices: Result<(L, D), AllocError>,
 ) -> Result<u8, Fault> {
@@ -87,7 +90,7 @@ fn run_on<L: Sectors + Send + Drop, D: Sectors + Send + Drop>(
     let mut source = ReaderSource::new(rt.stdin());
     let mut sink = WriterSink::new(io::writer(rt));
     let ended = lab(
-        rt,
+        threads,
         rt.alloc(),
         words,
         &mut source,
@@ -100,17 +103,17 @@ fn run_on<L: Sectors + Send + Drop, D: Sectors + Send + Drop>(
 }
 
 /// Runs the command, and says its status.
-fn run(rt: &HostRuntime) -> Result<u8, Fault> {
+fn run(rt: &HostRuntime, threads: &(impl Threads + Wait + Sync)) -> Result<u8, Fault> {
     let words = words(rt)?;
     if asks_for_files(rt.alloc(), &words)? {
-        run_on(rt, &words, in_files(rt))
+        run_on(rt, threads, &words, in_files(rt))
     } else {
-        run_on(rt, &words, in_memory(rt.alloc()))
+        run_on(rt, threads, &words, in_memory(rt.alloc()))
     }
 }
 
 fn main(rt: HostRuntime) -> ExitCode {
-    let status = match run(&rt) {
+    let status = match run(&rt, &rt) {
         Ok(status) => status,
         Err(fault) => print_fault(&mut WriterSink::new(io::writer(&rt)), fault),
     };

@@ -27,6 +27,7 @@ fn words_of(alloc: Global, text: &str) -> Result<Vec<String>, AllocError> {
 /// A call on the devices in these files: its status and what was printed.
 fn call(
     rt: &HostRuntime,
+    threads: &(impl Threads + Wait + Sync),
     text: &str,
     log_file: &str,
     data_file: &str,
@@ -38,7 +39,7 @@ fn call(
     let mut sink = MemSink::new(alloc);
     let words = words_of(alloc, text)?;
     let ended = lab(
-        rt,
+        threads,
         alloc,
         &words,
         &mut source,
@@ -53,12 +54,13 @@ fn call(
 /// Whether a call on the devices in these files ends with this status and prints this text.
 fn answers(
     rt: &HostRuntime,
+    threads: &(impl Threads + Wait + Sync),
     words: &str,
     files: (&str, &str),
     status: u8,
     text: &str,
 ) -> Result<bool, Fail> {
-    let (found, sink) = call(rt, words, files.0, files.1)?;
+    let (found, sink) = call(rt, threads, words, files.0, files.1)?;
     Ok(found == status && sink.bytes() == text.as_bytes())
 }
 
@@ -71,7 +73,7 @@ fn begins_with(rt: &HostRuntime, file: &str, front: &[u8]) -> Result<(usize, boo
 #[test]
 fn keeps_a_store_in_files(rt: HostRuntime) -> Result<(), Fail> {
     let files = (LOG_FILE, DATA_FILE);
-    assert!(rt; answers(&rt, "run --files", files, 0, LINE_RUN)?);
+    assert!(rt; answers(&rt, &rt, "run --files", files, 0, LINE_RUN)?);
     // the log device begins with its format, 1
     let log = begins_with(&rt, LOG_FILE, &[0, 0, 0, 1, 0, 0, 0, 0])?;
     assert_eq!(rt; log, (LOG_LENGTH as usize, true));
@@ -80,7 +82,7 @@ fn keeps_a_store_in_files(rt: HostRuntime) -> Result<(), Fail> {
     assert_eq!(rt; data, (STORE_LENGTH as usize, true));
     let text = "store 4096 8 1 2048 8\ncheckpoint 1 8192\nblock 8192 17 18 12 1\n\
         group 8204 8210 1\nrec b1 3 100 7\nend 8210\n";
-    assert!(rt; answers(&rt, "dump --files", files, 0, text)?);
+    assert!(rt; answers(&rt, &rt, "dump --files", files, 0, text)?);
     fs::remove_file(&rt, LOG_FILE)?;
     fs::remove_file(&rt, DATA_FILE)?;
     Ok(())
@@ -89,10 +91,10 @@ fn keeps_a_store_in_files(rt: HostRuntime) -> Result<(), Fail> {
 #[test]
 fn runs_again_in_files(rt: HostRuntime) -> Result<(), Fail> {
     let files = ("again.log", "again.data");
-    assert!(rt; answers(&rt, "run --files", files, 0, LINE_RUN)?);
+    assert!(rt; answers(&rt, &rt, "run --files", files, 0, LINE_RUN)?);
     let text = "open 8716\ng 8716 8722 1 0 flushed\nmarks 8722 8722 8722 8704\n";
-    assert!(rt; answers(&rt, "run --files", files, 0, text)?);
-    assert!(rt; answers(&rt, "recover --files", files, 0, LINE_READ)?);
+    assert!(rt; answers(&rt, &rt, "run --files", files, 0, text)?);
+    assert!(rt; answers(&rt, &rt, "recover --files", files, 0, LINE_READ)?);
     fs::remove_file(&rt, files.0)?;
     fs::remove_file(&rt, files.1)?;
     Ok(())
@@ -101,9 +103,27 @@ fn runs_again_in_files(rt: HostRuntime) -> Result<(), Fail> {
 #[test]
 fn tells_of_files_that_cannot_be_made(rt: HostRuntime) -> Result<(), Fail> {
     let text = "fault log device\n";
-    assert!(rt; answers(&rt, "run --files", ("no/redo.log", "spare.data"), 6, text)?);
+    assert!(rt;
+        answers(
+            &rt,
+            &rt,
+            "run --files",
+            ("no/redo.log", "spare.data"),
+            6,
+            text
+        )?
+    );
     let text = "fault data device\n";
-    assert!(rt; answers(&rt, "run --files", ("spare.log", "no/redo.data"), 7, text)?);
+    assert!(rt;
+        answers(
+            &rt,
+            &rt,
+            "run --files",
+            ("spare.log", "no/redo.data"),
+            7,
+            text
+        )?
+    );
     assert!(rt; fs::read(&rt, "spare.data").is_err());
     fs::remove_file(&rt, "spare.log")?;
     Ok(())
