@@ -1,5 +1,4 @@
 // Runs of seats that one thread plays in turn, worked out by hand to the Op.
-mod bounds;
 mod runs;
 mod store;
 mod turns;
