@@ -68,9 +68,9 @@ fn ends_before_a_block_of_no_length(rt: HostRuntime) -> Result<(), Fail> {
         &rt,
         "
 new       | format     | | 0 | formatted 8192
-same      | dump --why | | 0 | store 4096 8 1 2048 8 / checkpoint 1 8192 / stop 8192 number / end 8204
+same      | dump --why | | 0 | store 4096 8 1 2048 8 / checkpoint 0 8192 / stop 8192 number / end 8204
 no length | recover    | | 0 | read 0 8204
-same      | dump --why | | 0 | store 4096 8 1 2048 8 / checkpoint 1 8192 / stop 8192 length / end 8204
+same      | dump --why | | 0 | store 4096 8 1 2048 8 / checkpoint 0 8192 / stop 8192 length / end 8204
 ",
     )
 }
