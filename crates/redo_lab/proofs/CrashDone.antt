@@ -153,6 +153,7 @@ module _ (call : Call) (drive : Drive) (stops : Stops) (pick workers : ℕ) (scr
           opened_first = crash-first back.text_is.left back.text_is.left_is both.log_device.armed_from back.since.log_device.from;
         };
         text_is = refl;
+        report = back.text_is.text_is;
         log_crashed = record { limit_is = both.log_device.limit_is; pick_is = both.log_device.pick; unchanged_since = both.log_device.late_changes };
         data_crashed = record { limit_is = both.data_device.limit_is; pick_is = both.data_device.pick; unchanged_since = both.data_device.late_changes };
         is_read = back.is_read;

@@ -91,10 +91,10 @@ module _ (call : Call) (command : Command) (log_only : Bool) (alone : AreLeftAlo
     (writes : leaves_devices command ≡ true → ⊥) (can : IsPossible call command → CanRun call log_only) where
   script-fails : (f : Fault) → IsScriptFault call.source call.source_now f → EndsWith call command (outcome.Fault f)
   script-fails fault.Memory cause = unscripted call command log_only fault.Memory alone law reads writes can tt (λ can source. tt)
-  script-fails (fault.Script n) cause = unscripted call command log_only (fault.Script n) alone law reads writes can (reads, cause)
+  script-fails (fault.Script n) cause = unscripted call command log_only (fault.Script n) alone law reads writes can (reads, cause, unwritten-alone call alone)
       (λ can source. absurd (no-bad-line call log_only n can cause))
-  script-fails fault.Source cause = unscripted call command log_only fault.Source alone law reads writes can (reads, cause) (λ can source. absurd (source cause))
-  script-fails (fault.Fit misfit) cause = unscripted call command log_only (fault.Fit misfit) alone law reads writes can (inl (reads, cause))
+  script-fails fault.Source cause = unscripted call command log_only fault.Source alone law reads writes can (reads, cause, unwritten-alone call alone) (λ can source. absurd (source cause))
+  script-fails (fault.Fit misfit) cause = unscripted call command log_only (fault.Fit misfit) alone law reads writes can (inl (reads, cause, unwritten-alone call alone))
       (λ can source. absurd (no-long-script call log_only misfit can cause))
   script-fails f cause = absurd cause
 

@@ -26,7 +26,7 @@ use Rattle.redo_lab.specs.declared.playing.Course.TheVariants as course
 use Rattle.redo_lab.specs.declared.playing.Played.{Played}
 use Rattle.redo_lab.specs.declared.playing.Stops.{Stops}
 use Rattle.redo_lab.specs.Drives.{DrivenBy}
-use Rattle.redo_lab.specs.Prepared.{ArePrepared, AreTooShort, EndUnprepared, WhereTold}
+use Rattle.redo_lab.specs.Prepared.{ArePrepared, AreTooShort, BothKept, EndUnprepared, WhereTold}
 use Rattle.redo_lab.specs.Stages.{IsArmed, Shown}
 use Rattle.redo_lab.specs.Store.{AreRefused, IsOpenedAs}
 
@@ -67,6 +67,7 @@ pub record AreRefusedOpened (log_entry data_entry : Seen) (stops : Stops) (cause
   pub way : AreUnderWay log_entry data_entry stops 0 0 log_now data_now
   pub keeps : KeepsFound way.log_found way.data_found log_now data_now
   pub refused : WhereTold log_entry data_entry (λ log data_disk. (IsUnused log.reads → ⊥) × AreRefused cause log data_disk)
+  pub kept : WhereTold log_entry data_entry (λ log data_disk. BothKept log_entry data_entry log_now data_now)
 
 -- THE SCRIPT DOESN'T FIT the store that was opened.
 pub record AreMisfitted (log_entry data_entry : Seen) (stops : Stops) (log_only : Bool) (script : List ScriptLine) (misfit : Misfit)

@@ -65,7 +65,9 @@ pub record EndUnprepared (log_entry data_entry : Seen) (log_failed data_failed :
 
 -- A device is too short for a header, or for a new store, where the log device was unused.
 pub record AreTooShort (log_entry data_entry : Seen) (cause : Refusal) (log_now data_now : Shown) : Type 0 where
-  pub ends : EndUnprepared log_entry data_entry 0 0 log_now data_now
+  pub log_device : IsUnarmed log_entry 0 log_now
+  pub data_device : IsUnarmed data_entry 0 data_now
+  pub kept : BothKept log_entry data_entry log_now data_now
   pub sized : IfSome log_entry.tells (HasSize log_entry.size)
   pub short : ((log_entry.size < HEADER_BYTES) × (cause ≡ refusal.SmallLog HEADER_BYTES))
       ⊎ ((HEADER_BYTES ≤ log_entry.size) × IsTooShort default_shape log_entry.size data_entry.size cause × WasUnused log_entry data_entry)

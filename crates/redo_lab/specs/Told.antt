@@ -11,7 +11,7 @@ use Rattle.model_store.specs.Reading.{Reading}
 use Rattle.model_theorem.specs.{entries_of, FitsOpened, IsOpenedBefore, IsRun, LosesOnlyByFailure, Opened, Ran}
 use Rattle.redo_drive.specs.declared.drive.RunEnd.{RunEnd}
 use Rattle.redo_drive.specs.declared.drive.RunEnd.TheVariants.{Done}
-use Rattle.redo_lab.specs.Call.{Call, WhereOpened, WhereToldAtEntry, WhereToldNow, mids}
+use Rattle.redo_lab.specs.Call.{Call, Each, IsInRun, WhereOpened, WhereToldAtEntry, WhereToldNow, mids}
 use Rattle.redo_lab.specs.Script.{IsScriptFor}
 use Rattle.redo_lab.specs.Store.{AreReadAsPrefix, IsOpenedAs}
 
@@ -39,6 +39,10 @@ pub record IsAccount (call : Call) (command : Command) (drive : Drive) (opened :
   pub loses : LosesOnlyByFailure (mids call) run left
   pub opened_first : IsOpenedFirst call log_met run
 
+-- Every image of the two devices that are left is read as a prefix of this run, or of none, where both told and open a store.
+abbrev pub AreLeftRead : Call → List ScriptLine → Option Ran → Type 0
+AreLeftRead call script run = (store : Opened) → WhereOpened call store (WhereToldNow call (AreReadAsPrefix script store run))
+
 -- A run whose devices aren't crashed: they are as it left them, and every image of them is read as a prefix of it.
 pub record IsRunText (call : Call) (command : Command) (drive : Drive) (IsTextOf : List ScriptLine → Ran → List (ℕ × ℕ) → List ℕ → Type 0)
     (text : List ℕ) : Type 0 where
@@ -47,7 +51,8 @@ pub record IsRunText (call : Call) (command : Command) (drive : Drive) (IsTextOf
   pub run : Ran
   pub left : List (ℕ × ℕ)
   pub account : IsAccount call command drive opened script (Some run) left call.log.now.tells call.store.now.tells
-  pub reads : (store : Opened) → WhereOpened call store (WhereToldNow call (AreReadAsPrefix script store run))
+  pub in_run : Each IsInRun call
+  pub reads : AreLeftRead call script (Some run)
   pub text_is : IsTextOf script run left text
 
 -- the report of it
