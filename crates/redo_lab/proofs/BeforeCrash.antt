@@ -22,7 +22,7 @@ use Rattle.redo_lab.proofs.Told.{both-told}
 use Rattle.redo_drive.specs.declared.drive.RunEnd.TheVariants.{Done}
 use Rattle.redo_lab.specs.Call.{Call}
 use Rattle.redo_lab.specs.Course.{ArePlayed, AreStopped, AreUnderWay, IsPlayedBy, IsStoppedBy, ran_of}
-use Rattle.redo_lab.specs.Script.{IsScriptFor}
+use Rattle.redo_lab.specs.Asked.{IsScriptFor}
 use Rattle.redo_lab.specs.Stages.{Shown}
 use Rattle.redo_lab.specs.Told.{IsRunOf}
 

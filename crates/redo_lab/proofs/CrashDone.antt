@@ -31,13 +31,11 @@ use Rattle.redo_drive.specs.declared.drive.RunEnd.TheVariants.{Done}
 use Rattle.redo_lab.specs.Call.{Call, Each, IsUnfailedAside, WhereOpened, WhereToldNow}
 use Rattle.redo_lab.specs.Complete.{CanPlay}
 use Rattle.redo_lab.specs.Course.{IsPlayedBy, IsStoppedBy, ran_of}
-use Rattle.redo_lab.specs.Left.{LeavesStore}
+use Rattle.redo_lab.specs.Told.{IsOpenedFirst, IsRunOf, LeavesStore}
 use Rattle.redo_lab.specs.Outcome.{EndsWith, IsDoneOrKeptFrom, IsOutcome}
-use Rattle.redo_lab.specs.Reread.{AreBoth, AreRead, AreRefusedSince, IsCrashedSince, ReadsBack}
-use Rattle.redo_lab.specs.Reported.{IsReportOf}
-use Rattle.redo_lab.specs.Script.{IsScriptRead}
+use Rattle.redo_lab.specs.Reread.{AreBoth, AreRead, AreRefusedSince, IsCrashedSince, IsReportOf, ReadsBack}
+use Rattle.redo_lab.specs.Asked.{IsScriptRead}
 use Rattle.redo_lab.specs.Stages.{IsCrashedWith, Shown, now_of}
-use Rattle.redo_lab.specs.Told.{IsOpenedFirst, IsRunOf}
 
 -- BOTH DEVICES ARE CRASHED, and so many calls failed since.
 pub record AreBothCrashed (call : Call) (stops : Stops) (pick log_failed data_failed log_since data_since : ℕ) (log_found data_found : Shown) : Type 0 where

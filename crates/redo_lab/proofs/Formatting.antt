@@ -27,7 +27,7 @@ use Rattle.redo_lab.specs.Answer.{shape_of}
 use Rattle.redo_lab.specs.Call.{Call, Each, IsUnfailed, WhereToldNow}
 use Rattle.redo_lab.specs.Cause.{IsPastSource}
 use Rattle.redo_lab.specs.Complete.{AreLongEnough}
-use Rattle.redo_lab.specs.Faults.{fault_of}
+use Rattle.redo_lab.specs.Playing.{fault_of}
 use Rattle.redo_lab.specs.Outcome.{EndsWith, IsDoneOrKeptFrom, IsOutcome, outcome_of}
 use Rattle.redo_lab.specs.Stages.{now_of}
 use Rattle.redo_lab.specs.Store.{AreBlank, IsTooShort}

@@ -17,11 +17,9 @@ use Rattle.redo_lab.proofs.RunPlayed.{FormattedLaw, ReadsLaw, held-with, was-fou
 use Rattle.redo_lab.proofs.Told.{OneAnswer, both-told}
 use Rattle.redo_lab.specs.Call.{Call}
 use Rattle.redo_lab.specs.Course.{AreUnderWay, CameSoFar, HoldsRun, KeepsFound}
-use Rattle.redo_lab.specs.Left.{IsStored, LeavesStore}
-use Rattle.redo_lab.specs.Prepared.{EndUnprepared, WasUnused}
-use Rattle.redo_lab.specs.Stages.{now_of}
+use Rattle.redo_lab.specs.Told.{AreLeftRead, IsStored, LeavesStore}
+use Rattle.redo_lab.specs.Stages.{EndUnprepared, WasUnused, now_of}
 use Rattle.redo_lab.specs.Store.{AreAccepted, AreReadAsPrefix}
-use Rattle.redo_lab.specs.Told.{AreLeftRead}
 
 -- a store that is kept is accepted
 accepts-opened : (opened : Opened) (reading : Reading) (log data_disk : Disk) → opened.shape ≡ reading.shape → KeepsOpened reading log data_disk

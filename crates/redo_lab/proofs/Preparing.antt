@@ -28,8 +28,7 @@ use Rattle.redo_lab.proofs.Behind.{kept-behind, unarmed-behind}
 use Rattle.redo_lab.proofs.Formatting.{IsFormatFault}
 use Rattle.redo_lab.proofs.Stages.{unarmed-calls, unarmed-fresh}
 use Rattle.redo_lab.specs.Complete.{AreLongEnough}
-use Rattle.redo_lab.specs.Prepared.{ArePrepared, AreTooShort, BothKept, IsFirstRead, IsUnpreparedBy, WasUnused}
-use Rattle.redo_lab.specs.Stages.{IsUnarmed, shown}
+use Rattle.redo_lab.specs.Stages.{ArePrepared, AreTooShort, BothKept, IsFirstRead, IsUnarmed, IsUnpreparedBy, WasUnused, shown}
 use Rattle.redo_lab.specs.Store.{IsTooShort}
 
 -- The log device behind its first read, which answered this; and the data device, of which no call was made.

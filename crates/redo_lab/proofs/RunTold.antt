@@ -17,7 +17,7 @@ use Rattle.redo_lab.proofs.Told.{OneAnswer}
 use Rattle.redo_drive.specs.declared.drive.RunEnd.TheVariants.{Done}
 use Rattle.redo_lab.specs.Call.{Call}
 use Rattle.redo_lab.specs.Course.{ArePlayed, CameSoFar, Driving, HoldsRun, ran_of}
-use Rattle.redo_lab.specs.Script.{IsScriptFor, IsTextOf}
+use Rattle.redo_lab.specs.Asked.{IsScriptFor, IsTextOf}
 use Rattle.redo_lab.specs.Stages.{Shown, now_of}
 use Rattle.redo_lab.specs.Told.{IsAccount, IsOpenedFirst, IsRunText}
 

@@ -25,19 +25,16 @@ use Rattle.redo_lab.proofs.Leaving.{found-reads, leaves-found, leaves-kept, leav
 use Rattle.redo_lab.proofs.RunPlayed.{ClosedLaws, FormattedLaw, armed-same, stopped-on, was-found}
 use Rattle.redo_lab.proofs.RunPossible.{OneReading, UnfitLaw, can-play, ended-kept}
 use Rattle.redo_lab.proofs.Told.{OneAnswer}
-use Rattle.redo_lab.specs.Asked.{drive_of, drive_of_seed, leaves_devices, reads_script, runs_script}
+use Rattle.redo_lab.specs.Asked.{IsScriptFor, IsScriptRead, drive_of, drive_of_seed, leaves_devices, reads_script, runs_script}
 use Rattle.redo_drive.specs.declared.drive.RunEnd.{RunEnd}
 use Rattle.redo_drive.specs.declared.drive.RunEnd.TheVariants.{Spent}
 use Rattle.redo_lab.specs.Call.{AreKept, AreUnfailedFor, Call, Each, Guarded, IsUnfailed, IsUnfailedAside}
 use Rattle.redo_lab.specs.Cause.{IsCauseOf, IsDeviceFault, IsPastSource, IsRefused, IsRefusedAtEntry, IsUnbegun}
 use Rattle.redo_lab.specs.Complete.{CanPlay, IsPossible}
 use Rattle.redo_lab.specs.Course.{AreRefusedOpened, AreStopped, AreUnderWay, CameSoFar, Driving, HoldsRun, IsEndedBy, IsStoppedBy}
-use Rattle.redo_lab.specs.Left.{LeavesStore}
+use Rattle.redo_lab.specs.Told.{AreLeftRead, IsOpenedFirst, IsRunOf, LeavesStore}
 use Rattle.redo_lab.specs.Outcome.{EndsWith, IsDoneOrKeptFrom, IsOutcome}
-use Rattle.redo_lab.specs.Prepared.{AreTooShort, BothKept, EndUnprepared, WasUnused}
-use Rattle.redo_lab.specs.Script.{IsScriptFor, IsScriptRead}
-use Rattle.redo_lab.specs.Stages.{IsArmed, Shown, now_of}
-use Rattle.redo_lab.specs.Told.{AreLeftRead, IsOpenedFirst, IsRunOf}
+use Rattle.redo_lab.specs.Stages.{AreTooShort, BothKept, EndUnprepared, IsArmed, Shown, WasUnused, now_of}
 
 -- what is known of every store and of every run
 pub record RunLaws : Type 0 where

@@ -26,8 +26,7 @@ use Rattle.redo_lab.proofs.Stages.{armed-calls}
 use Rattle.redo_lab.proofs.Told.{OneAnswer, both-told, on-contents, weaker-both}
 use Rattle.redo_lab.specs.Course.{AreRefusedOpened, AreStopped, AreUnderWay, AreUnstarted, ComesTo, Driving, KeepsCheckpoint, KeepsFound}
 use Rattle.redo_lab.specs.Playing.{AreArmed, unopened}
-use Rattle.redo_lab.specs.Prepared.{ArePrepared, BothKept, WhereTold}
-use Rattle.redo_lab.specs.Stages.{IsArmed, Shown, shown}
+use Rattle.redo_lab.specs.Stages.{ArePrepared, BothKept, IsArmed, Shown, WhereTold, shown}
 use Rattle.redo_lab.specs.Store.{AreRefused}
 
 -- what is known of the calls since the fuses were armed

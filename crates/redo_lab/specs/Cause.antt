@@ -19,9 +19,8 @@ use Rattle.model_theorem.specs.{Opened, Ran, room_of}
 use Rattle.redo_drive.specs.declared.drive.RunEnd.TheVariants.{Spent}
 use Rattle.redo_memdisk.specs.declared.fuse.Stage.TheVariants.{Before}
 use Rattle.redo_lab.specs.Answer.{shape_of}
-use Rattle.redo_lab.specs.Asked.{drive_of, reads_script}
+use Rattle.redo_lab.specs.Asked.{IsBadLine, IsLongScript, IsScriptFor, IsScriptRead, drive_of, reads_script}
 use Rattle.redo_lab.specs.Call.{AreKept, AreUnfailedFor, Call, Each, Guarded, IsInRun, IsUnfailed, IsUnwritten, WhereToldAtEntry, WhereToldNow}
-use Rattle.redo_lab.specs.Script.{IsBadLine, IsLongScript, IsScriptFor, IsScriptRead}
 use Rattle.redo_lab.specs.Store.{AreRefused, IsOpenedAs, IsTooShort}
 use Rattle.redo_lab.specs.Told.{AreLeftRead, IsOpenedFirst, IsRunOf}
 
