@@ -1,7 +1,6 @@
 -- What a crash meets: a run whose lines were played, or none, where a device stopped opening.
 use Rattle.std.proofs.Common.{ℕ, ◌≡◌, ◌<◌, ◌+◌, List, [], Option, Some, None, IfSome, refl, sym, subst, arith}
 use Rattle.model_base.specs.{default_shape}
-use Rattle.model_device.specs.{IsImage}
 use Rattle.model_script.specs.declared.asked.Command.{Command}
 use Rattle.model_script.specs.declared.asked.Drive.{Drive}
 use Rattle.model_device.specs.Disk.{Disk}
@@ -9,20 +8,20 @@ use Rattle.model_report.specs.{IsLeft}
 use Rattle.model_parts.specs.{formatted_store, IsOpenable, KeepsOpened}
 use Rattle.model_report.specs.declared.fault.Fault.{Fault}
 use Rattle.model_report.specs.declared.fault.Fault.TheVariants as fault
-use Rattle.model_theorem.specs.{entries_of, IsOpenedBefore, LosesOnlyByFailure, Opened, opened_as, Ran, ReadsPrefix, RunResult, RunSafe}
+use Rattle.model_theorem.specs.{entries_of, IsOpenedBefore, LosesOnlyByFailure, Opened, opened_as, Ran, RunResult, RunSafe}
 use Rattle.model_script.specs.declared.script.ScriptLine.{ScriptLine}
-use Rattle.model_store.specs.{IsFair}
 use Rattle.model_store.specs.Reading.{Reading}
 use Rattle.redo_open.specs.{WhereBothTell}
 use Rattle.redo_lab.specs.declared.playing.Played.{Played}
 use Rattle.redo_lab.specs.declared.playing.Stops.{Stops}
+use Rattle.redo_lab.proofs.Leaving.{prefix-opened}
 use Rattle.redo_lab.proofs.RunPlayed.{ClosedLaws, WasFound, closed-as, held-closed, opened-before, safe-as, stopped-on}
 use Rattle.redo_lab.proofs.Running.{driving, run-of}
 use Rattle.redo_lab.proofs.Told.{both-told}
 use Rattle.redo_drive.specs.declared.drive.RunEnd.TheVariants.{Done}
 use Rattle.redo_lab.specs.Call.{Call}
 use Rattle.redo_lab.specs.Course.{ArePlayed, AreStopped, AreUnderWay, IsPlayedBy, IsStoppedBy, ran_of}
-use Rattle.redo_lab.specs.Script.{IsScriptFor}
+use Rattle.redo_lab.specs.Asked.{IsScriptFor}
 use Rattle.redo_lab.specs.Stages.{Shown}
 use Rattle.redo_lab.specs.Told.{IsRunOf}
 
@@ -58,24 +57,6 @@ pub record IsBeforeCrash (call : Call) (command : Command) (drive : Drive) (stop
 -- where no line was run something is lost only if a call failed
 lost-stopped : (failed : ℕ) (left : List (ℕ × ℕ)) → 0 < failed → LosesOnlyByFailure failed None left
 lost-stopped failed left some = record { lost = λ i entry at lost. some; left = λ more. some; stopped = λ none. some }
-
--- the opened pages are those of no group
-prefix-opened : (script : List ScriptLine) (reading : Reading) (log_disk data_disk : Disk) → KeepsOpened reading log_disk data_disk
-    → (log_bytes data_bytes : List ℕ) → IsImage log_disk log_bytes → IsFair reading.shape data_disk data_bytes
-    → ReadsPrefix script (opened_as reading) None log_bytes data_bytes
-prefix-opened script reading log_disk data_disk keeps log_bytes data_bytes image fair =
-    let read = keeps log_bytes data_bytes image fair in
-    record {
-      reading = read.reading;
-      is_read = read.is_read;
-      old_copies = read.old_copies;
-      prefix = record {
-        shape = read.shape;
-        first_groups_whole = read.pages;
-        reaching_flushed = λ i entry at flushed. absurd (cc);
-        marks = tt;
-      };
-    }
 
 safe-stopped : (script : List ScriptLine) (reading : Reading) (failed : ℕ) (left : List (ℕ × ℕ)) (log_disk data_disk : Disk) → 0 < failed
     → IsLeft script [] left → KeepsOpened reading log_disk data_disk → RunSafe failed (result_on script (opened_as reading) None left log_disk data_disk)

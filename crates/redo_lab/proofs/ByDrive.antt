@@ -17,7 +17,7 @@ use Rattle.redo_memdisk.specs.declared.fused.Fused.{Fused}
 use Rattle.redo_pageactors.specs.declared.opened.Opened.{Opened}
 use Rattle.redo_threads.specs.InThreads.{RunsInThreads}
 use Rattle.redo_lab.specs.Asked.{drive_of, runs_in_threads, turns_of}
-use Rattle.redo_lab.specs.Drives.{DrivenBy, TellsOf}
+use Rattle.redo_lab.specs.Handed.{DrivenBy, TellsOf}
 
 -- the command runs its script in threads if its drive does
 pub in-threads : (command : Command) (drive : Drive) → drive_of command ≡ Some drive → runs_in_threads command ≡ drive.threads

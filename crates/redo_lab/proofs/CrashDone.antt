@@ -30,13 +30,11 @@ use Rattle.redo_drive.specs.declared.drive.RunEnd.TheVariants.{Done}
 use Rattle.redo_lab.specs.Call.{Call, Each, IsUnfailedAside, WhereOpened, WhereToldNow}
 use Rattle.redo_lab.specs.Complete.{CanPlay}
 use Rattle.redo_lab.specs.Course.{IsPlayedBy, IsStoppedBy, ran_of}
-use Rattle.redo_lab.specs.Left.{LeavesStore}
+use Rattle.redo_lab.specs.Told.{IsOpenedFirst, IsRunOf, LeavesStore}
 use Rattle.redo_lab.specs.Outcome.{EndsWith, IsDoneOrKeptFrom, IsOutcome}
-use Rattle.redo_lab.specs.Reread.{AreBoth, AreRead, AreRefusedSince, IsCrashedSince, ReadsBack}
-use Rattle.redo_lab.specs.Reported.{IsReportOf}
-use Rattle.redo_lab.specs.Script.{IsScriptRead}
+use Rattle.redo_lab.specs.Reread.{AreBoth, AreRead, AreRefusedSince, IsCrashedSince, IsReportOf, ReadsBack}
+use Rattle.redo_lab.specs.Asked.{IsScriptRead}
 use Rattle.redo_lab.specs.Stages.{IsCrashedWith, Shown, now_of}
-use Rattle.redo_lab.specs.Told.{IsOpenedFirst, IsRunOf}
 
 -- BOTH DEVICES ARE CRASHED, and so many calls failed since.
 pub record AreBothCrashed (call : Call) (stops : Stops) (pick log_failed data_failed log_since data_since : ℕ) (log_found data_found : Shown) : Type 0 where
@@ -152,6 +150,7 @@ module _ (call : Call) (drive : Drive) (stops : Stops) (pick workers : ℕ) (scr
           opened_first = crash-first back.text_is.left back.text_is.left_is both.log_device.armed_from back.since.log_device.from;
         };
         text_is = refl;
+        report = back.text_is.text_is;
         log_crashed = record { limit_is = both.log_device.limit_is; pick_is = both.log_device.pick; unchanged_since = both.log_device.late_changes };
         data_crashed = record { limit_is = both.data_device.limit_is; pick_is = both.data_device.pick; unchanged_since = both.data_device.late_changes };
         is_read = back.is_read;

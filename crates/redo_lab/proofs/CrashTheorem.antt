@@ -16,9 +16,8 @@ use Rattle.redo_lab.proofs.Told.{OneAnswer}
 use Rattle.redo_lab.specs.Answer.{IsCrashCall}
 use Rattle.redo_drive.specs.declared.drive.RunEnd.TheVariants.{Done}
 use Rattle.redo_lab.specs.Call.{Call}
-use Rattle.redo_lab.specs.Reported.{IsReportOf}
-use Rattle.redo_lab.specs.Reread.{AreBoth, AreRead, IsCrashedSince}
-use Rattle.redo_lab.specs.Script.{IsScriptRead}
+use Rattle.redo_lab.specs.Reread.{AreBoth, AreRead, IsCrashedSince, IsReportOf}
+use Rattle.redo_lab.specs.Asked.{IsScriptRead}
 use Rattle.redo_lab.specs.Stages.{IsCrashedWith, Shown, now_of}
 use Rattle.redo_lab.specs.Told.{IsRunOf}
 

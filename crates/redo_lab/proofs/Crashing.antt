@@ -24,12 +24,10 @@ use Rattle.redo_lab.specs.declared.outcome.Outcome.TheVariants as outcome
 use Rattle.redo_lab.proofs.Stages.{after-crashed, crashed-now, crashed-reads}
 use Rattle.redo_lab.proofs.Telling.{reads-keep}
 use Rattle.redo_lab.proofs.Told.{on-contents}
-use Rattle.redo_lab.specs.Faults.{fault_of}
+use Rattle.redo_lab.specs.Playing.{fault_of}
 use Rattle.redo_lab.specs.Outcome.{outcome_of}
-use Rattle.redo_lab.specs.Prepared.{WhereTold}
-use Rattle.redo_lab.specs.Reported.{IsReportOf}
-use Rattle.redo_lab.specs.Reread.{AreBoth, AreRefusedSince, IsCrashedSince, ReadsBack, Rereads}
-use Rattle.redo_lab.specs.Stages.{Shown, shown}
+use Rattle.redo_lab.specs.Stages.{Shown, WhereTold, shown}
+use Rattle.redo_lab.specs.Reread.{AreBoth, AreRefusedSince, IsCrashedSince, IsReportOf, ReadsBack, Rereads}
 
 -- a crash counts no call as passed
 changed-passed : (stage : Stage) (fuse : Fuse) → (with_change stage fuse).passed ≡ fuse.passed

@@ -22,12 +22,12 @@ use Rattle.redo_lab.proofs.Behind.{AreUnarmed, BothAlone, FormatLeaves}
 use Rattle.redo_lab.proofs.RunPlayed.{FormattedLaw}
 use Rattle.redo_lab.proofs.Running.{AreTelling}
 use Rattle.redo_lab.proofs.Told.{both-told}
-use Rattle.redo_lab.proofs.Unscripted.{AreLeftAlone, tells-alone, unfailed-alone}
+use Rattle.redo_lab.proofs.Unscripted.{AreLeftAlone, tells-alone, unfailed-alone, unwritten-alone}
 use Rattle.redo_lab.specs.Answer.{shape_of}
 use Rattle.redo_lab.specs.Call.{Call, Each, IsUnfailed, WhereToldNow}
 use Rattle.redo_lab.specs.Cause.{IsPastSource}
 use Rattle.redo_lab.specs.Complete.{AreLongEnough}
-use Rattle.redo_lab.specs.Faults.{fault_of}
+use Rattle.redo_lab.specs.Playing.{fault_of}
 use Rattle.redo_lab.specs.Outcome.{EndsWith, IsDoneOrKeptFrom, IsOutcome, outcome_of}
 use Rattle.redo_lab.specs.Stages.{now_of}
 use Rattle.redo_lab.specs.Store.{AreBlank, IsTooShort}
@@ -112,7 +112,7 @@ module _ (call : Call) (pages space log_blocks : ℕ) (unread : call.source_now 
       → EndsWith call (Format pages space log_blocks) (outcome.Fault (fault.Store refusal))
   format-short refusal both short not_long =
       let alone : AreLeftAlone call = record { log_device = both.log_device; data_device = both.data_device } in
-      format-end (outcome.Fault (fault.Store refusal)) (tells-alone call alone) (past, unfailed-alone call alone, short) (λ long unfailed. absurd (not_long long))
+      format-end (outcome.Fault (fault.Store refusal)) (tells-alone call alone) (past, unfailed-alone call alone, (short, unwritten-alone call alone)) (λ long unfailed. absurd (not_long long))
 
   pub format-fails : (f : RecFault)
       → FormatLeaves call.log.entry call.store.entry f (now_of call.log) (now_of call.store)

@@ -18,8 +18,7 @@ use Rattle.redo_lab.specs.Cause.{IsCauseOf, IsPastSource}
 use Rattle.redo_lab.specs.Complete.{CanPlay}
 use Rattle.redo_lab.specs.Course.{ArePlayedThrough, CameSoFar, Driving, HoldsRun, IsPlayedBy, ran_of}
 use Rattle.redo_lab.specs.Outcome.{EndsWith, IsDoneOrKeptFrom, IsOutcome}
-use Rattle.redo_lab.specs.Reported.{summary_of}
-use Rattle.redo_lab.specs.Reread.{AreBoth, AreRead, IsReadSince, ReadsAfter}
+use Rattle.redo_lab.specs.Reread.{AreBoth, AreRead, IsReadSince, ReadsAfter, summary_of}
 use Rattle.redo_lab.specs.Stages.{IsArmed, Shown, now_of}
 use Rattle.redo_lab.specs.Told.{IsRunText, IsSummaryText}
 

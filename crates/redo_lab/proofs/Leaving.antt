@@ -1,23 +1,23 @@
 -- What is left of both devices: each image is accepted, and may be opened again.
-use Rattle.std.proofs.Common.{ℕ, ◌≡◌, List, ap, subst, inl, inr, ⊎_elim, Bool}
+use Rattle.std.proofs.Common.{ℕ, ◌≡◌, List, [], Option, Some, None, sym, subst, inl, inr, ⊎_elim, Bool}
 use Rattle.model_base.specs.declared.shape.Shape.{Shape}
+use Rattle.model_device.specs.{IsImage}
 use Rattle.model_device.specs.Disk.{Disk}
 use Rattle.model_parts.specs.{IsOpenable, KeepsOpened}
 use Rattle.model_script.specs.declared.script.ScriptLine.{ScriptLine}
 use Rattle.model_store.specs.{IsFair, Opens}
 use Rattle.model_store.specs.Reading.{Reading}
-use Rattle.model_theorem.specs.{Opened, Ran}
+use Rattle.model_theorem.specs.{Opened, opened_as, Ran, ReadsPrefix}
 use Rattle.redo_memdisk.specs.declared.fuse.Stage.TheVariants.{Before}
 use Rattle.redo_open.specs.{WhereBothTell}
 use Rattle.redo_lab.specs.declared.playing.Stops.{Stops}
 use Rattle.redo_lab.proofs.Keeping.{OpenableLaw, openable-fresh, same-told, unused-unread}
 use Rattle.redo_lab.proofs.RunPlayed.{FormattedLaw, ReadsLaw, held-with, was-found}
 use Rattle.redo_lab.proofs.Told.{OneAnswer, both-told}
-use Rattle.redo_lab.specs.Call.{Call, WhereOpened, WhereToldNow}
+use Rattle.redo_lab.specs.Call.{Call}
 use Rattle.redo_lab.specs.Course.{AreUnderWay, CameSoFar, HoldsRun, KeepsFound}
-use Rattle.redo_lab.specs.Left.{IsStored, LeavesStore}
-use Rattle.redo_lab.specs.Prepared.{EndUnprepared, WasUnused}
-use Rattle.redo_lab.specs.Stages.{now_of}
+use Rattle.redo_lab.specs.Told.{AreLeftRead, IsStored, LeavesStore}
+use Rattle.redo_lab.specs.Stages.{EndUnprepared, WasUnused, now_of}
 use Rattle.redo_lab.specs.Store.{AreAccepted, AreReadAsPrefix}
 
 -- a store that is kept is accepted
@@ -58,35 +58,58 @@ leaves-unprepared call log_failed data_failed one law ends = ⊎_elim
         (λ unused. absurd (unused.1 stage))
         stored
 
+-- the opened pages are those of no group
+pub prefix-opened : (script : List ScriptLine) (reading : Reading) (log_disk data_disk : Disk) → KeepsOpened reading log_disk data_disk
+    → (log_bytes data_bytes : List ℕ) → IsImage log_disk log_bytes → IsFair reading.shape data_disk data_bytes
+    → ReadsPrefix script (opened_as reading) None log_bytes data_bytes
+prefix-opened script reading log_disk data_disk keeps log_bytes data_bytes image fair =
+    let read = keeps log_bytes data_bytes image fair in
+    record {
+      reading = read.reading;
+      is_read = read.is_read;
+      old_copies = read.old_copies;
+      prefix = record {
+        shape = read.shape;
+        first_groups_whole = read.pages;
+        reaching_flushed = λ i entry at flushed. absurd (cc);
+        marks = tt;
+      };
+    }
+
 -- A STORE THAT IS STILL READ as it was found
-pub leaves-found : (call : Call) (stops : Stops) (log_failed data_failed : ℕ) → OneAnswer → FormattedLaw
+pub found-reads : (call : Call) (stops : Stops) (script : List ScriptLine) (log_failed data_failed : ℕ) → OneAnswer → FormattedLaw
     → (way : AreUnderWay call.log.entry call.store.entry stops log_failed data_failed (now_of call.log) (now_of call.store))
-    → KeepsFound way.log_found way.data_found (now_of call.log) (now_of call.store) → LeavesStore call
-leaves-found call stops log_failed data_failed one law way keeps opened log data_disk log_is data_is log_fresh data_fresh stored fair log_now data_now log_now_is data_now_is =
+    → KeepsFound way.log_found way.data_found (now_of call.log) (now_of call.store) → AreLeftRead call script None
+found-reads call stops script log_failed data_failed one law way keeps opened log data_disk log_is data_is log_fresh data_fresh opens log_now data_now log_now_is data_now_is =
     let found = was-found call.log.entry call.store.entry way.log_found way.data_found log data_disk call.log.entry.faults call.store.entry.faults
-    opened one law way.prepared log_is data_is log_fresh data_fresh (opens-stored call opened log data_disk stored) in
+    opened one law way.prepared log_is data_is log_fresh data_fresh opens in
     let Keeps : Disk → Disk → Type 0 = λ log data_disk. IsOpenable found.reading log data_disk
     → WhereBothTell call.log.now.tells call.store.now.tells (KeepsOpened found.reading) in
     let kept = both-told way.log_found.seen.tells way.data_found.seen.tells Keeps (keeps found.reading) found.log found.data_disk found.log_is found.data_is found.openable in
-    accepts-opened opened found.reading log_now data_now (ap (λ (o : Opened). o.shape) found.same)
-    (both-told call.log.now.tells call.store.now.tells (KeepsOpened found.reading) kept log_now data_now log_now_is data_now_is)
+    subst (λ (o : Opened). AreReadAsPrefix script o None log_now data_now) (sym found.same)
+    (prefix-opened script found.reading log_now data_now (both-told call.log.now.tells call.store.now.tells (KeepsOpened found.reading) kept log_now data_now log_now_is data_now_is))
 
--- A RUN, of which whatever a crash would leave is read as a prefix
-pub leaves-read : (call : Call) (script : List ScriptLine) (run : Ran)
-    → ((store : Opened) → WhereOpened call store (WhereToldNow call (AreReadAsPrefix script store run))) → LeavesStore call
+-- A RUN, or none, of which whatever a crash would leave is read as a prefix
+pub leaves-read : (call : Call) (script : List ScriptLine) (run : Option Ran) → AreLeftRead call script run → LeavesStore call
 leaves-read call script run reads opened log data_disk log_is data_is log_fresh data_fresh stored fair log_now data_now log_now_is data_now_is log_bytes data_bytes image is_fair =
     let read = reads opened log data_disk log_is data_is log_fresh data_fresh (opens-stored call opened log data_disk stored)
     log_now data_now log_now_is data_now_is log_bytes data_bytes image is_fair in
     (read.reading, read.is_read, read.old_copies)
 
+pub leaves-found : (call : Call) (stops : Stops) (log_failed data_failed : ℕ) → OneAnswer → FormattedLaw
+    → (way : AreUnderWay call.log.entry call.store.entry stops log_failed data_failed (now_of call.log) (now_of call.store))
+    → KeepsFound way.log_found way.data_found (now_of call.log) (now_of call.store) → LeavesStore call
+leaves-found call stops log_failed data_failed one law way keeps =
+    leaves-read call [] None (found-reads call stops [] log_failed data_failed one law way keeps)
+
 -- whatever a crash would leave of a run that both devices hold is read so
 pub run-reads : (call : Call) (stops : Stops) (log_only : Bool) (script : List ScriptLine) (run : Ran) (log_failed data_failed : ℕ) → OneAnswer → FormattedLaw → ReadsLaw
     → (has : CameSoFar call.log.entry call.store.entry stops log_only script run log_failed data_failed (now_of call.log) (now_of call.store))
     → HoldsRun has.way.log_found has.way.data_found script has.opened run (now_of call.log) (now_of call.store)
-    → (store : Opened) → WhereOpened call store (WhereToldNow call (AreReadAsPrefix script store run))
+    → AreLeftRead call script (Some run)
 run-reads call stops log_only script run log_failed data_failed one law reads has holds opened log data_disk log_is data_is log_fresh data_fresh opens log_left data_left log_left_is data_left_is =
     let found = was-found call.log.entry call.store.entry has.way.log_found has.way.data_found log data_disk call.log.entry.faults call.store.entry.faults
     opened one law has.way.prepared log_is data_is log_fresh data_fresh opens in
     let held = held-with has.way.log_found has.way.data_found script run has.opened opened (now_of call.log) (now_of call.store) holds found
     log_left data_left log_left_is data_left_is in
-    subst (λ (o : Opened). AreReadAsPrefix script o run log_left data_left) held.0 (λ log_bytes data_bytes. reads _ log_bytes data_bytes held.1.held)
+    subst (λ (o : Opened). AreReadAsPrefix script o (Some run) log_left data_left) held.0 (λ log_bytes data_bytes. reads _ log_bytes data_bytes held.1.held)

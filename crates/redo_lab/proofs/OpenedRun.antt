@@ -1,5 +1,5 @@
 -- A store that was opened on two devices whose fuses are armed, and the run of a script on it.
-use Rattle.std.proofs.Common.{ℕ, ◌≡◌, ◌≤◌, ◌<◌, ◌+◌, cond, Bool, List, Option, Some, None, IfSome, refl, sym, ap, subst, ◌∙◌, inl, inr, ⊎_elim, arith, Result, Ok, Err, IfOk, IfErr}
+use Rattle.std.proofs.Common.{ℕ, ◌≡◌, ◌<◌, ◌+◌, cond, Bool, List, Option, Some, None, IfSome, refl, sym, ap, subst, ◌∙◌, inl, inr, ⊎_elim, arith, Result, Ok, Err, IfOk, IfErr}
 use Rattle.std.specs.List.{AllByRecursion}
 use Rattle.std.proofs.lemmas.Bool.{eq-eqb}
 use Rattle.model_base.specs.{default_shape}
@@ -45,10 +45,9 @@ use Rattle.redo_lab.proofs.Telling.{calls-go_on}
 use Rattle.redo_lab.proofs.Told.{both-told, on-contents}
 use Rattle.redo_lab.proofs.UnderWay.{AreCounted, ReadingLaws, counted-more, counted-opening, formatted-read, goes-on, keeps-found, same-both, told-some, way-of}
 use Rattle.redo_lab.specs.Course.{AreMisfitted, ArePlayed, AreUnstarted, ByDrive, CameSoFar, ClosesRun, ComesTo, Driving, HoldsRun, ran_of}
-use Rattle.redo_lab.specs.Drives.{TellsBehind}
+use Rattle.redo_lab.specs.Handed.{TellsBehind}
 use Rattle.redo_lab.specs.Playing.{AreArmed, AreLeftOpened, AreReady, IsOpened, StandsReady, course_done, course_of, ended_by, played_of}
-use Rattle.redo_lab.specs.Prepared.{ArePrepared, WhereTold}
-use Rattle.redo_lab.specs.Stages.{Shown, shown}
+use Rattle.redo_lab.specs.Stages.{ArePrepared, Shown, WhereTold, shown}
 use Rattle.redo_lab.specs.Store.{IsOpenedAs}
 
 -- the opened store, as the theorem has it: its log ends there
@@ -125,12 +124,6 @@ opens-as laws log_entry data_entry log_found data_found store end prepared read 
       },
     ))
     prepared.which
-
--- one failure at the most is counted
-pub one-failure : (error : Option DevError) → failures error ≤ 1
-one-failure None = omega arith
-one-failure (Some device.Failed) = omega arith
-one-failure (Some device.NoMemory) = omega arith
 
 -- on a store that could be opened when the fuses were armed this is so of both devices behind the run, of which it is so where the
 -- opened store was ready
@@ -373,7 +366,6 @@ module _ {L D : Type 0} {log_seen : L → Seen} {log_gives : L → Call → L �
       }
   done-by (Some device.Failed) data_error log_is data_is done = record {
     data_failed = failures data_error;
-    once = one-failure data_error;
     are = played-on (Some device.Failed) data_error log_is data_is done (some-failed (Some device.Failed) data_error log_is data_is (omega arith));
   }
   done-by None (Some device.Failed) log_is data_is done =

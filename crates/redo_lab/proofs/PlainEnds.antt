@@ -28,7 +28,7 @@ use Rattle.redo_lab.specs.Asked.{runs_script}
 use Rattle.redo_lab.specs.Call.{AreUnfailedFor, Call, Each, Guarded, IsUnfailed, IsUnwritten, WhereToldAtEntry}
 use Rattle.redo_lab.specs.Cause.{IsDeviceFault, IsPastSource, IsUnbegun}
 use Rattle.redo_lab.specs.Complete.{CanRead, IsPossible}
-use Rattle.redo_lab.specs.Faults.{fault_of}
+use Rattle.redo_lab.specs.Playing.{fault_of}
 use Rattle.redo_lab.specs.Outcome.{EndsWith, IsDoneOrKeptFrom, IsOutcome, outcome_of}
 use Rattle.redo_lab.specs.Stages.{IsUnarmed, now_of}
 use Rattle.redo_lab.specs.Store.{AreRefused}

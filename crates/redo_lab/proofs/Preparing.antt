@@ -28,8 +28,7 @@ use Rattle.redo_lab.proofs.Behind.{kept-behind, unarmed-behind}
 use Rattle.redo_lab.proofs.Formatting.{IsFormatFault}
 use Rattle.redo_lab.proofs.Stages.{unarmed-calls, unarmed-fresh}
 use Rattle.redo_lab.specs.Complete.{AreLongEnough}
-use Rattle.redo_lab.specs.Prepared.{ArePrepared, AreTooShort, BothKept, IsFirstRead, IsUnpreparedBy, WasUnused}
-use Rattle.redo_lab.specs.Stages.{IsUnarmed, shown}
+use Rattle.redo_lab.specs.Stages.{ArePrepared, AreTooShort, BothKept, IsFirstRead, IsUnarmed, IsUnpreparedBy, WasUnused, shown}
 use Rattle.redo_lab.specs.Store.{IsTooShort}
 
 -- The log device behind its first read, which answered this; and the data device, of which no call was made.
@@ -86,11 +85,9 @@ pub unprepared-small : {L D : Type 0} (log_seen : L → Seen) (data_seen : D →
     → (log_seen (inner_of log)).size < HEADER_BYTES → IfSome (log_seen (inner_of log)).tells (HasSize (log_seen (inner_of log)).size)
     → AreTooShort (log_seen (inner_of log)) (data_seen (inner_of store)) (refusal.SmallLog HEADER_BYTES) (shown log_seen log) (shown data_seen store)
 unprepared-small log_seen data_seen log store log_fresh data_fresh small sized = record {
-  ends = record {
-    log_device = unarmed-fresh log_seen (inner_of log) log refl log_fresh;
-    data_device = unarmed-fresh data_seen (inner_of store) store refl data_fresh;
-    left = inr (record { log_device = refl; data_device = refl });
-  };
+  log_device = unarmed-fresh log_seen (inner_of log) log refl log_fresh;
+  data_device = unarmed-fresh data_seen (inner_of store) store refl data_fresh;
+  kept = record { log_device = refl; data_device = refl };
   sized = sized;
   short = inl (small, refl);
 }
@@ -158,7 +155,9 @@ unformatted-short : {L D : Type 0} (log_seen : L → Seen) (data_seen : D → Se
 unformatted-short {L = L} {D = D} log_seen data_seen log_entry data_entry log log_new store data_new cause header first unused sized same short =
     let Short : Fused L → Fused D → Type 0 = λ log store. AreTooShort log_entry data_entry cause (shown log_seen log) (shown data_seen store) in
     subst (λ (one : Fused D). Short log_new one) (sym same.1) (subst (λ (one : Fused L). Short one store) (sym same.0) (record {
-      ends = record { log_device = first.log_device; data_device = first.data_device; left = inr first.kept };
+      log_device = first.log_device;
+      data_device = first.data_device;
+      kept = first.kept;
       sized = sized;
       short = inr (header, same-short cause _ _ _ _ first.log_device.same.size first.data_device.same.size short, was-unused log_entry data_entry unused);
     }))

@@ -16,10 +16,9 @@ use Rattle.redo_lab.specs.declared.outcome.Outcome.TheVariants as outcome
 use Rattle.redo_lab.proofs.Crashing.{IsAsMet, reading-fails, store-read}
 use Rattle.redo_lab.proofs.Stages.{armed-calls}
 use Rattle.redo_lab.proofs.Telling.{reads-keep}
-use Rattle.redo_lab.specs.Faults.{fault_of}
+use Rattle.redo_lab.specs.Playing.{fault_of}
 use Rattle.redo_lab.specs.Outcome.{outcome_of}
-use Rattle.redo_lab.specs.Reported.{summary_of}
-use Rattle.redo_lab.specs.Reread.{AreBoth, IsReadSince, ReadsAfter}
+use Rattle.redo_lab.specs.Reread.{AreBoth, IsReadSince, ReadsAfter, summary_of}
 use Rattle.redo_lab.specs.Stages.{Shown, shown}
 
 -- a device that was only read

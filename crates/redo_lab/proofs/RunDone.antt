@@ -14,8 +14,8 @@ use Rattle.redo_lab.specs.Call.{Call, Each, IsUnfailed}
 use Rattle.redo_lab.specs.Complete.{CanPlay}
 use Rattle.redo_lab.specs.Course.{ArePlayed, IsPlayedBy, ran_of}
 use Rattle.redo_lab.specs.Outcome.{EndsWith, IsDoneOrKeptFrom, IsOutcome}
-use Rattle.redo_lab.specs.Reported.{IsReportOf, IsRunPrinted, report_outcome}
-use Rattle.redo_lab.specs.Script.{IsScriptRead}
+use Rattle.redo_lab.specs.Reread.{IsReportOf, IsRunPrinted, report_outcome}
+use Rattle.redo_lab.specs.Asked.{IsScriptRead}
 use Rattle.redo_lab.specs.Stages.{now_of}
 use Rattle.redo_lab.specs.Told.{IsReportText, IsRunText}
 

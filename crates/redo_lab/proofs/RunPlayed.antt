@@ -22,9 +22,8 @@ use Rattle.redo_lab.proofs.SomeLeft.{some-left}
 use Rattle.redo_lab.proofs.Told.{OneAnswer, both-told, weaker-both}
 use Rattle.redo_lab.specs.Call.{Call}
 use Rattle.redo_lab.specs.Course.{ArePlayed, ClosesRun, Driving, HoldsRun, KeepsCheckpoint, ran_of}
-use Rattle.redo_lab.specs.Prepared.{ArePrepared}
-use Rattle.redo_lab.specs.Script.{IsScriptRead}
-use Rattle.redo_lab.specs.Stages.{Shown}
+use Rattle.redo_lab.specs.Stages.{ArePrepared, Shown}
+use Rattle.redo_lab.specs.Asked.{IsScriptRead}
 
 -- a store that was just formatted may be opened
 abbrev pub FormattedLaw : Type 0
@@ -254,8 +253,8 @@ whole-script call script source source_left is left_is read =
     let All : Option (List ℕ) → Option (List ℕ) → Type 0 = λ source source_left. IfSome source (λ left. (read.text ≡ left) × (source_left ≡ Some [])) in
     record {
       all_read = subst (λ (found : Option (List ℕ)). All found source_left) (sym is)
-          (subst (λ (found : Option (List ℕ)). All call.source.left found) (sym left_is) read.of_text.read.all_read);
-      is_script = read.of_text.is_script;
+          (subst (λ (found : Option (List ℕ)). All call.source.left found) (sym left_is) read.read.all_read);
+      is_script = read.is_script;
     }
 
 pub safe-as : (script : List ScriptLine) (number : ℕ) (played : Played) (left : List (ℕ × ℕ)) (failed failures : ℕ) (found opened : Opened) (log_left data_left : Disk)

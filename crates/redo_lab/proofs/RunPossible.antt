@@ -24,9 +24,8 @@ use Rattle.redo_lab.proofs.Told.{OneAnswer}
 use Rattle.redo_lab.specs.Call.{Call}
 use Rattle.redo_lab.specs.Complete.{AreLongEnough, CanPlay, CanRun, MayKeepFrom}
 use Rattle.redo_lab.specs.Course.{AreMisfitted, AreRefusedOpened, AreSpent, Driving, IsEndedBy}
-use Rattle.redo_lab.specs.Prepared.{AreTooShort}
-use Rattle.redo_lab.specs.Script.{IsScriptRead}
-use Rattle.redo_lab.specs.Stages.{now_of}
+use Rattle.redo_lab.specs.Stages.{AreTooShort, now_of}
+use Rattle.redo_lab.specs.Asked.{IsScriptRead}
 use Rattle.redo_lab.specs.Store.{IsOpenedAs, IsTooShort}
 
 -- a store is read in one way
@@ -101,8 +100,8 @@ one-opened log data_disk a b one same opens_a opens_b = ⊎_elim
 -- the script that was read is the one that can be run
 one-script : (call : Call) (script : List ScriptLine) → IsScriptRead call.source call.source_now script → (log_only : Bool) (can : CanRun call log_only) → can.script ≡ script
 one-script call script read log_only can =
-    let left = at-some call.source.left (λ left. (read.text ≡ left) × (call.source_now.left ≡ Some _)) can.text read.of_text.read.all_read can.source in
-    let is = sym read.of_text.is_script ∙ (ap script_of left.0 ∙ can.is_script) in
+    let left = at-some call.source.left (λ left. (read.text ≡ left) × (call.source_now.left ≡ Some _)) can.text read.read.all_read can.source in
+    let is = sym read.is_script ∙ (ap script_of left.0 ∙ can.is_script) in
     cc
 
 pub can-play : (call : Call) (script : List ScriptLine) → IsScriptRead call.source call.source_now script → (log_only : Bool) → CanRun call log_only → CanPlay call log_only script

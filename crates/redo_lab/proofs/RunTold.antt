@@ -17,7 +17,7 @@ use Rattle.redo_lab.proofs.Told.{OneAnswer}
 use Rattle.redo_drive.specs.declared.drive.RunEnd.TheVariants.{Done}
 use Rattle.redo_lab.specs.Call.{Call}
 use Rattle.redo_lab.specs.Course.{ArePlayed, CameSoFar, Driving, HoldsRun, ran_of}
-use Rattle.redo_lab.specs.Script.{IsScriptFor, IsTextOf}
+use Rattle.redo_lab.specs.Asked.{IsScriptFor, IsTextOf}
 use Rattle.redo_lab.specs.Stages.{Shown, now_of}
 use Rattle.redo_lab.specs.Told.{IsAccount, IsOpenedFirst, IsRunText}
 
@@ -70,5 +70,6 @@ played-text call command drive stops script played log_failed data_failed left I
   left = left;
   account = played-account call command drive stops script played log_failed data_failed left one law laws is_script was left_is;
   reads = run-reads call stops drive.log_only script (ran_of played) log_failed data_failed one law laws.reads was.so_far (holds-played was);
+  in_run = (was.way.log_device.stage, was.way.data_device.stage);
   text_is = text_is;
 }

@@ -1,7 +1,7 @@
 -- A command that runs a script: what it comes to where the run ended before its first line, or its turns were spent, or a device
 -- stopped opening.
 use Rattle.redo_disk.specs.Seen.{Seen}
-use Rattle.std.proofs.Common.{ℕ, ◌≡◌, ◌≢◌, ◌<◌, true, false, List, Option, Some, None, refl, sym, subst, inl, inr, ⊎_elim, arith, ◌∙◌}
+use Rattle.std.proofs.Common.{ℕ, ◌≡◌, ◌≢◌, ◌<◌, ◌⊎◌, true, false, List, [], Option, Some, None, refl, sym, subst, inl, inr, ⊎_elim, arith, ◌∙◌}
 use Rattle.std.proofs.lemmas.Bool.{false≢true}
 use Rattle.model_base.specs.{HasRisen}
 use Rattle.model_script.specs.declared.asked.Command.{Command}
@@ -21,23 +21,20 @@ use Rattle.redo_lab.specs.declared.outcome.Outcome.TheVariants as outcome
 use Rattle.redo_lab.specs.declared.playing.Stops.{Stops}
 use Rattle.redo_lab.proofs.ByDrive.{in-threads}
 use Rattle.redo_lab.proofs.Keeping.{OpenableLaw}
-use Rattle.redo_lab.proofs.Leaving.{leaves-found, leaves-read, leaves-unprepared, run-reads}
+use Rattle.redo_lab.proofs.Leaving.{found-reads, leaves-found, leaves-kept, leaves-read, leaves-unprepared, run-reads}
 use Rattle.redo_lab.proofs.RunPlayed.{ClosedLaws, FormattedLaw, armed-same, stopped-on, was-found}
 use Rattle.redo_lab.proofs.RunPossible.{OneReading, UnfitLaw, can-play, ended-kept}
 use Rattle.redo_lab.proofs.Told.{OneAnswer}
-use Rattle.redo_lab.specs.Asked.{drive_of, drive_of_seed, leaves_devices, reads_script, runs_script}
+use Rattle.redo_lab.specs.Asked.{IsScriptFor, IsScriptRead, drive_of, drive_of_seed, leaves_devices, reads_script, runs_script}
 use Rattle.redo_drive.specs.declared.drive.RunEnd.{RunEnd}
 use Rattle.redo_drive.specs.declared.drive.RunEnd.TheVariants.{Spent}
-use Rattle.redo_lab.specs.Call.{AreUnfailedFor, Call, Each, Guarded, IsUnfailed, IsUnfailedAside}
+use Rattle.redo_lab.specs.Call.{AreKept, AreUnfailedFor, Call, Each, Guarded, IsUnfailed, IsUnfailedAside}
 use Rattle.redo_lab.specs.Cause.{IsCauseOf, IsDeviceFault, IsPastSource, IsRefused, IsRefusedAtEntry, IsUnbegun}
 use Rattle.redo_lab.specs.Complete.{CanPlay, IsPossible}
 use Rattle.redo_lab.specs.Course.{AreRefusedOpened, AreStopped, AreUnderWay, CameSoFar, Driving, HoldsRun, IsEndedBy, IsStoppedBy}
-use Rattle.redo_lab.specs.Left.{LeavesStore}
+use Rattle.redo_lab.specs.Told.{AreLeftRead, IsOpenedFirst, IsRunOf, LeavesStore}
 use Rattle.redo_lab.specs.Outcome.{EndsWith, IsDoneOrKeptFrom, IsOutcome}
-use Rattle.redo_lab.specs.Prepared.{AreTooShort, EndUnprepared}
-use Rattle.redo_lab.specs.Script.{IsScriptFor, IsScriptRead}
-use Rattle.redo_lab.specs.Stages.{IsArmed, Shown, now_of}
-use Rattle.redo_lab.specs.Told.{IsOpenedFirst, IsRunOf}
+use Rattle.redo_lab.specs.Stages.{AreTooShort, BothKept, EndUnprepared, IsArmed, Shown, WasUnused, now_of}
 
 -- what is known of every store and of every run
 pub record RunLaws : Type 0 where
@@ -69,7 +66,7 @@ pub record IsRunning (call : Call) (command : Command) (drive : Drive) (script :
   pub fails_early : (device : Guarded) → HasRisen device.entry.faults device.now.faults → 0 < device.fuse.early → IsDeviceFault command device
   pub unfailed : Each IsUnfailed call → AreUnfailedFor command call
   pub aside : AreUnfailedFor command call → Each IsUnfailedAside call
-  pub unbegun : call.log.fuse.stage ≡ Before → IsUnbegun call command
+  pub unbegun : (call.log.fuse.stage ≡ Before) × (WasUnused call.log.entry call.store.entry ⊎ AreKept call) → IsUnbegun call command
   pub refused : (refusal : Refusal) → IsRefusedAtEntry call refusal → IsRefused call command refusal
 
 pub running-run : (call : Call) (drive : Drive) (script : List ScriptLine) → IsScriptRead call.source call.source_now script → IsRunning call (Run drive) drive script
@@ -134,9 +131,9 @@ pub tells-way : (call : Call) (stops : Stops) (log_failed data_failed : ℕ)
     → AreUnderWay call.log.entry call.store.entry stops log_failed data_failed (now_of call.log) (now_of call.store) → AreTelling call
 tells-way call stops log_failed data_failed way = (way.log_device.same.tells, way.data_device.same.tells)
 
-pub unfailed-unprepared : (call : Call) → EndUnprepared call.log.entry call.store.entry 0 0 (now_of call.log) (now_of call.store) → Each IsUnfailed call
-unfailed-unprepared call ends =
-    ((ends.log_device.early, ends.log_device.mid, ends.log_device.late), (ends.data_device.early, ends.data_device.mid, ends.data_device.late))
+unfailed-short : (call : Call) (cause : Refusal) → AreTooShort call.log.entry call.store.entry cause (now_of call.log) (now_of call.store) → Each IsUnfailed call
+unfailed-short call cause short =
+    ((short.log_device.early, short.log_device.mid, short.log_device.late), (short.data_device.early, short.data_device.mid, short.data_device.late))
 
 pub unfailed-way : (call : Call) (stops : Stops) → AreUnderWay call.log.entry call.store.entry stops 0 0 (now_of call.log) (now_of call.store) → Each IsUnfailed call
 unfailed-way call stops way =
@@ -155,16 +152,28 @@ pub run-of : (call : Call) (command : Command) (drive : Drive) (stops : Stops) (
 run-of call command drive stops script run end log_failed data_failed log_now data_now is_script has driven =
     record { is_script = is_script; opens = has.opens; fits = has.fits; in_lsn_order = has.is_run; driven = driven }
 
+-- both devices mean what they meant
+kept-both : (call : Call) → BothKept call.log.entry call.store.entry (now_of call.log) (now_of call.store) → AreKept call
+kept-both call kept log data_disk log_is data_is = (kept.log_device, kept.data_device)
+
+left-unprepared : (call : Call) (log_failed data_failed : ℕ)
+    → EndUnprepared call.log.entry call.store.entry log_failed data_failed (now_of call.log) (now_of call.store)
+    → WasUnused call.log.entry call.store.entry ⊎ AreKept call
+left-unprepared call log_failed data_failed ends = ⊎_elim (λ unused. inl unused) (λ kept. inr (kept-both call kept)) ends.left
+
 -- a store that is refused
 refused-short : (call : Call) (cause : Refusal) → AreTooShort call.log.entry call.store.entry cause (now_of call.log) (now_of call.store) → IsRefusedAtEntry call cause
 refused-short call cause short = ⊎_elim
-    (λ none. inl none)
-    (λ unused. inr (unused.0, λ log data_disk log_is data_is. inl (unused.2 log data_disk log_is data_is, unused.1)))
+    (λ none. (inl none, kept-both call short.kept))
+    (λ unused. (inr (unused.0, λ log data_disk log_is data_is. inl (unused.2 log data_disk log_is data_is, unused.1)), kept-both call short.kept))
     short.short
 
 refused-opened : (call : Call) (stops : Stops) (cause : Refusal)
     → AreRefusedOpened call.log.entry call.store.entry stops cause (now_of call.log) (now_of call.store) → IsRefusedAtEntry call cause
-refused-opened call stops cause ended = inr (ended.way.prepared.header, λ log data_disk log_is data_is. inr (ended.refused log data_disk log_is data_is))
+refused-opened call stops cause ended = (
+  inr (ended.way.prepared.header, λ log data_disk log_is data_is. inr (ended.refused log data_disk log_is data_is)),
+  λ log data_disk log_is data_is. let kept = ended.kept log data_disk log_is data_is in (kept.log_device, kept.data_device),
+)
 
 -- OPENING WAS STOPPED where the log device tells it.
 pub stopped-first : (call : Call) (stops : Stops) (log_failed data_failed : ℕ) → OneAnswer → FormattedLaw
@@ -196,7 +205,7 @@ module _ (call : Call) (command : Command) (drive : Drive) (stops : Stops) (scri
   pub leaves-held : (run : Ran) (log_failed data_failed : ℕ)
       → (has : CameSoFar call.log.entry call.store.entry stops drive.log_only script run log_failed data_failed (now_of call.log) (now_of call.store))
       → HoldsRun has.way.log_found has.way.data_found script has.opened run (now_of call.log) (now_of call.store) → LeavesStore call
-  leaves-held run log_failed data_failed has holds = leaves-read call script run
+  leaves-held run log_failed data_failed has holds = leaves-read call script (Some run)
       (run-reads call stops drive.log_only script run log_failed data_failed laws.one laws.formatted laws.closed.reads has holds)
 
   abbrev Ends : Fault → Type 0
@@ -209,7 +218,7 @@ module _ (call : Call) (command : Command) (drive : Drive) (stops : Stops) (scri
   ended-tells fault.LogDevice ended = tells-unprepared call 1 0 ended
   ended-tells fault.DataDevice ended = tells-unprepared call 0 1 ended
   ended-tells (fault.Store cause) ended =
-      ⊎_elim (λ short. tells-unprepared call 0 0 short.ends) (λ refused. tells-way call stops 0 0 refused.way) ended
+      ⊎_elim (λ short. (short.log_device.same.tells, short.data_device.same.tells)) (λ refused. tells-way call stops 0 0 refused.way) ended
   ended-tells (fault.Fit misfit) ended = tells-way call stops 0 0 ended.way
   ended-tells (fault.Turns turns user) ended = tells-way call stops ended.log_failed ended.data_failed ended.so_far.way
   ended-tells f ended = absurd ended
@@ -223,7 +232,7 @@ module _ (call : Call) (command : Command) (drive : Drive) (stops : Stops) (scri
   ended-leaves fault.LogDevice ended = leaves-unprepared call 1 0 laws.one laws.openable ended
   ended-leaves fault.DataDevice ended = leaves-unprepared call 0 1 laws.one laws.openable ended
   ended-leaves (fault.Store cause) ended = ⊎_elim
-      (λ short. leaves-unprepared call 0 0 laws.one laws.openable short.ends)
+      (λ short. leaves-kept call laws.openable short.kept.log_device short.kept.data_device short.log_device.stage)
       (λ refused. leaves-found call stops 0 0 laws.one laws.formatted refused.way refused.keeps)
       ended
   ended-leaves (fault.Fit misfit) ended = leaves-found call stops 0 0 laws.one laws.formatted ended.way ended.keeps
@@ -235,15 +244,15 @@ module _ (call : Call) (command : Command) (drive : Drive) (stops : Stops) (scri
   ended-cause fault.LogDevice ended = (
     running.past,
     running.fails_early call.log (ended.log_device.risen (omega arith)) (omega (arith, ended.log_device.early)),
-    running.unbegun ended.log_device.stage,
+    running.unbegun (ended.log_device.stage, left-unprepared call 1 0 ended),
   )
   ended-cause fault.DataDevice ended = (
     running.past,
     running.fails_early call.store (ended.data_device.risen (omega arith)) (omega (arith, ended.data_device.early)),
-    running.unbegun ended.log_device.stage,
+    running.unbegun (ended.log_device.stage, left-unprepared call 0 1 ended),
   )
   ended-cause (fault.Store cause) ended = ⊎_elim
-      (λ short. (running.past, running.unfailed (unfailed-unprepared call short.ends), running.refused cause (refused-short call cause short)))
+      (λ short. (running.past, running.unfailed (unfailed-short call cause short), running.refused cause (refused-short call cause short)))
       (λ refused. (running.past, running.unfailed (unfailed-way call stops refused.way), running.refused cause (refused-opened call stops cause refused)))
       ended
   ended-cause (fault.Fit misfit) ended = inr (
@@ -256,6 +265,8 @@ module _ (call : Call) (command : Command) (drive : Drive) (stops : Stops) (scri
       is_script = running.is_script;
       opens = ended.opens;
       first = ended.first;
+      in_run = (ended.way.log_device.stage, ended.way.data_device.stage);
+      reads = found-reads call stops script 0 0 laws.one laws.formatted ended.way ended.keeps;
     },
   )
   ended-cause (fault.Turns turns user) ended = record {
@@ -265,7 +276,7 @@ module _ (call : Call) (command : Command) (drive : Drive) (stops : Stops) (scri
     script = script;
     run = ended.run;
     is_run = run-of call command drive stops script ended.run _ ended.log_failed ended.data_failed (now_of call.log) (now_of call.store) running.is_script ended.so_far ended.driven;
-    uncrashed = (ended.so_far.way.log_device.pick, ended.so_far.way.data_device.pick);
+    in_run = (ended.so_far.way.log_device.stage, ended.so_far.way.data_device.stage);
   }
   ended-cause f ended = absurd ended
 
@@ -282,7 +293,7 @@ module _ (call : Call) (command : Command) (drive : Drive) (stops : Stops) (scri
 pub record IsUncrashing (call : Call) (command : Command) : Type 0 where
   pub fails : (device : Guarded) → HasRisen device.entry.faults device.now.faults → 0 < device.fuse.mid → IsDeviceFault command device
   pub unfailed : AreUnfailedFor command call → Each IsUnfailed call
-  pub unbegun : IsOpenedFirst call call.log.now.tells None → IsUnbegun call command
+  pub unbegun : IsOpenedFirst call call.log.now.tells None × AreLeftRead call [] None → IsUnbegun call command
 
 pub uncrashing-run : (call : Call) (drive : Drive) → IsUncrashing call (Run drive)
 uncrashing-run call drive = record { fails = λ device risen some. (risen, omega (arith, some)); unfailed = λ none. none; unbegun = λ first. inr first }
@@ -301,6 +312,13 @@ failed-unstopped entry found now was =
 
 module _ (call : Call) (command : Command) (drive : Drive) (script : List ScriptLine)
     (running : IsRunning call command drive script) (uncrashing : IsUncrashing call command) (laws : RunLaws) where
+  stopped-so : (log_failed data_failed : ℕ) → AreStopped call.log.entry call.store.entry no_stops log_failed data_failed (now_of call.log) (now_of call.store)
+      → IsOpenedFirst call call.log.now.tells None × AreLeftRead call [] None
+  stopped-so log_failed data_failed stopped = (
+    stopped-first call no_stops log_failed data_failed laws.one laws.formatted stopped,
+    found-reads call no_stops [] log_failed data_failed laws.one laws.formatted stopped.way stopped.keeps,
+  )
+
   -- OPENING WAS STOPPED by a device that failed.
   pub ended-stopped : (f : Fault) → IsStoppedBy call.log.entry call.store.entry no_stops f (now_of call.log) (now_of call.store)
       → EndsWith call command (outcome.Fault f)
@@ -308,12 +326,12 @@ module _ (call : Call) (command : Command) (drive : Drive) (script : List Script
       let failed = failed-unstopped _ _ _ stopped.way.log_device in
       ends-with call command drive no_stops script running laws (outcome.Fault fault.LogDevice) (tells-way call no_stops 1 0 stopped.way)
       (leaves-found call no_stops 1 0 laws.one laws.formatted stopped.way stopped.keeps)
-      (running.past, uncrashing.fails call.log failed.0 failed.1, uncrashing.unbegun (stopped-first call no_stops 1 0 laws.one laws.formatted stopped))
+      (running.past, uncrashing.fails call.log failed.0 failed.1, uncrashing.unbegun (stopped-so 1 0 stopped))
       (λ can unfailed. let none = uncrashing.unfailed unfailed in absurd (omega (arith, none.0.1, stopped.way.log_device.mid)))
   ended-stopped fault.DataDevice stopped =
       let failed = failed-unstopped _ _ _ stopped.way.data_device in
       ends-with call command drive no_stops script running laws (outcome.Fault fault.DataDevice) (tells-way call no_stops 0 1 stopped.way)
       (leaves-found call no_stops 0 1 laws.one laws.formatted stopped.way stopped.keeps)
-      (running.past, uncrashing.fails call.store failed.0 failed.1, uncrashing.unbegun (stopped-first call no_stops 0 1 laws.one laws.formatted stopped))
+      (running.past, uncrashing.fails call.store failed.0 failed.1, uncrashing.unbegun (stopped-so 0 1 stopped))
       (λ can unfailed. let none = uncrashing.unfailed unfailed in absurd (omega (arith, none.1.1, stopped.way.data_device.mid)))
   ended-stopped f stopped = absurd stopped

@@ -31,7 +31,6 @@ unarmed-fresh seen device fused inner fuse = record {
     tells = λ tells none. tells (ap (λ d. (seen d).tells) (sym inner) ∙ none);
   };
   stage = ap (λ (fuse : Fuse). fuse.stage) fuse;
-  limit = ap (λ (fuse : Fuse). fuse.limit) fuse;
   passed = ap (λ (fuse : Fuse). fuse.passed) fuse;
   pick = ap (λ (fuse : Fuse). fuse.pick) fuse;
   early = ap (λ (fuse : Fuse). fuse.early) fuse;
@@ -135,7 +134,6 @@ unarmed-calls {seen = seen} {gives = gives} {entry = entry} {old = old} {new = n
     record {
       same = same-behind seen gives entry old new made.calls was.same made.made;
       stage = counts.stage ∙ was.stage;
-      limit = counts.limit ∙ was.limit;
       passed = ap (λ (fuse : Fuse). fuse.passed) (after-calls seen gives old new made.calls made.made)
           ∙ passed-unarmed made.calls old.fuse was.stage ∙ was.passed;
       pick = counts.pick ∙ was.pick;

@@ -19,9 +19,8 @@ use Rattle.redo_drive.specs.declared.drive.RunEnd.TheVariants.{Done}
 use Rattle.redo_lab.specs.Call.{Call, WhereToldNow}
 use Rattle.redo_lab.specs.Complete.{CanPlay}
 use Rattle.redo_lab.specs.Course.{ArePlayedThrough, AreUnderWay, CameSoFar, ClosesRun, Driving, HoldsRun, ran_of}
-use Rattle.redo_lab.specs.Prepared.{ArePrepared}
+use Rattle.redo_lab.specs.Stages.{ArePrepared, Shown, now_of}
 use Rattle.redo_lab.specs.Reread.{AreBoth, IsReadSince}
-use Rattle.redo_lab.specs.Stages.{Shown, now_of}
 use Rattle.redo_lab.specs.Store.{AreRefused}
 
 -- what stood on a device at its last good sync is a fair image of it

@@ -26,8 +26,7 @@ use Rattle.redo_lab.proofs.Stages.{armed-calls}
 use Rattle.redo_lab.proofs.Told.{OneAnswer, both-told, on-contents, weaker-both}
 use Rattle.redo_lab.specs.Course.{AreRefusedOpened, AreStopped, AreUnderWay, AreUnstarted, ComesTo, Driving, KeepsCheckpoint, KeepsFound}
 use Rattle.redo_lab.specs.Playing.{AreArmed, unopened}
-use Rattle.redo_lab.specs.Prepared.{ArePrepared, WhereTold}
-use Rattle.redo_lab.specs.Stages.{IsArmed, Shown, shown}
+use Rattle.redo_lab.specs.Stages.{ArePrepared, BothKept, IsArmed, Shown, WhereTold, shown}
 use Rattle.redo_lab.specs.Store.{AreRefused}
 
 -- what is known of the calls since the fuses were armed
@@ -164,6 +163,24 @@ refused-found laws log_entry data_entry log_found data_found cause prepared refu
     ))
     prepared.which
 
+-- and both are as they were, if they were so when the fuses were armed and behind opening
+refused-kept : ReadingLaws → (log_entry data_entry : Seen) (log_found data_found log_now data_now : Shown) (cause : Refusal)
+    → ArePrepared log_entry data_entry log_found data_found
+    → OnContents log_found.seen.tells data_found.seen.tells (λ log_bytes data_bytes. Refuses log_bytes data_bytes cause)
+    → OnContents log_found.seen.tells data_found.seen.tells (λ log_bytes data_bytes. Refuses log_bytes data_bytes cause
+    → BothKept log_found.seen data_found.seen log_now data_now)
+    → WhereTold log_entry data_entry (λ log data_disk. BothKept log_entry data_entry log_now data_now)
+refused-kept laws log_entry data_entry log_found data_found log_now data_now cause prepared refused keeps log data_disk log_is data_is = ⊎_elim
+    (λ both. absurd (unrefused laws log_entry data_entry log_found data_found cause prepared both.formatted refused log data_disk log_is data_is))
+    (λ both.
+    let log_told = both.kept.log_device ∙ log_is in
+    let data_told = both.kept.data_device ∙ data_is in
+    let kept = on-contents log_found.seen.tells data_found.seen.tells
+    (λ log_bytes data_bytes. Refuses log_bytes data_bytes cause → BothKept log_found.seen data_found.seen log_now data_now) keeps log data_disk log_told data_told
+    (on-contents log_found.seen.tells data_found.seen.tells (λ log_bytes data_bytes. Refuses log_bytes data_bytes cause) refused log data_disk log_told data_told) in
+    record { log_device = kept.log_device ∙ both.kept.log_device; data_device = kept.data_device ∙ both.kept.data_device })
+    prepared.which
+
 -- WHAT A RUN COMES TO whose store wasn't opened, for this fault
 pub record IsUnopened {L D : Type 0} (log_seen : L → Seen) (log_gives : L → Call → L → Type 0) (data_seen : D → Seen) (data_gives : D → Call → D → Type 0)
     (log_entry data_entry : Seen) (stops : Stops) (log_found data_found : Shown) (log : Fused L) (data_device : Fused D) (f : RecFault)
@@ -223,6 +240,14 @@ refused-opened {log_seen = log_seen} {data_seen = data_seen} {log_entry = log_en
     same-both (λ log_disk data_disk. Refuses log_disk.reads data_disk.reads cause) log_found.seen.tells data_found.seen.tells
     (log_seen log.inner).tells (data_seen data_device.inner).tells log_tells data_tells
     (refuses-cause f cause (log_seen log.inner).tells (data_seen data_device.inner).tells is_cause is.cause.refused) in
+    let keeps : OnContents log_found.seen.tells data_found.seen.tells (λ log_bytes data_bytes. Refuses log_bytes data_bytes cause
+    → BothKept log_found.seen data_found.seen (shown log_seen log_now) (shown data_seen data_now)) =
+    same-both (λ log_disk data_disk. Refuses log_disk.reads data_disk.reads cause → BothKept log_found.seen data_found.seen (shown log_seen log_now) (shown data_seen data_now))
+    log_found.seen.tells data_found.seen.tells (log_seen log.inner).tells (data_seen data_device.inner).tells log_tells data_tells
+    (weaker-both (log_seen log.inner).tells (data_seen data_device.inner).tells
+    (λ log_disk data_disk unchanged refuses. let same = unchanged refuses in
+    record { log_device = same.0.tells ∙ log_tells; data_device = same.1.tells ∙ data_tells })
+    (is.cause.kept cause)) in
     let counted = counted-opening is.armed is.log_calls is.data_calls in
     let unfailed : AreCounted log_entry data_entry stops log_found data_found 0 0 (shown log_seen log_now) (shown data_seen data_now) =
     subst (λ n. AreCounted log_entry data_entry stops log_found data_found 0 n (shown log_seen log_now) (shown data_seen data_now)) (ap failures data_none)
@@ -232,6 +257,7 @@ refused-opened {log_seen = log_seen} {data_seen = data_seen} {log_entry = log_en
       keeps = keeps-found log_found data_found (shown log_seen log) (shown data_seen data_device) (shown log_seen log_now) (shown data_seen data_now)
           is.armed.log_same is.armed.data_same is.keeps;
       refused = refused-found is.laws log_entry data_entry log_found data_found cause is.armed.prepared refused;
+      kept = refused-kept is.laws log_entry data_entry log_found data_found (shown log_seen log_now) (shown data_seen data_now) cause is.armed.prepared refused keeps;
     }
 
 pub unopened-comes : {L D : Type 0} {log_seen : L → Seen} {log_gives : L → Call → L → Type 0} {data_seen : D → Seen} {data_gives : D → Call → D → Type 0}

@@ -18,14 +18,13 @@ use Rattle.redo_lab.specs.declared.outcome.Outcome.TheVariants as outcome
 use Rattle.redo_lab.proofs.Keeping.{OpenableLaw}
 use Rattle.redo_lab.proofs.Leaving.{leaves-kept}
 use Rattle.redo_lab.proofs.Running.{AreTelling}
-use Rattle.redo_lab.specs.Asked.{leaves_devices, reads_script}
+use Rattle.redo_lab.specs.Asked.{IsBadLine, IsLongScript, IsScriptFault, leaves_devices, reads_script}
 use Rattle.redo_lab.specs.Call.{Call, Each, Guarded, IsUnfailed, IsUnwritten}
 use Rattle.redo_lab.specs.Cause.{IsCauseOf}
 use Rattle.redo_lab.specs.Complete.{CanRun, IsPossible, MayKeepFrom}
-use Rattle.redo_lab.specs.Left.{LeavesStore}
+use Rattle.redo_lab.specs.Told.{LeavesStore}
 use Rattle.redo_lab.specs.Outcome.{EndsWith}
 use Rattle.redo_lab.specs.Playing.{command_with}
-use Rattle.redo_lab.specs.Script.{IsBadLine, IsLongScript, IsScriptFault}
 use Rattle.redo_lab.specs.Stages.{IsLeftAlone, now_of}
 
 -- what a source has left is this
@@ -91,10 +90,10 @@ module _ (call : Call) (command : Command) (log_only : Bool) (alone : AreLeftAlo
     (writes : leaves_devices command ≡ true → ⊥) (can : IsPossible call command → CanRun call log_only) where
   script-fails : (f : Fault) → IsScriptFault call.source call.source_now f → EndsWith call command (outcome.Fault f)
   script-fails fault.Memory cause = unscripted call command log_only fault.Memory alone law reads writes can tt (λ can source. tt)
-  script-fails (fault.Script n) cause = unscripted call command log_only (fault.Script n) alone law reads writes can (reads, cause)
+  script-fails (fault.Script n) cause = unscripted call command log_only (fault.Script n) alone law reads writes can (reads, cause, unwritten-alone call alone)
       (λ can source. absurd (no-bad-line call log_only n can cause))
-  script-fails fault.Source cause = unscripted call command log_only fault.Source alone law reads writes can (reads, cause) (λ can source. absurd (source cause))
-  script-fails (fault.Fit misfit) cause = unscripted call command log_only (fault.Fit misfit) alone law reads writes can (inl (reads, cause))
+  script-fails fault.Source cause = unscripted call command log_only fault.Source alone law reads writes can (reads, cause, unwritten-alone call alone) (λ can source. absurd (source cause))
+  script-fails (fault.Fit misfit) cause = unscripted call command log_only (fault.Fit misfit) alone law reads writes can (inl (reads, cause, unwritten-alone call alone))
       (λ can source. absurd (no-long-script call log_only misfit can cause))
   script-fails f cause = absurd cause
 

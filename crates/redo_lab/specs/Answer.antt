@@ -6,13 +6,13 @@ use Rattle.model_script.specs.declared.asked.Command.{Command}
 use Rattle.model_script.specs.declared.asked.Command.TheVariants.{Format, Run, Crash, Recover, Dump, Gen}
 use Rattle.model_script.specs.declared.asked.Drive.{Drive}
 use Rattle.model_device.specs.Disk.{Disk}
-use Rattle.model_report.specs.{dump_text, format_text, recover_text}
+use Rattle.model_report.specs.{dump_text, format_text, recover_text, report_text}
 use Rattle.model_script.specs.{generated_text}
 use Rattle.model_log.specs.{IsStop}
 use Rattle.model_log.specs.declared.cause.Cause.{Cause}
 use Rattle.model_store.specs.{IsReading}
 use Rattle.model_store.specs.Reading.{Reading}
-use Rattle.model_theorem.specs.{Account, CrashOptions, CrashSafe, Device, Opened, Stop}
+use Rattle.model_theorem.specs.{Account, CrashOptions, CrashSafe, Device, Opened, Stop, entries_of, marks_of, start_of}
 use Rattle.model_theorem.specs.Premises.{Premises}
 use Rattle.model_theorem.specs.Values as values
 use Rattle.redo_memdisk.specs.declared.fuse.Fuse.{Fuse}
@@ -88,6 +88,8 @@ pub record IsCrashText (call : Call) (drive : Drive) (stop_log stop_data : Optio
   pub told : IsAccount call (Crash drive stop_log stop_data pick workers) drive opened account.script account.run account.left
       call.log.now.crashed_from call.store.now.crashed_from
   pub text_is : text ≡ account.printed
+  pub report : text ≡ report_text (start_of account.run) (entries_of account.run) account.left (marks_of account.run)
+      (Some (account.reading.end, account.reading.pages))
   pub log_crashed : IsCrashedAs stop_log pick call.log.fuse
   pub data_crashed : IsCrashedAs stop_data pick call.store.fuse
   pub is_read : WhereToldNow call (λ log store. IsReading log.reads store.reads account.reading)

@@ -13,6 +13,7 @@ use Rattle.redo_io.specs.{SinkSeen, SourceSeen}
 use Rattle.redo_memdisk.specs.{armed_from, fuse_of, inner_of}
 use Rattle.redo_memdisk.specs.declared.fuse.Fuse.{Fuse}
 use Rattle.redo_memdisk.specs.declared.fused.Fused.{Fused}
+use Rattle.redo_memdisk.specs.declared.fuse.Stage.TheVariants.{Stopping}
 
 -- One device of a call: as it was handed in, and as it is now behind its fuse; and what it meant when the fuse was armed, where it
 -- told.
@@ -85,3 +86,11 @@ mids call = call.log.fuse.mid + call.store.fuse.mid
 -- the device means what it meant, and nothing was written or synced
 abbrev pub IsUnwritten : Guarded → Type 0
 IsUnwritten device = (device.now.tells ≡ device.entry.tells) × (device.fuse.changes ≡ 0)
+
+-- both devices mean what they meant, where both told
+abbrev pub AreKept : Call → Type 0
+AreKept call = WhereToldAtEntry call (λ log store. Each (λ device. device.now.tells ≡ device.entry.tells) call)
+
+-- the device's fuse was armed, and the device wasn't crashed
+abbrev pub IsInRun : Guarded → Type 0
+IsInRun device = device.fuse.stage ≡ Stopping

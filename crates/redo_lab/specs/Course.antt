@@ -1,5 +1,5 @@
 -- How far a run came, and what it leaves of the two devices.
-use Rattle.std.specs.Prelude.{ℕ, ◌≡◌, ◌≤◌, ◌<◌, ◌+◌, ◌⊎◌, Bool, List, Option, Some, None, IfSome}
+use Rattle.std.specs.Prelude.{ℕ, ◌≡◌, ◌<◌, ◌+◌, ◌⊎◌, Bool, List, Option, Some, None, IfSome}
 use Rattle.model_device.specs.{synced}
 use Rattle.model_device.specs.Disk.{Disk}
 use Rattle.model_report.specs.{IsLeft}
@@ -24,9 +24,8 @@ use Rattle.redo_lab.specs.declared.playing.Course.{Course}
 use Rattle.redo_lab.specs.declared.playing.Course.TheVariants as course
 use Rattle.redo_lab.specs.declared.playing.Played.{Played}
 use Rattle.redo_lab.specs.declared.playing.Stops.{Stops}
-use Rattle.redo_lab.specs.Drives.{DrivenBy}
-use Rattle.redo_lab.specs.Prepared.{ArePrepared, AreTooShort, EndUnprepared, WhereTold}
-use Rattle.redo_lab.specs.Stages.{IsArmed, Shown}
+use Rattle.redo_lab.specs.Handed.{DrivenBy}
+use Rattle.redo_lab.specs.Stages.{ArePrepared, AreTooShort, BothKept, EndUnprepared, IsArmed, Shown, WhereTold}
 use Rattle.redo_lab.specs.Store.{AreRefused, IsOpenedAs}
 
 -- Both devices were prepared, their fuses were armed, and opening was begun; since then so many calls failed.
@@ -66,6 +65,7 @@ pub record AreRefusedOpened (log_entry data_entry : Seen) (stops : Stops) (cause
   pub way : AreUnderWay log_entry data_entry stops 0 0 log_now data_now
   pub keeps : KeepsFound way.log_found way.data_found log_now data_now
   pub refused : WhereTold log_entry data_entry (λ log data_disk. (IsUnused log.reads → ⊥) × AreRefused cause log data_disk)
+  pub kept : WhereTold log_entry data_entry (λ log data_disk. BothKept log_entry data_entry log_now data_now)
 
 -- THE SCRIPT DOESN'T FIT the store that was opened.
 pub record AreMisfitted (log_entry data_entry : Seen) (stops : Stops) (log_only : Bool) (script : List ScriptLine) (misfit : Misfit)
@@ -195,7 +195,6 @@ pub record ArePlayedThrough (by : Driving) (log_entry data_entry : Seen) (stops 
 pub record ArePlayedToFault (by : Driving) (log_entry data_entry : Seen) (stops : Stops) (log_only : Bool) (script : List ScriptLine)
     (played : Played) (log_now data_now : Shown) : Type 0 where
   pub data_failed : ℕ
-  pub once : data_failed ≤ 1
   pub are : ArePlayed by log_entry data_entry stops log_only script played 1 data_failed log_now data_now
 
 -- the lines were run, and this fault ended the run, if one did: that of the log device where both failed

@@ -15,8 +15,7 @@ use Rattle.redo_lab.specs.Asked.{command_of, leaves_devices, reads_script, runs_
 use Rattle.redo_lab.specs.Call.{AreUnfailedFor, Call, Each, IsUnfailedAside, IsUnwritten, LabCall}
 use Rattle.redo_lab.specs.Cause.{IsCauseOf}
 use Rattle.redo_lab.specs.Complete.{IsDone}
-use Rattle.redo_lab.specs.Left.{LeavesStore}
-use Rattle.redo_lab.specs.Told.{IsReportText, IsRunText}
+use Rattle.redo_lab.specs.Told.{IsReportText, IsRunText, LeavesStore}
 
 -- the status of a call that did what it was asked
 abbrev pub success : ℕ

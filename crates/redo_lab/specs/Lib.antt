@@ -4,17 +4,11 @@ pub mod Call
 pub mod Cause
 pub mod Complete
 pub mod Course
-pub mod Drives
 pub mod Ending
-pub mod Faults
 pub mod Handed
-pub mod Left
 pub mod Outcome
 pub mod Playing
-pub mod Prepared
-pub mod Reported
 pub mod Reread
-pub mod Script
 pub mod Stages
 pub mod Store
 pub mod Told

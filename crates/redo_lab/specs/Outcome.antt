@@ -19,8 +19,7 @@ use Rattle.redo_lab.specs.Cause.{IsCauseOf}
 use Rattle.redo_lab.specs.Complete.{IsPossible, MayKeepFrom}
 use Rattle.redo_lab.specs.Ending.{EndsRun, IsFaultPrinted, IsTextPrinted}
 use Rattle.redo_lab.specs.Handed.{AreOf, call_on}
-use Rattle.redo_lab.specs.Left.{LeavesStore}
-use Rattle.redo_lab.specs.Told.{IsReportText, IsRunText}
+use Rattle.redo_lab.specs.Told.{IsReportText, IsRunText, LeavesStore}
 
 -- the call of a command on two devices that are done
 abbrev pub call_of : {L D : Type 0} → (L → Seen) → (L → device.Call → L → Type 0) → (D → Seen) → (D → device.Call → D → Type 0) → List (List ℕ)

@@ -26,7 +26,7 @@ use Rattle.redo_pageactors.specs.{IsRunnable}
 use Rattle.redo_pageactors.specs.declared.opened.Opened.{Opened}
 use Rattle.redo_recover.specs.{OnContents}
 use Rattle.redo_recover.specs.declared.fault.RecFault.{RecFault}
-use Rattle.redo_recover.specs.declared.fault.RecFault.TheVariants.{LogDev, DataDev}
+use Rattle.redo_recover.specs.declared.fault.RecFault.TheVariants.{LogDev, DataDev, SmallLog, NotFormatted, BadFormat, SmallData, NoCheckpoint, BadRecord, PageLost, PageAhead, NoMemory}
 use Rattle.redo_script.specs.declared.unfit.Unfit.{Unfit}
 use Rattle.redo_script.specs.declared.unfit.Unfit.TheVariants as unfit
 use Rattle.redo_lab.specs.declared.playing.Course.{Course}
@@ -38,9 +38,23 @@ use Rattle.redo_lab.specs.declared.crash_command.Crashing.{Crashing}
 use Rattle.redo_lab.specs.declared.playing.Ran.{Ran}
 use Rattle.redo_lab.specs.Course.{ByDrive, ComesTo}
 use Rattle.redo_lab.specs.Handed.{AreOf}
-use Rattle.redo_lab.specs.Faults.{fault_of}
-use Rattle.redo_lab.specs.Prepared.{ArePrepared}
-use Rattle.redo_lab.specs.Stages.{IsArmed, Shown, shown}
+use Rattle.redo_lab.specs.Stages.{ArePrepared, IsArmed, Shown, shown}
+use Rattle.model_report.specs.declared.fault.Fault.TheVariants.{Memory, LogDevice, DataDevice, Store}
+use Rattle.model_store.specs.declared.refusal.Refusal.TheVariants as refusal
+
+-- the fault of a call whose store isn't formatted, read or opened
+abbrev pub fault_of : RecFault → Fault
+fault_of (SmallLog n) = Store (refusal.SmallLog n)
+fault_of NotFormatted = Store refusal.NotFormatted
+fault_of (BadFormat n) = Store (refusal.BadFormat n)
+fault_of (SmallData n) = Store (refusal.SmallData n)
+fault_of NoCheckpoint = Store refusal.NoCheckpoint
+fault_of (BadRecord lsn) = Store (refusal.BadRecord lsn)
+fault_of (PageLost p) = Store (refusal.PageLost p)
+fault_of (PageAhead p lsn) = Store (refusal.PageAhead p lsn)
+fault_of LogDev = LogDevice
+fault_of DataDev = DataDevice
+fault_of NoMemory = Memory
 
 -- BOTH FUSES WERE ARMED after the devices were prepared, and no call was made since.
 pub record AreArmed (log_entry data_entry : Seen) (stops : Stops) (log_found data_found log_now data_now : Shown) : Type 0 where

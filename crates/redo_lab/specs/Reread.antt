@@ -1,20 +1,51 @@
--- What reading a store after its run comes to, with a crash of both devices between or without one.
-use Rattle.std.specs.Prelude.{ℕ, ◌≡◌, ◌<◌, List, Option, Some}
+-- The text of a report, and what reading a store after its run comes to, with a crash of both devices between or without one.
+use Rattle.std.specs.Prelude.{ℕ, ◌≡◌, ◌<◌, List, Option, Some, ◌⊎◌, length, None}
 use Rattle.model_device.specs.{Crashes}
 use Rattle.model_report.specs.declared.fault.Fault.TheVariants as fault
 use Rattle.model_script.specs.declared.script.ScriptLine.{ScriptLine}
 use Rattle.model_store.specs.{IsReading}
 use Rattle.model_store.specs.Reading.{Reading}
 use Rattle.model_store.specs.declared.refusal.Refusal.{Refusal}
-use Rattle.model_theorem.specs.{Ran}
+use Rattle.model_theorem.specs.{Ran, entries_of, marks_of, start_of}
 use Rattle.redo_disk.specs.{OnTold}
 use Rattle.redo_disk.specs.Seen.{Seen}
 use Rattle.redo_lab.specs.declared.outcome.Outcome.{Outcome}
 use Rattle.redo_lab.specs.declared.outcome.Outcome.TheVariants as outcome
-use Rattle.redo_lab.specs.Prepared.{WhereTold}
-use Rattle.redo_lab.specs.Reported.{IsReportOf, summary_of}
-use Rattle.redo_lab.specs.Stages.{IsArmed, IsCrashedWith, Shown}
+use Rattle.redo_lab.specs.Stages.{IsArmed, IsCrashedWith, Shown, WhereTold}
 use Rattle.redo_lab.specs.Store.{AreRefused}
+use Rattle.std.specs.Borrow.{Bor}
+use Rattle.model_report.specs.{IsLeft, report_text, summary_text}
+use Rattle.model_page.specs.declared.content.Content.{Content}
+use Rattle.model_report.specs.declared.fault.Fault.{Fault}
+use Rattle.model_report.specs.declared.fault.Fault.TheVariants.{Memory}
+use Rattle.redo_lab.specs.declared.playing.Played.{Played}
+use Rattle.redo_lab.specs.Course.{ran_of}
+
+-- the run of the lines that were played, if any were, behind their reference
+abbrev pub run_of : Option (Bor Played) → Option Ran
+run_of None = None
+run_of (Some played) = Some (ran_of played.now)
+
+-- how many groups the run reserved, its flushed mark and its checkpoint, and the checksum of the pages that are read behind it
+abbrev pub summary_of : Ran → Reading → List ℕ
+summary_of run reading = summary_text (length run.entries) run.marks.flushed run.marks.ckpt reading.pages
+
+-- The text is the report of this run of the script, with what is left of it, and of what was read.
+pub record IsReportOf (script : List ScriptLine) (run : Option Ran) (read : Option (ℕ × List Content)) (text : List ℕ) : Type 0 where
+  pub left : List (ℕ × ℕ)
+  pub left_is : IsLeft script (entries_of run) left
+  pub text_is : text ≡ report_text (start_of run) (entries_of run) left (marks_of run) read
+
+-- the report alone, or with the fault's line of the device that ended the run behind it
+abbrev pub report_outcome : List ℕ → Option Fault → Outcome
+report_outcome text None = outcome.Text text
+report_outcome text (Some fault) = outcome.Report text fault
+
+-- there was no memory for the report of a run that was ended by this, if by anything; or it is to be printed
+abbrev pub IsRunPrinted : List ScriptLine → Ran → Option Fault → Outcome → Type 0
+IsRunPrinted script run fault printed =
+    (printed ≡ outcome.Fault Memory)
+    ⊎ ((text : List ℕ) × IsReportOf script (Some run) None text × (printed ≡ report_outcome text fault))
 
 -- THE STORE WAS READ, and this text tells so of what was read, where both devices tell.
 pub record AreRead (Since : Type 0) (IsTextOf : Reading → List ℕ → Type 0) (text : List ℕ) (log_now data_now : Shown) : Type 0 where

@@ -1,18 +1,20 @@
--- WHAT IS TOLD OF A RUN, by a report, a summary or spent turns: always of one run, which is the drive's.
-use Rattle.std.specs.Prelude.{ℕ, ◌≡◌, List, length, Option, Some, None, IfSome}
+-- WHAT IS TOLD OF A RUN, by a report, a summary or spent turns, always of one run, which is the drive's; and what is left of the store,
+-- whatever the status.
+use Rattle.std.specs.Prelude.{ℕ, ◌≡◌, List, length, Option, Some, None, IfSome, ◌≢◌, ◌⊎◌}
 use Rattle.model_script.specs.declared.asked.Command.{Command}
 use Rattle.model_script.specs.declared.asked.Drive.{Drive}
 use Rattle.model_device.specs.Disk.{Disk}
 use Rattle.model_report.specs.{IsLeft, report_text, summary_text}
 use Rattle.model_script.specs.declared.script.ScriptLine.{ScriptLine}
-use Rattle.model_store.specs.{IsReading}
+use Rattle.model_store.specs.{IsReading, OpensOrderly, OpensUnused}
 use Rattle.model_store.specs.Reading.{Reading}
-use Rattle.model_theorem.specs.{entries_of, FitsOpened, IsOpenedBefore, IsRun, LosesOnlyByFailure, Opened, Ran}
+use Rattle.model_theorem.specs.{entries_of, FitsOpened, IsOpenedBefore, IsRun, LosesOnlyByFailure, Opened, Ran, IsFresh}
 use Rattle.redo_drive.specs.declared.drive.RunEnd.{RunEnd}
 use Rattle.redo_drive.specs.declared.drive.RunEnd.TheVariants.{Done}
-use Rattle.redo_lab.specs.Call.{Call, WhereOpened, WhereToldAtEntry, WhereToldNow, mids}
-use Rattle.redo_lab.specs.Script.{IsScriptFor}
-use Rattle.redo_lab.specs.Store.{AreReadAsPrefix, IsOpenedAs}
+use Rattle.redo_lab.specs.Call.{Call, Each, IsInRun, WhereOpened, WhereToldAtEntry, WhereToldNow, mids, IsLeftFair}
+use Rattle.redo_lab.specs.Asked.{IsScriptFor}
+use Rattle.redo_lab.specs.Store.{AreReadAsPrefix, IsOpenedAs, AreAccepted}
+use Rattle.redo_memdisk.specs.declared.fuse.Stage.TheVariants.{Before}
 
 -- The run took place: of the whole script, which fits the store that was opened; a legal history; and it is the drive's.
 pub record IsRunOf (call : Call) (command : Command) (drive : Drive) (opened : Opened) (script : List ScriptLine) (run : Ran) (end : RunEnd)
@@ -38,6 +40,10 @@ pub record IsAccount (call : Call) (command : Command) (drive : Drive) (opened :
   pub loses : LosesOnlyByFailure (mids call) run left
   pub opened_first : IsOpenedFirst call log_met run
 
+-- Every image of the two devices that are left is read as a prefix of this run, or of none, where both told and open a store.
+abbrev pub AreLeftRead : Call → List ScriptLine → Option Ran → Type 0
+AreLeftRead call script run = (store : Opened) → WhereOpened call store (WhereToldNow call (AreReadAsPrefix script store run))
+
 -- A run whose devices aren't crashed: they are as it left them, and every image of them is read as a prefix of it.
 pub record IsRunText (call : Call) (command : Command) (drive : Drive) (IsTextOf : List ScriptLine → Ran → List (ℕ × ℕ) → List ℕ → Type 0)
     (text : List ℕ) : Type 0 where
@@ -46,7 +52,8 @@ pub record IsRunText (call : Call) (command : Command) (drive : Drive) (IsTextOf
   pub run : Ran
   pub left : List (ℕ × ℕ)
   pub account : IsAccount call command drive opened script (Some run) left call.log.now.tells call.store.now.tells
-  pub reads : (store : Opened) → WhereOpened call store (WhereToldNow call (AreReadAsPrefix script store run))
+  pub in_run : Each IsInRun call
+  pub reads : AreLeftRead call script (Some run)
   pub text_is : IsTextOf script run left text
 
 -- the report of it
@@ -58,3 +65,15 @@ abbrev pub IsSummaryText : Call → List ScriptLine → Ran → List (ℕ × ℕ
 IsSummaryText call script run left text =
     (reading : Reading) × WhereToldNow call (λ log store. IsReading log.reads store.reads reading)
     × (text ≡ summary_text (length run.entries) run.marks.flushed run.marks.ckpt reading.pages)
+
+-- the store was in order at entry, or the log device was unused and formatting answered Ok, since the fuses were armed behind it
+abbrev pub IsStored : Call → Opened → Disk → Disk → Type 0
+IsStored call opened log store =
+    OpensOrderly log.reads store.reads opened.shape opened.pages opened.end
+    ⊎ (OpensUnused log.reads opened.shape opened.pages opened.end × (call.log.fuse.stage ≢ Before))
+
+-- Each image of the log device with each fair image of the data device is accepted, and may be opened again.
+abbrev pub LeavesStore : Call → Type 0
+LeavesStore call = (opened : Opened) → WhereToldAtEntry call (λ log store.
+    IsFresh log call.log.entry.faults → IsFresh store call.store.entry.faults → IsStored call opened log store
+    → IsLeftFair call opened → WhereToldNow call (AreAccepted opened))

@@ -5,11 +5,10 @@ ghost use Rattle.model_script.specs.declared.asked.Drive.{Drive as Asked};
 ghost use Rattle.model_script.specs.declared.words.TheConstants.{MAX_WORKERS};
 ghost use Rattle.redo_io.specs.{SourceSeen, TakesAtMost};
 ghost use Rattle.redo_io.specs.declared.read.TheConstants.{PIECE};
-ghost use Rattle.redo_lab.specs.Asked.{IsWithin, runs_in_threads};
+ghost use Rattle.redo_lab.specs.Asked.{IsScriptRead, IsWithin, runs_in_threads};
 ghost use Rattle.redo_lab.specs.Handed.{AreOf};
 ghost use Rattle.redo_lab.specs.Outcome.{EndsWith, call_of};
 ghost use Rattle.redo_lab.specs.Playing.{IsRanBy, command_for, command_with, stops_of};
-ghost use Rattle.redo_lab.specs.Script.{IsScriptRead};
 
 use crate::asked::{Scripted, turns_of};
 use crate::crash_command::{Crashing, crash_command};

@@ -8,10 +8,9 @@ ghost use Rattle.redo_memdisk.specs.{entry_of};
 ghost use Rattle.redo_lab.specs.Handed.{AreOf};
 ghost use Rattle.redo_lab.specs.Outcome.{EndsWith, call_of};
 ghost use Rattle.redo_lab.specs.Playing.{IsRanBy, command_with};
-ghost use Rattle.redo_lab.specs.Reported.{IsReportOf, run_of};
-ghost use Rattle.redo_lab.specs.Reread.{ReadsBack};
+ghost use Rattle.redo_lab.specs.Reread.{IsReportOf, ReadsBack, run_of};
 ghost use Rattle.redo_lab.specs.Stages.{shown};
-ghost use Rattle.redo_lab.specs.Script.{IsScriptRead};
+ghost use Rattle.redo_lab.specs.Asked.{IsScriptRead};
 
 use crate::faults::fault_of;
 use crate::outcome::{Done, Outcome};

@@ -12,8 +12,7 @@ ghost use Rattle.redo_lab.specs.Asked.{drive_of_seed, turns_of};
 ghost use Rattle.redo_lab.specs.Course.{ran_of};
 ghost use Rattle.redo_lab.specs.Handed.{AreOf};
 ghost use Rattle.redo_lab.specs.Outcome.{EndsWith, call_of};
-ghost use Rattle.redo_lab.specs.Reported.{summary_of};
-ghost use Rattle.redo_lab.specs.Reread.{ReadsAfter};
+ghost use Rattle.redo_lab.specs.Reread.{ReadsAfter, summary_of};
 ghost use Rattle.redo_lab.specs.Stages.{shown};
 
 use crate::faults::fault_of;

@@ -5,8 +5,7 @@ ghost use Rattle.model_log.specs.declared.layout.TheConstants.{HEADER_BYTES};
 ghost use Rattle.model_store.specs.{IsUnused};
 ghost use Rattle.redo_disk.specs.{MakesCalls, error_of};
 ghost use Rattle.redo_lab.specs.Handed.{AreOf};
-ghost use Rattle.redo_lab.specs.Prepared.{IsFirstRead, Prepares};
-ghost use Rattle.redo_lab.specs.Stages.{shown};
+ghost use Rattle.redo_lab.specs.Stages.{IsFirstRead, Prepares, shown};
 ghost use Rattle.redo_memdisk.specs.{entry_of, fresh, fuse_of, inner_of};
 ghost use Rattle.redo_recover.specs.{log_fault_of};
 

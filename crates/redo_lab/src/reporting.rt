@@ -1,6 +1,6 @@
 // The report of a run.
 ghost use Rattle.std.specs.Prelude.{IfOk};
-ghost use Rattle.redo_lab.specs.Reported.{IsReportOf, run_of};
+ghost use Rattle.redo_lab.specs.Reread.{IsReportOf, run_of};
 ghost use Rattle.redo_report.specs.{read_of};
 
 use crate::playing::Played;

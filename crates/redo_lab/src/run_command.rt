@@ -7,8 +7,8 @@ ghost use Rattle.redo_lab.specs.Course.{ran_of};
 ghost use Rattle.redo_lab.specs.Handed.{AreOf};
 ghost use Rattle.redo_lab.specs.Outcome.{EndsWith, call_of};
 ghost use Rattle.redo_lab.specs.Playing.{IsRanBy, stops_of};
-ghost use Rattle.redo_lab.specs.Reported.{IsRunPrinted};
-ghost use Rattle.redo_lab.specs.Script.{IsScriptRead};
+ghost use Rattle.redo_lab.specs.Reread.{IsRunPrinted};
+ghost use Rattle.redo_lab.specs.Asked.{IsScriptRead};
 
 use crate::outcome::{Done, Outcome};
 use crate::playing::{Course, Played, Ran};

@@ -5,7 +5,7 @@ use Rattle.redo_lab.proofs.commands.source_in_threads.Goals as goal
 
 pub in_threads-ran-requires-clause-lines : goal.in_threads-ran-requires-clause-lines
 in_threads-ran-requires-clause-lines g c = λ κs live.
-    c.read_lines_are_ranged.ensures c.in-Ok.ensures.script.text c.in-Ok.script c.in-Ok.ensures.script.of_text.is_script
+    c.read_lines_are_ranged.ensures c.in-Ok.ensures.script.text c.in-Ok.script c.in-Ok.ensures.script.is_script
 
 pub after_run-requires-clause-workers : goal.after_run-requires-clause-workers
 after_run-requires-clause-workers g c = λ κs live. within-workers c.args.asked.drive c.args.asked.crash c.requires.within

@@ -2,7 +2,7 @@ use Rattle.std.proofs.Common.{◌∙◌}
 use Rattle.redo_recover.specs.{reading_of}
 use Rattle.redo_lab.proofs.Crashing.{back-fails, back-read, crashed-since, log-crashed}
 use Rattle.redo_lab.proofs.Entered.{both-entries}
-use Rattle.redo_lab.specs.Reported.{run_of}
+use Rattle.redo_lab.specs.Reread.{run_of}
 use Rattle.redo_lab.proofs.crash_command.crash_and_read.Goals as goal
 
 pub returns-in-Ok-clause-reads : goal.returns-in-Ok-clause-reads

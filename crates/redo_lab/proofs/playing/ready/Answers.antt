@@ -4,8 +4,7 @@ use Rattle.redo_disk.specs.Seen.{Seen}
 use Rattle.redo_lab.proofs.Behind.{entered}
 use Rattle.redo_lab.proofs.Entered.{entered-then}
 use Rattle.redo_lab.proofs.Stages.{armed-now}
-use Rattle.redo_lab.specs.Prepared.{ArePrepared}
-use Rattle.redo_lab.specs.Stages.{Shown, shown}
+use Rattle.redo_lab.specs.Stages.{ArePrepared, Shown, shown}
 use Rattle.redo_lab.proofs.playing.ready.Goals as goal
 
 pub returns-clause-ready : goal.returns-clause-ready
