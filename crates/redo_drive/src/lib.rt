@@ -22,7 +22,7 @@ pub use actor::Actor;
 pub use calling::{call_batch, call_write, called};
 pub use data_calls::write_batch;
 pub use data_laws::{data_part_meets_laws, data_part_tells, held_pages_are_stored};
-pub use drive::{Drive, Driven, RunEnd};
+pub use drive::{Driven, RunEnd};
 pub use history::history_of;
 pub use lists::FlushLists;
 pub use log_calls::{checkpoint, sync, write_to};

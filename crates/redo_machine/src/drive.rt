@@ -7,7 +7,7 @@ ghost use Rattle.redo_machine.specs.ByTurns.{RunsByTurns};
 use crate::machine::Machine;
 use model_script::Script;
 use redo_disk::Sectors;
-use redo_drive::{Drive, Driven};
+use redo_drive::Driven;
 use redo_lsn::NoMemory;
 use redo_pageactors::Opened;
 use std::alloc::Global;
@@ -36,30 +36,4 @@ pub fn run_by_turns<L: Sectors, D: Sectors>(
     let ended = machine.run(turns.seed, turns.max);
     let closed = machine.finish();
     Ok(Driven { ended, closed })
-}
-
-impl Drive for Turns {
-    ghost alone = { λ turns. turns.log_only };
-
-    ghost says = { λ {L} {D} log_seen log_gives data_seen data_gives turns opened script driven. RunsByTurns log_seen log_gives data_seen data_gives opened script turns driven };
-
-    fn log_only(&self) -> bool
-        ensures { result ≡ self.now.log_only }
-    {
-        self.log_only
-    }
-
-    fn drive<L: Sectors + Send, D: Sectors + Send>(
-        &self,
-        alloc: Global,
-        opened: Opened<L, D>,
-        script: &Script,
-    ) -> Result<Driven<L, D>, (NoMemory, L, D)>
-        requires { MayBegin opened script.now self.now.log_only }
-        ensures err { IfErr result (λ error. (error.1 ≡ opened.log.dev) × (error.2 ≡ opened.store.dev)) }
-        ensures owed { IfOk result (Owes L.seen L.gives D.seen D.gives opened script.now) }
-        ensures says { IfOk result (RunsByTurns L.seen L.gives D.seen D.gives opened script.now self.now) }
-    {
-        run_by_turns(alloc, opened, script, self)
-    }
 }

@@ -29,7 +29,7 @@ pub fn drive_in_threads<R: Threads + Wait + Sync, L: Sectors + Send, D: Sectors 
     requires { MayBegin opened script.now log_only }
     ensures err { IfErr result (λ error. (error.1 ≡ opened.log.dev) × (error.2 ≡ opened.store.dev)) }
     ensures owed { IfOk result (Owes L.seen L.gives D.seen D.gives opened script.now) }
-    ensures says { IfOk result (RunsInThreads opened script.now log_only) }
+    ensures says { IfOk result (RunsInThreads L.seen L.gives D.seen D.gives opened script.now log_only) }
 {
     let (shared, actors) = Shared::new(alloc, opened, script, log_only)?;
     let (closed, _actors) = run_threads(rt, shared, actors, gate);

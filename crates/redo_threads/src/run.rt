@@ -2,6 +2,8 @@
 ghost use Rattle.std.specs.Prelude.{◌≡◌};
 ghost use Rattle.redo_drive.specs.Leaving.{LeavesRun};
 ghost use Rattle.redo_rule.specs.Closing.{IsOwedRun};
+ghost use Rattle.redo_rule.specs.Failing.{CodeHasCause};
+ghost use Rattle.redo_rule.specs.Reached.{ReachesAll};
 ghost use Rattle.redo_rule.specs.Sharing.{IsUnseated, opened_of, script_of};
 ghost use Rattle.redo_threads.specs.Ended.{HaveRun};
 
@@ -41,6 +43,8 @@ pub fn run_threads<R: Threads + Wait + Sync, L: Sectors + Send, D: Sectors + Sen
     ensures run { HaveRun actors.items result.1.items result.0 }
     ensures leaves { LeavesRun L.seen L.gives D.seen D.gives (opened_of shared) (script_of shared) shared.board.shared.key.log_only result.1.items result.0 }
     ensures owed { IsOwedRun L.seen L.gives D.seen D.gives (opened_of shared) (script_of shared) result.1.items result.0 }
+    ensures reaches { ReachesAll result.1.items result.0 }
+    ensures cause { CodeHasCause L.seen D.seen result.0.code (opened_of shared).log result.0.log (opened_of shared).store result.0.store }
 {
     let running = AtomicU64::new(open_users(actors.as_slice()));
     let seats = shared.seats(actors.as_slice());

@@ -32,8 +32,11 @@ struct Group {
     is_flushed: bool,
 }
 
+/// The pick that keeps every other write.
+pub(crate) const EVERY_OTHER: u64 = 6_148_914_691_236_517_205;
+
 /// The picks that keep no write, every other write, and all of them.
-const PICKS: [u64; 3] = [0, 6_148_914_691_236_517_205, 18_446_744_073_709_551_615];
+const PICKS: [u64; 3] = [0, EVERY_OTHER, 18_446_744_073_709_551_615];
 
 /// More calls than the opening and four lines make of a device.
 const MANY_CALLS: u64 = 200;
@@ -191,23 +194,32 @@ fn crash(
     call_on(rt, words, SCRIPT, made.devices)
 }
 
-/// Crashes under these options with each pick: whether no stop shows in any report. Of each crash, groups that are printed
-/// as flushed are kept, and what is read is what the kept groups make of the pages.
+/// Crashes under these options with a pick: whether no stop shows in the report. Groups that are printed as flushed are kept,
+/// and what is read is what the kept groups make of the pages.
+pub(crate) fn crash_with_pick(
+    rt: &(impl Abort + AllocGlobal + Threads + Wait + Sync),
+    options: &str,
+    pick: u64,
+) -> Result<bool, Fail> {
+    let alloc = rt.alloc();
+    let words = format!(in alloc; "crash {options} --pick {pick}")?;
+    let called = crash(rt, &words)?;
+    let report = str::from_utf8(called.sink.bytes())?;
+    assert!(rt;
+        called.status == 0 && is_in_order(alloc, report)?,
+        "at {words}: {report}"
+    );
+    Ok(!is_stopped(report))
+}
+
+/// The same with each pick.
 pub(crate) fn crash_with_each_pick(
     rt: &(impl Abort + AllocGlobal + Threads + Wait + Sync),
     options: &str,
 ) -> Result<bool, Fail> {
-    let alloc = rt.alloc();
     let mut is_whole = true;
     for pick in PICKS {
-        let words = format!(in alloc; "crash {options} --pick {pick}")?;
-        let called = crash(rt, &words)?;
-        let report = str::from_utf8(called.sink.bytes())?;
-        assert!(rt;
-            called.status == 0 && is_in_order(alloc, report)?,
-            "at {words}: {report}"
-        );
-        is_whole = is_whole && !is_stopped(report);
+        is_whole = crash_with_pick(rt, options, pick)? && is_whole;
     }
     Ok(is_whole)
 }

@@ -1,7 +1,7 @@
 // Runs in threads.
 use crate::calls::{call_gated, prints, source_of, words_of};
 use crate::devices::blank;
-use crate::stops::crash_with_each_pick;
+use crate::stops::{EVERY_OTHER, crash_with_each_pick, crash_with_pick};
 use redo_io::MemSink;
 use redo_threads::{Gate, Point};
 use std::sync::Wait;
@@ -113,6 +113,16 @@ fn keeps_flushed_lines_where_the_log_device_stops_threads(rt: HostRuntime) -> Re
     for calls in 0..61u64 {
         let options = format!(in rt.alloc(); "--threads --stop-log {calls}")?;
         let _is_whole = crash_with_each_pick(&rt, &options)?;
+    }
+    Ok(())
+}
+
+/// The data device stops at some of its calls.
+#[test]
+fn keeps_flushed_lines_where_the_data_device_stops_threads(rt: HostRuntime) -> Result<(), Fail> {
+    for calls in [0, 1, 2, 3, 5, 8, 13, 21, 34u64] {
+        let options = format!(in rt.alloc(); "--threads --stop-data {calls}")?;
+        let _is_whole = crash_with_pick(&rt, &options, EVERY_OTHER)?;
     }
     Ok(())
 }

@@ -13,4 +13,4 @@ returns-clause-says g c =
     let new = c.in_ok-shared.ensures.new in
     runs_in_threads g.L.Sectors.seen g.L.Sectors.gives g.D.Sectors.seen g.D.Sectors.gives (opened_of c.in_ok-shared.shared) c.args.opened (script_of c.in_ok-shared.shared) c.args.script.now
     c.run_threads-closed.result.1.items c.run_threads-closed.result.0 new.opened_is new.script_is c.in_ok-shared.shared.board.shared.key.log_only c.args.log_only new.log_only_is c.in_ok-shared.actors.items
-    c.run_threads-closed.ensures.leaves c.run_threads-closed.ensures.run
+    c.run_threads-closed.ensures.leaves c.run_threads-closed.ensures.run c.run_threads-closed.ensures.cause
