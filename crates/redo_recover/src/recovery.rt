@@ -32,7 +32,7 @@ fn recover_by<L: Sectors, D: Sectors, P: Replay>(
         groups,
         end,
         stop,
-    } = scan_log(alloc, log, &shape, ckpt)?;
+    } = scan_log(alloc, log, &shape, ckpt, replay)?;
     let Placed { pages, places } = read_pages(
         alloc,
         data_device,
