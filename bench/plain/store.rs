@@ -3,6 +3,7 @@
 //! groups and of large ones, for recovery by several workers.
 
 use crate::checksum::crc32c;
+use crate::decoder::{Got, decode};
 use crate::generator::{large_groups, small_groups};
 use crate::log::{BLOCK_DATA, BLOCK_HEADER, BLOCK_SIZE, HEADER_BYTES, START_LSN, fill};
 
@@ -40,18 +41,28 @@ fn log_of(log_blocks: usize, stream: &[u8]) -> Vec<u8> {
         START_LSN,
         HEADER_BYTES as u64,
     );
+    let firsts = firsts_of(stream);
     let blocks = log[HEADER_BYTES..].chunks_exact_mut(BLOCK_SIZE);
     for (i, (block, data)) in blocks.zip(stream.chunks(BLOCK_DATA)).enumerate() {
-        let first = if i == 0 { BLOCK_HEADER } else { 0 };
-        fill(
-            block,
-            START_LSN + (BLOCK_SIZE * i) as u64,
-            data,
-            first as u16,
-            0,
-        );
+        let lsn = START_LSN + (BLOCK_SIZE * i) as u64;
+        fill(block, lsn, data, firsts[i], 0);
     }
     log
+}
+
+/// The offset in each block of the first group that starts there, 0 where none does.
+fn firsts_of(stream: &[u8]) -> Vec<u16> {
+    let mut firsts = vec![0; stream.len().div_ceil(BLOCK_DATA)];
+    let mut rest = stream;
+    while let Got::Value(_, length) = decode(rest) {
+        let at = stream.len() - rest.len();
+        let first = &mut firsts[at / BLOCK_DATA];
+        if *first == 0 {
+            *first = (BLOCK_HEADER + at % BLOCK_DATA) as u16;
+        }
+        rest = &rest[length..];
+    }
+    firsts
 }
 
 fn seal(block: &mut [u8], fields: &[&[u8]]) {

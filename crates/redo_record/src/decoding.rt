@@ -52,7 +52,7 @@ fn read_several(alloc: Global, bytes: &[u8]) -> Result<(Group, &[u8]), Stop>
     requires { slice_index bytes.now 0 < SINGLE }
     ensures { Reads (λ x. (x.0, x.1.now)) IsGroupText bytes.now result }
 {
-    let mut recs = Vec::new(alloc);
+    let mut recs = Vec::with_capacity(alloc, 2)?;
     let mut rest = bytes;
     while !is_ended(rest) {
         let (rec, after) = read_record(alloc, 0, rest)?;

@@ -10,6 +10,7 @@ use Rattle.model_log.specs.{BeginsWithGroup, end_mark, end_of, GivesGroup, group
 use Rattle.model_log.proofs.Runs.{run-none, run-push}
 use Rattle.model_store.specs.{AreGroups, IsStorable}
 use Rattle.redo_recover.specs.Groups.{GivesStorable}
+use Rattle.redo_recover.specs.Runs.{AreGroupsSoFar}
 use Rattle.model_store.proofs.OneScan.{OneGroup, unfinished-not_whole}
 
 -- a group's text, and what is left behind it
@@ -66,12 +67,6 @@ AreGroups-push shape bytes start ws w rest more a split good from to =
       run = run-push start ws w a.run from to;
       each = subst (λ gs. AllByRecursion (IsStorable shape) gs) (sym (groups_of-push ws w)) (all-push (IsStorable shape) (groups_of ws) w.group a.each good);
     }
-
--- groups that are read, where the last of them ends, and what is left, whose lsns have room
-pub record AreGroupsSoFar (shape : Shape) (bytes : List ℕ) (start : ℕ) (wholes : List Whole) (end : ℕ) (rest : List ℕ) : Type 0 where
-  pub groups : AreGroups shape bytes start wholes rest
-  pub at : end ≡ end_of start (spans_of wholes)
-  pub room : sn_of end + length rest ≤ sn_of start + length bytes
 
 pub AreGroupsSoFar-none : (shape : Shape) (bytes : List ℕ) (start : ℕ) → AreGroupsSoFar shape bytes start [] start bytes
 unfolding stream_of

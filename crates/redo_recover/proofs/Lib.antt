@@ -4,6 +4,7 @@ mod Contents
 mod Starting
 mod Unchanged
 mod Grouping
+mod Joining
 pub mod Keeping
 mod Fronts
 mod Paging

@@ -7,6 +7,7 @@ pub mod Places
 pub mod Reading
 pub mod Reads
 pub mod Recovery
+pub mod Runs
 pub mod Start
 pub use Rattle.redo_recover.specs.Devices.{HasCauseIn, HasLengthCause, IsUnchanged, OnContents, data_fault_of, log_fault_of, refusal_of}
 pub use Rattle.redo_recover.specs.Groups.{IsEndOf}

@@ -6,9 +6,12 @@ ghost use Rattle.model_log.specs.{sn_of};
 ghost use Rattle.model_store.specs.{groups_start};
 ghost use Rattle.redo_recover.specs.Blocks.{AreFew, HaveFirsts};
 ghost use Rattle.redo_recover.specs.Groups.{GivesStorable, EndAt, IsBreakFault, AreParsed, IsEndOf, IsParseFault};
+ghost use Rattle.redo_recover.specs.Runs.{IsFrontRun};
 
 use crate::RecFault;
 use crate::blocks::{Blocks, groups_start};
+use crate::replay::Replay;
+use crate::run::Run;
 use model_base::{BLOCK_SIZE, Shape};
 use model_log::{BLOCK_HEADER, Whole};
 use redo_lsn::{NoMemory, lsn_and_sn, lsn_of, sn_of};
@@ -17,7 +20,11 @@ use redo_record::{Fits, Group, decode, one_group};
 use std::alloc::Global;
 
 /// Reads a group that fits the store off the front of the bytes.
-fn read_storable(alloc: Global, bytes: &[u8], shape: &Shape) -> Result<Got<Group>, NoMemory>
+pub(crate) fn read_storable(
+    alloc: Global,
+    bytes: &[u8],
+    shape: &Shape,
+) -> Result<Got<Group>, NoMemory>
     ensures { IfOk result (GivesStorable shape.now bytes.now) }
 {
     one_group();
@@ -35,21 +42,23 @@ fn read_storable(alloc: Global, bytes: &[u8], shape: &Shape) -> Result<Got<Group
 }
 
 /// The groups that fit the store from the lsn `start` on, one after another, and the lsn at which they end; or the lsn
-/// at which stands neither one more nor less than a whole one.
+/// at which stands neither one more nor less than a whole one. Some of them, in front, are read already.
 pub(crate) fn scan_groups(
     alloc: Global,
+    front: Run,
     bytes: &[u8],
     start: u64,
     shape: &Shape,
 ) -> Result<(Vec<Whole>, u64), RecFault>
-    requires { sn_of start + length bytes.now < 2 * LSN_LIMIT }
+    requires room { sn_of start + length bytes.now < 2 * LSN_LIMIT }
+    requires front { IsFrontRun shape.now bytes.now start front }
     ensures groups { IfOk result (λ found. EndAt shape.now bytes.now start found.0.items found.1) }
     ensures fault { IfErr result (IsBreakFault shape.now bytes.now start) }
 {
     lsn_and_sn();
-    let mut wholes = Vec::new(alloc);
-    let mut end = start;
-    let mut rest = bytes;
+    let mut rest = &bytes[front.to..];
+    let mut end = front.end;
+    let mut wholes = front.wholes;
     'groups: loop {
         match read_storable(alloc, rest, shape)? {
             Got::Value(group, taken) => {
@@ -77,12 +86,14 @@ fn data_from(bytes: &[u8], ckpt: u64, start: u64) -> &[u8]
 }
 
 /// The groups in the data of blocks from the checkpoint on, and the lsn at which the log ends.
-pub(crate) fn parse(
+pub(crate) fn parse<P: Replay>(
     alloc: Global,
     blocks: &Blocks,
     shape: &Shape,
     ckpt: u64,
+    replay: &P,
 ) -> Result<(Vec<Whole>, u64), RecFault>
+    requires ready { P.is_ready replay.now }
     requires limits { IsWithinLimits shape.now }
     requires few { AreFew shape.now blocks.now.views.items blocks.now.joined.items }
     requires firsts { HaveFirsts blocks.now.views.items }
@@ -98,5 +109,6 @@ pub(crate) fn parse(
         return Ok((Vec::new(alloc), end));
     };
     let bytes = data_from(blocks.joined.as_slice(), ckpt, start);
-    scan_groups(alloc, bytes, start, shape)
+    let front = replay.read_front(alloc, blocks, bytes, start, shape)?;
+    scan_groups(alloc, front, bytes, start, shape)
 }

@@ -13,8 +13,10 @@ mod places;
 mod recovered;
 mod recovery;
 mod replay;
+mod run;
 mod scan;
 mod start;
+mod stretch;
 
 pub use errors::{data_fault, log_fault};
 pub use fault::RecFault;

@@ -32,7 +32,7 @@ fn recover_by<L: Sectors, D: Sectors, P: Replay>(
         groups,
         end,
         stop,
-    } = scan_log(alloc, log, &shape, ckpt)?;
+    } = scan_log(alloc, log, &shape, ckpt, replay)?;
     let Placed { pages, places } = read_pages(
         alloc,
         data_device,
@@ -69,7 +69,7 @@ pub fn recover<L: Sectors, D: Sectors>(
     recover_by(alloc, log, data_device, &OneWorker)
 }
 
-/// The same, with the groups applied by so many workers. What it gives and what it refuses doesn't depend on their number.
+/// The same, with the groups read and applied by so many workers. What it gives and what it refuses doesn't depend on their number.
 pub fn recover_with<R: Threads + Sync, L: Sectors, D: Sectors>(
     rt: &R,
     alloc: Global,

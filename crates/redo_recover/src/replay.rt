@@ -1,11 +1,16 @@
-// How the scanned groups are applied to the pages: by one worker, or by several.
-ghost use Rattle.std.specs.Prelude.{◌≤◌, length, All, OnOk, ⊤};
+// How groups are read and applied to the pages: by one worker, or by several.
+ghost use Rattle.std.specs.Prelude.{◌≤◌, ◌<◌, ◌+◌, ◌*◌, length, All, OnOk, IfOk, ⊤};
 ghost use Rattle.std.specs.Thread.{IsSync};
 ghost use Rattle.model_base.specs.{IsWithinLimits};
-ghost use Rattle.model_log.specs.{GroupFits};
+ghost use Rattle.model_base.specs.declared.limits.TheConstants.{LSN_LIMIT, MAX_LOG_BLOCKS};
+ghost use Rattle.model_log.specs.{GroupFits, sn_of};
 ghost use Rattle.redo_apply.specs.{ArePagesOf, AreReplayed, HaveLsns};
 ghost use Rattle.redo_papply.specs.declared.apply.TheConstants.{MAX_WORKERS};
+ghost use Rattle.redo_recover.specs.Runs.{IsFrontRun};
 
+use crate::blocks::Blocks;
+use crate::run::Run;
+use crate::stretch::read_by_all;
 use model_base::{MAX_PAGES, Shape};
 use model_log::Whole;
 use redo_apply::Pages;
@@ -14,10 +19,25 @@ use redo_papply::apply_all;
 use std::alloc::Global;
 use std::thread::Threads;
 
-/// What applies groups to pages.
+/// What reads groups and applies them to pages.
 pub(crate) trait Replay {
     // that it may be called
     ghost is_ready: { Self → Type 0 };
+
+    /// Groups that stand in front of the data, which starts at this lsn. There may be more, which are then read one after
+    /// another.
+    fn read_front(
+        &self,
+        alloc: Global,
+        blocks: &Blocks,
+        bytes: &[u8],
+        start: u64,
+        shape: &Shape,
+    ) -> Result<Run, NoMemory>
+        requires ready { is_ready self.now }
+        requires few { length blocks.now.views.items ≤ MAX_LOG_BLOCKS }
+        requires room { sn_of start + length bytes.now < 2 * LSN_LIMIT }
+        ensures { IfOk result (IsFrontRun shape.now bytes.now start) };
 
     /// Applies to each page each of these groups that starts at or above its lsn. Where it fails, nothing is known of the
     /// pages.
@@ -43,6 +63,17 @@ pub(crate) struct OneWorker;
 impl Replay for OneWorker {
     ghost is_ready = { λ _. ⊤ };
 
+    fn read_front(
+        &self,
+        alloc: Global,
+        blocks: &Blocks,
+        bytes: &[u8],
+        start: u64,
+        shape: &Shape,
+    ) -> Result<Run, NoMemory> {
+        Ok(Run::none(alloc, start))
+    }
+
     fn replay(
         &self,
         alloc: Global,
@@ -64,6 +95,20 @@ pub(crate) struct Workers<'a, R> {
 
 impl<'a, R: Threads + Sync> Replay for Workers<'a, R> {
     ghost is_ready = { λ workers. (1 ≤ workers.count) × (workers.count ≤ MAX_WORKERS) × IsSync R.row };
+
+    fn read_front(
+        &self,
+        alloc: Global,
+        blocks: &Blocks,
+        bytes: &[u8],
+        start: u64,
+        shape: &Shape,
+    ) -> Result<Run, NoMemory> {
+        if self.count == 1 {
+            return Ok(Run::none(alloc, start));
+        }
+        read_by_all(self.rt, alloc, blocks, bytes, start, shape, self.count)
+    }
 
     fn replay(
         &self,

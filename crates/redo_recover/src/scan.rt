@@ -12,6 +12,7 @@ use crate::RecFault;
 use crate::blocks::{Blocks, read_blocks};
 use crate::errors::log_fault;
 use crate::groups::parse;
+use crate::replay::Replay;
 use model_base::Shape;
 use model_log::{BlockView, Cause, Whole};
 use redo_disk::Sectors;
@@ -28,12 +29,14 @@ pub(crate) struct Scanned {
 }
 
 /// Scans a log from the checkpoint at this lsn on, up to its end.
-pub(crate) fn scan_log<L: Sectors>(
+pub(crate) fn scan_log<L: Sectors, P: Replay>(
     alloc: Global,
     log: &mut L,
     shape: &Shape,
     ckpt: u64,
+    replay: &P,
 ) -> Result<Scanned, RecFault>
+    requires ready { P.is_ready replay.now }
     requires limits { IsWithinLimits shape.now }
     requires long { log_device_length shape.now ≤ (L.seen log.old).size }
     requires aligned { ckpt % BLOCK_SIZE ≡ 0 }
@@ -55,7 +58,7 @@ pub(crate) fn scan_log<L: Sectors>(
         Ok(blocks) => blocks,
         Err(error) => return Err(log_fault(error)),
     };
-    let (groups, end) = parse(alloc, &blocks, shape, ckpt)?;
+    let (groups, end) = parse(alloc, &blocks, shape, ckpt, replay)?;
     let Blocks { views, stop, .. } = blocks;
     Ok(Scanned {
         views,

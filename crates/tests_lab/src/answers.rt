@@ -49,6 +49,8 @@ new | crash                                 | 1 f b1 3 100 7 | 0 | open 8204 / g
 new | crash --log-only                      | 1 f b1 3 100 7 | 0 | open 8204 / g 8204 8210 1 0 flushed / marks 8210 8210 8210 8192 / recovered 1 8210 / p 3 8210 (00*62)07
 new | crash --threads --log-only            | 1 f b1 3 100 7 | 0 | open 8204 / g 8204 8210 1 0 flushed / marks 8210 8210 8210 8192 / recovered 1 8210 / p 3 8210 (00*62)07
 new | crash --threads                       | 1 f b1 3 100 7 | 0 | open 8204 / g 8204 8210 1 0 flushed / marks 8210 8210 8210 8192 / recovered 1 8210 / p 3 8210 (00*62)07
+new | crash --workers 1                     | 1 f b1 3 100 7 | 0 | open 8204 / g 8204 8210 1 0 flushed / marks 8210 8210 8210 8192 / recovered 1 8210 / p 3 8210 (00*62)07
+new | crash --workers 5                     | 1 f b1 3 100 7 | 0 | open 8204 / g 8204 8210 1 0 flushed / marks 8210 8210 8210 8192 / recovered 1 8210 / p 3 8210 (00*62)07
 new | crash --workers 16                    | 1 f b1 3 100 7 | 0 | open 8204 / g 8204 8210 1 0 flushed / marks 8210 8210 8210 8192 / recovered 1 8210 / p 3 8210 (00*62)07
 new | crash --turns 5 --max 1000000         | 1 f b1 3 100 7 | 0 | open 8204 / g 8204 8210 1 0 flushed / marks 8210 8210 8210 8192 / recovered 1 8210 / p 3 8210 (00*62)07
 new | crash --stop-log 18446744073709551615 | 1 f b1 3 100 7 | 0 | open 8204 / g 8204 8210 1 0 flushed / marks 8210 8210 8210 8192 / recovered 1 8210 / p 3 8210 (00*62)07
@@ -61,7 +63,9 @@ fn reads_two_pages_of_one_line(rt: HostRuntime) -> Result<(), Fail> {
     play(
         &rt,
         "
-new | crash | 1 f b1 3 100 7;b1 4 100 8 | 0 | open 8204 / g 8204 8217 1 0 flushed / marks 8217 8217 8217 8192 / recovered 1 8217 / p 3 8217 (00*62)07 / p 4 8217 (00*62)08
+new  | crash               | 1 f b1 3 100 7;b1 4 100 8 | 0 | open 8204 / g 8204 8217 1 0 flushed / marks 8217 8217 8217 8192 / recovered 1 8217 / p 3 8217 (00*62)07 / p 4 8217 (00*62)08
+new  | crash --workers 8   | 1 f b1 3 100 7;b1 4 100 8 | 0 | open 8204 / g 8204 8217 1 0 flushed / marks 8217 8217 8217 8192 / recovered 1 8217 / p 3 8217 (00*62)07 / p 4 8217 (00*62)08
+same | recover --workers 8 |                           | 0 | read 1 8217 / p 3 8217 (00*62)07 / p 4 8217 (00*62)08
 ",
     )
 }

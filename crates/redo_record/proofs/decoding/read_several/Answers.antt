@@ -7,7 +7,7 @@ use Rattle.redo_record.proofs.decoding.read_several.Goals as goal
 
 pub returns-in_err-rec : goal.returns-in_err-rec
 returns-in_err-rec c =
-    passed_on _ _ _ _ _ c.from_residual.ensures.1
+    passed_on _ _ _ _ _ c.from_residual-in_err-rec.ensures.1
     (several_stop one_of_both c.args.bytes.now c.loop-alloc.rest.now c.loop-alloc.recs.items c.requires c.loop-alloc.invariant.0 c.loop-alloc.invariant.1 (λ e. false≢true (c.loop-alloc-test.ensures.1 e)) _ c.in_err-rec.ensures)
 
 pub loop-alloc-preserved : goal.loop-alloc-preserved

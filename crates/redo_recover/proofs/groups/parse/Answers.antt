@@ -7,7 +7,7 @@ use Rattle.redo_recover.proofs.Bounds.{parsed-end}
 use Rattle.redo_recover.proofs.groups.parse.Goals as goal
 
 pub returns-clause-end : goal.returns-clause-end
-returns-clause-end c =
+returns-clause-end g c =
     IfOk-weaker c.scan_groups.result (λ found. EndAt c.args.shape.now c.data_from-bytes.result.now c.in-Some.start found.0.items found.1)
     (λ found. IsEndOf c.args.shape.now c.args.ckpt found.0.items found.1)
     (λ found is. parsed-end c.args.shape.now c.args.ckpt c.args.blocks.now.views.items c.args.blocks.now.joined.items (Some c.in-Some.start) found.0.items found.1

@@ -2,13 +2,16 @@ use Rattle.std.proofs.Common.{◌+◌, ap, subst, sym, ◌∙◌}
 use Rattle.std.proofs.lemmas.List.{take_rest}
 use Rattle.model_log.specs.{lsn_of}
 use Rattle.redo_recover.specs.Groups.{GivesStorable}
-use Rattle.redo_recover.proofs.Grouping.{AreGroupsSoFar, AreGroupsSoFar-none, AreGroupsSoFar-push, rest-shorter, taken-some}
+use Rattle.redo_recover.specs.Runs.{AreGroupsSoFar}
+use Rattle.redo_recover.proofs.Grouping.{AreGroupsSoFar-push, rest-shorter, taken-some}
+use Rattle.redo_recover.proofs.Joining.{front-so_far}
 use Rattle.redo_recover.proofs.groups.scan_groups.Goals as goal
 
 pub groups-init : goal.groups-init
 groups-init c =
-    subst (λ ws. AreGroupsSoFar c.args.shape.now c.args.bytes.now c.args.start ws c.args.start c.args.bytes.now) (sym c.new-wholes.ensures.items)
-    (AreGroupsSoFar-none c.args.shape.now c.args.bytes.now c.args.start)
+    subst (λ rest. AreGroupsSoFar c.args.shape.now c.args.bytes.now c.args.start c.args.front.wholes.items c.args.front.end rest)
+    (sym (take_rest c.args.bytes.now c.args.front.to))
+    (front-so_far c.args.shape.now c.args.bytes.now c.args.start c.args.front c.requires.front)
 
 pub groups-smaller : goal.groups-smaller
 groups-smaller c =

@@ -1,5 +1,5 @@
 use Rattle.std.proofs.Common.{length}
-use Rattle.redo_recover.proofs.Grouping.{AreGroupsSoFar}
+use Rattle.redo_recover.specs.Runs.{AreGroupsSoFar}
 use Rattle.redo_recover.proofs.groups.scan_groups.Given as goal
 
 abbrev pub invariant-groups : goal.invariant-groups
