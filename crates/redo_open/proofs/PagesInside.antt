@@ -62,9 +62,10 @@ places-put : (shape : Shape) (pairs : List (ℕ × ℕ)) (users : List ℕ) → 
     → AllByRecursion (IsToPut (IsWithin (data_device_length shape))) (map ToWrite (place_writes shape (batch_of pairs users)) ++ ToSync ∷ [])
 places-put shape [] users size long below = (tt, tt)
 places-put shape (pair ∷ pairs) users size long below = (
-    place-inside shape.slots pair.0 shape.pages shape.page_size (length (new_text shape (fresh_of pair (take 4050 users)))) size (below 0 pair refl)
-    (text-long shape pair (length pairs) users long),
-    places-put shape pairs (drop 4050 users) size (others-long (length pairs) users long) (λ i other at. below (suc i) other at))
+  place-inside shape.slots pair.0 shape.pages shape.page_size (length (new_text shape (fresh_of pair (take 4050 users)))) size (below 0 pair refl)
+      (text-long shape pair (length pairs) users long),
+  places-put shape pairs (drop 4050 users) size (others-long (length pairs) users long) (λ i other at. below (suc i) other at),
+)
 
 pub batch_served : {D : Type 0} {gives : D → Call → D → Type 0} {old new : D} {error : Option DevError} (shape : Shape) (pairs : List (ℕ × ℕ)) (users : List ℕ)
     → shape.page_size ≡ 4096 → IsWritable shape pairs users → MakesCalls gives old new (Serve (batch_requests shape (batch_of pairs users)) error)

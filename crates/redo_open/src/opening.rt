@@ -85,7 +85,8 @@ fn open_recovered<L: Sectors, D: Sectors>(
 
 /// Opens the store on two devices, so that a run can start on it: reads it, clears away what stands on the log behind its
 /// end, repairs the places of pages that don't pass, writes each page as it was read where that isn't in its place then,
-/// and moves the checkpoint. A store that is refused is as it was.
+/// and moves the checkpoint. A store that is refused is as it was. Nothing is written beyond the lengths that the store's
+/// shape asks for, and nothing is read once the store is.
 ///
 /// Wherever it ends, whatever a crash leaves of the two devices is read with the same pages. The devices of a store that
 /// isn't opened are handed back beside the fault.
