@@ -240,15 +240,15 @@ fn stop_at_each_call(
 
 #[test]
 fn keeps_flushed_lines_where_the_log_device_stops(rt: HostRuntime) -> Result<(), Fail> {
-    stop_at_each_call(&rt, "--stop-log @")
+    stop_at_each_call(&rt, "--turns 1 --stop-log @")
 }
 
 #[test]
 fn keeps_flushed_lines_where_the_data_device_stops(rt: HostRuntime) -> Result<(), Fail> {
-    stop_at_each_call(&rt, "--stop-data @")
+    stop_at_each_call(&rt, "--turns 1 --stop-data @")
 }
 
 #[test]
 fn keeps_flushed_lines_where_both_devices_stop(rt: HostRuntime) -> Result<(), Fail> {
-    stop_at_each_call(&rt, "--stop-log @ --stop-data @")
+    stop_at_each_call(&rt, "--turns 1 --stop-log @ --stop-data @")
 }
