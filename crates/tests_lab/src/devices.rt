@@ -18,6 +18,9 @@ pub(crate) const FIRST_BLOCK: u64 = 2048;
 
 pub(crate) const SECOND_BLOCK: u64 = 2560;
 
+/// Where the block at the last lsn stands: 8704 bytes below the end of a round, since 2^60 is a number of whole rounds.
+const LAST_BLOCK: u64 = 1_041_920;
+
 /// Bytes of a page, and of a slot.
 const PAGE: u64 = 4096;
 
@@ -118,6 +121,24 @@ fn put_other_format(log: &mut MemDisk) -> Result<(), DevError> {
     put(log, 0, &head)
 }
 
+/// A checkpoint at the last block below the lsn limit, and that block, which is full and holds no group.
+fn put_last_block(log: &mut MemDisk) -> Result<(), DevError> {
+    put_checkpoint(log, 2, LSN_LIMIT - 512)?;
+    let mut block = [0; 512];
+    fill(&mut block, LSN_LIMIT - 512, &[7; 496], 0, 2);
+    put(log, LAST_BLOCK, &block)
+}
+
+/// A log of full blocks that hold no group, from the checkpoint once round.
+fn put_whole_round(log: &mut MemDisk) -> Result<(), DevError> {
+    let mut block = [0; 512];
+    for i in 0..2048u64 {
+        fill(&mut block, 8192 + 512 * i, &[7; 496], 0, 0);
+        put_pending(log, FIRST_BLOCK + 512 * i, &block)?;
+    }
+    log.sync()
+}
+
 /// A page place that isn't sound.
 fn put_broken_place(store: &mut MemDisk) -> Result<(), DevError> {
     put(store, PLACE, &[1; 512])
@@ -178,6 +199,8 @@ pub(crate) fn change(devices: &mut Devices, name: &str) -> Result<(), DevError> 
         "no length" => put_no_length(&mut devices.log),
         "no type" => put_no_type(&mut devices.log),
         "no group" => put_no_group(&mut devices.log),
+        "last block" => put_last_block(&mut devices.log),
+        "whole round" => put_whole_round(&mut devices.log),
         "other format" => put_other_format(&mut devices.log),
         "no checkpoint" => {
             put(&mut devices.log, 512, &[1; 512])?;
