@@ -5,6 +5,7 @@
 #include <unistd.h>
 
 extern void *__libc_malloc(size_t size);
+extern void *__libc_calloc(size_t count, size_t size);
 extern void *__libc_realloc(void *old, size_t size);
 
 static long made;
@@ -20,5 +21,7 @@ static int refuses(void) {
 }
 
 void *malloc(size_t size) { return refuses() ? NULL : __libc_malloc(size); }
+
+void *calloc(size_t count, size_t size) { return refuses() ? NULL : __libc_calloc(count, size); }
 
 void *realloc(void *old, size_t size) { return refuses() ? NULL : __libc_realloc(old, size); }

@@ -1,21 +1,35 @@
 -- Writes that lie within the lengths of a store.
-use Rattle.std.proofs.Common.{◌≡◌, ◌≤◌, ◌+◌, ℕ, List, ◌++◌, length, replicate, Option, ap, ◌∙◌, arith}
+use Rattle.std.proofs.Common.{◌≡◌, ◌≤◌, ◌+◌, ℕ, List, ◌++◌, length, replicate, Option, Some, None, Ok, Err, sym, ap, subst, ◌∙◌, arith}
+use Rattle.std.specs.Prelude.{IfOk}
 use Rattle.std.specs.Int.{bytes_high_first}
 use Rattle.model_base.specs.declared.shape.Shape.{Shape}
 use Rattle.model_device.specs.{IsWithin}
+use Rattle.model_device.specs.Disk.{Disk}
 use Rattle.model_device.specs.declared.write.Write.{Write}
 use Rattle.model_log.specs.{checkpoint_text, log_device_length, offset_of}
 use Rattle.model_log.specs.declared.layout.TheConstants.{RING_SIZE}
 use Rattle.model_log.proofs.Sealed.{length-padded, length-sealed}
 use Rattle.model_base.specs.{padded_to}
-use Rattle.redo_disk.proofs.Made.{weaker_calls}
-use Rattle.redo_disk.specs.{Call, EndWith, MakesCalls}
+use Rattle.model_log.proofs.Several.{one_group}
+use Rattle.model_store.proofs.OneReading.{same_reading}
+use Rattle.model_store.specs.{IsReading}
+use Rattle.model_store.specs.Reading.{Reading}
+use Rattle.redo_disk.proofs.Made.{joined_calls, weaker_calls}
+use Rattle.redo_disk.specs.{AreReads, Call, EndWith, MakesCalls, ReadsMayEndWith}
 use Rattle.redo_disk.specs.declared.error.DevError.{DevError}
 use Rattle.redo_logdev.specs.Calls.{checkpoint_write}
 use Rattle.redo_open.proofs.Erases.{zeros_write}
 use Rattle.redo_open.proofs.Marks.{header-place}
+use Rattle.redo_open.proofs.Puts.{puts-append}
 use Rattle.redo_open.proofs.Rows.{length-zeros}
+use Rattle.redo_logdev.specs.Part.{Part as Log}
+use Rattle.redo_open.specs.Formatting.{WritesInside}
+use Rattle.redo_open.specs.Opening.{Answer, IsOpenedAs, IsStarted, OpensInside, ReadsThenWrites, log_left, data_left}
 use Rattle.redo_open.specs.Puts.{ArePuts, PutsWhere}
+use Rattle.redo_recover.specs.{OnContents, ReadsLog}
+use Rattle.redo_recover.specs.declared.fault.RecFault.{RecFault}
+use Rattle.redo_recover.specs.declared.recovered.Recovered.{Recovered}
+use Rattle.redo_store.specs.Part.{Part}
 
 -- what lies within some bytes lies within more
 pub within-longer : (few many : ℕ) → few ≤ many → (write : Write) → IsWithin few write → IsWithin many write
@@ -43,6 +57,75 @@ pub puts_of : {D : Type 0} {gives : D → Call → D → Type 0} {old new : D} {
     → MakesCalls gives old new (PutsWhere IsSuch error) → MakesCalls gives old new (ArePuts IsSuch)
 puts_of = weaker_calls (λ calls are. are.puts)
 
+-- such calls, and others behind them
+pub puts_behind : {D : Type 0} {gives : D → Call → D → Type 0} {old middle new : D} {IsSuch : Write → Type 0}
+    → MakesCalls gives old middle (ArePuts IsSuch) → MakesCalls gives middle new (ArePuts IsSuch) → MakesCalls gives old new (ArePuts IsSuch)
+puts_behind {IsSuch = IsSuch} = joined_calls (puts-append IsSuch)
+
 pub ends_of : {D : Type 0} {gives : D → Call → D → Type 0} {old new : D} {IsSuch : Write → Type 0} {error : Option DevError}
     → MakesCalls gives old new (PutsWhere IsSuch error) → MakesCalls gives old new (EndWith error)
 ends_of = weaker_calls (λ calls are. are.ends)
+
+-- OPENING.
+
+-- a run that was started makes no call
+pub started_inside : {L D : Type 0} {log_gives : L → Call → L → Type 0} {data_gives : D → Call → D → Type 0} {shape : Shape} {log_old : L} {data_old : D} (log : L) (store : Part D)
+    (recovered : Recovered) (start : ℕ) (result : Answer L D) → IsStarted log store recovered start result
+    → WritesInside log_gives data_gives shape log_old log data_old store.dev
+    → WritesInside log_gives data_gives shape log_old (log_left result) data_old (data_left result)
+started_inside {log_gives = log_gives} {data_gives = data_gives} {shape = shape} {log_old = log_old} {data_old = data_old} log store recovered start (Ok run) is made =
+    subst (λ dev. WritesInside log_gives data_gives shape log_old dev data_old run.store.dev) (sym (ap (λ (part : Log _). part.dev) is.log_part))
+    (subst (λ dev. WritesInside log_gives data_gives shape log_old log data_old dev) (sym (ap (λ (part : Part _). part.dev) is.data_part)) made)
+started_inside {log_gives = log_gives} {data_gives = data_gives} {shape = shape} {log_old = log_old} {data_old = data_old} log store recovered start (Err error) (none, log_is, data_is) made =
+    subst (λ dev. WritesInside log_gives data_gives shape log_old dev data_old error.2) (sym log_is)
+    (subst (λ dev. WritesInside log_gives data_gives shape log_old log data_old dev) (sym data_is) made)
+
+-- the calls of recovery are reads
+pub log_reads : {D : Type 0} {gives : D → Call → D → Type 0} {old new : D} {size : ℕ} {error : Option DevError}
+    → MakesCalls gives old new (ReadsLog size error) → MakesCalls gives old new AreReads
+log_reads = weaker_calls (λ calls are. are.reads.reads)
+
+pub data_reads : {D : Type 0} {gives : D → Call → D → Type 0} {old new : D} {error : Option DevError}
+    → MakesCalls gives old new (ReadsMayEndWith error) → MakesCalls gives old new AreReads
+data_reads = weaker_calls (λ calls are. are.reads)
+
+-- what holds whatever the store is read as
+whatever-read : (log_told data_told : Option Disk) (reading : Reading) (Q : Shape → Type 0) → Q reading.shape
+    → OnContents log_told data_told (λ log_bytes data_bytes. IsReading log_bytes data_bytes reading → Q reading.shape)
+whatever-read None data_told reading Q holds = tt
+whatever-read (Some l) None reading Q holds = tt
+whatever-read (Some l) (Some d) reading Q holds = λ is. holds
+
+-- what holds of the one reading of the store
+as-read : (log_told data_told : Option Disk) (reading read : Reading) (Q : Shape → Type 0) → OnContents log_told data_told (λ log_bytes data_bytes. IsReading log_bytes data_bytes read)
+    → Q read.shape → OnContents log_told data_told (λ log_bytes data_bytes. IsReading log_bytes data_bytes reading → Q reading.shape)
+as-read None data_told reading read Q reads holds = tt
+as-read (Some l) None reading read Q reads holds = tt
+as-read (Some l) (Some d) reading read Q reads holds =
+    λ is. subst (λ (one : Reading). Q one.shape) (sym (same_reading one_group l.reads d.reads reading read is reads)) holds
+
+-- the store wasn't opened, and by any shape nothing was written
+pub unopened-inside : {L D : Type 0} (log_gives : L → Call → L → Type 0) (data_gives : D → Call → D → Type 0) (log_told data_told : Option Disk) (log : L) (data_device : D)
+    (error : RecFault × L × D) → ((shape : Shape) → ReadsThenWrites log_gives data_gives shape log error.1 data_device error.2)
+    → OpensInside log_gives data_gives log_told data_told log data_device (Err error)
+unopened-inside log_gives data_gives log_told data_told log data_device error inside = record {
+  read = λ reading. whatever-read log_told data_told reading (λ shape. ReadsThenWrites log_gives data_gives shape log error.1 data_device error.2) (inside reading.shape);
+  opened = tt;
+}
+
+opened-inside : {L D : Type 0} (log_gives : L → Call → L → Type 0) (data_gives : D → Call → D → Type 0) (log : L) (data_device : D) (result : Answer L D) (read : Reading)
+    → IfOk result (IsOpenedAs read) → ReadsThenWrites log_gives data_gives read.shape log (log_left result) data_device (data_left result)
+    → IfOk result (λ store. ReadsThenWrites log_gives data_gives store.shape log store.log.dev data_device store.store.dev)
+opened-inside log_gives data_gives log data_device (Ok store) read opened inside =
+    subst (λ shape. ReadsThenWrites log_gives data_gives shape log store.log.dev data_device store.store.dev) (sym opened.shape) inside
+opened-inside log_gives data_gives log data_device (Err error) read opened inside = tt
+
+-- the store was read, and what was written then lies inside by the shape that was read
+pub read-inside : {L D : Type 0} (log_gives : L → Call → L → Type 0) (data_gives : D → Call → D → Type 0) (log_told data_told : Option Disk) (log : L) (data_device : D)
+    (result : Answer L D) (read : Reading) → OnContents log_told data_told (λ log_bytes data_bytes. IsReading log_bytes data_bytes read) → IfOk result (IsOpenedAs read)
+    → ReadsThenWrites log_gives data_gives read.shape log (log_left result) data_device (data_left result)
+    → OpensInside log_gives data_gives log_told data_told log data_device result
+read-inside log_gives data_gives log_told data_told log data_device result read reads opened inside = record {
+  read = λ reading. as-read log_told data_told reading read (λ shape. ReadsThenWrites log_gives data_gives shape log (log_left result) data_device (data_left result)) reads inside;
+  opened = opened-inside log_gives data_gives log data_device result read opened inside;
+}

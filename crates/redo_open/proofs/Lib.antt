@@ -8,6 +8,7 @@ pub mod Erases
 pub mod Formats
 pub mod Gathers
 pub mod Inside
+pub mod PagesInside
 pub mod GatherSteps
 pub mod Marks
 pub mod Mends

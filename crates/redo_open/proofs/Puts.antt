@@ -46,7 +46,7 @@ put_weaker {One = One} {Both = Both} weaker = weaker_calls (λ calls are. record
 
 -- CALLS THAT WERE ASKED FOR.
 
-abbrev IsToPut : (Write → Type 0) → Request → Type 0
+abbrev pub IsToPut : (Write → Type 0) → Request → Type 0
 IsToPut IsSuch (ToRead at count) = ⊥
 IsToPut IsSuch (ToWrite write) = IsSuch write
 IsToPut IsSuch ToSync = Unit {0}
@@ -65,7 +65,7 @@ serve-puts IsSuch requests error calls are serve = record {
   ends = serve.ends;
 }
 
-served : {D : Type 0} {gives : D → Call → D → Type 0} {old new : D} {IsSuch : Write → Type 0} {error : Option DevError} (requests : List Request)
+pub served : {D : Type 0} {gives : D → Call → D → Type 0} {old new : D} {IsSuch : Write → Type 0} {error : Option DevError} (requests : List Request)
     → AllByRecursion (IsToPut IsSuch) requests → MakesCalls gives old new (Serve requests error) → MakesCalls gives old new (PutsWhere IsSuch error)
 served {IsSuch = IsSuch} {error = error} requests are = weaker_calls (λ calls. serve-puts IsSuch requests error calls are)
 

@@ -14,4 +14,4 @@ pub mod Store
 pub mod Zeros
 pub use Rattle.redo_open.specs.Devices.{HasSameCheckpoint, WhereBothTell}
 pub use Rattle.redo_open.specs.Formatting.{FormatCalls, HasFormatCause, JudgesLengths, WritesInside}
-pub use Rattle.redo_open.specs.Opening.{HasFaultCause, IsOpenedReady, IsOpeningOf, OpensLog}
+pub use Rattle.redo_open.specs.Opening.{HasFaultCause, IsOpenedReady, IsOpeningOf, OpensInside, OpensLog}

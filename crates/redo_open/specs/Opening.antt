@@ -2,17 +2,20 @@
 use Rattle.std.specs.Prelude.{ℕ, ◌≡◌, ◌≢◌, ◌≤◌, ◌<◌, ◌+◌, List, length, Option, None, Result, Ok, Err, IfOk, IfErr, IfSome}
 use Rattle.model_base.specs.{HasRisen}
 use Rattle.model_base.specs.declared.limits.TheConstants.{LSN_LIMIT}
+use Rattle.model_base.specs.declared.shape.Shape.{Shape}
 use Rattle.model_parts.specs.{first_marks, IsReady, KeepsOpened, next_number, start_of}
 use Rattle.model_device.specs.{settled}
+use Rattle.model_device.specs.Disk.{Disk}
 use Rattle.model_store.specs.{IsOrderly, IsReading, Refuses}
 use Rattle.model_store.specs.Reading.{Reading}
 use Rattle.model_store.specs.declared.refusal.Refusal.{Refusal}
 use Rattle.model_log.specs.declared.layout.TheConstants.{HEADER_BYTES}
-use Rattle.redo_disk.specs.{Call, MayEndWith}
+use Rattle.redo_disk.specs.{AreReads, Call, MakesCalls, MayEndWith}
 use Rattle.redo_disk.specs.Seen.{Seen}
 use Rattle.redo_disk.specs.declared.error.DevError.{DevError}
 use Rattle.redo_store.specs.Part.{Part}
 use Rattle.redo_open.specs.Devices.{HasSameCheckpoint, IsFrom, IsOpenFault, IsSameDevice, WhereBothTell}
+use Rattle.redo_open.specs.Formatting.{WritesInside}
 use Rattle.redo_pageactors.specs.{IsRunnable}
 use Rattle.redo_pageactors.specs.declared.opened.Opened.{Opened}
 use Rattle.redo_recover.specs.{data_error, HasCauseIn, HasLengthCause, log_error, OnContents}
@@ -111,3 +114,19 @@ data_error_in (Err error) = data_error error.0
 pub record OpensLog (size : ℕ) (error : Option DevError) (calls : List Call) : Type 0 where
   pub ends : MayEndWith error calls
   pub begun : HEADER_BYTES ≤ size → 0 < length calls
+
+-- Both devices are read, and behind that no call is a read, and no write reaches beyond the lengths that a store of this
+-- shape has.
+pub record ReadsThenWrites {L D : Type 0} (log_gives : L → Call → L → Type 0) (data_gives : D → Call → D → Type 0) (shape : Shape) (log_old log_new : L) (data_old data_new : D) : Type 0 where
+  pub log_read : L
+  pub data_read : D
+  pub log : MakesCalls log_gives log_old log_read AreReads
+  pub data_device : MakesCalls data_gives data_old data_read AreReads
+  pub inside : WritesInside log_gives data_gives shape log_read log_new data_read data_new
+
+-- NOTHING OUTSIDE THE STORE IS WRITTEN, by the shape with which what reads give is read, and by the one that is opened.
+pub record OpensInside {L D : Type 0} (log_gives : L → Call → L → Type 0) (data_gives : D → Call → D → Type 0) (log_told data_told : Option Disk) (log : L) (data_device : D)
+    (result : Answer L D) : Type 0 where
+  pub read : (reading : Reading) → OnContents log_told data_told (λ log_bytes data_bytes. IsReading log_bytes data_bytes reading
+      → ReadsThenWrites log_gives data_gives reading.shape log (log_left result) data_device (data_left result))
+  pub opened : IfOk result (λ store. ReadsThenWrites log_gives data_gives store.shape log store.log.dev data_device store.store.dev)

@@ -2,9 +2,11 @@
 ghost use Rattle.std.specs.Prelude.{◌≡◌, ◌≤◌, ◌+◌, ◌<◌, ◌%◌, ◌^◌, OnOk};
 ghost use Rattle.model_base.specs.declared.limits.TheConstants.{BLOCK_SIZE, START_LSN};
 ghost use Rattle.model_base.specs.{IsWithinLimits};
+ghost use Rattle.model_device.specs.{IsWithin};
 ghost use Rattle.model_log.specs.{log_device_length, offset_of};
-ghost use Rattle.redo_disk.specs.{EndWith, error_of, HasCause, MakesCalls, OnTold};
+ghost use Rattle.redo_disk.specs.{error_of, HasCause, MakesCalls, OnTold};
 ghost use Rattle.redo_open.specs.Clear.{MayStart, IsClearable, ClearsBlocks, HasCleared};
+ghost use Rattle.redo_open.specs.Puts.{PutsWhere};
 
 use crate::PIECE;
 use crate::zeros::write_zeros;
@@ -50,7 +52,7 @@ pub(crate) fn clear<L: Sectors>(
         (λ old new. IsClearable shape.now old → HasCleared shape.now ckpt start old.reads new)) }
     ensures size { (L.seen log.new).size ≡ (L.seen log.old).size }
     ensures cause { HasCause (L.seen log.old).faults (L.seen log.new).faults result }
-    ensures calls { MakesCalls L.gives log.old log.new (EndWith (error_of result)) }
+    ensures calls { MakesCalls L.gives log.old log.new (PutsWhere (IsWithin (log_device_length shape.now)) (error_of result)) }
 {
     let end = ckpt + BLOCK_SIZE * u64::from(shape.log_blocks);
     let mut at = block_of(start);

@@ -6,6 +6,7 @@ ghost use Rattle.redo_apply.specs.{ArePagesOf};
 ghost use Rattle.redo_disk.specs.{MakesCalls, MayEndWith};
 ghost use Rattle.redo_open.specs.Clear.{MayStart};
 ghost use Rattle.redo_open.specs.Devices.{DevicesStep};
+ghost use Rattle.redo_open.specs.Formatting.{WritesInside};
 ghost use Rattle.redo_open.specs.Mend.{IsSettledData};
 ghost use Rattle.redo_recover.specs.{AreFoundOn, ArePlacesOf, data_error_of, log_error_of, reading_of};
 
@@ -44,6 +45,7 @@ pub(crate) fn open_devices<L: Sectors, D: Sectors>(
     ensures live { OnOk result (part.new.failed ≡ None) }
     ensures log_calls { MakesCalls L.gives log.old log.new (MayEndWith (log_error_of result)) }
     ensures data_calls { MakesCalls D.gives part.old.dev part.new.dev (MayEndWith (data_error_of result)) }
+    ensures inside { WritesInside L.gives D.gives recovered.now.shape log.old log.new part.old.dev part.new.dev }
 {
     match clear(log, &recovered.shape, recovered.ckpt, start) {
         Ok(()) => {}

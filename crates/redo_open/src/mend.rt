@@ -1,8 +1,11 @@
 // Repairing the places of pages that didn't pass.
 ghost use Rattle.std.specs.Prelude.{◌≡◌, ◌<◌, None, IfSome};
 ghost use Rattle.model_base.specs.declared.limits.TheConstants.{PAGE_SIZE};
-ghost use Rattle.redo_disk.specs.{EndWith, error_of, MakesCalls};
+ghost use Rattle.model_device.specs.{IsWithin};
+ghost use Rattle.model_page.specs.{data_device_length};
+ghost use Rattle.redo_disk.specs.{error_of, MakesCalls};
 ghost use Rattle.redo_open.specs.Mend.{IsSettledData, StandFrom, IsMended, AreMended};
+ghost use Rattle.redo_open.specs.Puts.{PutsWhere};
 ghost use Rattle.redo_open.specs.Store.{MendStep};
 ghost use Rattle.redo_recover.specs.{HaveSlots};
 
@@ -23,7 +26,7 @@ fn mend_page<D: Sectors>(part: &mut DataPart<D>, page: u32, places: &Places) -> 
     requires settled { IfSome (D.seen part.old.dev).tells (IsSettledData part.old.shape) }
     requires stand { IfSome (D.seen part.old.dev).tells (StandFrom part.old.shape places.now page) }
     ensures step { MendStep D.seen part.old.shape (IsMended part.old.shape page) part.old result part.new }
-    ensures calls { MakesCalls D.gives part.old.dev part.new.dev (EndWith (error_of result)) }
+    ensures calls { MakesCalls D.gives part.old.dev part.new.dev (PutsWhere (IsWithin (data_device_length part.old.shape)) (error_of result)) }
 {
     match places.found[page as usize].slot {
         None => Ok(()),
@@ -48,7 +51,7 @@ pub(crate) fn mend<D: Sectors>(
     requires settled { IfSome (D.seen part.old.dev).tells (IsSettledData shape.now) }
     requires stand { IfSome (D.seen part.old.dev).tells (StandFrom shape.now places.now 0) }
     ensures step { MendStep D.seen shape.now (AreMended shape.now shape.now.pages) part.old result part.new }
-    ensures calls { MakesCalls D.gives part.old.dev part.new.dev (EndWith (error_of result)) }
+    ensures calls { MakesCalls D.gives part.old.dev part.new.dev (PutsWhere (IsWithin (data_device_length shape.now)) (error_of result)) }
 {
     for page in 0..shape.pages {
         mend_page(part, page, places)?;

@@ -6,8 +6,9 @@ ghost use Rattle.model_parts.specs.{IsOpenable, KeepsOpened};
 ghost use Rattle.model_store.specs.Reading.{Reading};
 ghost use Rattle.redo_disk.specs.{MakesCalls, MayEndWith};
 ghost use Rattle.redo_open.specs.Devices.{HasSameCheckpoint, IsSameDevice, WhereBothTell};
+ghost use Rattle.redo_open.specs.Formatting.{WritesInside};
 ghost use Rattle.redo_open.specs.Mend.{IsSettledData};
-ghost use Rattle.redo_open.specs.Opening.{log_left, data_left, log_error_in, data_error_in, HasFaultCause, IsOpeningOf, IsOpenedReady, IsStarted, OpensLog, OpensRecovered};
+ghost use Rattle.redo_open.specs.Opening.{log_left, data_left, log_error_in, data_error_in, HasFaultCause, IsOpeningOf, IsOpenedReady, IsStarted, OpensInside, OpensLog, OpensRecovered};
 ghost use Rattle.redo_pageactors.specs.{IsRunnable};
 ghost use Rattle.redo_recover.specs.{AreFoundOn, IsOfDevices, OnContents, reading_of};
 
@@ -68,6 +69,7 @@ fn open_recovered<L: Sectors, D: Sectors>(
     ensures step { OpensRecovered L.seen D.seen (reading_of recovered) (L.seen log) (D.seen data_device) result }
     ensures log_calls { MakesCalls L.gives log (log_left result) (MayEndWith (log_error_in result)) }
     ensures data_calls { MakesCalls D.gives data_device (data_left result) (MayEndWith (data_error_in result)) }
+    ensures inside { WritesInside L.gives D.gives recovered.shape log (log_left result) data_device (data_left result) }
 {
     let mut store = match DataPart::new(alloc, data_device, &recovered.shape) {
         Ok(store) => store,
@@ -83,7 +85,8 @@ fn open_recovered<L: Sectors, D: Sectors>(
 
 /// Opens the store on two devices, so that a run can start on it: reads it, clears away what stands on the log behind its
 /// end, repairs the places of pages that don't pass, writes each page as it was read where that isn't in its place then,
-/// and moves the checkpoint. A store that is refused is as it was.
+/// and moves the checkpoint. A store that is refused is as it was. Nothing is written beyond the lengths that the store's
+/// shape asks for, and nothing is read once the store is.
 ///
 /// Wherever it ends, whatever a crash leaves of the two devices is read with the same pages. The devices of a store that
 /// isn't opened are handed back beside the fault.
@@ -109,6 +112,7 @@ pub fn open_store<L: Sectors, D: Sectors>(
     ensures data_device { IsSameDevice (D.seen data_device) (D.seen (data_left result)) }
     ensures log_calls { MakesCalls L.gives log (log_left result) (OpensLog (L.seen log).size (log_error_in result)) }
     ensures data_calls { MakesCalls D.gives data_device (data_left result) (MayEndWith (data_error_in result)) }
+    ensures inside { OpensInside L.gives D.gives (L.seen log).tells (D.seen data_device).tells log data_device result }
 {
     let recovered = match recover(alloc, &mut log, &mut data_device) {
         Ok(recovered) => recovered,

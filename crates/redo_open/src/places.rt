@@ -1,11 +1,14 @@
 // Opening the data device.
 ghost use Rattle.std.specs.Prelude.{◌≡◌, ◌<◌, ◌^◌, ℕ, None, Some, IfSome, slice_get};
 ghost use Rattle.model_base.specs.{IsWithinLimits};
+ghost use Rattle.model_device.specs.{IsWithin};
+ghost use Rattle.model_page.specs.{data_device_length};
 ghost use Rattle.model_page.specs.declared.content.Content.{Content};
 ghost use Rattle.redo_apply.specs.{ArePagesOf};
 ghost use Rattle.redo_disk.specs.{MakesCalls, MayEndWith};
 ghost use Rattle.redo_open.specs.Mend.{IsSettledData};
 ghost use Rattle.redo_open.specs.Places.{PlacesStep};
+ghost use Rattle.redo_open.specs.Puts.{ArePuts};
 ghost use Rattle.redo_recover.specs.{AreFoundOn, ArePlacesOf, data_error_of};
 
 use crate::batch::Batch;
@@ -37,6 +40,7 @@ pub(crate) fn open_places<D: Sectors>(
     requires small { (p : ℕ) (content : Content) → slice_get pages.now p ≡ Some content → content.lsn < 2 ^ 61 }
     ensures step { PlacesStep D.seen shape.now pages.now part.old result part.new }
     ensures calls { MakesCalls D.gives part.old.dev part.new.dev (MayEndWith (data_error_of result)) }
+    ensures inside { MakesCalls D.gives part.old.dev part.new.dev (ArePuts (IsWithin (data_device_length shape.now))) }
 {
     let mut batch = match Batch::new(alloc) {
         Ok(batch) => batch,

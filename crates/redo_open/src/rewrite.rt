@@ -3,10 +3,13 @@ ghost use Rattle.std.specs.Prelude.{◌≡◌, ◌≤◌, ◌<◌, ◌^◌, ◌+
 ghost use Rattle.model_base.specs.{IsWithinLimits};
 ghost use Rattle.model_base.specs.declared.limits.TheConstants.{PAGE_SIZE, SLOTS};
 ghost use Rattle.model_parts.specs.{IsWritable};
+ghost use Rattle.model_device.specs.{IsWithin};
+ghost use Rattle.model_page.specs.{data_device_length};
 ghost use Rattle.model_page.specs.declared.content.Content.{Content};
 ghost use Rattle.redo_apply.specs.{ArePagesOf};
-ghost use Rattle.redo_disk.specs.{EndWith, error_of, MakesCalls};
+ghost use Rattle.redo_disk.specs.{error_of, MakesCalls};
 ghost use Rattle.redo_open.specs.Gather.{AreGathered, GatherStep};
+ghost use Rattle.redo_open.specs.Puts.{PutsWhere};
 ghost use Rattle.redo_open.specs.Rewrite.{WriteStep};
 ghost use Rattle.redo_recover.specs.declared.places.Found.{Found};
 
@@ -25,7 +28,7 @@ fn write_gathered<D: Sectors>(part: &mut DataPart<D>, batch: &mut Batch) -> Resu
     ensures step { (pages : List Content) (found : List Found) (count : ℕ) → AreGathered part.old.shape pages count batch.old
         → GatherStep D.seen part.old.shape pages found count count part.old batch.old result part.new batch.new }
     ensures emptied { OnOk result (length batch.new.pairs ≡ 0) }
-    ensures calls { MakesCalls D.gives part.old.dev part.new.dev (EndWith (error_of result)) }
+    ensures calls { MakesCalls D.gives part.old.dev part.new.dev (PutsWhere (IsWithin (data_device_length part.old.shape)) (error_of result)) }
 {
     if batch.pairs().is_empty() {
         return Ok(());
@@ -44,7 +47,7 @@ fn make_room<D: Sectors>(part: &mut DataPart<D>, batch: &mut Batch) -> Result<()
     ensures step { (pages : List Content) (found : List Found) (count : ℕ) → AreGathered part.old.shape pages count batch.old
         → GatherStep D.seen part.old.shape pages found count count part.old batch.old result part.new batch.new }
     ensures room { OnOk result (length batch.new.pairs < SLOTS) }
-    ensures calls { MakesCalls D.gives part.old.dev part.new.dev (EndWith (error_of result)) }
+    ensures calls { MakesCalls D.gives part.old.dev part.new.dev (PutsWhere (IsWithin (data_device_length part.old.shape)) (error_of result)) }
 {
     if batch.pairs().len() < SLOTS as usize {
         Ok(())
@@ -70,7 +73,7 @@ fn gather_page<D: Sectors>(
     requires gathered { AreGathered part.old.shape pages.now page batch.old }
     ensures step { GatherStep D.seen part.old.shape pages.now places.now.found.items page (page + 1)
         part.old batch.old result part.new batch.new }
-    ensures calls { MakesCalls D.gives part.old.dev part.new.dev (EndWith (error_of result)) }
+    ensures calls { MakesCalls D.gives part.old.dev part.new.dev (PutsWhere (IsWithin (data_device_length part.old.shape)) (error_of result)) }
 {
     let lsn = pages.lsn(page);
     if places.found[page as usize].lsn == lsn {
@@ -98,7 +101,7 @@ pub(crate) fn rewrite<D: Sectors>(
     requires found { length places.now.found.items ≡ shape.now.pages }
     requires none { batch.old ≡ record { pairs = []; users = [] } }
     ensures step { WriteStep D.seen shape.now pages.now places.now.found.items 0 shape.now.pages part.old result part.new }
-    ensures calls { MakesCalls D.gives part.old.dev part.new.dev (EndWith (error_of result)) }
+    ensures calls { MakesCalls D.gives part.old.dev part.new.dev (PutsWhere (IsWithin (data_device_length shape.now)) (error_of result)) }
 {
     for page in 0..shape.pages {
         gather_page(part, pages, page, places, batch)?;

@@ -6,7 +6,7 @@ use model_base::{LSN_LIMIT, Shape};
 use redo_block::fill;
 use redo_crc::sector;
 use redo_disk::{DevError, Sectors};
-use redo_header::fill_ckpt;
+use redo_header::{fill_ckpt, fill_head};
 use redo_lab::{LOG_LENGTH, STORE_LENGTH};
 use redo_memdisk::MemDisk;
 use redo_page::seal;
@@ -17,6 +17,9 @@ use std::test::Fail;
 pub(crate) const FIRST_BLOCK: u64 = 2048;
 
 pub(crate) const SECOND_BLOCK: u64 = 2560;
+
+/// Where the block at the last lsn stands: 8704 bytes below the end of a round, since 2^60 is a number of whole rounds.
+const LAST_BLOCK: u64 = 1_041_920;
 
 /// Bytes of a page, and of a slot.
 const PAGE: u64 = 4096;
@@ -108,6 +111,34 @@ fn put_no_group(log: &mut MemDisk) -> Result<(), DevError> {
     put(log, SECOND_BLOCK, &block)
 }
 
+/// A sound header of the format 9.
+fn put_other_format(log: &mut MemDisk) -> Result<(), DevError> {
+    let mut head = [0; 512];
+    fill_head(&mut head, &Shape::default_shape());
+    // the last of the format's four bytes
+    head[3] = 9;
+    sector::seal(&mut head, 508);
+    put(log, 0, &head)
+}
+
+/// A checkpoint at the last block below the lsn limit, and that block, which is full and holds no group.
+fn put_last_block(log: &mut MemDisk) -> Result<(), DevError> {
+    put_checkpoint(log, 2, LSN_LIMIT - 512)?;
+    let mut block = [0; 512];
+    fill(&mut block, LSN_LIMIT - 512, &[7; 496], 0, 2);
+    put(log, LAST_BLOCK, &block)
+}
+
+/// A log of full blocks that hold no group, from the checkpoint once round.
+fn put_whole_round(log: &mut MemDisk) -> Result<(), DevError> {
+    let mut block = [0; 512];
+    for i in 0..2048u64 {
+        fill(&mut block, 8192 + 512 * i, &[7; 496], 0, 0);
+        put_pending(log, FIRST_BLOCK + 512 * i, &block)?;
+    }
+    log.sync()
+}
+
 /// A page place that isn't sound.
 fn put_broken_place(store: &mut MemDisk) -> Result<(), DevError> {
     put(store, PLACE, &[1; 512])
@@ -135,12 +166,46 @@ pub(crate) fn first_slot<D: Sectors>(store: &mut D) -> Result<[u8; 4096], DevErr
     Ok(slot)
 }
 
+/// A device of so many sectors, which holds what the first sector of this one does.
+fn shortened(alloc: Global, device: &mut MemDisk, sectors: u64) -> Result<MemDisk, Fail> {
+    let mut first = [0; 512];
+    if device.len() < 512 {
+        return Err(Fail::from("the device has no sector"));
+    }
+    device.read(0, &mut first)?;
+    let mut short = MemDisk::new(alloc, sectors.saturating_mul(512))?;
+    put(&mut short, 0, &first)?;
+    Ok(short)
+}
+
+/// The devices, of which one is cut as a name says: `log of SECTORS` or `data of SECTORS`.
+pub(crate) fn shorten(alloc: Global, devices: &mut Devices, name: &str) -> Result<bool, Fail> {
+    match name.split_once(" of ") {
+        Some(("log", sectors)) => {
+            devices.log = shortened(alloc, &mut devices.log, sectors.parse::<u64>()?)?;
+            Ok(true)
+        }
+        Some((_, sectors)) => {
+            devices.store = shortened(alloc, &mut devices.store, sectors.parse::<u64>()?)?;
+            Ok(true)
+        }
+        None => Ok(false),
+    }
+}
+
 /// Changes devices as a name says; `same` leaves them, and any other name that isn't below is refused.
 pub(crate) fn change(devices: &mut Devices, name: &str) -> Result<(), DevError> {
     match name {
         "no length" => put_no_length(&mut devices.log),
         "no type" => put_no_type(&mut devices.log),
         "no group" => put_no_group(&mut devices.log),
+        "last block" => put_last_block(&mut devices.log),
+        "whole round" => put_whole_round(&mut devices.log),
+        "other format" => put_other_format(&mut devices.log),
+        "no checkpoint" => {
+            put(&mut devices.log, 512, &[1; 512])?;
+            put(&mut devices.log, 1536, &[1; 512])
+        }
         "lost" => put_broken_place(&mut devices.store),
         "ahead" => {
             put_copy(&mut devices.store, 1, 9000)?;

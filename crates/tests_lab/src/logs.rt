@@ -1,5 +1,6 @@
 // Logs that were written by a run, and logs whose blocks are made by hand.
-use crate::devices::{FIRST_BLOCK, SECOND_BLOCK};
+use crate::calls::{call_on, prints};
+use crate::devices::{FIRST_BLOCK, SECOND_BLOCK, change};
 use crate::tables::{left_by, play};
 use redo_disk::{DevError, Sectors};
 use std::test::Fail;
@@ -73,6 +74,28 @@ no length | recover    | | 0 | read 0 8204
 same      | dump --why | | 0 | store 4096 8 1 2048 8 / checkpoint 0 8192 / stop 8192 length / end 8204
 ",
     )
+}
+
+/// The last lsn of a block is 2^60 - 512.
+#[test]
+fn ends_at_the_last_lsn(rt: HostRuntime) -> Result<(), Fail> {
+    play(
+        &rt,
+        "
+new        | format     | | 0 | formatted 8192
+last block | dump --why | | 0 | store 4096 8 1 2048 8 / checkpoint 2 1152921504606846464 / block 1152921504606846464 1073741824 512 0 2 / stop 1152921504606846976 end / end 1152921504606846988
+",
+    )
+}
+
+/// Each of the 2,048 blocks was read.
+#[test]
+fn ends_behind_a_whole_round(rt: HostRuntime) -> Result<(), Fail> {
+    let mut devices = left_by(&rt, "new | format | | 0 | formatted 8192")?;
+    change(&mut devices, "whole round")?;
+    let called = call_on(&rt, "dump --why", "", devices)?;
+    assert!(rt; prints(&called, ["stop 1056768 round", "end 1056780"])?);
+    Ok(())
 }
 
 #[test]

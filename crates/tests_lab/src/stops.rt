@@ -33,7 +33,7 @@ struct Group {
 }
 
 /// The pick that keeps every other write.
-pub(crate) const EVERY_OTHER: u64 = 6_148_914_691_236_517_205;
+const EVERY_OTHER: u64 = 6_148_914_691_236_517_205;
 
 /// The picks that keep no write, every other write, and all of them.
 const PICKS: [u64; 3] = [0, EVERY_OTHER, 18_446_744_073_709_551_615];
@@ -196,7 +196,7 @@ fn crash(
 
 /// Crashes under these options with a pick: whether no stop shows in the report. Groups that are printed as flushed are kept,
 /// and what is read is what the kept groups make of the pages.
-pub(crate) fn crash_with_pick(
+fn crash_with_pick(
     rt: &(impl Abort + AllocGlobal + Threads + Wait + Sync),
     options: &str,
     pick: u64,
@@ -252,15 +252,15 @@ fn stop_at_each_call(
 
 #[test]
 fn keeps_flushed_lines_where_the_log_device_stops(rt: HostRuntime) -> Result<(), Fail> {
-    stop_at_each_call(&rt, "--stop-log @")
+    stop_at_each_call(&rt, "--turns 1 --stop-log @")
 }
 
 #[test]
 fn keeps_flushed_lines_where_the_data_device_stops(rt: HostRuntime) -> Result<(), Fail> {
-    stop_at_each_call(&rt, "--stop-data @")
+    stop_at_each_call(&rt, "--turns 1 --stop-data @")
 }
 
 #[test]
 fn keeps_flushed_lines_where_both_devices_stop(rt: HostRuntime) -> Result<(), Fail> {
-    stop_at_each_call(&rt, "--stop-log @ --stop-data @")
+    stop_at_each_call(&rt, "--turns 1 --stop-log @ --stop-data @")
 }

@@ -26,6 +26,36 @@ fn refuses_a_page_that_is_lost(rt: HostRuntime) -> Result<(), Fail> {
         "
 new  | format  | | 0 | formatted 8192
 lost | recover | | 8 | fault store lost 5
+same | dump    | | 8 | fault store lost 5
+",
+    )
+}
+
+#[test]
+fn refuses_a_store_that_cannot_be_read(rt: HostRuntime) -> Result<(), Fail> {
+    play(
+        &rt,
+        "
+new           | format     |                |  0 | formatted 8192
+log of 3      | recover    |                | 10 | fault fit log 2048
+same          | dump       |                | 10 | fault fit log 2048
+same          | run        | 1 f b1 3 100 7 | 10 | fault fit log 2048
+new           | format     |                |  0 | formatted 8192
+log of 8      | recover    |                | 10 | fault fit log 1050624
+same          | dump --why |                | 10 | fault fit log 1050624
+same          | crash      | 1 f b1 3 100 7 | 10 | fault fit log 1050624
+new           | format     |                |  0 | formatted 8192
+data of 120   | recover    |                | 10 | fault fit store 65536
+same          | dump       |                | 10 | fault fit store 65536
+same          | run        | 1 f b1 3 100 7 | 10 | fault fit store 65536
+new           | format     |                |  0 | formatted 8192
+other format  | recover    |                |  8 | fault store format 9
+same          | dump       |                |  8 | fault store format 9
+same          | crash      | 1 f b1 3 100 7 |  8 | fault store format 9
+new           | format     |                |  0 | formatted 8192
+no checkpoint | recover    |                |  8 | fault store checkpoint
+same          | dump --why |                |  8 | fault store checkpoint
+same          | run        | 1 f b1 3 100 7 |  8 | fault store checkpoint
 ",
     )
 }

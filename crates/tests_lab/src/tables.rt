@@ -1,11 +1,11 @@
 // Tables of calls. A row is `DEVICES | WORDS | SCRIPT | STATUS | PRINTED`.
 //
-// DEVICES: `new`, `log fails CALL` and `data fails CALL` are new ones, `same` are those that the row above left, and any other name
-// is a change of those (`change`).
+// DEVICES: `new`, `log fails CALL` and `data fails CALL` are new ones, `same` are those that the row above left. `log of SECTORS` and
+// `data of SECTORS` cut one of those, and any other name is a change of them (`change`).
 // SCRIPT and PRINTED: ` /` ends a line; behind the last printed line it is left out. `(07*62)` stands for 62 times `07`, and
 // `[LINE*130]` for 130 times LINE.
 use crate::calls::{Called, call_on};
-use crate::devices::{Devices, change, new_devices};
+use crate::devices::{Devices, change, new_devices, shorten};
 use std::alloc::{AllocError, Global};
 use std::process::Abort;
 use std::sync::Wait;
@@ -53,7 +53,9 @@ fn devices_of(alloc: Global, name: &str, left: Devices) -> Result<Devices, Fail>
         return new_devices(alloc, name);
     }
     let mut devices = left;
-    change(&mut devices, name)?;
+    if !shorten(alloc, &mut devices, name)? {
+        change(&mut devices, name)?;
+    }
     Ok(devices)
 }
 

@@ -1,9 +1,10 @@
 // Runs in threads.
 use crate::calls::{call_gated, prints, source_of, words_of};
 use crate::devices::blank;
-use crate::stops::{EVERY_OTHER, crash_with_each_pick, crash_with_pick};
+use crate::stops::crash_with_each_pick;
 use redo_io::MemSink;
 use redo_threads::{Gate, Point};
+use std::process::Abort;
 use std::sync::Wait;
 use std::sync::atomic::{AtomicU64, Ordering};
 use std::test::Fail;
@@ -107,22 +108,31 @@ fn gate_two_users(rt: HostRuntime) -> Result<(), Fail> {
     Ok(())
 }
 
-/// In threads no number of calls is sure to be all of them, so it isn't asked whether a stop shows.
-#[test]
-fn keeps_flushed_lines_where_the_log_device_stops_threads(rt: HostRuntime) -> Result<(), Fail> {
+/// Crashes in threads with these stops, where `@` is the number of calls before them. In threads no number of calls is sure to be
+/// all of them, so it isn't asked whether a stop shows.
+fn stop_threads(
+    rt: &(impl Abort + AllocGlobal + Threads + Wait + Sync),
+    stops: &str,
+) -> Result<(), Fail> {
     for calls in 0..61u64 {
-        let options = format!(in rt.alloc(); "--threads --stop-log {calls}")?;
-        let _is_whole = crash_with_each_pick(&rt, &options)?;
+        let calls = format!(in rt.alloc(); "{calls}")?;
+        let options = stops.replace(rt.alloc(), "@", &calls)?;
+        let _is_whole = crash_with_each_pick(rt, &options)?;
     }
     Ok(())
 }
 
-/// The data device stops at some of its calls.
+#[test]
+fn keeps_flushed_lines_where_the_log_device_stops_threads(rt: HostRuntime) -> Result<(), Fail> {
+    stop_threads(&rt, "--threads --stop-log @")
+}
+
 #[test]
 fn keeps_flushed_lines_where_the_data_device_stops_threads(rt: HostRuntime) -> Result<(), Fail> {
-    for calls in [0, 1, 2, 3, 5, 8, 13, 21, 34u64] {
-        let options = format!(in rt.alloc(); "--threads --stop-data {calls}")?;
-        let _is_whole = crash_with_pick(&rt, &options, EVERY_OTHER)?;
-    }
-    Ok(())
+    stop_threads(&rt, "--threads --stop-data @")
+}
+
+#[test]
+fn keeps_flushed_lines_where_both_devices_stop_threads(rt: HostRuntime) -> Result<(), Fail> {
+    stop_threads(&rt, "--threads --stop-log @ --stop-data @")
 }

@@ -5,13 +5,14 @@ use Rattle.std.proofs.lemmas.Result.{err_from_is_err_and, on_ok_weaker}
 use Rattle.model_device.specs.{FailsWrite, synced, written}
 use Rattle.model_device.specs.Disk.{Disk}
 use Rattle.model_device.specs.declared.write.Write.{Write}
-use Rattle.model_log.specs.{block_of}
+use Rattle.model_log.specs.{block_of, log_device_length}
 use Rattle.model_parts.proofs.Places.{sector-place}
 use Rattle.redo_disk.specs.{HasCause, write_at}
 use Rattle.redo_open.specs.Clear.{IsPiece, IsClearable, IsClearingTo, ClearsBlocks, HasCleared}
 use Rattle.redo_open.proofs.Clears.{zeros_at, cleared-clears, clearing-begins, clearing-goes_on, clearing-fails, clearing-synced, clears-blocks}
-use Rattle.redo_disk.proofs.Made.{call_ends, ends_then, none_ends}
 use Rattle.redo_disk.proofs.Told.{OnTold-then, told-same}
+use Rattle.redo_open.proofs.Inside.{zeros-within}
+use Rattle.redo_open.proofs.Puts.{put_nothing, put_one, puts_then}
 use Rattle.redo_open.proofs.Told.{cause-since, either-way}
 use Rattle.redo_open.proofs.clear.clear.Goals as goal
 
@@ -35,7 +36,7 @@ loop-at-init g c =
       told = told-same _ _ (λ old new. IsClearable c.args.shape.now old → IsClearingTo c.args.shape.now c.args.ckpt c.args.start at old.reads new)
           (λ disk is. subst (λ (n : ℕ). IsClearingTo c.args.shape.now c.args.ckpt c.args.start n disk.reads disk) (sym at_is)
           (clearing-begins c.args.shape.now c.args.ckpt c.args.start disk c.requires.start is.long is.rests)) refl;
-      calls = none_ends g.L.Sectors.gives c.args.log.now;
+      calls = put_nothing g.L.Sectors.gives c.args.log.now;
     }
 
 pub returns-in_err-write_zeros-clause-keeps : goal.returns-in_err-write_zeros-clause-keeps
@@ -78,6 +79,7 @@ loop-at-preserved g c =
       side_by_side = c.piece_length-count.ensures.side_by_side;
     } in
     let same : write_at c.offset_of.result (replicate count 0) ≡ zeros_at shape at count = ap (λ n. write_at n (replicate count 0)) c.offset_of.ensures in
+    let inside = zeros-within (log_device_length shape) c.offset_of.result count (omega (arith, c.piece_length-count.ensures.side_by_side, c.offset_of.ensures)) in
     record {
       aligned = omega (arith, c.loop-at.invariant.aligned, c.piece_length-count.ensures.whole);
       from = omega (arith, c.loop-at.invariant.from);
@@ -90,7 +92,7 @@ loop-at-preserved g c =
           (λ a b d so_far is_written is. subst (λ (disk : Disk). IsClearingTo shape c.args.ckpt c.args.start (at + count) a.reads disk) (sym (is_written ∙ ap (written b) same))
           (clearing-goes_on shape c.args.ckpt c.args.start at count a.reads b c.requires.start piece is.long (so_far is)))
           c.loop-at.invariant.told c.in_ok-write_zeros.ensures.step.ok;
-      calls = ends_then c.loop-at.invariant.calls (call_ends c.in_ok-write_zeros.ensures.gives);
+      calls = puts_then c.loop-at.invariant.calls (put_one inside c.in_ok-write_zeros.ensures.gives);
     }
 
 pub returns-clause-keeps : goal.returns-clause-keeps
@@ -129,8 +131,10 @@ returns-clause-cause g c = cause-since _ _ _ c.sync.result c.loop-at.invariant.l
 
 pub returns-in_err-write_zeros-clause-calls : goal.returns-in_err-write_zeros-clause-calls
 returns-in_err-write_zeros-clause-calls g c =
-    let made = ends_then c.loop-at.invariant.calls (call_ends c.in_err-write_zeros.ensures.gives) in
+    let inside = zeros-within (log_device_length c.args.shape.now) c.offset_of.result c.piece_length-count.result
+    (omega (arith, c.piece_length-count.ensures.side_by_side, c.offset_of.ensures)) in
+    let made = puts_then c.loop-at.invariant.calls (put_one inside c.in_err-write_zeros.ensures.gives) in
     let p = err_from_is_err_and c.from_residual.result c.from_residual.ensures.1 in rw (p.1, p.2) made
 
 pub returns-clause-calls : goal.returns-clause-calls
-returns-clause-calls g c = ends_then c.loop-at.invariant.calls (call_ends c.sync.ensures.gives)
+returns-clause-calls g c = puts_then c.loop-at.invariant.calls (put_one tt c.sync.ensures.gives)

@@ -7,7 +7,9 @@ use Rattle.redo_open.specs.Places.{IsReadAs}
 use Rattle.redo_open.proofs.Asked.{log_ends, beside_log, beside_pages}
 use Rattle.redo_open.proofs.Both.{log-clears, log-cleared, cleared-known, rewriting-both, marking-both, ready-both, unmoved-clears, unmoved-marks}
 use Rattle.redo_open.proofs.Causes.{log-cause, places-cause, log-risen, log-not_data, places-not_log}
+use Rattle.redo_open.proofs.Inside.{ends_of, mark-within, puts_of}
 use Rattle.redo_open.proofs.Opens.{unchanged-keeps}
+use Rattle.redo_open.proofs.Puts.{put_nothing, put_served, puts_then}
 use Rattle.redo_disk.proofs.Made.{ends_then, may_end, none_may_end, serves_end}
 use Rattle.redo_open.proofs.Told.{cause-since}
 use Rattle.redo_recover.specs.{reading_of}
@@ -96,26 +98,53 @@ returns-in-Err-mark-clause-step g c =
     }
 
 pub returns-in-Err-clause-log_calls : goal.returns-in-Err-clause-log_calls
-returns-in-Err-clause-log_calls g c = log_ends c.in-Err.error c.log_fault.result c.log_fault.ensures c.in-Err.ensures.calls
+returns-in-Err-clause-log_calls g c = log_ends c.in-Err.error c.log_fault.result c.log_fault.ensures (ends_of c.in-Err.ensures.calls)
 
 pub returns-in-Err-clause-data_calls : goal.returns-in-Err-clause-data_calls
 returns-in-Err-clause-data_calls g c = beside_log c.in-Err.error c.log_fault.result c.log_fault.ensures (none_may_end g.D.Sectors.gives c.args.part.now.dev)
 
 pub returns-in-Err-open_places-clause-log_calls : goal.returns-in-Err-open_places-clause-log_calls
-returns-in-Err-open_places-clause-log_calls g c = beside_pages c.in-Err-open_places.fault c.in-Err-open_places.ensures.step.own (may_end c.in-Ok.ensures.calls)
+returns-in-Err-open_places-clause-log_calls g c = beside_pages c.in-Err-open_places.fault c.in-Err-open_places.ensures.step.own (may_end (ends_of c.in-Ok.ensures.calls))
 
 pub returns-in-Err-open_places-clause-data_calls : goal.returns-in-Err-open_places-clause-data_calls
 returns-in-Err-open_places-clause-data_calls g c = c.in-Err-open_places.ensures.calls
 
 pub returns-in-Ok-mark-clause-log_calls : goal.returns-in-Ok-mark-clause-log_calls
-returns-in-Ok-mark-clause-log_calls g c = may_end (ends_then c.in-Ok.ensures.calls (serves_end c.in-Ok-mark.ensures.calls))
+returns-in-Ok-mark-clause-log_calls g c = may_end (ends_then (ends_of c.in-Ok.ensures.calls) (serves_end c.in-Ok-mark.ensures.calls))
 
 pub returns-in-Ok-mark-clause-data_calls : goal.returns-in-Ok-mark-clause-data_calls
 returns-in-Ok-mark-clause-data_calls g c = c.in-Ok-open_places.ensures.calls
 
 pub returns-in-Err-mark-clause-log_calls : goal.returns-in-Err-mark-clause-log_calls
 returns-in-Err-mark-clause-log_calls g c =
-    log_ends c.in-Err-mark.error c.log_fault-in-Err-mark.result c.log_fault-in-Err-mark.ensures (ends_then c.in-Ok.ensures.calls (serves_end c.in-Err-mark.ensures.calls))
+    log_ends c.in-Err-mark.error c.log_fault-in-Err-mark.result c.log_fault-in-Err-mark.ensures (ends_then (ends_of c.in-Ok.ensures.calls) (serves_end c.in-Err-mark.ensures.calls))
 
 pub returns-in-Err-mark-clause-data_calls : goal.returns-in-Err-mark-clause-data_calls
 returns-in-Err-mark-clause-data_calls g c = beside_log c.in-Err-mark.error c.log_fault-in-Err-mark.result c.log_fault-in-Err-mark.ensures c.in-Ok-open_places.ensures.calls
+
+-- THE LENGTHS.
+
+pub returns-in-Err-clause-inside : goal.returns-in-Err-clause-inside
+returns-in-Err-clause-inside g c = record {
+  log = puts_of c.in-Err.ensures.calls;
+  data_device = puts_of (put_nothing g.D.Sectors.gives c.args.part.now.dev);
+}
+
+pub returns-in-Err-open_places-clause-inside : goal.returns-in-Err-open_places-clause-inside
+returns-in-Err-open_places-clause-inside g c = record { log = puts_of c.in-Ok.ensures.calls; data_device = c.in-Err-open_places.ensures.inside }
+
+pub returns-in-Ok-mark-clause-inside : goal.returns-in-Ok-mark-clause-inside
+returns-in-Ok-mark-clause-inside g c =
+    let number : ℕ = (c.args.recovered.now.number + 1) % 18446744073709551616 in
+    record {
+      log = puts_of (puts_then c.in-Ok.ensures.calls (put_served (mark-within c.args.recovered.now.shape number (c.args.start - 12)) c.in-Ok-mark.ensures.calls));
+      data_device = c.in-Ok-open_places.ensures.inside;
+    }
+
+pub returns-in-Err-mark-clause-inside : goal.returns-in-Err-mark-clause-inside
+returns-in-Err-mark-clause-inside g c =
+    let number : ℕ = (c.args.recovered.now.number + 1) % 18446744073709551616 in
+    record {
+      log = puts_of (puts_then c.in-Ok.ensures.calls (put_served (mark-within c.args.recovered.now.shape number (c.args.start - 12)) c.in-Err-mark.ensures.calls));
+      data_device = c.in-Ok-open_places.ensures.inside;
+    }

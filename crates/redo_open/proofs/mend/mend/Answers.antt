@@ -1,14 +1,18 @@
 -- One page after another.
-use Rattle.std.proofs.Common.{◌+◌, ◌∙◌, ℕ, Err, Ok, refl, sym, subst, add-one, arith}
+use Rattle.std.proofs.Common.{◌+◌, ◌∙◌, ℕ, Err, Ok, None, Some, refl, sym, subst, add-one, arith}
 use Rattle.std.proofs.lemmas.Result.{err_from_is_err_and}
 use Rattle.std.specs.Prelude.{IfSome}
 use Rattle.model_base.specs.declared.shape.Shape.{Shape}
 use Rattle.model_parts.specs.{KeepsAll}
+use Rattle.model_device.specs.{IsWithin}
+use Rattle.model_page.specs.{data_device_length}
+use Rattle.redo_disk.specs.{MakesCalls}
 use Rattle.redo_open.specs.Mend.{IsSettledData, IsMended, AreMended, StandFrom}
+use Rattle.redo_open.specs.Puts.{PutsWhere}
 use Rattle.redo_open.specs.Store.{MendStep}
 use Rattle.redo_open.proofs.Endings.{mend-behind}
 use Rattle.redo_open.proofs.Mends.{settled-keeps, mended-none, mended-more, keeps-behind, settled-behind}
-use Rattle.redo_disk.proofs.Made.{ends_then, none_ends}
+use Rattle.redo_open.proofs.Puts.{put_nothing, puts_then}
 use Rattle.redo_open.proofs.Standing.{stand-behind}
 use Rattle.redo_disk.proofs.Told.{OnTold-then, OnTold-weaker, told-as, told-step}
 use Rattle.redo_open.proofs.Told.{told-known}
@@ -53,7 +57,7 @@ loop-page-init g c = record {
   size = refl;
   later = omega arith;
   told = told-known _ _ (IsSettledData c.args.shape.now) (AreMended c.args.shape.now 0) (mended-none c.args.shape.now) c.requires.settled refl;
-  calls = none_ends g.D.Sectors.gives c.args.part.now.dev;
+  calls = put_nothing g.D.Sectors.gives c.args.part.now.dev;
 }
 
 pub loop-page-preserved : goal.loop-page-preserved
@@ -63,6 +67,9 @@ loop-page-preserved g c =
     let one : MendStep seen shape (IsMended shape c.loop-page.page) c.loop-page.part (Ok tt) c.mend_page.new.part =
     subst (λ (s : Shape). MendStep seen s (IsMended s c.loop-page.page) c.loop-page.part (Ok tt) c.mend_page.new.part)
     (c.loop-page.invariant.shape ∙ sym c.requires.shape) c.in_ok-mend_page.ensures.step in
+    let calls : MakesCalls g.D.Sectors.gives c.loop-page.part.dev c.mend_page.new.part.dev (PutsWhere (IsWithin (data_device_length shape)) None) =
+    subst (λ (s : Shape). MakesCalls g.D.Sectors.gives c.loop-page.part.dev c.mend_page.new.part.dev (PutsWhere (IsWithin (data_device_length s)) None))
+    (c.loop-page.invariant.shape ∙ sym c.requires.shape) c.in_ok-mend_page.ensures.calls in
     record {
       live = one.live;
       shape = one.shape_stays ∙ c.loop-page.invariant.shape;
@@ -72,7 +79,7 @@ loop-page-preserved g c =
           (λ a b d first second. subst (λ (n : ℕ). AreMended shape n a d) (sym (add-one c.loop-page.page))
           (mended-more shape c.loop-page.page a b d c.loop-page-test.true first second))
           c.loop-page.invariant.told one.ok;
-      calls = ends_then c.loop-page.invariant.calls c.in_ok-mend_page.ensures.calls;
+      calls = puts_then c.loop-page.invariant.calls calls;
     }
 
 pub returns-clause-step : goal.returns-clause-step
@@ -95,5 +102,7 @@ returns-clause-step g c =
 
 pub returns-in_err-mend_page-clause-calls : goal.returns-in_err-mend_page-clause-calls
 returns-in_err-mend_page-clause-calls g c =
-    let made = ends_then c.loop-page.invariant.calls c.in_err-mend_page.ensures.calls in
+    let calls = subst (λ (s : Shape). MakesCalls g.D.Sectors.gives c.loop-page.part.dev c.mend_page.new.part.dev (PutsWhere (IsWithin (data_device_length s)) (Some c.in_err-mend_page.field-0.0)))
+    (c.loop-page.invariant.shape ∙ sym c.requires.shape) c.in_err-mend_page.ensures.calls in
+    let made = puts_then c.loop-page.invariant.calls calls in
     let p = err_from_is_err_and c.from_residual.result c.from_residual.ensures.1 in rw (p.1, p.2) made

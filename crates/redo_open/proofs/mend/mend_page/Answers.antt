@@ -7,8 +7,9 @@ use Rattle.std.specs.List.{slice_get}
 use Rattle.model_parts.specs.{HasNothingPending, IsRepaired, KeepsAll}
 use Rattle.redo_disk.proofs.Told.{known-as, known-both}
 use Rattle.redo_disk.specs.{OnTold}
+use Rattle.redo_open.proofs.PagesInside.{copy-long, repair-within}
 use Rattle.redo_open.proofs.Mends.{mended-repaired, mended-same, settled-keeps}
-use Rattle.redo_disk.proofs.Made.{none_ends, serves_end}
+use Rattle.redo_open.proofs.Puts.{put_nothing, put_served}
 use Rattle.redo_open.proofs.Standing.{slot-below, slot-room, stands-in_place, stands-in_slot}
 use Rattle.redo_open.proofs.Told.{told-both, told-known}
 use Rattle.redo_open.proofs.Writings.{live-ok}
@@ -73,7 +74,15 @@ returns-in-Some-clause-step g c =
     }
 
 pub returns-in-Some-clause-calls : goal.returns-in-Some-clause-calls
-returns-in-Some-clause-calls g c = serves_end c.put_copy.ensures.calls
+returns-in-Some-clause-calls g c =
+    let shape = c.args.part.now.shape in
+    let at : slice_get c.args.places.now.found.items c.args.page ≡ Some c.index.result.now =
+    slice_get_read c.args.places.now.found.items c.args.part.now.shape.pages c.args.page c.index.result.now (sym c.requires.slots.count) c.requires.page c.index.ensures in
+    let below : c.in-Some.slot < shape.slots = slot-below shape c.args.places.now c.args.page c.in-Some.slot c.index.result.now c.requires.slots at c.in-Some.is in
+    let room = slot-room c.in-Some.slot shape.slots shape.page_size below c.requires.sizes in
+    let copy : List ℕ = take (c.in-Some.slot * 4096 + 4096 - c.in-Some.slot * 4096) (drop (c.in-Some.slot * 4096) c.deref.result.now) in
+    let long : length copy ≡ 4096 = copy-long c.in-Some.slot c.deref.result.now (omega (arith, room, c.requires.slots.room, ap length c.deref.ensures.value)) in
+    put_served (repair-within shape c.args.page copy c.requires.sizes c.requires.page long) c.put_copy.ensures.calls
 
 pub returns-in-None-clause-calls : goal.returns-in-None-clause-calls
-returns-in-None-clause-calls g c = none_ends g.D.Sectors.gives c.args.part.now.dev
+returns-in-None-clause-calls g c = put_nothing g.D.Sectors.gives c.args.part.now.dev

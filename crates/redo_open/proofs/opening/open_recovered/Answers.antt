@@ -5,6 +5,9 @@ use Rattle.redo_disk.specs.{MakesCalls, MayEndWith}
 use Rattle.redo_disk.specs.Seen.{Seen}
 use Rattle.redo_disk.specs.declared.error.DevError.TheVariants as device
 use Rattle.redo_open.proofs.Asked.{started_log, started_data}
+use Rattle.redo_open.proofs.Inside.{puts_of, started_inside}
+use Rattle.redo_open.proofs.Puts.{put_nothing}
+use Rattle.redo_open.specs.Formatting.{WritesInside}
 use Rattle.redo_disk.proofs.Made.{none_may_end, out_of_memory}
 use Rattle.redo_recover.specs.{AreNotAhead, data_error, reading_of}
 use Rattle.redo_open.specs.Clear.{MayStart}
@@ -80,3 +83,24 @@ returns-clause-data_calls g c =
     let before = ap (λ (part : Part _). part.dev) c.in-Ok.ensures.part in
     started_data c.open_devices.new.log c.open_devices.new.part c.args.recovered c.start_after-start.result c.start_run.result c.start_run.ensures
     (subst (λ dev. MakesCalls g.D.Sectors.gives dev c.open_devices.new.part.dev (MayEndWith None)) before c.in-Ok-open_devices.ensures.data_calls)
+
+-- THE LENGTHS.
+
+pub returns-in-Err-clause-inside : goal.returns-in-Err-clause-inside
+returns-in-Err-clause-inside g c =
+    subst (λ dev. WritesInside g.L.Sectors.gives g.D.Sectors.gives c.args.recovered.shape c.args.log c.args.log c.args.data_device dev) (sym c.in-Err.ensures.dev)
+    (record { log = puts_of (put_nothing g.L.Sectors.gives c.args.log); data_device = puts_of (put_nothing g.D.Sectors.gives c.args.data_device) })
+
+pub returns-in-Err-open_devices-clause-inside : goal.returns-in-Err-open_devices-clause-inside
+returns-in-Err-open_devices-clause-inside g c =
+    let before = ap (λ (part : Part _). part.dev) c.in-Ok.ensures.part in
+    subst (λ dev. WritesInside g.L.Sectors.gives g.D.Sectors.gives c.args.recovered.shape c.args.log c.open_devices.new.log c.args.data_device dev) (sym c.into_dev.ensures)
+    (subst (λ dev. WritesInside g.L.Sectors.gives g.D.Sectors.gives c.args.recovered.shape c.args.log c.open_devices.new.log dev c.open_devices.new.part.dev) before
+    c.in-Err-open_devices.ensures.inside)
+
+pub returns-clause-inside : goal.returns-clause-inside
+returns-clause-inside g c =
+    let before = ap (λ (part : Part _). part.dev) c.in-Ok.ensures.part in
+    started_inside c.open_devices.new.log c.open_devices.new.part c.args.recovered c.start_after-start.result c.start_run.result c.start_run.ensures
+    (subst (λ dev. WritesInside g.L.Sectors.gives g.D.Sectors.gives c.args.recovered.shape c.args.log c.open_devices.new.log dev c.open_devices.new.part.dev) before
+    c.in-Ok-open_devices.ensures.inside)

@@ -9,6 +9,8 @@ use Rattle.redo_open.specs.Opening.{log_left, data_left, IsOpenedReady}
 use Rattle.redo_open.specs.Places.{IsPageFault}
 use Rattle.redo_open.proofs.Asked.{data_ends, may_end_then, opens_beside, opens_log, opens_then, reads_end}
 use Rattle.redo_open.proofs.Endings.{device-own}
+use Rattle.redo_open.proofs.Inside.{data_reads, log_reads, puts_behind, puts_of, read-inside, unopened-inside}
+use Rattle.redo_open.proofs.Puts.{put_nothing, put_one}
 use Rattle.redo_open.proofs.Stores.{also-refused, openable-same, opened-read, opening-cause, both-err, sync-cause, synced-holds}
 use Rattle.redo_open.proofs.Told.{cause-since}
 use Rattle.redo_recover.specs.{AreFoundOn, data_error, log_error, reading_of}
@@ -89,3 +91,50 @@ returns-clause-log_calls g c = opens_then c.in-Ok.ensures.log.calls c.open_recov
 pub returns-clause-data_calls : goal.returns-clause-data_calls
 returns-clause-data_calls g c =
     may_end_then (may_end_then (reads_end c.in-Ok.ensures.data_device.calls) (may_end (call_ends c.in-Ok-sync.ensures.gives))) c.open_recovered.ensures.data_calls
+
+-- NOTHING OUTSIDE THE STORE IS WRITTEN.
+
+pub returns-in-Err-clause-inside : goal.returns-in-Err-clause-inside
+returns-in-Err-clause-inside g c =
+    unopened-inside g.L.Sectors.gives g.D.Sectors.gives (g.L.Sectors.seen c.args.log).tells (g.D.Sectors.seen c.args.data_device).tells c.args.log c.args.data_device
+    (c.in-Err.fault, c.recover.new.log, c.recover.new.data_device)
+    (λ shape. record {
+      log_read = c.recover.new.log;
+      data_read = c.recover.new.data_device;
+      log = log_reads c.in-Err.ensures.log.calls;
+      data_device = data_reads c.in-Err.ensures.data_device.calls;
+      inside = record {
+        log = puts_of (put_nothing g.L.Sectors.gives c.recover.new.log);
+        data_device = puts_of (put_nothing g.D.Sectors.gives c.recover.new.data_device);
+      };
+    })
+
+pub returns-in-Err-sync-clause-inside : goal.returns-in-Err-sync-clause-inside
+returns-in-Err-sync-clause-inside g c =
+    unopened-inside g.L.Sectors.gives g.D.Sectors.gives (g.L.Sectors.seen c.args.log).tells (g.D.Sectors.seen c.args.data_device).tells c.args.log c.args.data_device
+    (c.data_fault.result, c.recover.new.log, c.sync.new.self)
+    (λ shape. record {
+      log_read = c.recover.new.log;
+      data_read = c.recover.new.data_device;
+      log = log_reads c.in-Ok.ensures.log.calls;
+      data_device = data_reads c.in-Ok.ensures.data_device.calls;
+      inside = record {
+        log = puts_of (put_nothing g.L.Sectors.gives c.recover.new.log);
+        data_device = puts_of (put_one tt c.in-Err-sync.ensures.gives);
+      };
+    })
+
+pub returns-clause-inside : goal.returns-clause-inside
+returns-clause-inside g c =
+    read-inside g.L.Sectors.gives g.D.Sectors.gives (g.L.Sectors.seen c.args.log).tells (g.D.Sectors.seen c.args.data_device).tells c.args.log c.args.data_device
+    c.open_recovered.result (reading_of c.in-Ok.recovered) c.in-Ok.ensures.recovered.read c.open_recovered.ensures.step.opened_as
+    (record {
+      log_read = c.recover.new.log;
+      data_read = c.recover.new.data_device;
+      log = log_reads c.in-Ok.ensures.log.calls;
+      data_device = data_reads c.in-Ok.ensures.data_device.calls;
+      inside = record {
+        log = c.open_recovered.ensures.inside.log;
+        data_device = puts_behind (puts_of (put_one tt c.in-Ok-sync.ensures.gives)) c.open_recovered.ensures.inside.data_device;
+      };
+    })

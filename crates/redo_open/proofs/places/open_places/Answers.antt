@@ -11,7 +11,9 @@ use Rattle.redo_disk.specs.declared.error.DevError.{DevError}
 use Rattle.redo_open.proofs.Asked.{data_ends}
 use Rattle.redo_open.proofs.Endings.{device-own, device-failed}
 use Rattle.redo_open.proofs.Opens.{repair-keeps, mended-may_write, unchanged-keeps, write-keeps, all-written}
-use Rattle.redo_disk.proofs.Made.{ends_then, may_end, none_may_end, out_of_memory}
+use Rattle.redo_disk.proofs.Made.{may_end, none_may_end, out_of_memory}
+use Rattle.redo_open.proofs.Inside.{ends_of, puts_of}
+use Rattle.redo_open.proofs.Puts.{put_nothing, puts_then}
 use Rattle.redo_open.proofs.Standing.{stand-first}
 use Rattle.redo_open.proofs.Told.{risen-since}
 use Rattle.redo_open.specs.Mend.{IsSettledData, StandFrom}
@@ -117,11 +119,25 @@ pub returns-in-Err-clause-calls : goal.returns-in-Err-clause-calls
 returns-in-Err-clause-calls g c = out_of_memory (none_may_end g.D.Sectors.gives c.args.part.now.dev)
 
 pub returns-in-Err-mend-clause-calls : goal.returns-in-Err-mend-clause-calls
-returns-in-Err-mend-clause-calls g c = data_ends c.in-Err-mend.error c.data_fault.result c.data_fault.ensures c.in-Err-mend.ensures.calls
+returns-in-Err-mend-clause-calls g c = data_ends c.in-Err-mend.error c.data_fault.result c.data_fault.ensures (ends_of c.in-Err-mend.ensures.calls)
 
 pub returns-in-Ok-rewrite-clause-calls : goal.returns-in-Ok-rewrite-clause-calls
-returns-in-Ok-rewrite-clause-calls g c = may_end (ends_then c.in-Ok-mend.ensures.calls c.in-Ok-rewrite.ensures.calls)
+returns-in-Ok-rewrite-clause-calls g c = may_end (ends_of (puts_then c.in-Ok-mend.ensures.calls c.in-Ok-rewrite.ensures.calls))
 
 pub returns-clause-calls : goal.returns-clause-calls
 returns-clause-calls g c =
-    data_ends c.in-Err-rewrite.error c.data_fault-in-Err-rewrite.result c.data_fault-in-Err-rewrite.ensures (ends_then c.in-Ok-mend.ensures.calls c.in-Err-rewrite.ensures.calls)
+    data_ends c.in-Err-rewrite.error c.data_fault-in-Err-rewrite.result c.data_fault-in-Err-rewrite.ensures (ends_of (puts_then c.in-Ok-mend.ensures.calls c.in-Err-rewrite.ensures.calls))
+
+-- THE LENGTH.
+
+pub returns-in-Err-clause-inside : goal.returns-in-Err-clause-inside
+returns-in-Err-clause-inside g c = puts_of (put_nothing g.D.Sectors.gives c.args.part.now.dev)
+
+pub returns-in-Err-mend-clause-inside : goal.returns-in-Err-mend-clause-inside
+returns-in-Err-mend-clause-inside g c = puts_of c.in-Err-mend.ensures.calls
+
+pub returns-in-Ok-rewrite-clause-inside : goal.returns-in-Ok-rewrite-clause-inside
+returns-in-Ok-rewrite-clause-inside g c = puts_of (puts_then c.in-Ok-mend.ensures.calls c.in-Ok-rewrite.ensures.calls)
+
+pub returns-clause-inside : goal.returns-clause-inside
+returns-clause-inside g c = puts_of (puts_then c.in-Ok-mend.ensures.calls c.in-Err-rewrite.ensures.calls)

@@ -4,7 +4,7 @@ use Rattle.std.proofs.lemmas.Option.{slice_get_read}
 use Rattle.std.proofs.lemmas.Result.{err_from_is_err_and}
 use Rattle.redo_open.proofs.Gathers.{added, gathered-more, gathered-writable, same-gathered}
 use Rattle.redo_open.proofs.GatherSteps.{added-step, failed-step, kept-step}
-use Rattle.redo_disk.proofs.Made.{none_ends}
+use Rattle.redo_open.proofs.Puts.{put_nothing}
 use Rattle.redo_open.proofs.Writings.{PageRead, lsn-read, page-read}
 use Rattle.redo_open.specs.Gather.{Gathered, GatherStep}
 use Rattle.redo_open.proofs.rewrite.gather_page.Goals as goal
@@ -60,4 +60,4 @@ returns-clause-step g c =
     subst (λ (b : Gathered). GatherStep g.D.Sectors.seen shape pages found c.args.page (c.args.page + 1) c.args.part.now batch (Ok tt) c.make_room.new.part b) (sym c.add.ensures) step
 
 pub returns-then-index-lsn-clause-calls : goal.returns-then-index-lsn-clause-calls
-returns-then-index-lsn-clause-calls g c = none_ends g.D.Sectors.gives c.args.part.now.dev
+returns-then-index-lsn-clause-calls g c = put_nothing g.D.Sectors.gives c.args.part.now.dev

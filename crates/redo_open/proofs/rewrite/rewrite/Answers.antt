@@ -1,12 +1,16 @@
 -- One page after another, and then what is left of the batch.
-use Rattle.std.proofs.Common.{◌≡◌, ◌+◌, ◌∙◌, Ok, sym, ap, subst, arith}
+use Rattle.std.proofs.Common.{◌≡◌, ◌+◌, ◌∙◌, None, Ok, Some, sym, ap, subst, arith}
 use Rattle.std.proofs.lemmas.Result.{err_from_is_err_and}
 use Rattle.model_base.specs.declared.shape.Shape.{Shape}
 use Rattle.model_parts.specs.{IsWritable}
+use Rattle.model_device.specs.{IsWithin}
+use Rattle.model_page.specs.{data_device_length}
 use Rattle.redo_open.proofs.Gathers.{gathered-writable}
 use Rattle.redo_open.proofs.GatherSteps.{written-step}
-use Rattle.redo_disk.proofs.Made.{ends_then}
+use Rattle.redo_disk.specs.{error_of, MakesCalls}
+use Rattle.redo_open.proofs.Puts.{puts_then}
 use Rattle.redo_open.specs.Gather.{AreGathered, GatherStep, IsGatheredTo}
+use Rattle.redo_open.specs.Puts.{PutsWhere}
 use Rattle.redo_open.proofs.rewrite.rewrite.Goals as goal
 
 pub gather_page-requires-clause-gathered : goal.gather_page-requires-clause-gathered
@@ -21,6 +25,9 @@ loop-page-preserved g c =
     let step : GatherStep seen c.args.shape.now pages found c.loop-page.page (c.loop-page.page + 1) c.loop-page.part c.loop-page.batch (Ok tt) c.gather_page.new.part c.gather_page.new.batch =
     subst (λ (s : Shape). GatherStep seen s pages found c.loop-page.page (c.loop-page.page + 1) c.loop-page.part c.loop-page.batch (Ok tt) c.gather_page.new.part c.gather_page.new.batch)
     (c.loop-page.invariant.shape ∙ sym c.requires.shape) c.in_ok-gather_page.ensures.step in
+    let calls : MakesCalls g.D.Sectors.gives c.loop-page.part.dev c.gather_page.new.part.dev (PutsWhere (IsWithin (data_device_length c.args.shape.now)) None) =
+    subst (λ (s : Shape). MakesCalls g.D.Sectors.gives c.loop-page.part.dev c.gather_page.new.part.dev (PutsWhere (IsWithin (data_device_length s)) None))
+    (c.loop-page.invariant.shape ∙ sym c.requires.shape) c.in_ok-gather_page.ensures.calls in
     record {
       live = step.live;
       shape = step.shape_stays ∙ c.loop-page.invariant.shape;
@@ -28,7 +35,7 @@ loop-page-preserved g c =
       later = omega (arith, c.loop-page.invariant.later, step.cause.later);
       gathered = step.gathered;
       told = λ top start tops w. step.ok top start tops (c.loop-page.invariant.told top start tops w);
-      calls = ends_then c.loop-page.invariant.calls c.in_ok-gather_page.ensures.calls;
+      calls = puts_then c.loop-page.invariant.calls calls;
     }
 
 pub write_gathered-requires-clause-sizes : goal.write_gathered-requires-clause-sizes
@@ -59,8 +66,13 @@ returns-clause-step g c =
 
 pub returns-in_err-gather_page-clause-calls : goal.returns-in_err-gather_page-clause-calls
 returns-in_err-gather_page-clause-calls g c =
-    let made = ends_then c.loop-page.invariant.calls c.in_err-gather_page.ensures.calls in
+    let calls = subst (λ (s : Shape). MakesCalls g.D.Sectors.gives c.loop-page.part.dev c.gather_page.new.part.dev (PutsWhere (IsWithin (data_device_length s)) (Some c.in_err-gather_page.field-0.0)))
+    (c.loop-page.invariant.shape ∙ sym c.requires.shape) c.in_err-gather_page.ensures.calls in
+    let made = puts_then c.loop-page.invariant.calls calls in
     let p = err_from_is_err_and c.from_residual.result c.from_residual.ensures.1 in rw (p.1, p.2) made
 
 pub returns-clause-calls : goal.returns-clause-calls
-returns-clause-calls g c = ends_then c.loop-page.invariant.calls c.write_gathered.ensures.calls
+returns-clause-calls g c =
+    let calls = subst (λ (s : Shape). MakesCalls g.D.Sectors.gives c.loop-page.part.dev c.write_gathered.new.part.dev (PutsWhere (IsWithin (data_device_length s)) (error_of c.write_gathered.result)))
+    (c.loop-page.invariant.shape ∙ sym c.requires.shape) c.write_gathered.ensures.calls in
+    puts_then c.loop-page.invariant.calls calls

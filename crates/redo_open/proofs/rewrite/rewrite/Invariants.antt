@@ -1,8 +1,11 @@
 -- The pages so far are written or gathered, and no call has failed.
 use Rattle.std.proofs.Common.{◌≡◌, ◌≤◌, ℕ, None}
+use Rattle.model_device.specs.{IsWithin}
+use Rattle.model_page.specs.{data_device_length}
 use Rattle.model_page.specs.declared.content.Content.{Content}
-use Rattle.redo_disk.specs.{EndWith, MakesCalls}
+use Rattle.redo_disk.specs.{MakesCalls}
 use Rattle.redo_open.specs.Gather.{AreGathered, IsGatheredTo}
+use Rattle.redo_open.specs.Puts.{PutsWhere}
 use Rattle.redo_open.specs.Rewrite.{AreTop, IsWrittenTo}
 use Rattle.redo_open.proofs.rewrite.rewrite.Given as goal
 
@@ -15,5 +18,5 @@ invariant-loop-page g l = record {
   gathered : AreGathered l.shape l.pages l.page l.batch;
   told : (top start : ℕ → Content) → AreTop l.pages l.places.found.items top start → IsWrittenTo l.shape top start 0 (g.D.Sectors.seen l.fn.part.dev).tells
       → IsGatheredTo l.shape top start l.page l.batch (g.D.Sectors.seen l.part.dev).tells;
-  calls : MakesCalls g.D.Sectors.gives l.fn.part.dev l.part.dev (EndWith None);
+  calls : MakesCalls g.D.Sectors.gives l.fn.part.dev l.part.dev (PutsWhere (IsWithin (data_device_length l.shape)) None);
 }

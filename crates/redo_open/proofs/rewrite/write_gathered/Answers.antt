@@ -1,9 +1,10 @@
 -- There is no page to write, or the batch is written.
 use Rattle.std.proofs.Common.{Err, Ok, subst, sym}
 use Rattle.std.proofs.lemmas.Result.{err_from_is_err_and}
+use Rattle.model_parts.specs.{IsWritable}
 use Rattle.redo_open.proofs.Gathers.{gathered-none}
 use Rattle.redo_open.proofs.GatherSteps.{wrote-step}
-use Rattle.redo_disk.proofs.Made.{serves_end}
+use Rattle.redo_open.proofs.PagesInside.{batch_served}
 use Rattle.redo_open.specs.Gather.{AreGathered, Gathered, GatherStep}
 use Rattle.redo_open.proofs.rewrite.write_gathered.Goals as goal
 
@@ -24,7 +25,12 @@ returns-clause-step g c pages found count gathered =
 
 pub returns-in_err-write_batch-clause-calls : goal.returns-in_err-write_batch-clause-calls
 returns-in_err-write_batch-clause-calls g c =
-    let p = err_from_is_err_and c.from_residual.result c.from_residual.ensures.1 in rw (p.1, p.2) (serves_end c.in_err-write_batch.ensures.calls)
+    let writable = subst (λ users. IsWritable c.args.part.now.shape c.pairs-2.result.now users) (sym c.users.ensures)
+    (subst (λ pairs. IsWritable c.args.part.now.shape pairs c.args.batch.now.users) (sym c.pairs-2.ensures) c.requires.writable) in
+    let p = err_from_is_err_and c.from_residual.result c.from_residual.ensures.1 in rw (p.1, p.2) (batch_served c.args.part.now.shape c.pairs-2.result.now c.users.result.now c.requires.sizes writable c.in_err-write_batch.ensures.calls)
 
 pub returns-clause-calls : goal.returns-clause-calls
-returns-clause-calls g c = serves_end c.in_ok-write_batch.ensures.calls
+returns-clause-calls g c =
+    let writable = subst (λ users. IsWritable c.args.part.now.shape c.pairs-2.result.now users) (sym c.users.ensures)
+    (subst (λ pairs. IsWritable c.args.part.now.shape pairs c.args.batch.now.users) (sym c.pairs-2.ensures) c.requires.writable) in
+    batch_served c.args.part.now.shape c.pairs-2.result.now c.users.result.now c.requires.sizes writable c.in_ok-write_batch.ensures.calls
