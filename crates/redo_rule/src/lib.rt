@@ -19,8 +19,6 @@ mod seats;
 mod shared;
 mod slots;
 mod steps;
-#[cfg(test)]
-mod tests;
 
 pub use law::{About, Keeping, Law, Numbered, Ring, Seat, Slot, View};
 pub use playing::play;

@@ -1,9 +1,12 @@
-//! The tests of runs in threads: what no contract says of them, that they end, and where a user passes the gate.
+//! The tests of runs in threads: what no contract says of them, that they end, and where a user passes the gate. The seats of a
+//! shared store are played in turn too, by one thread.
 #![tactic(auto)]
 
 #[cfg(test)]
 mod gates;
 #[cfg(test)]
 mod runs;
+#[cfg(test)]
+mod seats;
 #[cfg(test)]
 mod store;

@@ -29,19 +29,20 @@ const LOG: u64 = 1_050_624;
 /// Bytes of the data device: the slots, and the places of eight pages.
 const DATA: u64 = 65_536;
 
-/// A store that was formatted, and opened on devices of which the log's passes so many calls.
-fn opened(
+/// A store that was formatted, and opened on devices that pass so many calls.
+pub fn opened(
     rt: &impl Abort,
     alloc: Global,
-    calls: Option<u64>,
+    log_calls: Option<u64>,
+    data_calls: Option<u64>,
 ) -> Result<Opened<Device, Device>, Fail>
     ensures { IfOk result IsRunnable }
 {
     let mut log = MemDisk::new(alloc, LOG)?;
     let mut store = MemDisk::new(alloc, DATA)?;
     format(&mut log, &mut store, &Shape::default_shape())?;
-    let log = Fused::new(log, calls);
-    let store = Fused::new(store, None);
+    let log = Fused::new(log, log_calls);
+    let store = Fused::new(store, data_calls);
     match open_store(alloc, log, store) {
         Ok(opened) => Ok(opened),
         Err((fault, _, _)) => panic!(rt; "{fault}"),
@@ -72,7 +73,7 @@ pub fn left_by<R: Abort + Threads + Wait + Sync, G: Gate>(
     calls: Option<u64>,
     gate: &G,
 ) -> Result<Closed<Device, Device>, Fail> {
-    let opened = opened(rt, alloc, calls)?;
+    let opened = opened(rt, alloc, calls, None)?;
     fitting_script();
     read_lines_are_ranged();
     let Ok(script) = parse(alloc, text) else {

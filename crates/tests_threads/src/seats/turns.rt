@@ -2,11 +2,12 @@
 ghost use Rattle.std.specs.Prelude.{length, ◌<◌, ◌≡◌};
 ghost use Rattle.redo_rule.specs.Sharing.{AreSeatsOf, IsSeated, starts_of, table_of};
 
-use super::store::{Device, Playing, begin};
-use crate::{Ring, Seat, all_hold_nothing, play};
+use super::store::{Playing, begin};
+use crate::store::Device;
 use redo_disk::Sectors;
 use redo_drive::Actor;
 use redo_pageactors::Closed;
+use redo_rule::{Ring, Seat, all_hold_nothing, play};
 use redo_words::Step;
 use std::alloc::Global;
 use std::process::Abort;

@@ -2,7 +2,7 @@ use Rattle.std.proofs.Common.{List, subst, sym}
 use Rattle.redo_drive.specs.declared.actor.Actor.{Actor}
 use Rattle.redo_rule.proofs.AtRest.{seated_free}
 use Rattle.redo_rule.specs.Cutting.{AreFreeToCheck}
-use Rattle.redo_rule.proofs.tests.turns.left_by.Goals as goal
+use Rattle.tests_threads.proofs.seats.turns.left_by.Goals as goal
 
 pub all_hold_nothing-requires : goal.all_hold_nothing-requires
 all_hold_nothing-requires g c = subst (λ (l : List Actor). AreFreeToCheck l) (sym c.as_slice.ensures.value)

@@ -1,6 +1,7 @@
 // Runs of seats that one thread plays in turn.
-use super::store::{DATA_CALLS, Device, LOG_CALLS};
+use super::store::{DATA_CALLS, LOG_CALLS};
 use super::turns::left_by;
+use crate::store::Device;
 use model_base::{PAGE_SIZE, SLOTS};
 use model_report::Marks;
 use model_report::State::{Flushed, Lost, Written};

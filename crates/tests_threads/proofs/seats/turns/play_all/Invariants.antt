@@ -1,7 +1,7 @@
 -- Each actor has its seat.
 use Rattle.std.proofs.Common.{length, ◌≡◌}
 use Rattle.redo_rule.specs.Sharing.{AreSeatsOf}
-use Rattle.redo_rule.proofs.tests.turns.play_all.Given as goal
+use Rattle.tests_threads.proofs.seats.turns.play_all.Given as goal
 
 abbrev pub invariant-loop-seat : goal.invariant-loop-seat
 invariant-loop-seat g l = record {
