@@ -21,14 +21,14 @@ use Rattle.redo_lab.proofs.BeforeCrash.{IsBeforeCrash, met-played, met-stopped}
 use Rattle.redo_lab.proofs.CrashSafe.{crashes-told, left-image}
 use Rattle.redo_lab.proofs.CrashTheorem.{CrashLaws, IsCrashDone, account_of, crash-theorem}
 use Rattle.redo_lab.proofs.Leaving.{opens-stored}
-use Rattle.redo_lab.proofs.RunPlayed.{ClosedLaws, armed-same, told-still, was-found}
+use Rattle.redo_lab.proofs.RunPlayed.{armed-same, told-still, was-found}
 use Rattle.redo_lab.proofs.RunPossible.{can-play}
 use Rattle.redo_lab.proofs.Running.{driving}
 use Rattle.redo_lab.proofs.SomeLeft.{some-left}
 use Rattle.redo_lab.specs.Answer.{IsCrashText}
 use Rattle.redo_drive.specs.declared.drive.RunEnd.TheVariants.{Done}
 use Rattle.redo_lab.specs.Call.{Call, Each, IsUnfailedAside, WhereOpened, WhereToldNow}
-use Rattle.redo_lab.specs.Complete.{CanPlay}
+use Rattle.redo_lab.specs.Cause.{CanPlay}
 use Rattle.redo_lab.specs.Course.{IsPlayedBy, IsStoppedBy, ran_of}
 use Rattle.redo_lab.specs.Told.{IsOpenedFirst, IsRunOf, LeavesStore}
 use Rattle.redo_lab.specs.Outcome.{EndsWith, IsDoneOrKeptFrom, IsOutcome}
@@ -62,7 +62,7 @@ module _ (call : Call) (drive : Drive) (stops : Stops) (pick workers : ℕ) (scr
   crash-first left left_is armed_found crashed opened log data_disk log_is data_is log_fresh data_fresh opens armed_from disk armed_is met_is =
       let way = before.way in
       let found = was-found call.log.entry call.store.entry way.log_found way.data_found log data_disk call.log.entry.faults call.store.entry.faults
-      opened laws.one_answer laws.formatted way.prepared log_is data_is log_fresh data_fresh opens in
+      opened laws.one laws.formatted way.prepared log_is data_is log_fresh data_fresh opens in
       let data_met = told-still call.store.entry.tells data_old.seen.tells data_disk way.data_device.same.tells data_is in
       subst (λ (armed_from : Disk). IsOpenedBefore opened.shape armed_from disk run) (armed-same _ _ found.log armed_from armed_found found.log_is armed_is)
       (before.safe opened found left left_is disk data_met.0 (sym crashed ∙ met_is) data_met.1).opened_first
@@ -73,7 +73,7 @@ module _ (call : Call) (drive : Drive) (stops : Stops) (pick workers : ℕ) (scr
       → WhereToldNow call (λ log data_disk. IsFair opened.shape crashed_from data_disk.reads → ReadsPrefix script opened run log.reads data_disk.reads))
   left-reads log_since data_since since opened log data_disk log_is data_is log_fresh data_fresh opens crashed_from from_is log_left data_left log_left_is data_left_is fair =
       let found = was-found call.log.entry call.store.entry before.way.log_found before.way.data_found log data_disk call.log.entry.faults call.store.entry.faults
-      opened laws.one_answer laws.formatted before.way.prepared log_is data_is log_fresh data_fresh opens in
+      opened laws.one laws.formatted before.way.prepared log_is data_is log_fresh data_fresh opens in
       let log_met = told-still call.log.entry.tells log_old.seen.tells log before.way.log_device.same.tells log_is in
       let left = some-left script (entries_of run) in
       let on = before.safe opened found left.0 left.1 log_met.0 crashed_from log_met.1 (sym since.data_device.from ∙ from_is) in
@@ -168,7 +168,7 @@ module _ (call : Call) (drive : Drive) (stops : Stops) (pick workers : ℕ) (scr
       let kept = left-reads 0 0 back.since can.opened can.log can.store
       can.log_tells can.store_tells can.log_fresh can.store_fresh can.opens data_met.0 from log_left.0 data_left.0 log_left.1 data_left.1
       (can.fair pick data_met.0 data_left.0 both.data_device.pick from data_left.1) in
-      laws.one_answer log_left.0.reads data_left.0.reads kept.reading refusal kept.is_read (back.refused log_left.0 data_left.0 log_left.1 data_left.1)
+      laws.one log_left.0.reads data_left.0.reads kept.reading refusal kept.is_read (back.refused log_left.0 data_left.0 log_left.1 data_left.1)
 
   -- WHAT A CRASH COMES TO that met this.
   pub crash-done : (o : Outcome) → IsScriptRead call.source call.source_now script
@@ -204,10 +204,10 @@ crash-stopped call stops drive pick workers script f log_old data_old o read law
 
 -- A CRASH BEHIND A RUN.
 pub crash-played : (call : Call) (stops : Stops) (drive : Drive) (pick workers : ℕ) (script : List ScriptLine) (played : Played) (failed : Option Fault) (log_old data_old : Shown) (o : Outcome)
-    → IsScriptRead call.source call.source_now script → CrashLaws → ClosedLaws
+    → IsScriptRead call.source call.source_now script → CrashLaws
     → IsPlayedBy (driving call drive script) call.log.entry call.store.entry stops drive.log_only script played failed log_old data_old
     → ReadsBack pick script (Some (ran_of played)) o log_old data_old (now_of call.log) (now_of call.store)
     → EndsWith call (Crash drive stops.log stops.store pick workers) o
-crash-played call stops drive pick workers script played failed log_old data_old o read laws closed run back =
-    let met = met-played call (Crash drive stops.log stops.store pick workers) drive stops script played failed log_old data_old closed read run in
+crash-played call stops drive pick workers script played failed log_old data_old o read laws run back =
+    let met = met-played call (Crash drive stops.log stops.store pick workers) drive stops script played failed log_old data_old laws.closed read run in
     crash-done call drive stops pick workers script (Some (ran_of played)) met.log_failed met.data_failed log_old data_old laws met.before o read back

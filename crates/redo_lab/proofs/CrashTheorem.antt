@@ -11,8 +11,7 @@ use Rattle.model_script.specs.declared.asked.Command.{Command}
 use Rattle.redo_lab.proofs.BeforeCrash.{IsBeforeCrash, IsSafeOn, result_on}
 use Rattle.redo_lab.proofs.CrashSafe.{CrashLaw, HasTold, armed-first, device_of, fits-run, has-told, is-crashed, is-device, same-copies, stopped-as}
 use Rattle.redo_lab.proofs.RunPlayed.{FormattedLaw, armed-same, was-found, whole-script}
-use Rattle.redo_lab.proofs.RunPossible.{OneReading}
-use Rattle.redo_lab.proofs.Told.{OneAnswer}
+use Rattle.redo_lab.proofs.Running.{RunLaws}
 use Rattle.redo_lab.specs.Answer.{IsCrashCall}
 use Rattle.redo_drive.specs.declared.drive.RunEnd.TheVariants.{Done}
 use Rattle.redo_lab.specs.Call.{Call}
@@ -23,9 +22,8 @@ use Rattle.redo_lab.specs.Told.{IsRunOf}
 
 -- The laws on which it rests.
 pub record CrashLaws : Type 0 where
-  pub one_answer : OneAnswer
-  pub one_reading : OneReading
-  pub formatted : FormattedLaw
+  pub run : RunLaws
+  pub open run use *
   pub crash : CrashLaw
 
 -- THE CALL: what the crash met, what was read behind it, and what the two devices told.
@@ -117,7 +115,7 @@ safe-on : (call : Call) (command : Command) (drive : Drive) (stops : Stops) (pic
 safe-on call command drive stops pick script run text log_failed data_failed log_old data_old laws done told opened premises =
     let way = done.before.way in
     let found = was-found call.log.entry call.store.entry way.log_found way.data_found told.log_told.at_entry told.data_told.at_entry
-    call.log.entry.faults call.store.entry.faults opened laws.one_answer laws.formatted way.prepared told.log_told.entry_is told.data_told.entry_is
+    call.log.entry.faults call.store.entry.faults opened laws.one laws.formatted way.prepared told.log_told.entry_is told.data_told.entry_is
     premises.log_fresh premises.data_fresh premises.opens in
     subst (λ (log_found : Disk).
     IsSafeOn script done.before.opened opened run (log_failed + data_failed) done.back.text_is.left log_found told.log_told.crashed_from told.data_told.crashed_from)
@@ -160,7 +158,7 @@ theorem-on call command drive stops pick script run text log_failed data_failed 
         log_device = asked_for.log_crashed;
         data_device = asked_for.data_crashed;
         is_read = read;
-        old_copies = same-copies log_left.reads data_left.reads kept.reading done.back.reading laws.one_reading kept.is_read read kept.old_copies;
+        old_copies = same-copies log_left.reads data_left.reads kept.reading done.back.reading laws.same kept.is_read read kept.old_copies;
       };
       fair = premises.fair;
     })

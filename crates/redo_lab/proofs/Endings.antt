@@ -15,7 +15,7 @@ use Rattle.redo_lab.proofs.Keeping.{OpenableLaw}
 use Rattle.redo_lab.proofs.Unscripted.{AreLeftAlone, leaves-alone, tells-alone, unwritten-alone}
 use Rattle.redo_lab.specs.Asked.{command_of, runs_script}
 use Rattle.redo_lab.specs.Call.{LabCall}
-use Rattle.redo_lab.specs.Complete.{MayKeepFrom}
+use Rattle.redo_lab.specs.Cause.{MayKeepFrom}
 use Rattle.redo_lab.specs.Ending.{HasFault, HasReport, HasText, IsCallOf, IsFaultPrinted, success}
 use Rattle.redo_lab.specs.Outcome.{EndsWith, IsDoneOrKeptFrom, IsOutcome, IsOutcomePrinted, IsReported}
 

@@ -25,8 +25,7 @@ use Rattle.redo_lab.proofs.Told.{both-told}
 use Rattle.redo_lab.proofs.Unscripted.{AreLeftAlone, tells-alone, unfailed-alone, unwritten-alone}
 use Rattle.redo_lab.specs.Answer.{shape_of}
 use Rattle.redo_lab.specs.Call.{Call, Each, IsUnfailed, WhereToldNow}
-use Rattle.redo_lab.specs.Cause.{IsPastSource}
-use Rattle.redo_lab.specs.Complete.{AreLongEnough}
+use Rattle.redo_lab.specs.Cause.{AreLongEnough, IsPastSource}
 use Rattle.redo_lab.specs.Playing.{fault_of}
 use Rattle.redo_lab.specs.Outcome.{EndsWith, IsDoneOrKeptFrom, IsOutcome, outcome_of}
 use Rattle.redo_lab.specs.Stages.{now_of}

@@ -14,8 +14,7 @@ use Rattle.redo_lab.proofs.SomeLeft.{some-left}
 use Rattle.redo_lab.proofs.Summed.{FairLaw, holds-read, possible-read-behind, read-played, read-run}
 use Rattle.redo_lab.specs.Asked.{drive_of_seed}
 use Rattle.redo_lab.specs.Call.{Call, Each, IsUnfailed}
-use Rattle.redo_lab.specs.Cause.{IsCauseOf, IsPastSource}
-use Rattle.redo_lab.specs.Complete.{CanPlay}
+use Rattle.redo_lab.specs.Cause.{CanPlay, IsCauseOf, IsPastSource}
 use Rattle.redo_lab.specs.Course.{ArePlayedThrough, CameSoFar, Driving, HoldsRun, IsPlayedBy, ran_of}
 use Rattle.redo_lab.specs.Outcome.{EndsWith, IsDoneOrKeptFrom, IsOutcome}
 use Rattle.redo_lab.specs.Reread.{AreBoth, AreRead, IsReadSince, ReadsAfter, summary_of}

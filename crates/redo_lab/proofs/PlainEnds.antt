@@ -26,8 +26,7 @@ use Rattle.redo_lab.proofs.Unscripted.{AreLeftAlone, leaves-alone, tells-alone, 
 use Rattle.redo_lab.specs.Answer.{IsListing, IsReadOff}
 use Rattle.redo_lab.specs.Asked.{runs_script}
 use Rattle.redo_lab.specs.Call.{AreUnfailedFor, Call, Each, Guarded, IsUnfailed, IsUnwritten, WhereToldAtEntry}
-use Rattle.redo_lab.specs.Cause.{IsDeviceFault, IsPastSource, IsUnbegun}
-use Rattle.redo_lab.specs.Complete.{CanRead, IsPossible}
+use Rattle.redo_lab.specs.Cause.{CanRead, IsDeviceFault, IsPastSource, IsPossible, IsUnbegun}
 use Rattle.redo_lab.specs.Playing.{fault_of}
 use Rattle.redo_lab.specs.Outcome.{EndsWith, IsDoneOrKeptFrom, IsOutcome, outcome_of}
 use Rattle.redo_lab.specs.Stages.{IsUnarmed, now_of}

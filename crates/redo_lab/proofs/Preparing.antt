@@ -27,7 +27,7 @@ use Rattle.redo_recover.specs.declared.fault.RecFault.TheVariants.{SmallLog, Not
 use Rattle.redo_lab.proofs.Behind.{kept-behind, unarmed-behind}
 use Rattle.redo_lab.proofs.Formatting.{IsFormatFault}
 use Rattle.redo_lab.proofs.Stages.{unarmed-calls, unarmed-fresh}
-use Rattle.redo_lab.specs.Complete.{AreLongEnough}
+use Rattle.redo_lab.specs.Cause.{AreLongEnough}
 use Rattle.redo_lab.specs.Stages.{ArePrepared, AreTooShort, BothKept, IsFirstRead, IsUnarmed, IsUnpreparedBy, WasUnused, shown}
 use Rattle.redo_lab.specs.Store.{IsTooShort}
 

@@ -11,7 +11,7 @@ use Rattle.redo_lab.specs.declared.playing.Played.{Played}
 use Rattle.redo_lab.proofs.RunTold.{holds-played, played-text}
 use Rattle.redo_lab.proofs.Running.{RunLaws, aside-way, driving, ends-with, failed-unstopped, leaves-held, no_stops, running-run, tells-way, unfailed-way}
 use Rattle.redo_lab.specs.Call.{Call, Each, IsUnfailed}
-use Rattle.redo_lab.specs.Complete.{CanPlay}
+use Rattle.redo_lab.specs.Cause.{CanPlay}
 use Rattle.redo_lab.specs.Course.{ArePlayed, IsPlayedBy, ran_of}
 use Rattle.redo_lab.specs.Outcome.{EndsWith, IsDoneOrKeptFrom, IsOutcome}
 use Rattle.redo_lab.specs.Reread.{IsReportOf, IsRunPrinted, report_outcome}

@@ -22,7 +22,7 @@ use Rattle.redo_lab.proofs.Keeping.{unused-unread}
 use Rattle.redo_lab.proofs.RunPlayed.{same-opened}
 use Rattle.redo_lab.proofs.Told.{OneAnswer}
 use Rattle.redo_lab.specs.Call.{Call}
-use Rattle.redo_lab.specs.Complete.{AreLongEnough, CanPlay, CanRun, MayKeepFrom}
+use Rattle.redo_lab.specs.Cause.{AreLongEnough, CanPlay, CanRun, MayKeepFrom}
 use Rattle.redo_lab.specs.Course.{AreMisfitted, AreRefusedOpened, AreSpent, Driving, IsEndedBy}
 use Rattle.redo_lab.specs.Stages.{AreTooShort, now_of}
 use Rattle.redo_lab.specs.Asked.{IsScriptRead}

@@ -29,8 +29,7 @@ use Rattle.redo_lab.specs.Asked.{IsScriptFor, IsScriptRead, drive_of, drive_of_s
 use Rattle.redo_drive.specs.declared.drive.RunEnd.{RunEnd}
 use Rattle.redo_drive.specs.declared.drive.RunEnd.TheVariants.{Spent}
 use Rattle.redo_lab.specs.Call.{AreKept, AreUnfailedFor, Call, Each, Guarded, IsUnfailed, IsUnfailedAside}
-use Rattle.redo_lab.specs.Cause.{IsCauseOf, IsDeviceFault, IsPastSource, IsRefused, IsRefusedAtEntry, IsUnbegun}
-use Rattle.redo_lab.specs.Complete.{CanPlay, IsPossible}
+use Rattle.redo_lab.specs.Cause.{CanPlay, IsCauseOf, IsDeviceFault, IsPastSource, IsPossible, IsRefused, IsRefusedAtEntry, IsUnbegun}
 use Rattle.redo_lab.specs.Course.{AreRefusedOpened, AreStopped, AreUnderWay, CameSoFar, Driving, HoldsRun, IsEndedBy, IsStoppedBy}
 use Rattle.redo_lab.specs.Told.{AreLeftRead, IsOpenedFirst, IsRunOf, LeavesStore}
 use Rattle.redo_lab.specs.Outcome.{EndsWith, IsDoneOrKeptFrom, IsOutcome}

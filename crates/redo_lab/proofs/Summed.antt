@@ -17,7 +17,7 @@ use Rattle.redo_lab.proofs.Told.{OneAnswer, weaker-both}
 use Rattle.redo_lab.proofs.UnderWay.{same-both}
 use Rattle.redo_drive.specs.declared.drive.RunEnd.TheVariants.{Done}
 use Rattle.redo_lab.specs.Call.{Call, WhereToldNow}
-use Rattle.redo_lab.specs.Complete.{CanPlay}
+use Rattle.redo_lab.specs.Cause.{CanPlay}
 use Rattle.redo_lab.specs.Course.{ArePlayedThrough, AreUnderWay, CameSoFar, ClosesRun, Driving, HoldsRun, ran_of}
 use Rattle.redo_lab.specs.Stages.{ArePrepared, Shown, now_of}
 use Rattle.redo_lab.specs.Reread.{AreBoth, IsReadSince}

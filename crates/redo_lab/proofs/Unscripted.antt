@@ -20,8 +20,7 @@ use Rattle.redo_lab.proofs.Leaving.{leaves-kept}
 use Rattle.redo_lab.proofs.Running.{AreTelling}
 use Rattle.redo_lab.specs.Asked.{IsBadLine, IsLongScript, IsScriptFault, leaves_devices, reads_script}
 use Rattle.redo_lab.specs.Call.{Call, Each, Guarded, IsUnfailed, IsUnwritten}
-use Rattle.redo_lab.specs.Cause.{IsCauseOf}
-use Rattle.redo_lab.specs.Complete.{CanRun, IsPossible, MayKeepFrom}
+use Rattle.redo_lab.specs.Cause.{CanRun, IsCauseOf, IsPossible, MayKeepFrom}
 use Rattle.redo_lab.specs.Told.{LeavesStore}
 use Rattle.redo_lab.specs.Outcome.{EndsWith}
 use Rattle.redo_lab.specs.Playing.{command_with}

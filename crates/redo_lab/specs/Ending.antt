@@ -13,8 +13,7 @@ use Rattle.redo_io.specs.declared.read.TheConstants.{PIECE}
 use Rattle.redo_lab.specs.Answer.{IsAnswer}
 use Rattle.redo_lab.specs.Asked.{command_of, leaves_devices, reads_script, runs_script}
 use Rattle.redo_lab.specs.Call.{AreUnfailedFor, Call, Each, IsUnfailedAside, IsUnwritten, LabCall}
-use Rattle.redo_lab.specs.Cause.{IsCauseOf}
-use Rattle.redo_lab.specs.Complete.{IsDone}
+use Rattle.redo_lab.specs.Cause.{IsCauseOf, IsDone}
 use Rattle.redo_lab.specs.Told.{IsReportText, IsRunText, LeavesStore}
 
 -- the status of a call that did what it was asked

@@ -2,7 +2,6 @@ pub mod Answer
 pub mod Asked
 pub mod Call
 pub mod Cause
-pub mod Complete
 pub mod Course
 pub mod Ending
 pub mod Handed

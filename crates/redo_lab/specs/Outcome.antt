@@ -15,8 +15,7 @@ use Rattle.redo_lab.specs.declared.outcome.Outcome.TheVariants as outcome
 use Rattle.redo_lab.specs.Answer.{IsAnswer}
 use Rattle.redo_lab.specs.Asked.{leaves_devices, reads_script, runs_script}
 use Rattle.redo_lab.specs.Call.{AreUnfailedFor, Call, Each, IsUnfailedAside, IsUnwritten}
-use Rattle.redo_lab.specs.Cause.{IsCauseOf}
-use Rattle.redo_lab.specs.Complete.{IsPossible, MayKeepFrom}
+use Rattle.redo_lab.specs.Cause.{IsCauseOf, IsPossible, MayKeepFrom}
 use Rattle.redo_lab.specs.Ending.{EndsRun, IsFaultPrinted, IsTextPrinted}
 use Rattle.redo_lab.specs.Handed.{AreOf, call_on}
 use Rattle.redo_lab.specs.Told.{IsReportText, IsRunText, LeavesStore}

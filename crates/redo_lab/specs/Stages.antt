@@ -19,7 +19,7 @@ use Rattle.redo_disk.specs.{Call, HasSize, ReadsEndWith}
 use Rattle.redo_disk.specs.declared.error.DevError.{DevError}
 use Rattle.redo_recover.specs.declared.fault.RecFault.{RecFault}
 use Rattle.redo_recover.specs.declared.fault.RecFault.TheVariants.{SmallLog, SmallData, LogDev, DataDev, NoMemory}
-use Rattle.redo_lab.specs.Complete.{AreLongEnough}
+use Rattle.redo_lab.specs.Cause.{AreLongEnough}
 use Rattle.redo_lab.specs.Store.{IsTooShort}
 
 -- a device and the fuse in front of it, and what it meant when the fuse was armed, where it told
