@@ -8,10 +8,9 @@ use Rattle.std.specs.declared.result.Result.TheVariants.{Ok, Err}
 use Rattle.std.specs.declared.vec.Vec.{Vec}
 use Rattle.std.proofs.lemmas.List.Elements.{All-cons, All-nil}
 use Rattle.model_base.specs.declared.shape.Shape.{Shape}
-use Rattle.model_record.specs.declared.rec.Rec.{Rec}
-use Rattle.model_record.specs.declared.group.Whole.{Whole}
-use Rattle.model_record.specs.{groups_of, stream_of}
-use Rattle.model_log.specs.{end_of, spans_of}
+use Rattle.model_log.specs.declared.rec.Rec.{Rec}
+use Rattle.model_log.specs.declared.group.Whole.{Whole}
+use Rattle.model_log.specs.{end_of, groups_of, spans_of, stream_of}
 use Rattle.model_log.proofs.Runs.{end_of-append, run-append, spans_of-append, stream-append}
 use Rattle.model_store.specs.{AreGroups, IsStorable}
 use Rattle.redo_recover.proofs.Grouping.{AreGroupsSoFar-none}

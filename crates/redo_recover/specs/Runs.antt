@@ -1,7 +1,7 @@
 -- Groups that are read one after another, not all of them yet.
 use Rattle.std.specs.Prelude.{ℕ, ◌≡◌, ◌≤◌, ◌+◌, List, length, drop}
 use Rattle.model_base.specs.declared.shape.Shape.{Shape}
-use Rattle.model_record.specs.declared.group.Whole.{Whole}
+use Rattle.model_log.specs.declared.group.Whole.{Whole}
 use Rattle.model_log.specs.{end_of, sn_of, spans_of}
 use Rattle.model_store.specs.{AreGroups}
 use Rattle.redo_recover.specs.declared.run.Run.{Run}

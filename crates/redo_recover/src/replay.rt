@@ -3,8 +3,7 @@ ghost use Rattle.std.specs.Prelude.{◌≤◌, ◌<◌, ◌+◌, ◌*◌, length
 ghost use Rattle.std.specs.Thread.{IsSync};
 ghost use Rattle.model_base.specs.{IsWithinLimits};
 ghost use Rattle.model_base.specs.declared.limits.TheConstants.{LSN_LIMIT, MAX_LOG_BLOCKS};
-ghost use Rattle.model_log.specs.{sn_of};
-ghost use Rattle.model_record.specs.{GroupFits};
+ghost use Rattle.model_log.specs.{GroupFits, sn_of};
 ghost use Rattle.redo_apply.specs.{ArePagesOf, AreReplayed, HaveLsns};
 ghost use Rattle.redo_papply.specs.declared.apply.TheConstants.{MAX_WORKERS};
 ghost use Rattle.redo_recover.specs.Runs.{IsFrontRun};
@@ -13,7 +12,7 @@ use crate::blocks::Blocks;
 use crate::run::Run;
 use crate::stretch::read_by_all;
 use model_base::{MAX_PAGES, Shape};
-use model_record::Whole;
+use model_log::Whole;
 use redo_apply::Pages;
 use redo_lsn::NoMemory;
 use redo_papply::apply_all;

@@ -6,7 +6,7 @@ ghost use Rattle.redo_recover.specs.Runs.{IsFrontRun, IsRun};
 
 use crate::groups::read_storable;
 use model_base::Shape;
-use model_record::Whole;
+use model_log::Whole;
 use redo_lsn::{NoMemory, lsn_and_sn, lsn_of, sn_of};
 use redo_num::Got;
 use std::alloc::{AllocError, Global};

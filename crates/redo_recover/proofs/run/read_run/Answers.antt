@@ -1,7 +1,7 @@
 use Rattle.std.proofs.Common.{◌<◌, ◌+◌, drop, length, length-drop, ap, arith, subst, sym, ◌∙◌}
 use Rattle.std.proofs.lemmas.List.{drop-drop, take_rest}
 use Rattle.model_log.specs.{lsn_of}
-use Rattle.model_number.specs.declared.got.Got.TheVariants.{Value}
+use Rattle.model_base.specs.declared.got.Got.TheVariants.{Value}
 use Rattle.redo_recover.specs.Groups.{GivesStorable}
 use Rattle.redo_recover.specs.Runs.{AreGroupsSoFar}
 use Rattle.redo_recover.proofs.Grouping.{AreGroupsSoFar-none, AreGroupsSoFar-push, taken-some}
