@@ -70,6 +70,18 @@ same | recover --workers 8 |                           | 0 | read 1 8217 / p 3 8
     )
 }
 
+/// The log has four blocks with one group each, and no checkpoint behind the first.
+#[test]
+fn reads_each_block_by_a_worker_of_its_own(rt: HostRuntime) -> Result<(), Fail> {
+    play(
+        &rt,
+        "
+new  | crash --log-only --workers 4 | [1 f s 3 38 (07*489) / *4] | 0 | open 8204 / g 8204 8716 1 0 flushed / g 8716 9228 1 1 flushed / g 9228 9740 1 2 flushed / g 9740 10252 1 3 flushed / marks 10252 10252 10252 8192 / recovered 4 10252 / p 3 10252 (07*489)
+same | recover --workers 16         |                            | 0 | read 4 10252 / p 3 10252 (07*489)
+",
+    )
+}
+
 /// The lines have three strings: 8,122 bytes of text and those of the last string, 71 and then 70.
 #[test]
 fn refuses_a_group_that_is_too_long(rt: HostRuntime) -> Result<(), Fail> {
