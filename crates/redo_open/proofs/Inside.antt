@@ -9,8 +9,8 @@ use Rattle.model_device.specs.declared.write.Write.{Write}
 use Rattle.model_log.specs.{checkpoint_text, log_device_length, offset_of}
 use Rattle.model_log.specs.declared.layout.TheConstants.{RING_SIZE}
 use Rattle.model_log.proofs.Sealed.{length-padded, length-sealed}
-use Rattle.model_number.specs.{padded_to}
-use Rattle.model_record.proofs.Several.{one_group}
+use Rattle.model_base.specs.{padded_to}
+use Rattle.model_log.proofs.Several.{one_group}
 use Rattle.model_store.proofs.OneReading.{same_reading}
 use Rattle.model_store.specs.{IsReading}
 use Rattle.model_store.specs.Reading.{Reading}

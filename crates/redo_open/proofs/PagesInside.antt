@@ -2,9 +2,9 @@
 use Rattle.std.proofs.Common.{◌≡◌, ◌≤◌, ◌<◌, ◌+◌, ◌-◌, ◌*◌, ◌∙◌, ℕ, suc, List, [], ◌∷◌, ◌++◌, length, take, drop, map, Option, Some, refl, sym, subst, length-append, length-drop, length-take, arith}
 use Rattle.std.specs.List.{AllByRecursion, slice_get}
 use Rattle.model_base.specs.declared.shape.Shape.{Shape}
-use Rattle.model_datadev.proofs.Batches.{length-new_text}
-use Rattle.model_datadev.proofs.Joined.{fresh_of}
-use Rattle.model_datadev.specs.{batch_of, batch_text, IsWritable, new_text, place_writes, repair_write, slots_write}
+use Rattle.model_parts.proofs.Batches.{length-new_text}
+use Rattle.model_parts.proofs.Joined.{fresh_of}
+use Rattle.model_parts.specs.{batch_of, batch_text, IsWritable, new_text, place_writes, repair_write, slots_write}
 use Rattle.model_device.specs.{IsWithin}
 use Rattle.model_page.specs.{data_device_length}
 use Rattle.redo_disk.specs.{Call, MakesCalls, Serve, ToSync, ToWrite}

@@ -3,7 +3,7 @@ use Rattle.std.proofs.Common.{◌+◌, ◌∙◌, ℕ, Err, Ok, None, Some, refl
 use Rattle.std.proofs.lemmas.Result.{err_from_is_err_and}
 use Rattle.std.specs.Prelude.{IfSome}
 use Rattle.model_base.specs.declared.shape.Shape.{Shape}
-use Rattle.model_datadev.specs.{KeepsAll}
+use Rattle.model_parts.specs.{KeepsAll}
 use Rattle.model_device.specs.{IsWithin}
 use Rattle.model_page.specs.{data_device_length}
 use Rattle.redo_disk.specs.{MakesCalls}

@@ -2,7 +2,7 @@
 use Rattle.std.proofs.Common.{◌≡◌, ◌+◌, ◌∙◌, None, Ok, Some, sym, ap, subst, arith}
 use Rattle.std.proofs.lemmas.Result.{err_from_is_err_and}
 use Rattle.model_base.specs.declared.shape.Shape.{Shape}
-use Rattle.model_datadev.specs.{IsWritable}
+use Rattle.model_parts.specs.{IsWritable}
 use Rattle.model_device.specs.{IsWithin}
 use Rattle.model_page.specs.{data_device_length}
 use Rattle.redo_open.proofs.Gathers.{gathered-writable}

@@ -1,7 +1,7 @@
 -- There is no page to write, or the batch is written.
 use Rattle.std.proofs.Common.{Err, Ok, subst, sym}
 use Rattle.std.proofs.lemmas.Result.{err_from_is_err_and}
-use Rattle.model_datadev.specs.{IsWritable}
+use Rattle.model_parts.specs.{IsWritable}
 use Rattle.redo_open.proofs.Gathers.{gathered-none}
 use Rattle.redo_open.proofs.GatherSteps.{wrote-step}
 use Rattle.redo_open.proofs.PagesInside.{batch_served}
