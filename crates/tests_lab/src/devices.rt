@@ -167,13 +167,13 @@ pub(crate) fn first_slot<D: Sectors>(store: &mut D) -> Result<[u8; 4096], DevErr
 }
 
 /// A device of so many sectors, which holds what the first sector of this one does.
-fn shortened(alloc: Global, device: &mut MemDisk, sectors: u64) -> Result<MemDisk, Fail> {
+fn shortened(alloc: Global, device: &mut MemDisk, sectors: u32) -> Result<MemDisk, Fail> {
     let mut first = [0; 512];
     if device.len() < 512 {
         return Err(Fail::from("the device has no sector"));
     }
     device.read(0, &mut first)?;
-    let mut short = MemDisk::new(alloc, sectors.saturating_mul(512))?;
+    let mut short = MemDisk::new(alloc, 512 * u64::from(sectors))?;
     put(&mut short, 0, &first)?;
     Ok(short)
 }
@@ -182,11 +182,11 @@ fn shortened(alloc: Global, device: &mut MemDisk, sectors: u64) -> Result<MemDis
 pub(crate) fn shorten(alloc: Global, devices: &mut Devices, name: &str) -> Result<bool, Fail> {
     match name.split_once(" of ") {
         Some(("log", sectors)) => {
-            devices.log = shortened(alloc, &mut devices.log, sectors.parse::<u64>()?)?;
+            devices.log = shortened(alloc, &mut devices.log, sectors.parse::<u32>()?)?;
             Ok(true)
         }
         Some((_, sectors)) => {
-            devices.store = shortened(alloc, &mut devices.store, sectors.parse::<u64>()?)?;
+            devices.store = shortened(alloc, &mut devices.store, sectors.parse::<u32>()?)?;
             Ok(true)
         }
         None => Ok(false),
