@@ -2,7 +2,8 @@
 ghost use Rattle.std.specs.Prelude.{◌<◌, ◌^◌};
 
 use crate::table::{bytes, number, number32, optional};
-use redo_block::{BlockView, are_firsts, fill, frame, frame_into, read, unframe};
+use model_log::Fit;
+use redo_block::{BlockView, are_firsts, fill, frame, frame_into, read, unframe, why};
 use redo_crc::sector::{put, seal};
 use std::alloc::Global;
 use std::str::SplitWhitespace;
@@ -22,8 +23,11 @@ fn block_of_one_group(rt: HostRuntime) {
     let front = b"\0\0\0\x11\0\x12\0\x0C\0\0\0\x01\x81\x01\x03\0\x64\x07";
     assert!(rt; block.starts_with(front) && block[507] == 0);
     assert!(rt; read(&block, 8192) == view(18, 12, 1));
+    assert!(rt; why(&block, 8192) == Fit::Whole);
     // At another lsn.
-    assert!(rt; read(&block, 8704).is_none());
+    assert!(rt; read(&block, 8704).is_none() && why(&block, 8704) == Fit::Number);
+    block[17] = 8;
+    assert!(rt; why(&block, 8192) == Fit::Checksum);
 }
 
 // A block of six bytes at lsn 8192, under checkpoint 1: the offset at which other bytes are written, those, what is
