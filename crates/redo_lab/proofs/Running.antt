@@ -276,6 +276,7 @@ module _ (call : Call) (command : Command) (drive : Drive) (stops : Stops) (scri
     run = ended.run;
     is_run = run-of call command drive stops script ended.run _ ended.log_failed ended.data_failed (now_of call.log) (now_of call.store) running.is_script ended.so_far ended.driven;
     in_run = (ended.so_far.way.log_device.stage, ended.so_far.way.data_device.stage);
+    reads = run-reads call stops drive.log_only script ended.run ended.log_failed ended.data_failed laws.one laws.formatted laws.closed.reads ended.so_far ended.holds;
   }
   ended-cause f ended = absurd ended
 

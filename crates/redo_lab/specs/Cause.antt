@@ -74,7 +74,8 @@ IsRefused call (Dump why) refusal = WhereToldAtEntry call (AreRefused refusal)
 IsRefused call (Gen seed users groups true max) refusal = IsRefusedAtEntry call refusal ⊎ WhereToldNow call (AreRefused refusal)
 IsRefused call (Gen seed users groups false max) refusal = ⊥
 
--- THE TURNS ARE SPENT: the drive's run has taken so many, which are all, and this is the least user that hasn't ended.
+-- THE TURNS ARE SPENT: the drive's run has taken so many, which are all, and this is the least user that hasn't ended. What is left
+-- is read as a prefix of the run.
 pub record AreTurnsSpent (call : Call) (command : Command) (turns user : ℕ) : Type 0 where
   pub drive : Drive
   pub asked : drive_of command ≡ Some drive
@@ -83,6 +84,7 @@ pub record AreTurnsSpent (call : Call) (command : Command) (turns user : ℕ) : 
   pub run : Ran
   pub is_run : IsRunOf call command drive opened script run (Spent turns user) call.log.now.tells call.store.now.tells
   pub in_run : Each IsInRun call
+  pub reads : AreLeftRead call script (Some run)
 
 -- A quantity of the script is the first that doesn't fit the store that was opened, and is read as it was.
 pub record IsMisfit (call : Call) (command : Command) (misfit : Misfit) : Type 0 where
