@@ -18,7 +18,7 @@ use Rattle.redo_lab.proofs.Told.{OneAnswer, both-told}
 use Rattle.redo_lab.specs.Call.{Call, WhereOpened, WhereToldNow}
 use Rattle.redo_lab.specs.Course.{AreUnderWay, CameSoFar, HoldsRun, KeepsFound}
 use Rattle.redo_lab.specs.Told.{AreLeftRead, IsStored, LeavesStore}
-use Rattle.redo_lab.specs.Stages.{EndUnprepared, WasUnused, now_of}
+use Rattle.redo_lab.specs.Stages.{EndUnprepared, WasUnused, WereFormatted, now_of}
 use Rattle.redo_lab.specs.Store.{AreAccepted, AreReadAsPrefix}
 
 -- a store that is kept is accepted
@@ -49,7 +49,8 @@ leaves-kept call law log_kept data_kept stage opened log data_disk log_is data_i
 pub leaves-unprepared : (call : Call) (log_failed data_failed : ℕ) → OneAnswer → OpenableLaw
     → EndUnprepared call.log.entry call.store.entry log_failed data_failed (now_of call.log) (now_of call.store) → LeavesStore call
 leaves-unprepared call log_failed data_failed one law ends = ⊎_elim
-    (λ (was : WasUnused call.log.entry call.store.entry). leaves-unused call one was ends.log_device.stage)
+    (λ (were : WereFormatted call.log.entry call.store.entry (now_of call.log) (now_of call.store)).
+    leaves-unused call one (λ log data_disk log_is data_is. (were log data_disk log_is data_is).0) ends.log_device.stage)
     (λ kept. leaves-kept call law kept.log_device kept.data_device ends.log_device.stage)
     ends.left
   where

@@ -158,7 +158,7 @@ left-unprepared : (call : Call) (log_failed data_failed : ℕ)
     → EndUnprepared call.log.entry call.store.entry log_failed data_failed (now_of call.log) (now_of call.store)
     → IsUnprepared call
 left-unprepared call log_failed data_failed ends =
-    (ends.log_device.stage, ⊎_elim (λ unused. inl unused) (λ kept. inr (kept-both call kept)) ends.left)
+    (ends.log_device.stage, ⊎_elim (λ formatted. inr formatted) (λ kept. inl (kept-both call kept)) ends.left)
 
 -- a store that is refused
 refused-short : (call : Call) (cause : Refusal) → AreTooShort call.log.entry call.store.entry cause (now_of call.log) (now_of call.store) → IsRefusedAtEntry call cause

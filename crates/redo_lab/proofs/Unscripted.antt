@@ -4,7 +4,7 @@ use Rattle.model_command.specs.declared.asked.Command.{Command}
 use Rattle.redo_memdisk.specs.declared.fuse.Fuse.{Fuse}
 use Rattle.redo_memdisk.specs.{fresh}
 use Rattle.redo_disk.specs.Seen.{Seen}
-use Rattle.std.proofs.Common.{ℕ, ◌≡◌, ◌<◌, Bool, List, length, Option, Some, None, IfSome, refl, sym, ap, subst, ◌∙◌, inl, inr, arith, ◌≢◌, true}
+use Rattle.std.proofs.Common.{ℕ, ◌≡◌, ◌<◌, Bool, List, length, Option, Some, None, IfSome, refl, sym, ap, subst, ◌∙◌, inl, arith, ◌≢◌, true}
 use Rattle.std.proofs.lemmas.Bool.{false≢true}
 use Rattle.model_base.specs.declared.limits.TheConstants.{MAX_SCRIPT}
 use Rattle.model_command.specs.declared.asked.Command.TheVariants.{Run, Crash}
@@ -70,7 +70,7 @@ unwritten-alone call alone = (
 pub unprepared-alone : (call : Call) → AreLeftAlone call → IsUnprepared call
 unprepared-alone call alone = (
   ap (λ (fuse : Fuse). fuse.stage) alone.log_device.fuse,
-  inr (λ log data_disk log_is data_is.
+  inl (λ log data_disk log_is data_is.
       (ap (λ (seen : Seen). seen.tells) alone.log_device.seen, ap (λ (seen : Seen). seen.tells) alone.data_device.seen)),
 )
 

@@ -8,6 +8,7 @@ use Rattle.model_command.specs.declared.asked.Command.TheVariants.{Format, Run, 
 use Rattle.model_command.specs.declared.asked.Drive.{Drive}
 use Rattle.model_log.specs.{start_after, log_device_length}
 use Rattle.model_log.specs.declared.layout.TheConstants.{HEADER_BYTES}
+use Rattle.model_opening.specs.{KeepsNoStore}
 use Rattle.model_report.specs.declared.fault.Fault.{Fault}
 use Rattle.model_report.specs.declared.fault.Fault.TheVariants.{Memory, Script, Source, LogDevice, DataDevice, Store, Turns, Fit}
 use Rattle.model_script.specs.{first_misfit, generated_lines, script_of}
@@ -43,9 +44,11 @@ IsDeviceFault (Crash drive stop_log stop_data pick workers) device =
 IsDeviceFault command device =
     HasRisen device.entry.faults device.now.faults × (0 < device.fuse.early + (device.fuse.mid + device.fuse.late))
 
--- no fuse was armed: the log device was unused, or both are as they were
+-- no fuse was armed: both devices are as they were; or the log device was unused, and whatever a crash leaves of the two is what
+-- was there, no store, or a new one
 abbrev pub IsUnprepared : Call → Type 0
-IsUnprepared call = (call.log.fuse.stage ≡ Before) × (WhereToldAtEntry call (λ log store. IsUnused log.reads) ⊎ AreKept call)
+IsUnprepared call = (call.log.fuse.stage ≡ Before) × (AreKept call
+    ⊎ WhereToldAtEntry call (λ log store. IsUnused log.reads × WhereToldNow call (KeepsNoStore default_shape log store)))
 
 -- A run that a device ended is reported. Of `run` the line alone stands where no fuse was armed; or opening didn't come to its
 -- end, and the store is read as it was opened.
