@@ -29,7 +29,7 @@ use Rattle.redo_lab.proofs.SomeLeft.{some-left}
 use Rattle.redo_lab.specs.Answer.{IsCrashText}
 use Rattle.redo_drive.specs.declared.drive.RunEnd.TheVariants.{Done}
 use Rattle.redo_lab.specs.Call.{Call, Each, IsLeftFair, IsUnfailedAside, WhereOpened, WhereToldNow}
-use Rattle.redo_lab.specs.Cause.{AreOfRun, CanPlay, LeavesRun}
+use Rattle.redo_lab.specs.Cause.{AreCrashedAs, AreOfRun, CanPlay, LeavesRun}
 use Rattle.redo_lab.specs.Course.{IsPlayedBy, IsStoppedBy, ran_of}
 use Rattle.redo_lab.specs.Told.{IsOpenedFirst, IsRunOf, LeavesStore}
 use Rattle.redo_lab.specs.Outcome.{EndsWith, IsDoneOrKeptFrom, IsOutcome}
@@ -119,6 +119,13 @@ module _ (call : Call) (drive : Drive) (stops : Stops) (pick workers : ℕ) (scr
       log_now data_now log_now_is data_now_is log_bytes data_bytes image is_fair in
       (read.reading, read.is_read, read.old_copies)
 
+  crashed-as : (log_since data_since : ℕ) → Since log_since data_since → AreCrashedAs stops.log stops.store pick call
+  crashed-as log_since data_since since =
+      let both = both-crashed log_since data_since since in (
+        record { limit_is = both.log_device.limit_is; pick_is = both.log_device.pick; unchanged_since = both.log_device.late_changes },
+        record { limit_is = both.data_device.limit_is; pick_is = both.data_device.pick; unchanged_since = both.data_device.late_changes },
+      )
+
   left-crashed : (log_since data_since : ℕ) → IsScriptRead call.source call.source_now script → Since log_since data_since
       → LeavesRun call (Crash drive stops.log stops.store pick workers)
   left-crashed log_since data_since read since runs =
@@ -126,6 +133,7 @@ module _ (call : Call) (drive : Drive) (stops : Stops) (pick workers : ℕ) (scr
         script = script;
         run = run;
         is_script = read;
+        in_run = inr (crashed-as log_since data_since since);
         reads = λ store log data_disk log_is data_is log_fresh data_fresh opens fair log_now data_now log_now_is data_now_is. (
           left-legal store log data_disk log_is data_is log_fresh data_fresh opens,
           images-read log_since data_since since store log data_disk log_is data_is log_fresh data_fresh opens fair log_now data_now log_now_is data_now_is,
@@ -169,6 +177,7 @@ module _ (call : Call) (drive : Drive) (stops : Stops) (pick workers : ℕ) (scr
       let both = both-crashed 0 0 back.since in
       let done : IsCrashDone call (Crash drive stops.log stops.store pick workers) drive stops pick script run text log_failed data_failed log_old data_old =
       record { read = read; before = before; back = back } in
+      let crashed = crashed-as 0 0 back.since in
       let counted : log_failed + data_failed ≡ call.log.fuse.mid + call.store.fuse.mid = omega (arith, both.log_device.mid, both.data_device.mid) in
       record {
         account = account_of call (Crash drive stops.log stops.store pick workers) drive stops pick script run text log_failed data_failed log_old data_old done;
@@ -182,8 +191,8 @@ module _ (call : Call) (drive : Drive) (stops : Stops) (pick workers : ℕ) (scr
         };
         text_is = refl;
         report = back.text_is.text_is;
-        log_crashed = record { limit_is = both.log_device.limit_is; pick_is = both.log_device.pick; unchanged_since = both.log_device.late_changes };
-        data_crashed = record { limit_is = both.data_device.limit_is; pick_is = both.data_device.pick; unchanged_since = both.data_device.late_changes };
+        log_crashed = crashed.0;
+        data_crashed = crashed.1;
         is_read = back.is_read;
         safe = crash-theorem call (Crash drive stops.log stops.store pick workers) drive stops pick script run text log_failed data_failed log_old data_old laws done;
       }
@@ -219,9 +228,8 @@ module _ (call : Call) (drive : Drive) (stops : Stops) (pick workers : ℕ) (scr
       ((λ reads. (script, read)), (both.data_device.risen (omega arith), omega (arith, both.data_device.late)), tt, left-crashed 0 1 read back)
       (λ can unfailed. absurd (omega (arith, both.data_device.late, unfailed.1.1)))
   crash-done (outcome.Fault (fault.Store refusal)) read back =
-      let both = both-crashed 0 0 back.since in
       ends-crash 0 0 (outcome.Fault (fault.Store refusal)) read back.since
-      ((λ reads. (script, read)), unfailed-aside back.since, inr ((both.log_device.pick, both.data_device.pick), back.refused))
+      ((λ reads. (script, read)), unfailed-aside back.since, inr (crashed-as 0 0 back.since, back.refused))
       (λ can unfailed. absurd (possible-read-back refusal back can))
   crash-done (outcome.Fault f) read back = absurd back
 

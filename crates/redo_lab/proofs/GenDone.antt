@@ -122,7 +122,10 @@ module _ (call : Call) (seed users groups max : ℕ) (script : List ScriptLine) 
         let has = read-run was.are.so_far behind in
         seed-failed fault.DataDevice played 0 1 has (still-holds 0 1 behind) (data-fails has.way.data_found has.way.data_device)
         (λ none. omega (arith, none.1.1, has.way.data_device.mid))
-    seed-played (outcome.Fault (fault.Store refusal)) behind = ends-read (outcome.Fault (fault.Store refusal)) 0 0 behind.since
-        (past, unfailed-way call no_stops (since-played behind.since).are.way, inr behind.refused)
+    seed-played (outcome.Fault (fault.Store refusal)) behind = ends-read (outcome.Fault (fault.Store refusal)) 0 0 behind.since (
+      past,
+      unfailed-way call no_stops (since-played behind.since).are.way,
+      inr (((since-played behind.since).are.way.log_device.stage, (since-played behind.since).are.way.data_device.stage), behind.refused),
+    )
         (λ can. absurd (possible-read-behind seed_run call no_stops false script played refusal laws.one laws.formatted laws.closed fair (since-played behind.since) behind.refused can))
     seed-played (outcome.Fault f) behind = absurd behind

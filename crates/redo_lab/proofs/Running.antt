@@ -27,8 +27,8 @@ use Rattle.redo_lab.proofs.Told.{OneAnswer}
 use Rattle.redo_lab.specs.Asked.{IsScriptFor, IsScriptRead, drive_of, drive_of_seed, leaves_devices, reads_script, runs_script}
 use Rattle.redo_drive.specs.declared.drive.RunEnd.{RunEnd}
 use Rattle.redo_drive.specs.declared.drive.RunEnd.TheVariants.{Spent}
-use Rattle.redo_lab.specs.Call.{AreKept, AreUnfailedFor, Call, Each, Guarded, IsUnfailed, IsUnfailedAside}
-use Rattle.redo_lab.specs.Cause.{AreOfRun, CanPlay, IsCauseOf, IsDeviceFault, IsPastSource, IsPossible, IsRefused, IsRefusedAtEntry, IsUnbegun, IsUnprepared}
+use Rattle.redo_lab.specs.Call.{AreKept, AreUnfailedFor, Call, Each, Guarded, IsInRun, IsUnfailed, IsUnfailedAside}
+use Rattle.redo_lab.specs.Cause.{AreInRunOrCrashed, AreOfRun, CanPlay, IsCauseOf, IsDeviceFault, IsPastSource, IsPossible, IsRefused, IsRefusedAtEntry, IsUnbegun, IsUnprepared}
 use Rattle.redo_lab.specs.Course.{AreRefusedOpened, AreStopped, AreUnderWay, CameSoFar, Driving, HoldsRun, IsEndedBy, IsStoppedBy, KeepsFound}
 use Rattle.redo_lab.specs.Told.{AreLeftRead, IsOpenedFirst, IsRunOf, LeavesStore}
 use Rattle.redo_lab.specs.Outcome.{EndsWith, IsDoneOrKeptFrom, IsOutcome}
@@ -65,6 +65,7 @@ pub record IsRunning (call : Call) (command : Command) (drive : Drive) (script :
   pub unfailed : Each IsUnfailed call → AreUnfailedFor command call
   pub aside : AreUnfailedFor command call → Each IsUnfailedAside call
   pub unbegun : IsUnprepared call → IsUnbegun call command
+  pub in_run : Each IsInRun call → AreInRunOrCrashed call command
   pub refused : (refusal : Refusal) → IsRefusedAtEntry call refusal → IsRefused call command refusal
 
 pub running-run : (call : Call) (drive : Drive) (script : List ScriptLine) → IsScriptRead call.source call.source_now script → IsRunning call (Run drive) drive script
@@ -80,6 +81,7 @@ running-run call drive script read = record {
   unfailed = λ none. none;
   aside = λ none. ((none.0.0, none.0.2), (none.1.0, none.1.2));
   unbegun = λ before. inl before;
+  in_run = λ armed. armed;
   refused = λ refusal refused. refused;
 }
 
@@ -97,6 +99,7 @@ running-crash call drive stop_log stop_data pick workers script read = record {
   unfailed = λ none. ((none.0.0, none.0.2), (none.1.0, none.1.2));
   aside = λ none. none;
   unbegun = λ before. tt;
+  in_run = λ armed. inl armed;
   refused = λ refusal refused. inl refused;
 }
 
@@ -114,6 +117,7 @@ running-gen call seed users groups max script unread is = record {
   unfailed = λ none. none;
   aside = λ none. ((none.0.0, none.0.2), (none.1.0, none.1.2));
   unbegun = λ before. tt;
+  in_run = λ armed. armed;
   refused = λ refusal refused. inl refused;
 }
 
@@ -158,7 +162,7 @@ left-unprepared : (call : Call) (log_failed data_failed : ℕ)
     → EndUnprepared call.log.entry call.store.entry log_failed data_failed (now_of call.log) (now_of call.store)
     → IsUnprepared call
 left-unprepared call log_failed data_failed ends =
-    (ends.log_device.stage, ⊎_elim (λ formatted. inr formatted) (λ kept. inl (kept-both call kept)) ends.left)
+    ((ends.log_device.stage, ends.data_device.stage), ⊎_elim (λ formatted. inr formatted) (λ kept. inl (kept-both call kept)) ends.left)
 
 -- a store that is refused
 refused-short : (call : Call) (cause : Refusal) → AreTooShort call.log.entry call.store.entry cause (now_of call.log) (now_of call.store) → IsRefusedAtEntry call cause
@@ -215,6 +219,7 @@ module _ (call : Call) (command : Command) (drive : Drive) (stops : Stops) (scri
     script = script;
     run = Some run;
     is_script = running.is_script;
+    in_run = running.in_run (has.way.log_device.stage, has.way.data_device.stage);
     reads = λ store log data_disk log_is data_is log_fresh data_fresh opens fair.
         run-legal call stops drive.log_only script run log_failed data_failed laws.one laws.formatted laws.closed.reads has holds
         store log data_disk log_is data_is log_fresh data_fresh opens;
@@ -227,6 +232,7 @@ module _ (call : Call) (command : Command) (drive : Drive) (stops : Stops) (scri
     script = script;
     run = None;
     is_script = running.is_script;
+    in_run = running.in_run (way.log_device.stage, way.data_device.stage);
     reads = λ store log data_disk log_is data_is log_fresh data_fresh opens fair log_now data_now log_now_is data_now_is. (
       tt,
       found-reads call stops script log_failed data_failed laws.one laws.formatted way keeps

@@ -69,7 +69,7 @@ unwritten-alone call alone = (
 
 pub unprepared-alone : (call : Call) → AreLeftAlone call → IsUnprepared call
 unprepared-alone call alone = (
-  ap (λ (fuse : Fuse). fuse.stage) alone.log_device.fuse,
+  (ap (λ (fuse : Fuse). fuse.stage) alone.log_device.fuse, ap (λ (fuse : Fuse). fuse.stage) alone.data_device.fuse),
   inl (λ log data_disk log_is data_is.
       (ap (λ (seen : Seen). seen.tells) alone.log_device.seen, ap (λ (seen : Seen). seen.tells) alone.data_device.seen)),
 )

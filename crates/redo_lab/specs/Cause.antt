@@ -20,7 +20,7 @@ use Rattle.model_store.specs.declared.refusal.Refusal.TheVariants.{SmallLog}
 use Rattle.model_theorem.specs.{Opened, Ran, room_of, FitsOpened, IsFresh, IsRun}
 use Rattle.redo_drive.specs.declared.drive.RunEnd.TheVariants.{Spent}
 use Rattle.redo_memdisk.specs.declared.fuse.Stage.TheVariants.{Before}
-use Rattle.redo_lab.specs.Answer.{shape_of}
+use Rattle.redo_lab.specs.Answer.{IsCrashedAs, shape_of}
 use Rattle.redo_lab.specs.Asked.{IsBadLine, IsLongScript, IsScriptFor, IsScriptRead, drive_of, reads_script, runs_in_threads, runs_script}
 use Rattle.redo_lab.specs.Call.{AreKept, AreUnfailedFor, Call, Each, Guarded, IsInRun, IsUnfailed, IsUnwritten, WhereToldAtEntry, WhereToldNow, IsLeftFair, LabCall, WhereOpened}
 use Rattle.redo_lab.specs.Store.{AreReadAsPrefix, AreRefused, IsOpenedAs, IsTooShort}
@@ -47,7 +47,7 @@ IsDeviceFault command device =
 -- no fuse was armed: both devices are as they were; or the log device was unused, and whatever a crash leaves of the two is what
 -- was there, no store, or a new one
 abbrev pub IsUnprepared : Call → Type 0
-IsUnprepared call = (call.log.fuse.stage ≡ Before) × (AreKept call
+IsUnprepared call = Each (λ device. device.fuse.stage ≡ Before) call × (AreKept call
     ⊎ WhereToldAtEntry call (λ log store. IsUnused log.reads × WhereToldNow call (KeepsNoStore default_shape log store)))
 
 -- A run that a device ended is reported. Of `run` the line alone stands where no fuse was armed; or opening didn't come to its
@@ -56,12 +56,22 @@ abbrev pub IsUnbegun : Call → Command → Type 0
 IsUnbegun call (Run drive) = IsUnprepared call ⊎ (IsOpenedFirst call call.log.now.tells None × AreLeftRead call [] None)
 IsUnbegun call command = ⊤
 
+-- both devices were crashed as the words ask, and nothing was written since
+abbrev pub AreCrashedAs : (stop_log stop_data : Option ℕ) (pick : ℕ) → Call → Type 0
+AreCrashedAs stop_log stop_data pick call = IsCrashedAs stop_log pick call.log.fuse × IsCrashedAs stop_data pick call.store.fuse
+
+-- both fuses are armed; but in `crash` both devices may be crashed
+abbrev pub AreInRunOrCrashed : Call → Command → Type 0
+AreInRunOrCrashed call (Crash drive stop_log stop_data pick workers) = Each IsInRun call ⊎ AreCrashedAs stop_log stop_data pick call
+AreInRunOrCrashed call command = Each IsInRun call
+
 -- THE DEVICES ARE THOSE OF A RUN of the command's script, or of none: on the store that was opened it is a legal history, and each
 -- image is read as a prefix of it, where what a crash left is fair.
 pub record AreOfRun (call : Call) (command : Command) : Type 0 where
   pub script : List ScriptLine
   pub run : Option Ran
   pub is_script : IsScriptFor command call.source call.source_now script
+  pub in_run : AreInRunOrCrashed call command
   pub reads : (store : Opened) → WhereOpened call store (IsLeftFair call store → WhereToldNow call (λ log_disk data_disk.
       IfSome run (IsRun script store) × AreReadAsPrefix script store run log_disk data_disk))
 
@@ -86,10 +96,11 @@ IsRefused call (Format pages space log_blocks) refusal =
 IsRefused call (Run drive) refusal = IsRefusedAtEntry call refusal
 IsRefused call (Crash drive stop_log stop_data pick workers) refusal =
     IsRefusedAtEntry call refusal
-    ⊎ (Each (λ device. device.fuse.pick ≡ Some pick) call × WhereToldNow call (AreRefused refusal))
+    ⊎ (AreCrashedAs stop_log stop_data pick call × WhereToldNow call (AreRefused refusal))
 IsRefused call (Recover workers) refusal = WhereToldAtEntry call (AreRefused refusal)
 IsRefused call (Dump why) refusal = WhereToldAtEntry call (AreRefused refusal)
-IsRefused call (Gen seed users groups true max) refusal = IsRefusedAtEntry call refusal ⊎ WhereToldNow call (AreRefused refusal)
+IsRefused call (Gen seed users groups true max) refusal =
+    IsRefusedAtEntry call refusal ⊎ (Each IsInRun call × WhereToldNow call (AreRefused refusal))
 IsRefused call (Gen seed users groups false max) refusal = ⊥
 
 -- THE TURNS ARE SPENT: the drive's run has taken so many, which are all, and this is the least user that hasn't ended. What is left
