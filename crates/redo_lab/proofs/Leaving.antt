@@ -3,12 +3,11 @@ use Rattle.std.proofs.Common.{ℕ, ◌≡◌, List, [], Option, Some, None, IfSo
 use Rattle.model_base.specs.declared.shape.Shape.{Shape}
 use Rattle.model_device.specs.{IsImage}
 use Rattle.model_device.specs.Disk.{Disk}
-use Rattle.model_opening.specs.{IsOpenable, KeepsOpened}
+use Rattle.model_parts.specs.{IsOpenable, KeepsOpened}
 use Rattle.model_script.specs.declared.script.ScriptLine.{ScriptLine}
 use Rattle.model_store.specs.{IsFair, Opens}
 use Rattle.model_store.specs.Reading.{Reading}
-use Rattle.model_run.specs.{opened_as}
-use Rattle.model_theorem.specs.{IsRun, Opened, Ran, ReadsPrefix}
+use Rattle.model_theorem.specs.{IsRun, Opened, opened_as, Ran, ReadsPrefix}
 use Rattle.redo_memdisk.specs.declared.fuse.Stage.TheVariants.{Before}
 use Rattle.redo_open.specs.{WhereBothTell}
 use Rattle.redo_lab.specs.declared.playing.Stops.{Stops}

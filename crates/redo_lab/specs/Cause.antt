@@ -3,12 +3,12 @@
 -- And what is owed of a call on devices that don't fail: it does what it is asked, or memory ran out, or turns were spent.
 use Rattle.std.specs.Prelude.{ℕ, ◌≡◌, ◌≤◌, ◌<◌, ◌+◌, ◌⊎◌, true, false, List, [], Option, Some, None, IfSome, ⊤, Bool, length, Ok}
 use Rattle.model_base.specs.{default_shape, HasRisen}
-use Rattle.model_command.specs.declared.asked.Command.{Command}
-use Rattle.model_command.specs.declared.asked.Command.TheVariants.{Format, Run, Crash, Recover, Dump, Gen}
-use Rattle.model_command.specs.declared.asked.Drive.{Drive}
+use Rattle.model_script.specs.declared.asked.Command.{Command}
+use Rattle.model_script.specs.declared.asked.Command.TheVariants.{Format, Run, Crash, Recover, Dump, Gen}
+use Rattle.model_script.specs.declared.asked.Drive.{Drive}
 use Rattle.model_log.specs.{start_after, log_device_length}
 use Rattle.model_log.specs.declared.layout.TheConstants.{HEADER_BYTES}
-use Rattle.model_opening.specs.{KeepsNoStore}
+use Rattle.model_parts.specs.{KeepsNoStore}
 use Rattle.model_report.specs.declared.fault.Fault.{Fault}
 use Rattle.model_report.specs.declared.fault.Fault.TheVariants.{Memory, Script, Source, LogDevice, DataDevice, Store, Turns, Fit}
 use Rattle.model_script.specs.{first_misfit, generated_lines, script_of}

@@ -7,7 +7,7 @@ use Rattle.redo_lab.specs.declared.ended.Ended.{Ended}
 use Rattle.redo_memdisk.specs.{entry_of, CallsThrough, seen_through}
 use Rattle.redo_memdisk.specs.declared.fused.Fused.{Fused}
 use Rattle.redo_lab.specs.Call.{Call, LabCall, guarded}
-use Rattle.model_command.specs.declared.asked.Drive.{Drive}
+use Rattle.model_script.specs.declared.asked.Drive.{Drive}
 use Rattle.model_device.specs.Disk.{Disk}
 use Rattle.model_log.specs.{start_after}
 use Rattle.model_script.specs.declared.script.ScriptLine.{ScriptLine}

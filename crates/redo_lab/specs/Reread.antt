@@ -14,9 +14,8 @@ use Rattle.redo_lab.specs.declared.outcome.Outcome.TheVariants as outcome
 use Rattle.redo_lab.specs.Stages.{IsArmed, IsCrashedWith, Shown, WhereTold}
 use Rattle.redo_lab.specs.Store.{AreRefused}
 use Rattle.std.specs.Borrow.{Bor}
-use Rattle.model_history.specs.{IsLeft}
+use Rattle.model_report.specs.{IsLeft, report_text, summary_text}
 use Rattle.model_page.specs.declared.content.Content.{Content}
-use Rattle.model_report.specs.{report_text, summary_text}
 use Rattle.model_report.specs.declared.fault.Fault.{Fault}
 use Rattle.model_report.specs.declared.fault.Fault.TheVariants.{Memory}
 use Rattle.redo_lab.specs.declared.playing.Played.{Played}
