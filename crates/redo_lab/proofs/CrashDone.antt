@@ -1,5 +1,5 @@
 -- What a crash comes to: a report, or why there is none.
-use Rattle.model_theorem.specs.{entries_of, IsOpenedBefore, LosesOnlyByFailure, Opened, Ran, ReadsPrefix}
+use Rattle.model_theorem.specs.{entries_of, IsOpenedBefore, IsRun, LosesOnlyByFailure, Opened, Ran, ReadsPrefix}
 use Rattle.std.proofs.Common.{ℕ, ◌≡◌, ◌+◌, List, Option, Some, None, IfSome, refl, sym, subst, ◌∙◌, inr, arith}
 use Rattle.std.proofs.lemmas.Bool.{false≢true}
 use Rattle.model_script.specs.declared.asked.Command.TheVariants.{Crash}
@@ -16,7 +16,7 @@ use Rattle.redo_lab.specs.declared.playing.Played.{Played}
 use Rattle.redo_lab.specs.declared.playing.Stops.{Stops}
 use Rattle.model_device.specs.{Crashes, IsImage}
 use Rattle.model_device.proofs.Images.{settled_images}
-use Rattle.model_store.specs.{HasOldCopies, IsFair, IsReading}
+use Rattle.model_store.specs.{IsFair}
 use Rattle.redo_lab.proofs.BeforeCrash.{IsBeforeCrash, met-played, met-stopped}
 use Rattle.redo_lab.proofs.CrashSafe.{crashes-told, left-image}
 use Rattle.redo_lab.proofs.CrashTheorem.{CrashLaws, IsCrashDone, account_of, crash-theorem}
@@ -27,13 +27,14 @@ use Rattle.redo_lab.proofs.Running.{driving}
 use Rattle.redo_lab.proofs.SomeLeft.{some-left}
 use Rattle.redo_lab.specs.Answer.{IsCrashText}
 use Rattle.redo_drive.specs.declared.drive.RunEnd.TheVariants.{Done}
-use Rattle.redo_lab.specs.Call.{Call, Each, IsUnfailedAside, WhereOpened, WhereToldNow}
-use Rattle.redo_lab.specs.Cause.{CanPlay}
+use Rattle.redo_lab.specs.Call.{Call, Each, IsLeftFair, IsUnfailedAside, WhereOpened, WhereToldNow}
+use Rattle.redo_lab.specs.Cause.{AreCrashedAs, AreOfRun, CanPlay, LeavesRun}
 use Rattle.redo_lab.specs.Course.{IsPlayedBy, IsStoppedBy, ran_of}
 use Rattle.redo_lab.specs.Told.{IsOpenedFirst, IsRunOf, LeavesStore}
 use Rattle.redo_lab.specs.Outcome.{EndsWith, IsDoneOrKeptFrom, IsOutcome}
 use Rattle.redo_lab.specs.Reread.{AreBoth, AreRead, AreRefusedSince, IsCrashedSince, IsReportOf, ReadsBack}
 use Rattle.redo_lab.specs.Asked.{IsScriptRead}
+use Rattle.redo_lab.specs.Store.{AreReadAsPrefix}
 use Rattle.redo_lab.specs.Stages.{IsCrashedWith, Shown, now_of}
 
 -- BOTH DEVICES ARE CRASHED, and so many calls failed since.
@@ -80,27 +81,64 @@ module _ (call : Call) (drive : Drive) (stops : Stops) (pick workers : ℕ) (scr
       let crashes = crashes-told log_old.seen.tells call.log.now.tells log_met.0 log_left since.log_device.left log_met.1 log_left_is in
       on.safe.every_image log_left.reads data_left.reads (left-image log_met.0 log_left crashes) fair
 
-  -- EACH IMAGE of it is accepted: there is one.
-  crash-leaves : (log_since data_since : ℕ) → Since log_since data_since → LeavesStore call
-  crash-leaves log_since data_since since opened log data_disk log_is data_is log_fresh data_fresh stored fair log_now data_now log_now_is data_now_is log_bytes data_bytes image is_fair =
+  -- the run is a legal one
+  left-legal : (opened : Opened) → WhereOpened call opened (IfSome run (IsRun script opened))
+  left-legal opened log data_disk log_is data_is log_fresh data_fresh opens =
+      let found = was-found call.log.entry call.store.entry before.way.log_found before.way.data_found log data_disk call.log.entry.faults call.store.entry.faults
+      opened laws.one laws.formatted before.way.prepared log_is data_is log_fresh data_fresh opens in
+      let log_met = told-still call.log.entry.tells log_old.seen.tells log before.way.log_device.same.tells log_is in
+      let data_met = told-still call.store.entry.tells data_old.seen.tells data_disk before.way.data_device.same.tells data_is in
+      let left = some-left script (entries_of run) in
+      (before.safe opened found left.0 left.1 log_met.0 data_met.0 log_met.1 data_met.1).safe.in_lsn_order
+
+  -- EACH IMAGE of it is read so: there is one.
+  images-read : (log_since data_since : ℕ) → Since log_since data_since
+      → (opened : Opened) → WhereOpened call opened (IsLeftFair call opened → WhereToldNow call (AreReadAsPrefix script opened run))
+  images-read log_since data_since since opened log data_disk log_is data_is log_fresh data_fresh opens fair log_now data_now log_now_is data_now_is log_bytes data_bytes image is_fair =
       let both = both-crashed log_since data_since since in
       let log_met = told-still call.log.entry.tells log_old.seen.tells log before.way.log_device.same.tells log_is in
       let data_met = told-still call.store.entry.tells data_old.seen.tells data_disk before.way.data_device.same.tells data_is in
       let from = since.data_device.from ∙ data_met.1 in
       let log_crashes = crashes-told log_old.seen.tells call.log.now.tells log_met.0 log_now since.log_device.left log_met.1 log_now_is in
       let data_crashes = crashes-told data_old.seen.tells call.store.now.tells data_met.0 data_now since.data_device.left data_met.1 data_now_is in
-      let kept = left-reads log_since data_since since opened log data_disk log_is data_is log_fresh data_fresh (opens-stored call opened log data_disk stored)
+      let kept = left-reads log_since data_since since opened log data_disk log_is data_is log_fresh data_fresh opens
       data_met.0 from log_now data_now log_now_is data_now_is (fair pick data_met.0 data_now both.data_device.pick from data_now_is) in
       let log_same : log_bytes ≡ log_now.reads = one-image log_met.0 log_now log_crashes log_bytes image in
-      let data_same : data_bytes ≡ data_now.reads = one-image data_met.0 data_now data_crashes data_bytes is_fair.possible in (
-        kept.reading,
-        subst (λ (bytes : List ℕ). IsReading log_bytes bytes kept.reading) (sym data_same)
-            (subst (λ (bytes : List ℕ). IsReading bytes data_now.reads kept.reading) (sym log_same) kept.is_read),
-        subst (λ (bytes : List ℕ). HasOldCopies bytes kept.reading) (sym data_same) kept.old_copies,
-      )
+      let data_same : data_bytes ≡ data_now.reads = one-image data_met.0 data_now data_crashes data_bytes is_fair.possible in
+      subst (λ (bytes : List ℕ). ReadsPrefix script opened run log_bytes bytes) (sym data_same)
+      (subst (λ (bytes : List ℕ). ReadsPrefix script opened run bytes data_now.reads) (sym log_same) kept)
     where
       one-image : (met left : Disk) → Crashes met left → (bytes : List ℕ) → IsImage left bytes → bytes ≡ left.reads
       one-image met left crashes = subst (λ (d : Disk). (bytes : List ℕ) → IsImage d bytes → bytes ≡ d.reads) (sym crashes.left) (settled_images crashes.image).1
+
+  -- and is accepted
+  crash-leaves : (log_since data_since : ℕ) → Since log_since data_since → LeavesStore call
+  crash-leaves log_since data_since since opened log data_disk log_is data_is log_fresh data_fresh stored fair log_now data_now log_now_is data_now_is log_bytes data_bytes image is_fair =
+      let read = images-read log_since data_since since opened log data_disk log_is data_is log_fresh data_fresh (opens-stored call opened log data_disk stored) fair
+      log_now data_now log_now_is data_now_is log_bytes data_bytes image is_fair in
+      (read.reading, read.is_read, read.old_copies)
+
+  crashed-as : (log_since data_since : ℕ) → Since log_since data_since → AreCrashedAs stops.log stops.store pick call
+  crashed-as log_since data_since since =
+      let both = both-crashed log_since data_since since in (
+        record { limit_is = both.log_device.limit_is; pick_is = both.log_device.pick; unchanged_since = both.log_device.late_changes },
+        record { limit_is = both.data_device.limit_is; pick_is = both.data_device.pick; unchanged_since = both.data_device.late_changes },
+      )
+
+  left-crashed : (log_since data_since : ℕ) → IsScriptRead call.source call.source_now script → Since log_since data_since
+      → LeavesRun call (Crash drive stops.log stops.store pick workers)
+  left-crashed log_since data_since read since runs =
+      let is : AreOfRun call (Crash drive stops.log stops.store pick workers) = record {
+        script = script;
+        run = run;
+        is_script = read;
+        in_run = inr (crashed-as log_since data_since since);
+        reads = λ store log data_disk log_is data_is log_fresh data_fresh opens fair log_now data_now log_now_is data_now_is. (
+          left-legal store log data_disk log_is data_is log_fresh data_fresh opens,
+          images-read log_since data_since since store log data_disk log_is data_is log_fresh data_fresh opens fair log_now data_now log_now_is data_now_is,
+        );
+      } in
+      inr is
 
   -- what the crash met, by what is told of it
   as-met : (log_met store_met : Option Disk) → log_met ≡ log_old.seen.tells → store_met ≡ data_old.seen.tells
@@ -138,6 +176,7 @@ module _ (call : Call) (drive : Drive) (stops : Stops) (pick workers : ℕ) (scr
       let both = both-crashed 0 0 back.since in
       let done : IsCrashDone call (Crash drive stops.log stops.store pick workers) drive stops pick script run text log_failed data_failed log_old data_old =
       record { read = read; before = before; back = back } in
+      let crashed = crashed-as 0 0 back.since in
       let counted : log_failed + data_failed ≡ call.log.fuse.mid + call.store.fuse.mid = omega (arith, both.log_device.mid, both.data_device.mid) in
       record {
         account = account_of call (Crash drive stops.log stops.store pick workers) drive stops pick script run text log_failed data_failed log_old data_old done;
@@ -151,8 +190,8 @@ module _ (call : Call) (drive : Drive) (stops : Stops) (pick workers : ℕ) (scr
         };
         text_is = refl;
         report = back.text_is.text_is;
-        log_crashed = record { limit_is = both.log_device.limit_is; pick_is = both.log_device.pick; unchanged_since = both.log_device.late_changes };
-        data_crashed = record { limit_is = both.data_device.limit_is; pick_is = both.data_device.pick; unchanged_since = both.data_device.late_changes };
+        log_crashed = crashed.0;
+        data_crashed = crashed.1;
         is_read = back.is_read;
         safe = crash-theorem call (Crash drive stops.log stops.store pick workers) drive stops pick script run text log_failed data_failed log_old data_old laws done;
       }
@@ -176,21 +215,20 @@ module _ (call : Call) (drive : Drive) (stops : Stops) (pick workers : ℕ) (scr
   crash-done (outcome.Text text) read back =
       ends-crash 0 0 (outcome.Text text) read back.since (unfailed-aside back.since, crash-text text read back) (λ can unfailed. tt)
   crash-done (outcome.Report text f) read back = absurd back
-  crash-done (outcome.Fault fault.Memory) read back = ends-crash 0 0 (outcome.Fault fault.Memory) read back tt (λ can unfailed. tt)
+  crash-done (outcome.Fault fault.Memory) read back = ends-crash 0 0 (outcome.Fault fault.Memory) read back (left-crashed 0 0 read back) (λ can unfailed. tt)
   crash-done (outcome.Fault fault.LogDevice) read back =
       let both = both-crashed 1 0 back in
       ends-crash 1 0 (outcome.Fault fault.LogDevice) read back
-      ((λ reads. (script, read)), (both.log_device.risen (omega arith), omega (arith, both.log_device.late)), tt)
+      ((λ reads. (script, read)), (both.log_device.risen (omega arith), omega (arith, both.log_device.late)), tt, left-crashed 1 0 read back)
       (λ can unfailed. absurd (omega (arith, both.log_device.late, unfailed.0.1)))
   crash-done (outcome.Fault fault.DataDevice) read back =
       let both = both-crashed 0 1 back in
       ends-crash 0 1 (outcome.Fault fault.DataDevice) read back
-      ((λ reads. (script, read)), (both.data_device.risen (omega arith), omega (arith, both.data_device.late)), tt)
+      ((λ reads. (script, read)), (both.data_device.risen (omega arith), omega (arith, both.data_device.late)), tt, left-crashed 0 1 read back)
       (λ can unfailed. absurd (omega (arith, both.data_device.late, unfailed.1.1)))
   crash-done (outcome.Fault (fault.Store refusal)) read back =
-      let both = both-crashed 0 0 back.since in
       ends-crash 0 0 (outcome.Fault (fault.Store refusal)) read back.since
-      ((λ reads. (script, read)), unfailed-aside back.since, inr ((both.log_device.pick, both.data_device.pick), back.refused))
+      ((λ reads. (script, read)), unfailed-aside back.since, inr (crashed-as 0 0 back.since, back.refused))
       (λ can unfailed. absurd (possible-read-back refusal back can))
   crash-done (outcome.Fault f) read back = absurd back
 

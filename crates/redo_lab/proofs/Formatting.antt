@@ -102,7 +102,7 @@ module _ (call : Call) (pages space log_blocks : ℕ) (unread : call.source_now 
     },
   )
       (λ long unfailed. tt)
-  format-ends (Err e) both limits law formatted is = format-end (outcome.Fault fault.Memory) (tells-both 0 0 both) tt (λ long unfailed. tt)
+  format-ends (Err e) both limits law formatted is = format-end (outcome.Fault fault.Memory) (tells-both 0 0 both) (λ runs. absurd (false≢true runs)) (λ long unfailed. tt)
 
   -- no device was called
   format-short : (refusal : Refusal) → BothAlone call.log.entry call.store.entry (now_of call.log) (now_of call.store)
@@ -120,10 +120,10 @@ module _ (call : Call) (pages space log_blocks : ℕ) (unread : call.source_now 
   format-fails (SmallLog n) both short = format-short (refusal.SmallLog n) both short (λ long. omega (arith, long.log_long, short.0))
   format-fails (SmallData n) both short = format-short (refusal.SmallData n) both short (λ long. omega (arith, long.data_long, short.1))
   format-fails LogDev both short = format-end (outcome.Fault fault.LogDevice) (tells-both 1 0 both)
-      (past, (both.log_device.risen (omega arith), omega (arith, both.log_device.early)), tt)
+      (past, (both.log_device.risen (omega arith), omega (arith, both.log_device.early)), tt, λ runs. absurd (false≢true runs))
       (λ long unfailed. absurd (omega (arith, both.log_device.early, unfailed.0.0)))
   format-fails DataDev both short = format-end (outcome.Fault fault.DataDevice) (tells-both 0 1 both)
-      (past, (both.data_device.risen (omega arith), omega (arith, both.data_device.early)), tt)
+      (past, (both.data_device.risen (omega arith), omega (arith, both.data_device.early)), tt, λ runs. absurd (false≢true runs))
       (λ long unfailed. absurd (omega (arith, both.data_device.early, unfailed.1.0)))
-  format-fails NoMemory both short = format-end (outcome.Fault fault.Memory) (tells-both 0 0 both) tt (λ long unfailed. tt)
+  format-fails NoMemory both short = format-end (outcome.Fault fault.Memory) (tells-both 0 0 both) (λ runs. absurd (false≢true runs)) (λ long unfailed. tt)
   format-fails f both short = absurd short

@@ -9,12 +9,12 @@ use Rattle.redo_lab.specs.declared.outcome.Outcome.{Outcome}
 use Rattle.redo_lab.specs.declared.outcome.Outcome.TheVariants as outcome
 use Rattle.redo_lab.specs.declared.playing.Played.{Played}
 use Rattle.redo_lab.proofs.RunTold.{holds-played, played-text}
-use Rattle.redo_lab.proofs.Running.{IsRunning, RunLaws, driving, ends-with, failed-unstopped, leaves-held, no_stops, running-gen, tells-way, unfailed-way}
+use Rattle.redo_lab.proofs.Running.{IsRunning, RunLaws, driving, ends-with, failed-unstopped, leaves-held, left-held, no_stops, running-gen, tells-way, unfailed-way}
 use Rattle.redo_lab.proofs.SomeLeft.{some-left}
 use Rattle.redo_lab.proofs.Summed.{FairLaw, holds-read, possible-read-behind, read-played, read-run}
 use Rattle.redo_lab.specs.Asked.{drive_of_seed}
 use Rattle.redo_lab.specs.Call.{Call, Each, IsUnfailed}
-use Rattle.redo_lab.specs.Cause.{CanPlay, IsCauseOf, IsPastSource}
+use Rattle.redo_lab.specs.Cause.{CanPlay, IsCauseOf, IsPastSource, LeavesRun}
 use Rattle.redo_lab.specs.Course.{ArePlayedThrough, CameSoFar, Driving, HoldsRun, IsPlayedBy, ran_of}
 use Rattle.redo_lab.specs.Outcome.{EndsWith, IsDoneOrKeptFrom, IsOutcome}
 use Rattle.redo_lab.specs.Reread.{AreBoth, AreRead, IsReadSince, ReadsAfter, summary_of}
@@ -32,25 +32,36 @@ module _ (call : Call) (seed users groups max : ℕ) (script : List ScriptLine) 
   running : IsRunning call (Gen seed users groups true max) (drive_of_seed seed max) script
   running = running-gen call seed users groups max script unread is
 
+  -- the run is left
+  left-seed : (played : Played) (log_failed data_failed : ℕ)
+      → (has : CameSoFar call.log.entry call.store.entry no_stops false script (ran_of played) log_failed data_failed (now_of call.log) (now_of call.store))
+      → HoldsRun has.way.log_found has.way.data_found script has.opened (ran_of played) (now_of call.log) (now_of call.store)
+      → LeavesRun call (Gen seed users groups true max)
+  left-seed played log_failed data_failed has holds runs =
+      inr (left-held call (Gen seed users groups true max) (drive_of_seed seed max) no_stops script running laws (ran_of played) log_failed data_failed has holds)
+
   -- a device failed
   pub seed-failed : (f : Fault) (played : Played) (log_failed data_failed : ℕ)
       → (has : CameSoFar call.log.entry call.store.entry no_stops false script (ran_of played) log_failed data_failed (now_of call.log) (now_of call.store))
       → HoldsRun has.way.log_found has.way.data_found script has.opened (ran_of played) (now_of call.log) (now_of call.store)
-      → IsCauseOf call (Gen seed users groups true max) f → (Each IsUnfailed call → ⊥) → Ends (outcome.Fault f)
+      → (LeavesRun call (Gen seed users groups true max) → IsCauseOf call (Gen seed users groups true max) f)
+      → (Each IsUnfailed call → ⊥) → Ends (outcome.Fault f)
   seed-failed f played log_failed data_failed has holds cause failed =
       ends-with call (Gen seed users groups true max) (drive_of_seed seed max) no_stops script running laws (outcome.Fault f)
       (tells-way call no_stops log_failed data_failed has.way)
       (leaves-held call (Gen seed users groups true max) (drive_of_seed seed max) no_stops script running laws (ran_of played) log_failed data_failed has holds)
-      cause (λ can unfailed. absurd (failed unfailed))
+      (cause (left-seed played log_failed data_failed has holds)) (λ can unfailed. absurd (failed unfailed))
 
   past : IsPastSource call (Gen seed users groups true max)
   past = running.past
 
-  log-fails : (found : Shown) → IsArmed None call.log.entry found 1 (now_of call.log) → IsCauseOf call (Gen seed users groups true max) fault.LogDevice
-  log-fails found was = let failed = failed-unstopped call.log.entry found (now_of call.log) was in (past, (failed.0, omega (arith, failed.1)), tt)
+  log-fails : (found : Shown) → IsArmed None call.log.entry found 1 (now_of call.log) → LeavesRun call (Gen seed users groups true max)
+      → IsCauseOf call (Gen seed users groups true max) fault.LogDevice
+  log-fails found was left = let failed = failed-unstopped call.log.entry found (now_of call.log) was in (past, (failed.0, omega (arith, failed.1)), tt, left)
 
-  data-fails : (found : Shown) → IsArmed None call.store.entry found 1 (now_of call.store) → IsCauseOf call (Gen seed users groups true max) fault.DataDevice
-  data-fails found was = let failed = failed-unstopped call.store.entry found (now_of call.store) was in (past, (failed.0, omega (arith, failed.1)), tt)
+  data-fails : (found : Shown) → IsArmed None call.store.entry found 1 (now_of call.store) → LeavesRun call (Gen seed users groups true max)
+      → IsCauseOf call (Gen seed users groups true max) fault.DataDevice
+  data-fails found was left = let failed = failed-unstopped call.store.entry found (now_of call.store) was in (past, (failed.0, omega (arith, failed.1)), tt, left)
 
   -- A DEVICE ENDED THE RUN.
   pub seed-cut : (played : Played) (f : Fault)
@@ -101,7 +112,8 @@ module _ (call : Call) (seed users groups max : ℕ) (script : List ScriptLine) 
     seed-played (outcome.Text text) behind = ends-read (outcome.Text text) 0 0 behind.since
         (unfailed-way call no_stops (since-played behind.since).are.way, summed-up text behind) (λ can. tt)
     seed-played (outcome.Report text f) behind = absurd behind
-    seed-played (outcome.Fault fault.Memory) behind = ends-read (outcome.Fault fault.Memory) 0 0 behind tt (λ can. tt)
+    seed-played (outcome.Fault fault.Memory) behind = ends-read (outcome.Fault fault.Memory) 0 0 behind
+        (left-seed played 0 0 (read-run was.are.so_far behind) (still-holds 0 0 behind)) (λ can. tt)
     seed-played (outcome.Fault fault.LogDevice) behind =
         let has = read-run was.are.so_far behind in
         seed-failed fault.LogDevice played 1 0 has (still-holds 1 0 behind) (log-fails has.way.log_found has.way.log_device)
@@ -110,7 +122,10 @@ module _ (call : Call) (seed users groups max : ℕ) (script : List ScriptLine) 
         let has = read-run was.are.so_far behind in
         seed-failed fault.DataDevice played 0 1 has (still-holds 0 1 behind) (data-fails has.way.data_found has.way.data_device)
         (λ none. omega (arith, none.1.1, has.way.data_device.mid))
-    seed-played (outcome.Fault (fault.Store refusal)) behind = ends-read (outcome.Fault (fault.Store refusal)) 0 0 behind.since
-        (past, unfailed-way call no_stops (since-played behind.since).are.way, inr behind.refused)
+    seed-played (outcome.Fault (fault.Store refusal)) behind = ends-read (outcome.Fault (fault.Store refusal)) 0 0 behind.since (
+      past,
+      unfailed-way call no_stops (since-played behind.since).are.way,
+      inr (((since-played behind.since).are.way.log_device.stage, (since-played behind.since).are.way.data_device.stage), behind.refused),
+    )
         (λ can. absurd (possible-read-behind seed_run call no_stops false script played refusal laws.one laws.formatted laws.closed fair (since-played behind.since) behind.refused can))
     seed-played (outcome.Fault f) behind = absurd behind

@@ -1,5 +1,5 @@
 -- What is left of both devices: each image is accepted, and may be opened again.
-use Rattle.std.proofs.Common.{ℕ, ◌≡◌, List, [], Option, Some, None, sym, subst, inl, inr, ⊎_elim, Bool}
+use Rattle.std.proofs.Common.{ℕ, ◌≡◌, List, [], Option, Some, None, IfSome, sym, subst, inl, inr, ⊎_elim, Bool}
 use Rattle.model_base.specs.declared.shape.Shape.{Shape}
 use Rattle.model_device.specs.{IsImage}
 use Rattle.model_device.specs.Disk.{Disk}
@@ -7,17 +7,17 @@ use Rattle.model_parts.specs.{IsOpenable, KeepsOpened}
 use Rattle.model_script.specs.declared.script.ScriptLine.{ScriptLine}
 use Rattle.model_store.specs.{IsFair, Opens}
 use Rattle.model_store.specs.Reading.{Reading}
-use Rattle.model_theorem.specs.{Opened, opened_as, Ran, ReadsPrefix}
+use Rattle.model_theorem.specs.{IsRun, Opened, opened_as, Ran, ReadsPrefix}
 use Rattle.redo_memdisk.specs.declared.fuse.Stage.TheVariants.{Before}
 use Rattle.redo_open.specs.{WhereBothTell}
 use Rattle.redo_lab.specs.declared.playing.Stops.{Stops}
 use Rattle.redo_lab.proofs.Keeping.{OpenableLaw, openable-fresh, same-told, unused-unread}
 use Rattle.redo_lab.proofs.RunPlayed.{FormattedLaw, ReadsLaw, held-with, was-found}
 use Rattle.redo_lab.proofs.Told.{OneAnswer, both-told}
-use Rattle.redo_lab.specs.Call.{Call}
+use Rattle.redo_lab.specs.Call.{Call, WhereOpened, WhereToldNow}
 use Rattle.redo_lab.specs.Course.{AreUnderWay, CameSoFar, HoldsRun, KeepsFound}
 use Rattle.redo_lab.specs.Told.{AreLeftRead, IsStored, LeavesStore}
-use Rattle.redo_lab.specs.Stages.{EndUnprepared, WasUnused, now_of}
+use Rattle.redo_lab.specs.Stages.{EndUnprepared, WasUnused, WereFormatted, now_of}
 use Rattle.redo_lab.specs.Store.{AreAccepted, AreReadAsPrefix}
 
 -- a store that is kept is accepted
@@ -48,7 +48,8 @@ leaves-kept call law log_kept data_kept stage opened log data_disk log_is data_i
 pub leaves-unprepared : (call : Call) (log_failed data_failed : ℕ) → OneAnswer → OpenableLaw
     → EndUnprepared call.log.entry call.store.entry log_failed data_failed (now_of call.log) (now_of call.store) → LeavesStore call
 leaves-unprepared call log_failed data_failed one law ends = ⊎_elim
-    (λ (was : WasUnused call.log.entry call.store.entry). leaves-unused call one was ends.log_device.stage)
+    (λ (were : WereFormatted call.log.entry call.store.entry (now_of call.log) (now_of call.store)).
+    leaves-unused call one (λ log data_disk log_is data_is. (were log data_disk log_is data_is).0) ends.log_device.stage)
     (λ kept. leaves-kept call law kept.log_device kept.data_device ends.log_device.stage)
     ends.left
   where
@@ -102,14 +103,28 @@ pub leaves-found : (call : Call) (stops : Stops) (log_failed data_failed : ℕ) 
 leaves-found call stops log_failed data_failed one law way keeps =
     leaves-read call [] None (found-reads call stops [] log_failed data_failed one law way keeps)
 
--- whatever a crash would leave of a run that both devices hold is read so
+-- whatever a crash would leave of a run that both devices hold is read so, and the run is a legal one
+abbrev pub AreOfLegal : Call → List ScriptLine → Option Ran → Type 0
+AreOfLegal call script run =
+    (store : Opened) → WhereOpened call store (WhereToldNow call (λ log_disk data_disk.
+    IfSome run (IsRun script store) × AreReadAsPrefix script store run log_disk data_disk))
+
+pub run-legal : (call : Call) (stops : Stops) (log_only : Bool) (script : List ScriptLine) (run : Ran) (log_failed data_failed : ℕ) → OneAnswer → FormattedLaw → ReadsLaw
+    → (has : CameSoFar call.log.entry call.store.entry stops log_only script run log_failed data_failed (now_of call.log) (now_of call.store))
+    → HoldsRun has.way.log_found has.way.data_found script has.opened run (now_of call.log) (now_of call.store)
+    → AreOfLegal call script (Some run)
+run-legal call stops log_only script run log_failed data_failed one law reads has holds opened log data_disk log_is data_is log_fresh data_fresh opens log_left data_left log_left_is data_left_is =
+    let found = was-found call.log.entry call.store.entry has.way.log_found has.way.data_found log data_disk call.log.entry.faults call.store.entry.faults
+    opened one law has.way.prepared log_is data_is log_fresh data_fresh opens in
+    let held = held-with has.way.log_found has.way.data_found script run has.opened opened (now_of call.log) (now_of call.store) holds found
+    log_left data_left log_left_is data_left_is in
+    subst (λ (o : Opened). IsRun script o run × AreReadAsPrefix script o (Some run) log_left data_left) held.0
+    (held.1.held.is_run, λ log_bytes data_bytes. reads _ log_bytes data_bytes held.1.held)
+
 pub run-reads : (call : Call) (stops : Stops) (log_only : Bool) (script : List ScriptLine) (run : Ran) (log_failed data_failed : ℕ) → OneAnswer → FormattedLaw → ReadsLaw
     → (has : CameSoFar call.log.entry call.store.entry stops log_only script run log_failed data_failed (now_of call.log) (now_of call.store))
     → HoldsRun has.way.log_found has.way.data_found script has.opened run (now_of call.log) (now_of call.store)
     → AreLeftRead call script (Some run)
 run-reads call stops log_only script run log_failed data_failed one law reads has holds opened log data_disk log_is data_is log_fresh data_fresh opens log_left data_left log_left_is data_left_is =
-    let found = was-found call.log.entry call.store.entry has.way.log_found has.way.data_found log data_disk call.log.entry.faults call.store.entry.faults
-    opened one law has.way.prepared log_is data_is log_fresh data_fresh opens in
-    let held = held-with has.way.log_found has.way.data_found script run has.opened opened (now_of call.log) (now_of call.store) holds found
-    log_left data_left log_left_is data_left_is in
-    subst (λ (o : Opened). AreReadAsPrefix script o (Some run) log_left data_left) held.0 (λ log_bytes data_bytes. reads _ log_bytes data_bytes held.1.held)
+    (run-legal call stops log_only script run log_failed data_failed one law reads has holds opened log data_disk log_is data_is log_fresh data_fresh opens
+    log_left data_left log_left_is data_left_is).1

@@ -1,6 +1,6 @@
 -- What the commands that run no script come to.
 use Rattle.std.proofs.lemmas.Bool.{false≢true}
-use Rattle.std.proofs.Common.{ℕ, ◌≡◌, ◌<◌, Bool, true, false, if◌then◌else◌, List, Some, None, Result, Ok, Err, IfOk, subst, arith}
+use Rattle.std.proofs.Common.{ℕ, ◌≡◌, ◌<◌, Bool, true, false, if◌then◌else◌, List, Some, None, Result, Ok, Err, IfOk, subst, inl, arith}
 use Rattle.model_base.specs.{HasRisen}
 use Rattle.model_script.specs.declared.asked.Command.{Command}
 use Rattle.model_script.specs.declared.asked.Command.TheVariants.{Recover, Dump, Gen}
@@ -22,7 +22,7 @@ use Rattle.redo_lab.specs.declared.outcome.Outcome.{Outcome}
 use Rattle.redo_lab.specs.declared.outcome.Outcome.TheVariants as outcome
 use Rattle.redo_lab.proofs.Keeping.{OpenableLaw}
 use Rattle.redo_lab.proofs.Told.{OneAnswer, on-contents}
-use Rattle.redo_lab.proofs.Unscripted.{AreLeftAlone, leaves-alone, tells-alone, unfailed-alone, unwritten-alone}
+use Rattle.redo_lab.proofs.Unscripted.{AreLeftAlone, leaves-alone, tells-alone, unfailed-alone, unprepared-alone, unwritten-alone}
 use Rattle.redo_lab.specs.Answer.{IsListing, IsReadOff}
 use Rattle.redo_lab.specs.Asked.{runs_script}
 use Rattle.redo_lab.specs.Call.{AreUnfailedFor, Call, Each, Guarded, IsUnfailed, IsUnwritten, WhereToldAtEntry}
@@ -44,7 +44,7 @@ gen-ends call seed users groups max (Ok text) alone unread is = record {
   complete = λ possible source unfailed. tt;
 }
 gen-ends call seed users groups max (Err e) alone unread is = record {
-  means = tt;
+  means = λ runs. absurd (false≢true runs);
   unread = λ plain. unread;
   unwritten = λ leaves. unwritten-alone call alone;
   left = λ runs. absurd (false≢true runs);
@@ -56,7 +56,7 @@ gen-ends call seed users groups max (Err e) alone unread is = record {
 pub gen-unscripted : (call : Call) (seed users groups max : ℕ) → AreLeftAlone call → call.source_now ≡ call.source → OpenableLaw
     → EndsWith call (Gen seed users groups true max) (outcome.Fault fault.Memory)
 gen-unscripted call seed users groups max alone unread law = record {
-  means = tt;
+  means = λ runs. inl (unprepared-alone call alone);
   unread = λ plain. unread;
   unwritten = λ leaves. absurd (false≢true leaves);
   left = λ runs. leaves-alone call law alone;
@@ -151,7 +151,7 @@ module _ (call : Call) (command : Command) (IsTextOf : Reading → List ℕ → 
         text_is = is;
       }))
       (λ can unfailed. tt)
-  plain-reads reading (Err e) reads is_read is = reads-end (outcome.Fault fault.Memory) 0 0 reads tt (λ can unfailed. tt)
+  plain-reads reading (Err e) reads is_read is = reads-end (outcome.Fault fault.Memory) 0 0 reads (λ runs. absurd (off.runs runs)) (λ can unfailed. tt)
 
   -- IT WASN'T.
   plain-refused : (refusal : Refusal) → ReadsDevices call 0 0
@@ -174,9 +174,9 @@ module _ (call : Call) (command : Command) (IsTextOf : Reading → List ℕ → 
   plain-fails (PageLost p) reads refused one = plain-refused (refusal.PageLost p) reads refused one
   plain-fails (PageAhead p lsn) reads refused one = plain-refused (refusal.PageAhead p lsn) reads refused one
   plain-fails LogDev reads refused one = reads-end (outcome.Fault fault.LogDevice) 1 0 reads
-      (off.past, off.fails call.log (reads.log_device.risen (omega arith)) (omega (arith, reads.log_device.early)), off.unbegun)
+      (off.past, off.fails call.log (reads.log_device.risen (omega arith)) (omega (arith, reads.log_device.early)), off.unbegun, λ runs. absurd (off.runs runs))
       (λ can unfailed. absurd (omega (arith, reads.log_device.early, unfailed.0.0)))
   plain-fails DataDev reads refused one = reads-end (outcome.Fault fault.DataDevice) 0 1 reads
-      (off.past, off.fails call.store (reads.data_device.risen (omega arith)) (omega (arith, reads.data_device.early)), off.unbegun)
+      (off.past, off.fails call.store (reads.data_device.risen (omega arith)) (omega (arith, reads.data_device.early)), off.unbegun, λ runs. absurd (off.runs runs))
       (λ can unfailed. absurd (omega (arith, reads.data_device.early, unfailed.1.0)))
-  plain-fails NoMemory reads refused one = reads-end (outcome.Fault fault.Memory) 0 0 reads tt (λ can unfailed. tt)
+  plain-fails NoMemory reads refused one = reads-end (outcome.Fault fault.Memory) 0 0 reads (λ runs. absurd (off.runs runs)) (λ can unfailed. tt)

@@ -5,7 +5,7 @@ use Rattle.model_base.specs.{default_shape}
 use Rattle.model_device.specs.Disk.{Disk}
 use Rattle.model_log.specs.{log_device_length}
 use Rattle.model_log.specs.declared.layout.TheConstants.{HEADER_BYTES}
-use Rattle.model_parts.specs.{IsFormatted}
+use Rattle.model_parts.specs.{IsFormatted, KeepsNoStore}
 use Rattle.model_page.specs.{data_device_length}
 use Rattle.model_store.specs.{IsUnused}
 use Rattle.model_store.specs.declared.refusal.Refusal.{Refusal}
@@ -20,15 +20,16 @@ use Rattle.redo_memdisk.proofs.Behind.{counts-calls}
 use Rattle.redo_memdisk.specs.{before_arming, CallsThrough, counted, fresh, fuse_of, inner_of}
 use Rattle.redo_memdisk.specs.declared.fuse.Fuse.{Fuse}
 use Rattle.redo_memdisk.specs.declared.fused.Fused.{Fused}
-use Rattle.redo_open.specs.{FormatCalls, JudgesLengths}
+use Rattle.redo_open.specs.{FormatCalls, JudgesLengths, WhereBothTell}
 use Rattle.redo_recover.specs.{log_fault_of}
 use Rattle.redo_recover.specs.declared.fault.RecFault.{RecFault}
 use Rattle.redo_recover.specs.declared.fault.RecFault.TheVariants.{SmallLog, NotFormatted, BadFormat, SmallData, NoCheckpoint, BadRecord, PageLost, PageAhead, LogDev, DataDev, NoMemory}
 use Rattle.redo_lab.proofs.Behind.{kept-behind, unarmed-behind}
 use Rattle.redo_lab.proofs.Formatting.{IsFormatFault}
 use Rattle.redo_lab.proofs.Stages.{unarmed-calls, unarmed-fresh}
+use Rattle.redo_lab.proofs.Told.{both-told}
 use Rattle.redo_lab.specs.Cause.{AreLongEnough}
-use Rattle.redo_lab.specs.Stages.{ArePrepared, AreTooShort, BothKept, IsFirstRead, IsUnarmed, IsUnpreparedBy, WasUnused, shown}
+use Rattle.redo_lab.specs.Stages.{ArePrepared, AreTooShort, BothKept, IsFirstRead, IsUnarmed, IsUnpreparedBy, WasUnused, WereFormatted, shown}
 use Rattle.redo_lab.specs.Store.{IsTooShort}
 
 -- The log device behind its first read, which answered this; and the data device, of which no call was made.
@@ -162,6 +163,25 @@ unformatted-short {L = L} {D = D} log_seen data_seen log_entry data_entry log lo
       short = inr (header, same-short cause _ _ _ _ first.log_device.same.size first.data_device.same.size short, was-unused log_entry data_entry unused);
     }))
 
+-- what formatting keeps of both devices, where they told and tell
+abbrev KeptNoStore : (log_met data_met log_now data_now : Seen) → Type 0
+KeptNoStore log_met data_met log_now data_now = WhereBothTell log_met.tells data_met.tells (λ log data_disk.
+    WhereBothTell log_now.tells data_now.tells (KeepsNoStore default_shape log data_disk))
+
+were-formatted : {L D : Type 0} {log_seen : L → Seen} {data_seen : D → Seen} {log_entry data_entry : Seen} {log : Fused L} {store : Fused D}
+    (log_new : Fused L) (data_new : Fused D) → IsReadFirst log_seen data_seen log_entry data_entry 0 log store
+    → IfSome log_entry.tells (λ disk. IsTrue true ↔ IsUnused disk.reads)
+    → KeptNoStore (log_seen log.inner) (data_seen store.inner) (log_seen log_new.inner) (data_seen data_new.inner)
+    → WereFormatted log_entry data_entry (shown log_seen log_new) (shown data_seen data_new)
+were-formatted {log_seen = log_seen} {data_seen = data_seen} {log_entry = log_entry} {data_entry = data_entry} {log = log} {store = store} log_new data_new first unused keeps log_disk data_disk log_is data_is =
+    let Keeps : Disk → Disk → Type 0 = λ log_disk data_disk.
+    WhereBothTell (log_seen log_new.inner).tells (data_seen data_new.inner).tells (KeepsNoStore default_shape log_disk data_disk) in (
+      was-unused log_entry data_entry unused log_disk data_disk log_is data_is,
+      both-told (log_seen log_new.inner).tells (data_seen data_new.inner).tells (KeepsNoStore default_shape log_disk data_disk)
+          (both-told (log_seen log.inner).tells (data_seen store.inner).tells Keeps keeps log_disk data_disk
+          (first.kept.log_device ∙ log_is) (first.kept.data_device ∙ data_is)),
+    )
+
 -- FORMATTING ENDED EARLY.
 pub unprepared-formatted : {L D : Type 0} {log_seen : L → Seen} {data_seen : D → Seen} {log_entry data_entry : Seen} {log : Fused L} {store : Fused D}
     (log_gives : L → Call → L → Type 0) (data_gives : D → Call → D → Type 0) (log_new : Fused L) (data_new : Fused D) (f : RecFault)
@@ -169,36 +189,37 @@ pub unprepared-formatted : {L D : Type 0} {log_seen : L → Seen} {data_seen : D
     → IfSome log_entry.tells (λ disk. IsTrue true ↔ IsUnused disk.reads) → IfSome log_entry.tells (HasSize log_entry.size)
     → FormatCalls (CallsThrough log_seen log_gives) (CallsThrough data_seen data_gives) log log_new store data_new (Err f)
     → IsFormatFault default_shape (log_seen log.inner).size (data_seen store.inner).size f
+    → KeptNoStore (log_seen log.inner) (data_seen store.inner) (log_seen log_new.inner) (data_seen data_new.inner)
     → IsUnpreparedBy log_entry data_entry f (shown log_seen log_new) (shown data_seen data_new)
-unprepared-formatted {log_seen = log_seen} {data_seen = data_seen} log_gives data_gives log_new data_new (SmallLog n) header first unused sized calls short =
+unprepared-formatted {log_seen = log_seen} {data_seen = data_seen} log_gives data_gives log_new data_new (SmallLog n) header first unused sized calls short keeps =
     unformatted-short log_seen data_seen _ _ _ _ _ _ (refusal.SmallLog n) header first unused sized calls short
-unprepared-formatted {log_seen = log_seen} {data_seen = data_seen} log_gives data_gives log_new data_new (SmallData n) header first unused sized calls short =
+unprepared-formatted {log_seen = log_seen} {data_seen = data_seen} log_gives data_gives log_new data_new (SmallData n) header first unused sized calls short keeps =
     unformatted-short log_seen data_seen _ _ _ _ _ _ (refusal.SmallData n) header first unused sized calls short
-unprepared-formatted {log_entry = log_entry} {data_entry = data_entry} log_gives data_gives log_new data_new LogDev header first unused sized calls short = record {
+unprepared-formatted {log_entry = log_entry} {data_entry = data_entry} log_gives data_gives log_new data_new LogDev header first unused sized calls short keeps = record {
   log_device = unarmed-calls first.log_device (weaker_calls (MayEndWith-ends (Some device.Failed)) calls.log);
   data_device = unarmed-calls first.data_device (weaker_calls (MayEndWith-ends None) calls.data_device);
-  left = inl (was-unused log_entry data_entry unused);
+  left = inl (were-formatted log_new data_new first unused keeps);
 }
-unprepared-formatted {log_entry = log_entry} {data_entry = data_entry} log_gives data_gives log_new data_new DataDev header first unused sized calls short = record {
+unprepared-formatted {log_entry = log_entry} {data_entry = data_entry} log_gives data_gives log_new data_new DataDev header first unused sized calls short keeps = record {
   log_device = unarmed-calls first.log_device (weaker_calls (MayEndWith-ends None) calls.log);
   data_device = unarmed-calls first.data_device (weaker_calls (MayEndWith-ends (Some device.Failed)) calls.data_device);
-  left = inl (was-unused log_entry data_entry unused);
+  left = inl (were-formatted log_new data_new first unused keeps);
 }
-unprepared-formatted {log_entry = log_entry} {data_entry = data_entry} log_gives data_gives log_new data_new NoMemory header first unused sized calls short = ⊎_elim
+unprepared-formatted {log_entry = log_entry} {data_entry = data_entry} log_gives data_gives log_new data_new NoMemory header first unused sized calls short keeps = ⊎_elim
     (λ both. record {
       log_device = unarmed-calls first.log_device (weaker_calls (MayEndWith-ends (Some device.NoMemory)) both.log);
       data_device = unarmed-calls first.data_device (weaker_calls (MayEndWith-ends None) both.data_device);
-      left = inl (was-unused log_entry data_entry unused);
+      left = inl (were-formatted log_new data_new first unused keeps);
     })
     (λ both. record {
       log_device = unarmed-calls first.log_device (weaker_calls (MayEndWith-ends None) both.log);
       data_device = unarmed-calls first.data_device (weaker_calls (MayEndWith-ends (Some device.NoMemory)) both.data_device);
-      left = inl (was-unused log_entry data_entry unused);
+      left = inl (were-formatted log_new data_new first unused keeps);
     })
     calls
-unprepared-formatted log_gives data_gives log_new data_new NotFormatted header first unused sized calls short = absurd short
-unprepared-formatted log_gives data_gives log_new data_new (BadFormat n) header first unused sized calls short = absurd short
-unprepared-formatted log_gives data_gives log_new data_new NoCheckpoint header first unused sized calls short = absurd short
-unprepared-formatted log_gives data_gives log_new data_new (BadRecord lsn) header first unused sized calls short = absurd short
-unprepared-formatted log_gives data_gives log_new data_new (PageLost p) header first unused sized calls short = absurd short
-unprepared-formatted log_gives data_gives log_new data_new (PageAhead p lsn) header first unused sized calls short = absurd short
+unprepared-formatted log_gives data_gives log_new data_new NotFormatted header first unused sized calls short keeps = absurd short
+unprepared-formatted log_gives data_gives log_new data_new (BadFormat n) header first unused sized calls short keeps = absurd short
+unprepared-formatted log_gives data_gives log_new data_new NoCheckpoint header first unused sized calls short keeps = absurd short
+unprepared-formatted log_gives data_gives log_new data_new (BadRecord lsn) header first unused sized calls short keeps = absurd short
+unprepared-formatted log_gives data_gives log_new data_new (PageLost p) header first unused sized calls short keeps = absurd short
+unprepared-formatted log_gives data_gives log_new data_new (PageAhead p lsn) header first unused sized calls short keeps = absurd short

@@ -1,5 +1,5 @@
 -- What the command `run` comes to whose lines were run.
-use Rattle.std.proofs.Common.{ℕ, List, Option, Some, None, sym, subst, ⊎_elim, arith}
+use Rattle.std.proofs.Common.{ℕ, List, Option, Some, None, sym, subst, inr, ⊎_elim, arith}
 use Rattle.model_script.specs.declared.asked.Command.TheVariants.{Run}
 use Rattle.model_script.specs.declared.asked.Drive.{Drive}
 use Rattle.model_report.specs.declared.fault.Fault.{Fault}
@@ -9,9 +9,9 @@ use Rattle.redo_lab.specs.declared.outcome.Outcome.{Outcome}
 use Rattle.redo_lab.specs.declared.outcome.Outcome.TheVariants as outcome
 use Rattle.redo_lab.specs.declared.playing.Played.{Played}
 use Rattle.redo_lab.proofs.RunTold.{holds-played, played-text}
-use Rattle.redo_lab.proofs.Running.{RunLaws, aside-way, driving, ends-with, failed-unstopped, leaves-held, no_stops, running-run, tells-way, unfailed-way}
+use Rattle.redo_lab.proofs.Running.{RunLaws, aside-way, driving, ends-with, failed-unstopped, leaves-held, left-held, no_stops, running-run, tells-way, unfailed-way}
 use Rattle.redo_lab.specs.Call.{Call, Each, IsUnfailed}
-use Rattle.redo_lab.specs.Cause.{CanPlay}
+use Rattle.redo_lab.specs.Cause.{CanPlay, LeavesRun}
 use Rattle.redo_lab.specs.Course.{ArePlayed, IsPlayedBy, ran_of}
 use Rattle.redo_lab.specs.Outcome.{EndsWith, IsDoneOrKeptFrom, IsOutcome}
 use Rattle.redo_lab.specs.Reread.{IsReportOf, IsRunPrinted, report_outcome}
@@ -56,11 +56,15 @@ module _ (call : Call) (drive : Drive) (script : List ScriptLine) (played : Play
       (λ can unfailed. absurd (omega (arith, unfailed.1.1, was.way.data_device.mid)))
   run-printed (Some f) text was report = absurd was
 
+  left-played : (log_failed data_failed : ℕ) → Was log_failed data_failed → LeavesRun call (Run drive)
+  left-played log_failed data_failed was runs =
+      inr (left-held call (Run drive) drive no_stops script (running-run call drive script read) laws (ran_of played) log_failed data_failed was.so_far (holds-played was))
+
   -- MEMORY RAN OUT over the report.
   run-unreported : (f : Option Fault) → Played-so f → EndsWith call (Run drive) (outcome.Fault fault.Memory)
-  run-unreported None was = ends-played (outcome.Fault fault.Memory) 0 0 was.are tt (λ can unfailed. tt)
-  run-unreported (Some fault.LogDevice) was = ends-played (outcome.Fault fault.Memory) 1 was.data_failed was.are tt (λ can unfailed. tt)
-  run-unreported (Some fault.DataDevice) was = ends-played (outcome.Fault fault.Memory) 0 1 was tt (λ can unfailed. tt)
+  run-unreported None was = ends-played (outcome.Fault fault.Memory) 0 0 was.are (left-played 0 0 was.are) (λ can unfailed. tt)
+  run-unreported (Some fault.LogDevice) was = ends-played (outcome.Fault fault.Memory) 1 was.data_failed was.are (left-played 1 was.data_failed was.are) (λ can unfailed. tt)
+  run-unreported (Some fault.DataDevice) was = ends-played (outcome.Fault fault.Memory) 0 1 was (left-played 0 1 was) (λ can unfailed. tt)
   run-unreported (Some f) was = absurd was
 
   pub run-played : (f : Option Fault) (o : Outcome)

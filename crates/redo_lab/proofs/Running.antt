@@ -1,7 +1,7 @@
 -- A command that runs a script: what it comes to where the run ended before its first line, or its turns were spent, or a device
 -- stopped opening.
 use Rattle.redo_disk.specs.Seen.{Seen}
-use Rattle.std.proofs.Common.{ℕ, ◌≡◌, ◌≢◌, ◌<◌, ◌⊎◌, true, false, List, [], Option, Some, None, refl, sym, subst, inl, inr, ⊎_elim, arith, ◌∙◌}
+use Rattle.std.proofs.Common.{ℕ, ◌≡◌, ◌≢◌, ◌<◌, true, false, List, [], Option, Some, None, refl, sym, subst, inl, inr, ⊎_elim, arith, ◌∙◌}
 use Rattle.std.proofs.lemmas.Bool.{false≢true}
 use Rattle.model_base.specs.{HasRisen}
 use Rattle.model_script.specs.declared.asked.Command.{Command}
@@ -15,25 +15,24 @@ use Rattle.model_script.specs.declared.script.ScriptLine.{ScriptLine}
 use Rattle.model_store.specs.declared.refusal.Refusal.{Refusal}
 use Rattle.model_theorem.specs.{Opened, Ran}
 use Rattle.model_theorem.specs.Opening.{IsOpenedBefore}
-use Rattle.redo_memdisk.specs.declared.fuse.Stage.TheVariants.{Before}
 use Rattle.redo_lab.specs.declared.outcome.Outcome.{Outcome}
 use Rattle.redo_lab.specs.declared.outcome.Outcome.TheVariants as outcome
 use Rattle.redo_lab.specs.declared.playing.Stops.{Stops}
 use Rattle.redo_lab.proofs.ByDrive.{in-threads}
 use Rattle.redo_lab.proofs.Keeping.{OpenableLaw}
-use Rattle.redo_lab.proofs.Leaving.{found-reads, leaves-found, leaves-kept, leaves-read, leaves-unprepared, run-reads}
+use Rattle.redo_lab.proofs.Leaving.{found-reads, leaves-found, leaves-kept, leaves-read, leaves-unprepared, run-legal, run-reads}
 use Rattle.redo_lab.proofs.RunPlayed.{ClosedLaws, FormattedLaw, armed-same, stopped-on, was-found}
 use Rattle.redo_lab.proofs.RunPossible.{OneReading, UnfitLaw, can-play, ended-kept}
 use Rattle.redo_lab.proofs.Told.{OneAnswer}
 use Rattle.redo_lab.specs.Asked.{IsScriptFor, IsScriptRead, drive_of, drive_of_seed, leaves_devices, reads_script, runs_script}
 use Rattle.redo_drive.specs.declared.drive.RunEnd.{RunEnd}
 use Rattle.redo_drive.specs.declared.drive.RunEnd.TheVariants.{Spent}
-use Rattle.redo_lab.specs.Call.{AreKept, AreUnfailedFor, Call, Each, Guarded, IsUnfailed, IsUnfailedAside}
-use Rattle.redo_lab.specs.Cause.{CanPlay, IsCauseOf, IsDeviceFault, IsPastSource, IsPossible, IsRefused, IsRefusedAtEntry, IsUnbegun}
-use Rattle.redo_lab.specs.Course.{AreRefusedOpened, AreStopped, AreUnderWay, CameSoFar, Driving, HoldsRun, IsEndedBy, IsStoppedBy}
+use Rattle.redo_lab.specs.Call.{AreKept, AreUnfailedFor, Call, Each, Guarded, IsInRun, IsUnfailed, IsUnfailedAside}
+use Rattle.redo_lab.specs.Cause.{AreInRunOrCrashed, AreOfRun, CanPlay, IsCauseOf, IsDeviceFault, IsPastSource, IsPossible, IsRefused, IsRefusedAtEntry, IsUnbegun, IsUnprepared}
+use Rattle.redo_lab.specs.Course.{AreRefusedOpened, AreStopped, AreUnderWay, CameSoFar, Driving, HoldsRun, IsEndedBy, IsStoppedBy, KeepsFound}
 use Rattle.redo_lab.specs.Told.{AreLeftRead, IsOpenedFirst, IsRunOf, LeavesStore}
 use Rattle.redo_lab.specs.Outcome.{EndsWith, IsDoneOrKeptFrom, IsOutcome}
-use Rattle.redo_lab.specs.Stages.{AreTooShort, BothKept, EndUnprepared, IsArmed, Shown, WasUnused, now_of}
+use Rattle.redo_lab.specs.Stages.{AreTooShort, BothKept, EndUnprepared, IsArmed, Shown, now_of}
 
 -- what is known of every store and of every run
 pub record RunLaws : Type 0 where
@@ -65,7 +64,8 @@ pub record IsRunning (call : Call) (command : Command) (drive : Drive) (script :
   pub fails_early : (device : Guarded) → HasRisen device.entry.faults device.now.faults → 0 < device.fuse.early → IsDeviceFault command device
   pub unfailed : Each IsUnfailed call → AreUnfailedFor command call
   pub aside : AreUnfailedFor command call → Each IsUnfailedAside call
-  pub unbegun : (call.log.fuse.stage ≡ Before) × (WasUnused call.log.entry call.store.entry ⊎ AreKept call) → IsUnbegun call command
+  pub unbegun : IsUnprepared call → IsUnbegun call command
+  pub in_run : Each IsInRun call → AreInRunOrCrashed call command
   pub refused : (refusal : Refusal) → IsRefusedAtEntry call refusal → IsRefused call command refusal
 
 pub running-run : (call : Call) (drive : Drive) (script : List ScriptLine) → IsScriptRead call.source call.source_now script → IsRunning call (Run drive) drive script
@@ -81,6 +81,7 @@ running-run call drive script read = record {
   unfailed = λ none. none;
   aside = λ none. ((none.0.0, none.0.2), (none.1.0, none.1.2));
   unbegun = λ before. inl before;
+  in_run = λ armed. armed;
   refused = λ refusal refused. refused;
 }
 
@@ -98,6 +99,7 @@ running-crash call drive stop_log stop_data pick workers script read = record {
   unfailed = λ none. ((none.0.0, none.0.2), (none.1.0, none.1.2));
   aside = λ none. none;
   unbegun = λ before. tt;
+  in_run = λ armed. inl armed;
   refused = λ refusal refused. inl refused;
 }
 
@@ -115,6 +117,7 @@ running-gen call seed users groups max script unread is = record {
   unfailed = λ none. none;
   aside = λ none. ((none.0.0, none.0.2), (none.1.0, none.1.2));
   unbegun = λ before. tt;
+  in_run = λ armed. armed;
   refused = λ refusal refused. inl refused;
 }
 
@@ -157,8 +160,9 @@ kept-both call kept log data_disk log_is data_is = (kept.log_device, kept.data_d
 
 left-unprepared : (call : Call) (log_failed data_failed : ℕ)
     → EndUnprepared call.log.entry call.store.entry log_failed data_failed (now_of call.log) (now_of call.store)
-    → WasUnused call.log.entry call.store.entry ⊎ AreKept call
-left-unprepared call log_failed data_failed ends = ⊎_elim (λ unused. inl unused) (λ kept. inr (kept-both call kept)) ends.left
+    → IsUnprepared call
+left-unprepared call log_failed data_failed ends =
+    ((ends.log_device.stage, ends.data_device.stage), ⊎_elim (λ formatted. inr formatted) (λ kept. inl (kept-both call kept)) ends.left)
 
 -- a store that is refused
 refused-short : (call : Call) (cause : Refusal) → AreTooShort call.log.entry call.store.entry cause (now_of call.log) (now_of call.store) → IsRefusedAtEntry call cause
@@ -207,6 +211,35 @@ module _ (call : Call) (command : Command) (drive : Drive) (stops : Stops) (scri
   leaves-held run log_failed data_failed has holds = leaves-read call script (Some run)
       (run-reads call stops drive.log_only script run log_failed data_failed laws.one laws.formatted laws.closed.reads has holds)
 
+  -- what such a run left, or none
+  pub left-held : (run : Ran) (log_failed data_failed : ℕ)
+      → (has : CameSoFar call.log.entry call.store.entry stops drive.log_only script run log_failed data_failed (now_of call.log) (now_of call.store))
+      → HoldsRun has.way.log_found has.way.data_found script has.opened run (now_of call.log) (now_of call.store) → AreOfRun call command
+  left-held run log_failed data_failed has holds = record {
+    script = script;
+    run = Some run;
+    is_script = running.is_script;
+    in_run = running.in_run (has.way.log_device.stage, has.way.data_device.stage);
+    reads = λ store log data_disk log_is data_is log_fresh data_fresh opens fair.
+        run-legal call stops drive.log_only script run log_failed data_failed laws.one laws.formatted laws.closed.reads has holds
+        store log data_disk log_is data_is log_fresh data_fresh opens;
+  }
+
+  pub left-found : (log_failed data_failed : ℕ)
+      → (way : AreUnderWay call.log.entry call.store.entry stops log_failed data_failed (now_of call.log) (now_of call.store))
+      → KeepsFound way.log_found way.data_found (now_of call.log) (now_of call.store) → AreOfRun call command
+  left-found log_failed data_failed way keeps = record {
+    script = script;
+    run = None;
+    is_script = running.is_script;
+    in_run = running.in_run (way.log_device.stage, way.data_device.stage);
+    reads = λ store log data_disk log_is data_is log_fresh data_fresh opens fair log_now data_now log_now_is data_now_is. (
+      tt,
+      found-reads call stops script log_failed data_failed laws.one laws.formatted way keeps
+          store log data_disk log_is data_is log_fresh data_fresh opens log_now data_now log_now_is data_now_is,
+    );
+  }
+
   abbrev Ends : Fault → Type 0
   Ends f = IsEndedBy (driving call drive script) call.log.entry call.store.entry stops drive.log_only script f (now_of call.log) (now_of call.store)
 
@@ -239,16 +272,23 @@ module _ (call : Call) (command : Command) (drive : Drive) (stops : Stops) (scri
   ended-leaves f ended = absurd ended
 
   ended-cause : (f : Fault) → Ends f → IsCauseOf call command f
-  ended-cause fault.Memory ended = tt
+  ended-cause fault.Memory ended = λ runs. ⊎_elim
+      (λ ends. inl (left-unprepared call 0 0 ends))
+      (⊎_elim
+      (λ unstarted. inr (left-found 0 0 unstarted.way unstarted.keeps))
+      (λ out. inr (left-held out.run 0 0 out.so_far out.holds)))
+      ended
   ended-cause fault.LogDevice ended = (
     running.past,
     running.fails_early call.log (ended.log_device.risen (omega arith)) (omega (arith, ended.log_device.early)),
-    running.unbegun (ended.log_device.stage, left-unprepared call 1 0 ended),
+    running.unbegun (left-unprepared call 1 0 ended),
+    λ runs. inl (left-unprepared call 1 0 ended),
   )
   ended-cause fault.DataDevice ended = (
     running.past,
     running.fails_early call.store (ended.data_device.risen (omega arith)) (omega (arith, ended.data_device.early)),
-    running.unbegun (ended.log_device.stage, left-unprepared call 0 1 ended),
+    running.unbegun (left-unprepared call 0 1 ended),
+    λ runs. inl (left-unprepared call 0 1 ended),
   )
   ended-cause (fault.Store cause) ended = ⊎_elim
       (λ short. (running.past, running.unfailed (unfailed-short call cause short), running.refused cause (refused-short call cause short)))
@@ -276,6 +316,7 @@ module _ (call : Call) (command : Command) (drive : Drive) (stops : Stops) (scri
     run = ended.run;
     is_run = run-of call command drive stops script ended.run _ ended.log_failed ended.data_failed (now_of call.log) (now_of call.store) running.is_script ended.so_far ended.driven;
     in_run = (ended.so_far.way.log_device.stage, ended.so_far.way.data_device.stage);
+    reads = run-reads call stops drive.log_only script ended.run ended.log_failed ended.data_failed laws.one laws.formatted laws.closed.reads ended.so_far ended.holds;
   }
   ended-cause f ended = absurd ended
 
@@ -324,13 +365,21 @@ module _ (call : Call) (command : Command) (drive : Drive) (script : List Script
   ended-stopped fault.LogDevice stopped =
       let failed = failed-unstopped _ _ _ stopped.way.log_device in
       ends-with call command drive no_stops script running laws (outcome.Fault fault.LogDevice) (tells-way call no_stops 1 0 stopped.way)
-      (leaves-found call no_stops 1 0 laws.one laws.formatted stopped.way stopped.keeps)
-      (running.past, uncrashing.fails call.log failed.0 failed.1, uncrashing.unbegun (stopped-so 1 0 stopped))
+      (leaves-found call no_stops 1 0 laws.one laws.formatted stopped.way stopped.keeps) (
+        running.past,
+        uncrashing.fails call.log failed.0 failed.1,
+        uncrashing.unbegun (stopped-so 1 0 stopped),
+        λ runs. inr (left-found call command drive no_stops script running laws 1 0 stopped.way stopped.keeps),
+      )
       (λ can unfailed. let none = uncrashing.unfailed unfailed in absurd (omega (arith, none.0.1, stopped.way.log_device.mid)))
   ended-stopped fault.DataDevice stopped =
       let failed = failed-unstopped _ _ _ stopped.way.data_device in
       ends-with call command drive no_stops script running laws (outcome.Fault fault.DataDevice) (tells-way call no_stops 0 1 stopped.way)
-      (leaves-found call no_stops 0 1 laws.one laws.formatted stopped.way stopped.keeps)
-      (running.past, uncrashing.fails call.store failed.0 failed.1, uncrashing.unbegun (stopped-so 0 1 stopped))
+      (leaves-found call no_stops 0 1 laws.one laws.formatted stopped.way stopped.keeps) (
+        running.past,
+        uncrashing.fails call.store failed.0 failed.1,
+        uncrashing.unbegun (stopped-so 0 1 stopped),
+        λ runs. inr (left-found call command drive no_stops script running laws 0 1 stopped.way stopped.keeps),
+      )
       (λ can unfailed. let none = uncrashing.unfailed unfailed in absurd (omega (arith, none.1.1, stopped.way.data_device.mid)))
   ended-stopped f stopped = absurd stopped

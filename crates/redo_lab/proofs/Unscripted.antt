@@ -20,7 +20,7 @@ use Rattle.redo_lab.proofs.Leaving.{leaves-kept}
 use Rattle.redo_lab.proofs.Running.{AreTelling}
 use Rattle.redo_lab.specs.Asked.{IsBadLine, IsLongScript, IsScriptFault, leaves_devices, reads_script}
 use Rattle.redo_lab.specs.Call.{Call, Each, Guarded, IsUnfailed, IsUnwritten}
-use Rattle.redo_lab.specs.Cause.{CanRun, IsCauseOf, IsPossible, MayKeepFrom}
+use Rattle.redo_lab.specs.Cause.{CanRun, IsCauseOf, IsPossible, IsUnprepared, MayKeepFrom}
 use Rattle.redo_lab.specs.Told.{LeavesStore}
 use Rattle.redo_lab.specs.Outcome.{EndsWith}
 use Rattle.redo_lab.specs.Playing.{command_with}
@@ -67,6 +67,13 @@ unwritten-alone call alone = (
   (ap (λ (seen : Seen). seen.tells) alone.data_device.seen, ap (λ (fuse : Fuse). fuse.changes) alone.data_device.fuse),
 )
 
+pub unprepared-alone : (call : Call) → AreLeftAlone call → IsUnprepared call
+unprepared-alone call alone = (
+  (ap (λ (fuse : Fuse). fuse.stage) alone.log_device.fuse, ap (λ (fuse : Fuse). fuse.stage) alone.data_device.fuse),
+  inl (λ log data_disk log_is data_is.
+      (ap (λ (seen : Seen). seen.tells) alone.log_device.seen, ap (λ (seen : Seen). seen.tells) alone.data_device.seen)),
+)
+
 pub leaves-alone : (call : Call) → OpenableLaw → AreLeftAlone call → LeavesStore call
 leaves-alone call law alone = leaves-kept call law (ap (λ (seen : Seen). seen.tells) alone.log_device.seen) (ap (λ (seen : Seen). seen.tells) alone.data_device.seen)
     (ap (λ (fuse : Fuse). fuse.stage) alone.log_device.fuse)
@@ -88,7 +95,7 @@ unscripted call command log_only f alone law reads writes can cause kept = recor
 module _ (call : Call) (command : Command) (log_only : Bool) (alone : AreLeftAlone call) (law : OpenableLaw) (reads : reads_script command ≡ true)
     (writes : leaves_devices command ≡ true → ⊥) (can : IsPossible call command → CanRun call log_only) where
   script-fails : (f : Fault) → IsScriptFault call.source call.source_now f → EndsWith call command (outcome.Fault f)
-  script-fails fault.Memory cause = unscripted call command log_only fault.Memory alone law reads writes can tt (λ can source. tt)
+  script-fails fault.Memory cause = unscripted call command log_only fault.Memory alone law reads writes can (λ runs. inl (unprepared-alone call alone)) (λ can source. tt)
   script-fails (fault.Script n) cause = unscripted call command log_only (fault.Script n) alone law reads writes can (reads, cause, unwritten-alone call alone)
       (λ can source. absurd (no-bad-line call log_only n can cause))
   script-fails fault.Source cause = unscripted call command log_only fault.Source alone law reads writes can (reads, cause, unwritten-alone call alone) (λ can source. absurd (source cause))

@@ -1,13 +1,14 @@
 -- Why a call ends without the text that it was asked for. The first cause that holds decides: the words, the source and its
 -- script, formatting or opening, the fit, the run, the crash and the reading after it. Want of memory decides where it is met.
 -- And what is owed of a call on devices that don't fail: it does what it is asked, or memory ran out, or turns were spent.
-use Rattle.std.specs.Prelude.{ℕ, ◌≡◌, ◌≤◌, ◌<◌, ◌+◌, ◌⊎◌, true, false, List, [], Some, None, ⊤, Bool, length, Ok}
+use Rattle.std.specs.Prelude.{ℕ, ◌≡◌, ◌≤◌, ◌<◌, ◌+◌, ◌⊎◌, true, false, List, [], Option, Some, None, IfSome, ⊤, Bool, length, Ok}
 use Rattle.model_base.specs.{default_shape, HasRisen}
 use Rattle.model_script.specs.declared.asked.Command.{Command}
 use Rattle.model_script.specs.declared.asked.Command.TheVariants.{Format, Run, Crash, Recover, Dump, Gen}
 use Rattle.model_script.specs.declared.asked.Drive.{Drive}
 use Rattle.model_log.specs.{start_after, log_device_length}
 use Rattle.model_log.specs.declared.layout.TheConstants.{HEADER_BYTES}
+use Rattle.model_parts.specs.{KeepsNoStore}
 use Rattle.model_report.specs.declared.fault.Fault.{Fault}
 use Rattle.model_report.specs.declared.fault.Fault.TheVariants.{Memory, Script, Source, LogDevice, DataDevice, Store, Turns, Fit}
 use Rattle.model_script.specs.{first_misfit, generated_lines, script_of}
@@ -16,13 +17,13 @@ use Rattle.model_script.specs.declared.script.ScriptLine.{ScriptLine}
 use Rattle.model_store.specs.{IsUnused, IsReading, Opens}
 use Rattle.model_store.specs.declared.refusal.Refusal.{Refusal}
 use Rattle.model_store.specs.declared.refusal.Refusal.TheVariants.{SmallLog}
-use Rattle.model_theorem.specs.{Opened, Ran, room_of, FitsOpened, IsFresh}
+use Rattle.model_theorem.specs.{Opened, Ran, room_of, FitsOpened, IsFresh, IsRun}
 use Rattle.redo_drive.specs.declared.drive.RunEnd.TheVariants.{Spent}
 use Rattle.redo_memdisk.specs.declared.fuse.Stage.TheVariants.{Before}
-use Rattle.redo_lab.specs.Answer.{shape_of}
+use Rattle.redo_lab.specs.Answer.{IsCrashedAs, shape_of}
 use Rattle.redo_lab.specs.Asked.{IsBadLine, IsLongScript, IsScriptFor, IsScriptRead, drive_of, reads_script, runs_in_threads, runs_script}
-use Rattle.redo_lab.specs.Call.{AreKept, AreUnfailedFor, Call, Each, Guarded, IsInRun, IsUnfailed, IsUnwritten, WhereToldAtEntry, WhereToldNow, IsLeftFair, LabCall}
-use Rattle.redo_lab.specs.Store.{AreRefused, IsOpenedAs, IsTooShort}
+use Rattle.redo_lab.specs.Call.{AreKept, AreUnfailedFor, Call, Each, Guarded, IsInRun, IsUnfailed, IsUnwritten, WhereToldAtEntry, WhereToldNow, IsLeftFair, LabCall, WhereOpened}
+use Rattle.redo_lab.specs.Store.{AreReadAsPrefix, AreRefused, IsOpenedAs, IsTooShort}
 use Rattle.redo_lab.specs.Told.{AreLeftRead, IsOpenedFirst, IsRunOf}
 use Rattle.model_base.specs.declared.limits.TheConstants.{MAX_SCRIPT}
 use Rattle.model_base.specs.declared.shape.Shape.{Shape}
@@ -43,13 +44,40 @@ IsDeviceFault (Crash drive stop_log stop_data pick workers) device =
 IsDeviceFault command device =
     HasRisen device.entry.faults device.now.faults × (0 < device.fuse.early + (device.fuse.mid + device.fuse.late))
 
--- A run that a device ended is reported. Of `run` the line alone stands where no fuse was armed, the log device being unused or
--- both as they were; or opening didn't come to its end, and the store is read as it was opened.
+-- no fuse was armed: both devices are as they were; or the log device was unused, and whatever a crash leaves of the two is what
+-- was there, no store, or a new one
+abbrev pub IsUnprepared : Call → Type 0
+IsUnprepared call = Each (λ device. device.fuse.stage ≡ Before) call × (AreKept call
+    ⊎ WhereToldAtEntry call (λ log store. IsUnused log.reads × WhereToldNow call (KeepsNoStore default_shape log store)))
+
+-- A run that a device ended is reported. Of `run` the line alone stands where no fuse was armed; or opening didn't come to its
+-- end, and the store is read as it was opened.
 abbrev pub IsUnbegun : Call → Command → Type 0
-IsUnbegun call (Run drive) =
-    ((call.log.fuse.stage ≡ Before) × (WhereToldAtEntry call (λ log store. IsUnused log.reads) ⊎ AreKept call))
-    ⊎ (IsOpenedFirst call call.log.now.tells None × AreLeftRead call [] None)
+IsUnbegun call (Run drive) = IsUnprepared call ⊎ (IsOpenedFirst call call.log.now.tells None × AreLeftRead call [] None)
 IsUnbegun call command = ⊤
+
+-- both devices were crashed as the words ask, and nothing was written since
+abbrev pub AreCrashedAs : (stop_log stop_data : Option ℕ) (pick : ℕ) → Call → Type 0
+AreCrashedAs stop_log stop_data pick call = IsCrashedAs stop_log pick call.log.fuse × IsCrashedAs stop_data pick call.store.fuse
+
+-- both fuses are armed; but in `crash` both devices may be crashed
+abbrev pub AreInRunOrCrashed : Call → Command → Type 0
+AreInRunOrCrashed call (Crash drive stop_log stop_data pick workers) = Each IsInRun call ⊎ AreCrashedAs stop_log stop_data pick call
+AreInRunOrCrashed call command = Each IsInRun call
+
+-- THE DEVICES ARE THOSE OF A RUN of the command's script, or of none: on the store that was opened it is a legal history, and each
+-- image is read as a prefix of it, where what a crash left is fair.
+pub record AreOfRun (call : Call) (command : Command) : Type 0 where
+  pub script : List ScriptLine
+  pub run : Option Ran
+  pub is_script : IsScriptFor command call.source call.source_now script
+  pub in_run : AreInRunOrCrashed call command
+  pub reads : (store : Opened) → WhereOpened call store (IsLeftFair call store → WhereToldNow call (λ log_disk data_disk.
+      IfSome run (IsRun script store) × AreReadAsPrefix script store run log_disk data_disk))
+
+-- what a command that runs a script leaves where memory ran out or a device failed
+abbrev pub LeavesRun : Call → Command → Type 0
+LeavesRun call command = runs_script command ≡ true → IsUnprepared call ⊎ AreOfRun call command
 
 -- The store that a run was to open is refused: the log device is too short for a header; or it is unused, and one is too short for
 -- a new store; or it is in use, and what reads gave at entry is refused. Both devices are as they were.
@@ -68,13 +96,15 @@ IsRefused call (Format pages space log_blocks) refusal =
 IsRefused call (Run drive) refusal = IsRefusedAtEntry call refusal
 IsRefused call (Crash drive stop_log stop_data pick workers) refusal =
     IsRefusedAtEntry call refusal
-    ⊎ (Each (λ device. device.fuse.pick ≡ Some pick) call × WhereToldNow call (AreRefused refusal))
+    ⊎ (AreCrashedAs stop_log stop_data pick call × WhereToldNow call (AreRefused refusal))
 IsRefused call (Recover workers) refusal = WhereToldAtEntry call (AreRefused refusal)
 IsRefused call (Dump why) refusal = WhereToldAtEntry call (AreRefused refusal)
-IsRefused call (Gen seed users groups true max) refusal = IsRefusedAtEntry call refusal ⊎ WhereToldNow call (AreRefused refusal)
+IsRefused call (Gen seed users groups true max) refusal =
+    IsRefusedAtEntry call refusal ⊎ (Each IsInRun call × WhereToldNow call (AreRefused refusal))
 IsRefused call (Gen seed users groups false max) refusal = ⊥
 
--- THE TURNS ARE SPENT: the drive's run has taken so many, which are all, and this is the least user that hasn't ended.
+-- THE TURNS ARE SPENT: the drive's run has taken so many, which are all, and this is the least user that hasn't ended. What is left
+-- is read as a prefix of the run.
 pub record AreTurnsSpent (call : Call) (command : Command) (turns user : ℕ) : Type 0 where
   pub drive : Drive
   pub asked : drive_of command ≡ Some drive
@@ -83,6 +113,7 @@ pub record AreTurnsSpent (call : Call) (command : Command) (turns user : ℕ) : 
   pub run : Ran
   pub is_run : IsRunOf call command drive opened script run (Spent turns user) call.log.now.tells call.store.now.tells
   pub in_run : Each IsInRun call
+  pub reads : AreLeftRead call script (Some run)
 
 -- A quantity of the script is the first that doesn't fit the store that was opened, and is read as it was.
 pub record IsMisfit (call : Call) (command : Command) (misfit : Misfit) : Type 0 where
@@ -102,11 +133,13 @@ IsUnscripted call command Cause = (reads_script command ≡ true) × Cause × Ea
 
 -- why the command isn't done
 abbrev pub IsCauseOf : Call → Command → Fault → Type 0
-IsCauseOf call command Memory = ⊤
+IsCauseOf call command Memory = LeavesRun call command
 IsCauseOf call command (Script n) = IsUnscripted call command (IsBadLine call.source call.source_now n)
 IsCauseOf call command Source = IsUnscripted call command (HasRisen call.source.faults call.source_now.faults)
-IsCauseOf call command LogDevice = IsPastSource call command × IsDeviceFault command call.log × IsUnbegun call command
-IsCauseOf call command DataDevice = IsPastSource call command × IsDeviceFault command call.store × IsUnbegun call command
+IsCauseOf call command LogDevice =
+    IsPastSource call command × IsDeviceFault command call.log × IsUnbegun call command × LeavesRun call command
+IsCauseOf call command DataDevice =
+    IsPastSource call command × IsDeviceFault command call.store × IsUnbegun call command × LeavesRun call command
 IsCauseOf call command (Store refusal) = IsPastSource call command × AreUnfailedFor command call × IsRefused call command refusal
 IsCauseOf call command (Turns turns user) = AreTurnsSpent call command turns user
 IsCauseOf call command (Fit misfit) =

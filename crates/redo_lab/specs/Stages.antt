@@ -11,7 +11,7 @@ use Rattle.redo_memdisk.specs.declared.fuse.Fuse.{Fuse}
 use Rattle.redo_memdisk.specs.declared.fused.Fused.{Fused}
 use Rattle.redo_lab.specs.Call.{Guarded}
 use Rattle.model_log.specs.declared.layout.TheConstants.{HEADER_BYTES}
-use Rattle.model_parts.specs.{IsFormatted}
+use Rattle.model_parts.specs.{IsFormatted, KeepsNoStore}
 use Rattle.model_store.specs.{IsUnused}
 use Rattle.model_store.specs.declared.refusal.Refusal.{Refusal}
 use Rattle.model_store.specs.declared.refusal.Refusal.TheVariants as refusal
@@ -129,11 +129,17 @@ pub record ArePrepared (log_entry data_entry : Seen) (log_now data_now : Shown) 
   pub header : HEADER_BYTES ≤ log_entry.size
   pub which : BothFormatted log_entry data_entry log_now data_now ⊎ BothInUse log_entry data_entry log_now data_now
 
--- THEY AREN'T: so many calls failed, and the log device was unused, or both mean what they meant.
+-- The log device was unused, where both told; and where they tell, whatever a crash leaves of the two is what was there, no store,
+-- or a new one.
+abbrev pub WereFormatted : (log_entry data_entry : Seen) (log_now data_now : Shown) → Type 0
+WereFormatted log_entry data_entry log_now data_now = WhereTold log_entry data_entry (λ log data_disk.
+    IsUnused log.reads × WhereTold log_now.seen data_now.seen (KeepsNoStore default_shape log data_disk))
+
+-- THEY AREN'T: so many calls failed, and formatting was begun, or both mean what they meant.
 pub record EndUnprepared (log_entry data_entry : Seen) (log_failed data_failed : ℕ) (log_now data_now : Shown) : Type 0 where
   pub log_device : IsUnarmed log_entry log_failed log_now
   pub data_device : IsUnarmed data_entry data_failed data_now
-  pub left : WasUnused log_entry data_entry ⊎ BothKept log_entry data_entry log_now data_now
+  pub left : WereFormatted log_entry data_entry log_now data_now ⊎ BothKept log_entry data_entry log_now data_now
 
 -- A device is too short for a header, or for a new store, where the log device was unused.
 pub record AreTooShort (log_entry data_entry : Seen) (cause : Refusal) (log_now data_now : Shown) : Type 0 where

@@ -23,6 +23,7 @@ returns-in-Err-format-clause-prepares g c =
     (format-fault default_shape (seen_through g.L.Sectors.seen c.is_unused.new.log) (seen_through g.D.Sectors.seen c.args.store.now)
     (seen_through g.L.Sectors.seen c.format.new.log) (seen_through g.D.Sectors.seen c.format.new.data_device) c.in-Err-format.fault
     (rw c.default_shape.ensures at c.in-Err-format.ensures.cause))
+    (rw c.default_shape.ensures at c.in-Err-format.ensures.keeps)
 
 pub returns-in-Ok-false-clause-prepares : goal.returns-in-Ok-false-clause-prepares
 returns-in-Ok-false-clause-prepares g c =
