@@ -1,1 +1,4 @@
+pub mod ByteLemmas
 pub mod ShapeLimits
+pub mod SpellingLemmas
+pub mod TableLemmas

@@ -1,13 +1,17 @@
-//! What the definitions are written with: a text of bytes that contracts see as a list, the shape of a store, and
-//! the limits of both.
+//! What the definitions are written with: a text of bytes that contracts see as a list, the shape of a store, the limits
+//! of both, what a checksum is, and how a compressed number is spelled.
 #![tactic(auto)]
 
 mod bytes;
+mod got;
 mod laws;
 mod limits;
 mod shape;
+mod spelling_laws;
+mod table;
 
 pub use bytes::Bytes;
+pub use got::Got;
 pub use laws::limits_as_facts;
 pub use limits::{
     BLOCK_SIZE, DEFAULT_LOG_BLOCKS, DEFAULT_PAGES, DEFAULT_SPACE, FIRST_DATA_LSN, LSN_LIMIT,
@@ -15,3 +19,8 @@ pub use limits::{
     USER_BYTES, USER_START,
 };
 pub use shape::Shape;
+pub use spelling_laws::{one_spelling, spelling_lengths};
+pub use table::{
+    FOURTEEN_BITS, LOW_10_BITS, LOW_17_BITS, LOW_24_BITS, Row, SEVEN_BITS, TWENTY_EIGHT_BITS,
+    TWENTY_ONE_BITS, WHOLE,
+};

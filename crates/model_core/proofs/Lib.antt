@@ -1,3 +1,5 @@
+pub mod Bytewise
+pub mod Collected
 pub mod Ended
 pub mod FrameWords
 pub mod Groups

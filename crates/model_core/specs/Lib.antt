@@ -1,6 +1,7 @@
 pub mod Actors
 pub mod AnswerFits
 pub mod Answers
+pub mod Changes
 pub mod CheckpointerProgram
 pub mod CleanerProgram
 pub mod CloserProgram
@@ -28,6 +29,8 @@ pub mod WriterProgram
 pub use Rattle.model_core.specs.Actors.{Actor, Batch, Blocks, Lent, Nothing}
 pub use Rattle.model_core.specs.AnswerFits.{PageFitting, cleaner_fits, closer_fits}
 pub use Rattle.model_core.specs.Answers.{code_of, has_taken, heard, old_of, oldest_in}
+pub use Rattle.model_core.specs.Changes.{after_from, cell_where_same, changed_cells, change_on, changes_of, line_of, value_at, writes}
+unfoldable pub use Rattle.model_core.specs.Changes.{collected}
 pub use Rattle.model_core.specs.CheckpointerProgram.{candidate, checkpointer_after, checkpointer_checked, checkpointer_next, checkpointer_op, checkpointer_took, is_above, lowered}
 pub use Rattle.model_core.specs.CleanerProgram.{cleaner_after, cleaner_checked, cleaner_next, cleaner_op, cleaner_took, end_round, first_of_batch, next_in_round, no_page, page_loaded}
 pub use Rattle.model_core.specs.CloserProgram.{closer_after, closer_checked, closer_next, closer_op, closer_took}

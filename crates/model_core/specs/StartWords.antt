@@ -1,6 +1,8 @@
 -- The words of a store as a run begins.
 use Rattle.std.specs.Prelude.{cond, slice_index, ℕ, ◌%◌, ◌+◌, ◌-◌, ◌/◌, ◌<◌, ◌==◌, ◌≡◌, ◌≤◌}
-use Rattle.model_core.specs.{frame_bytes, IsSized, lsn, page_words_at, PageWords, SharedWords}
+use Rattle.model_core.specs.Lanes.{frame_bytes}
+use Rattle.model_core.specs.Layout.{IsSized, page_words_at, PageWords, SharedWords}
+use Rattle.model_core.specs.Lsn.{lsn}
 use Rattle.model_core.specs.Setup.{Setup}
 use Rattle.model_core.specs.declared.limits.TheConstants.{BUFFER_BLOCKS}
 use Rattle.model_log.specs.declared.layout.TheConstants.{BLOCK_DATA, BLOCK_HEADER}

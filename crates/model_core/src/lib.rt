@@ -1,13 +1,16 @@
 //! The running store as definitions: the words that its actors share, the Ops on them, the program of each actor, and one
-//! turn. Nothing runs here; the two halves of the invariant stand in `model_logcore` and `model_pagecore`.
+//! turn; and what the group of a line changes of the pages, as the cells that a user stores. Nothing runs here; the two
+//! halves of the invariant stand in `model_logcore` and `model_pagecore`.
 #![tactic(auto)]
 
+mod change_laws;
 mod laws;
 mod limits;
 mod ops;
 mod steps;
 mod words;
 
+pub use change_laws::cells_decide;
 pub use laws::{
     a_wait_changes_no_word, a_wait_leads_to_a_check, an_ended_actor_rests, words_are_numbered,
 };

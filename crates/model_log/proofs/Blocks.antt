@@ -1,7 +1,7 @@
 -- The text of a block, written field by field.
 use Rattle.std.proofs.Common.{◌≡◌, ℕ, List, ◌++◌, length, ap}
 use Rattle.std.specs.Int.{bytes_high_first}
-use Rattle.model_number.specs.{padded_to}
+use Rattle.model_base.specs.{padded_to}
 use Rattle.model_log.specs.Lsn.{block_number}
 use Rattle.model_log.specs.Block.{with_checksum, length_of, block_text}
 

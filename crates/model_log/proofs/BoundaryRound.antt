@@ -4,8 +4,9 @@ use Rattle.std.specs.List.{All}
 use Rattle.std.proofs.lemmas.List.{take-append-le}
 use Rattle.std.proofs.lemmas.List.Elements.{All-take, All-drop}
 use Rattle.std.proofs.lemmas.Bool.Decides.{nat_tests}
-use Rattle.model_record.specs.declared.group.Whole.{Whole}
-use Rattle.model_record.specs.{groups_of, IsByte, stream_of}
+use Rattle.model_log.specs.declared.group.Whole.{Whole}
+use Rattle.model_log.specs.Group.{groups_of, stream_of}
+use Rattle.model_log.specs.Record.{IsByte}
 use Rattle.model_log.specs.Lsn.{sn_of, IsAtDataStart, IsDataLsn}
 use Rattle.model_log.specs.Run.{IsBoundary, IsRunOf, spans_of, end_of}
 use Rattle.model_log.specs.Block.{block_text, length_of, is_first, read_block, data_of}

@@ -7,7 +7,7 @@ use Rattle.std.proofs.lemmas.Bool.{eq-eqb}
 use Rattle.std.proofs.lemmas.List.Elements.{All-append}
 use Rattle.byteorder.specs.Numbers.{big_number-reads_back}
 use Rattle.model_base.specs.declared.shape.Shape.{Shape}
-use Rattle.model_number.specs.{field, padded_to}
+use Rattle.model_base.specs.{field, padded_to}
 use Rattle.model_log.specs.Lsn.{block_of, offset_of}
 use Rattle.model_log.specs.Block.{with_checksum, fits_checksum}
 use Rattle.model_log.specs.Checkpoint.{place_of, checkpoint_text, is_checkpoint, read_checkpoint}

@@ -2,7 +2,7 @@
 use Rattle.std.proofs.Common.{◌≡◌, ℕ, List, ◌++◌, ap}
 use Rattle.std.specs.Int.{bytes_high_first}
 use Rattle.model_base.specs.declared.shape.Shape.{Shape}
-use Rattle.model_number.specs.{padded_to}
+use Rattle.model_base.specs.{padded_to}
 use Rattle.model_log.specs.Lsn.{offset_of}
 use Rattle.model_log.specs.Block.{with_checksum}
 use Rattle.model_log.specs.Checkpoint.{checkpoint_text}

@@ -4,7 +4,7 @@ use Rattle.std.specs.List.{All}
 use Rattle.std.specs.Int.{byte_at, bytes_high_first}
 use Rattle.std.proofs.lemmas.List.Elements.{All-nil, All-cons, All-head, All-tail}
 use Rattle.std.proofs.lemmas.Nat.{xor_of_32}
-use Rattle.model_number.specs.{after_bit, after_byte, after_eight_bits, all_ones, crc_of, polynomial, register_after}
+use Rattle.model_base.specs.{after_bit, after_byte, after_eight_bits, all_ones, crc_of, polynomial, register_after}
 
 -- what each number of a list that holds bytes is
 abbrev pub IsByte : ℕ → Type 0

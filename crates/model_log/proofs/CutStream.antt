@@ -2,8 +2,8 @@
 use Rattle.std.proofs.Common.{◌≡◌, ◌≤◌, ◌<◌, ◌+◌, ◌-◌, ◌*◌, ◌/◌, ◌%◌, ◌^◌, ℕ, zero, suc, min, List, [], ◌∷◌, ◌++◌, length, get_or, take, drop, sym, ap, subst, ◌∙◌, ⊎_elim, length-append, length-take, arith}
 use Rattle.std.proofs.lemmas.List.{take_all, take_at, take-take, drop-take, drop-drop}
 use Rattle.std.proofs.lemmas.Bool.{cases_lt}
-use Rattle.model_record.specs.declared.group.Whole.{Whole}
-use Rattle.model_record.specs.{groups_of, stream_of}
+use Rattle.model_log.specs.declared.group.Whole.{Whole}
+use Rattle.model_log.specs.Group.{groups_of, stream_of}
 use Rattle.model_log.specs.Lsn.{sn_of, block_of, IsAtDataStart}
 use Rattle.model_log.specs.Block.{block_text}
 use Rattle.model_log.specs.Boundary.{stream_between, content_at, framed, blocks_between, IsBoundaryBlock, IsGivenTo}

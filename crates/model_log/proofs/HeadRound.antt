@@ -7,8 +7,7 @@ use Rattle.std.proofs.lemmas.List.Elements.{All-append, All-weaker}
 use Rattle.std.proofs.lemmas.List.Sums.{AllPass-from_list_all}
 use Rattle.byteorder.specs.Numbers.{big_number-reads_back}
 use Rattle.model_base.specs.declared.shape.Shape.{Shape}
-use Rattle.model_base.specs.{is_within_limits, IsWithinLimits}
-use Rattle.model_number.specs.{field, padded_to}
+use Rattle.model_base.specs.{field, is_within_limits, IsWithinLimits, padded_to}
 use Rattle.model_log.specs.Block.{with_checksum, fits_checksum}
 use Rattle.model_log.specs.Head.{creator, head_text, shape_of, read_head}
 use Rattle.model_log.specs.declared.head.Head.{Head}

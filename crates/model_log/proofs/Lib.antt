@@ -9,5 +9,9 @@ pub mod Crossings
 pub mod CutStream
 pub mod HeadRound
 pub mod Heads
+pub mod ReadBack
+pub mod Records
 pub mod Runs
 pub mod Sealed
+pub mod Sequence
+pub mod Several

@@ -2,8 +2,8 @@
 use Rattle.std.proofs.Common.{◌≡◌, ◌≤◌, ◌+◌, ℕ, inl, inr, List, [], ◌∷◌, ◌++◌, length, refl, sym, ap, subst, ◌∙◌, ⊎_elim, append_assoc, length-append, arith}
 use Rattle.std.specs.List.{AllByRecursion}
 use Rattle.std.proofs.lemmas.Bool.Decides.{nat_tests}
-use Rattle.model_record.specs.declared.group.Whole.{Whole}
-use Rattle.model_record.specs.{group_length, group_text, groups_of, stream_of}
+use Rattle.model_log.specs.declared.group.Whole.{Whole}
+use Rattle.model_log.specs.Group.{group_length, group_text, groups_of, stream_of}
 use Rattle.model_log.specs.Lsn.{lsn_of, sn_of, IsDataLsn, IsAtDataStart}
 use Rattle.model_log.specs.Run.{Span, IsTiled, IsBoundary, end_of, span_of, spans_of, HasItsLength, IsRunOf}
 

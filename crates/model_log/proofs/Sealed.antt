@@ -7,7 +7,7 @@ use Rattle.std.proofs.lemmas.List.{drop-append-le, take-append-le, length-replic
 use Rattle.std.proofs.lemmas.List.Elements.{All-append, All-replicate}
 use Rattle.byteorder.specs.Numbers.{big_from-append, big_number-reads_back}
 use Rattle.byteorder.specs.Endian.{big_number}
-use Rattle.model_number.specs.{crc_of, field, padded_to}
+use Rattle.model_base.specs.{crc_of, field, padded_to}
 use Rattle.model_log.specs.Block.{with_checksum, fits_checksum}
 use Rattle.model_log.proofs.Checksums.{IsByte, crc_of-lt}
 

@@ -2,8 +2,8 @@
 -- the bytes of its pieces, of which spans tell where each starts and ends.
 use Rattle.std.specs.Prelude.{ℕ, ◌≡◌, ◌≤◌, ◌<◌, ◌+◌, ◌-◌, ◌*◌, ◌/◌, ◌%◌, ◌^◌, ◌==◌, ◌&&◌, min, nat_lt, nat_le, if◌then◌else◌, Bool, List, [], ◌∷◌, ◌++◌, length, take, drop, get_or, Option, Some, None}
 use Rattle.model_base.specs.declared.limits.TheConstants.{BLOCK_SIZE}
-use Rattle.model_record.specs.{groups_of, stream_of}
-use Rattle.model_record.specs.declared.group.Whole.{Whole}
+use Rattle.model_log.specs.Group.{groups_of, stream_of}
+use Rattle.model_log.specs.declared.group.Whole.{Whole}
 use Rattle.model_log.specs.Lsn.{sn_of, block_of}
 use Rattle.model_log.specs.Run.{Span, IsBoundary, spans_of}
 use Rattle.model_log.specs.Block.{block_text}

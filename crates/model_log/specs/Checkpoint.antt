@@ -5,7 +5,7 @@ use Rattle.std.specs.Int.{bytes_high_first}
 use Rattle.model_base.specs.declared.shape.Shape.{Shape}
 use Rattle.model_base.specs.declared.limits.TheConstants.{BLOCK_SIZE, START_LSN, LSN_LIMIT}
 use Rattle.model_log.specs.Lsn.{offset_of}
-use Rattle.model_number.specs.{field, padded_to}
+use Rattle.model_base.specs.{field, padded_to}
 use Rattle.model_log.specs.Block.{with_checksum, fits_checksum}
 use Rattle.model_log.specs.declared.layout.TheConstants.{BLOCK_DATA_END, RING_SIZE}
 

@@ -5,8 +5,7 @@ use Rattle.std.specs.Prelude.{ℕ, ◌==◌, ◌&&◌, if◌then◌else◌, List
 use Rattle.std.specs.Int.{bytes_high_first}
 use Rattle.model_base.specs.declared.shape.Shape.{Shape}
 use Rattle.model_base.specs.declared.limits.TheConstants.{START_LSN}
-use Rattle.model_base.specs.{is_within_limits}
-use Rattle.model_number.specs.{field, padded_to}
+use Rattle.model_base.specs.{field, is_within_limits, padded_to}
 use Rattle.model_log.specs.Block.{with_checksum, fits_checksum}
 use Rattle.model_log.specs.declared.layout.TheConstants.{BLOCK_DATA_END}
 use Rattle.model_log.specs.declared.head.Head.{Head}

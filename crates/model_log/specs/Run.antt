@@ -2,8 +2,8 @@
 -- history. A boundary is the run's start or the end of one of its pieces.
 use Rattle.std.specs.Prelude.{ℕ, ◌≡◌, ◌+◌, ◌⊎◌, List, [], ◌∷◌, map}
 use Rattle.std.specs.List.{AllByRecursion}
-use Rattle.model_record.specs.{group_length}
-use Rattle.model_record.specs.declared.group.Whole.{Whole}
+use Rattle.model_log.specs.Group.{group_length}
+use Rattle.model_log.specs.declared.group.Whole.{Whole}
 use Rattle.model_log.specs.Lsn.{lsn_of, sn_of}
 
 -- the lsns between which a piece stands

@@ -1,7 +1,7 @@
 // What holds of the blocks of a run, as they stand once everything below a boundary is written.
 ghost use Rattle.std.specs.Prelude.{◌≡◌, ◌≤◌, ◌<◌, ◌+◌, ◌-◌, ◌*◌, ◌%◌, ◌^◌, ℕ, List, length, take, drop};
 ghost use Rattle.model_base.specs.declared.limits.TheConstants.{BLOCK_SIZE};
-ghost use Rattle.model_record.specs.declared.group.Whole.{Whole};
+ghost use Rattle.model_log.specs.declared.group.Whole.{Whole};
 ghost use Rattle.model_log.specs.Lsn.{sn_of, block_of, IsAtDataStart, IsDataLsn};
 ghost use Rattle.model_log.specs.Block.{length_of};
 ghost use Rattle.model_log.specs.Boundary.{content_at, length_at, framed, IsBoundaryBlock, IsGivenTo};

@@ -1,7 +1,7 @@
 -- A checksum of bytes is a number of 32 bits.
 use Rattle.std.proofs.Common.{ℕ, suc, ◌/◌, ◌%◌, ◌^◌, ◌<◌, cond, eqb, true, false, bit_xor, List, [], ◌∷◌, get_or, arith}
 use Rattle.std.proofs.lemmas.Nat.{xor_lt}
-use Rattle.model_number.specs.{after_bit, after_byte, after_eight_bits, all_ones, crc_of, polynomial, register_after}
+use Rattle.model_base.specs.{after_bit, after_byte, after_eight_bits, all_ones, crc_of, polynomial, register_after}
 
 after_bit-lt : (register : ℕ) → register < 2 ^ 32 → after_bit register < 2 ^ 32
 unfolding after_bit

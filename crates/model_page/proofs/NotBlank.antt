@@ -2,7 +2,7 @@
 use Rattle.std.proofs.Common.{◌≡◌, ℕ, ◌+◌, ◌==◌, ◌%◌, ◌^◌, Bool, true, false, List, [], ◌∷◌, ◌++◌, length, replicate, refl, ap, sym, ◌∙◌, arith, length-append}
 use Rattle.std.specs.Int.{bytes_high_first}
 use Rattle.std.proofs.lemmas.Bool.{eqb-true, and_parts}
-use Rattle.model_number.specs.{after_bit, after_byte, after_eight_bits, crc_of, register_after}
+use Rattle.model_base.specs.{after_bit, after_byte, after_eight_bits, crc_of, register_after}
 use Rattle.model_page.specs.Page.{page_text, middle_text, is_blank}
 
 -- the checksum of the zero bytes of a page of full size

@@ -5,7 +5,7 @@ use Rattle.std.proofs.lemmas.Bool.{eqb-true, and_parts}
 use Rattle.std.proofs.lemmas.List.{get_or-drop}
 use Rattle.byteorder.specs.Endian.{big_from}
 use Rattle.byteorder.specs.Numbers.{big_number-reads_back}
-use Rattle.model_number.specs.{crc_of, field}
+use Rattle.model_base.specs.{crc_of, field}
 use Rattle.model_page.specs.Fits.{FitsPage}
 use Rattle.model_page.specs.Page.{page_text, middle_text, page_check, is_blank, is_sound, user_part, checked_part}
 use Rattle.model_page.specs.declared.page.PageState.TheVariants.{Sound}

@@ -5,7 +5,7 @@ use Rattle.std.specs.Prelude.{ℕ, ◌+◌, ◌-◌, ◌%◌, ◌^◌, ◌==◌,
 use Rattle.std.specs.List.{list_all}
 use Rattle.std.specs.Int.{bytes_high_first}
 use Rattle.model_base.specs.declared.limits.TheConstants.{USER_START}
-use Rattle.model_number.specs.{crc_of, field}
+use Rattle.model_base.specs.{crc_of, field}
 use Rattle.model_page.specs.declared.page.PageState.{PageState}
 use Rattle.model_page.specs.declared.page.PageState.TheVariants.{Blank, Sound, Broken}
 use Rattle.model_page.specs.declared.page.TheConstants.{TRAILER_LENGTH, NUMBER_START, LSN_START, SPACE_START}

@@ -7,16 +7,16 @@ use Rattle.std.specs.Fmt.{decimal}
 use Rattle.hex.specs.Hex.{encode_lower}
 use Rattle.model_base.specs.declared.shape.Shape.{Shape}
 use Rattle.model_base.specs.declared.limits.TheConstants.{BLOCK_SIZE, START_LSN}
-use Rattle.model_number.specs.{crc_of}
-use Rattle.model_record.specs.declared.group.Whole.{Whole}
-use Rattle.model_record.specs.declared.rec.Rec.{Rec}
-use Rattle.model_record.specs.declared.rec.Rec.TheVariants as rec
+use Rattle.model_base.specs.{crc_of}
+use Rattle.model_log.specs.declared.group.Whole.{Whole}
+use Rattle.model_log.specs.declared.rec.Rec.{Rec}
+use Rattle.model_log.specs.declared.rec.Rec.TheVariants as rec
 use Rattle.model_log.specs.{block_number}
 use Rattle.model_log.specs.declared.block.BlockView.{BlockView}
-use Rattle.model_stop.specs.declared.cause.Cause.{Cause}
-use Rattle.model_stop.specs.declared.cause.Cause.TheVariants.{Partial, Round, End, Misfit}
-use Rattle.model_stop.specs.declared.fit.Fit.{Fit}
-use Rattle.model_stop.specs.declared.fit.Fit.TheVariants as fit
+use Rattle.model_log.specs.declared.cause.Cause.{Cause}
+use Rattle.model_log.specs.declared.cause.Cause.TheVariants.{Partial, Round, End, Misfit}
+use Rattle.model_log.specs.declared.fit.Fit.{Fit}
+use Rattle.model_log.specs.declared.fit.Fit.TheVariants as fit
 use Rattle.model_page.specs.declared.content.Content.{Content}
 use Rattle.model_store.specs.Reading.{Reading}
 use Rattle.model_script.specs.{item_of, item_text, words_of}

@@ -4,11 +4,11 @@ use Rattle.std.specs.Prelude.{ℕ, List, [], ◌∷◌, ◌++◌, codes, Option,
 use Rattle.std.specs.List.{flat_map}
 use Rattle.std.specs.Fmt.{decimal}
 use Rattle.model_page.specs.declared.content.Content.{Content}
-use Rattle.model_history.specs.{count_up_to}
-use Rattle.model_history.specs.declared.entry.Entry.{Entry}
-use Rattle.model_history.specs.declared.entry.Marks.{Marks}
-use Rattle.model_history.specs.declared.entry.State.{State}
-use Rattle.model_history.specs.declared.entry.State.TheVariants.{Lost, Flushed, Written, Copied}
+use Rattle.model_report.specs.Legal.{count_up_to}
+use Rattle.model_report.specs.declared.entry.Entry.{Entry}
+use Rattle.model_report.specs.declared.entry.Marks.{Marks}
+use Rattle.model_report.specs.declared.entry.State.{State}
+use Rattle.model_report.specs.declared.entry.State.TheVariants.{Lost, Flushed, Written, Copied}
 use Rattle.model_report.specs.Line.{line_text}
 use Rattle.model_report.specs.Pages.{page_lines}
 

@@ -1,16 +1,35 @@
 pub mod Bounds
+pub mod ClosedStore
 pub mod DataReady
+pub mod Ended
+pub mod Finished
+pub mod FinishedPages
+pub mod History
 pub mod LatchesHeld
 pub mod ListReady
+pub mod OpenLines
+pub mod OpenedPages
+pub mod PageContents
+pub mod RunOf
 pub mod RunningStore
 pub mod Schedule
+pub mod Script
 pub mod Seating
 pub mod StartStore
 pub mod UsersClosed
 pub mod Watermarks
 pub use Rattle.model_running.specs.Bounds.{HasBytes, HaveSmallCodes}
+pub use Rattle.model_running.specs.ClosedStore.{DataTells, LogTells}
 pub use Rattle.model_running.specs.DataReady.{CanLendBatch}
+pub use Rattle.model_running.specs.Finished.{CausesAreFailures, HasCause}
+pub use Rattle.model_running.specs.FinishedPages.{ArePrefixes}
+pub use Rattle.model_running.specs.History.{AreWholesOf, entry_of, history_of, marks_in, word_marks}
+pub use Rattle.model_running.specs.OpenLines.{LeavesOpen}
+pub use Rattle.model_running.specs.OpenedPages.{HasItsPages}
+pub use Rattle.model_running.specs.PageContents.{content_in, content_of, contents_of, new_content}
+pub use Rattle.model_running.specs.RunOf.{run_of}
 pub use Rattle.model_running.specs.RunningStore.{BothHalves, IsRunning}
 pub use Rattle.model_running.specs.Schedule.{HasEnded, HaveEnded, IsDone, IsSpent, LastTurn, TakesTurns, seat_of_turn}
+pub use Rattle.model_running.specs.Script.{IsOfScript}
 pub use Rattle.model_running.specs.Seating.{ArePageActors, AreSeated}
 pub use Rattle.model_running.specs.Watermarks.{HasWatermarks}

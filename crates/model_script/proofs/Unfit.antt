@@ -6,7 +6,7 @@ use Rattle.std.proofs.lemmas.Bool.{le-ltb, lt-leb, or_from}
 use Rattle.model_base.specs.{IsWithinLimits}
 use Rattle.model_base.specs.declared.shape.Shape.{Shape}
 use Rattle.model_base.specs.declared.limits.TheConstants.{LSN_LIMIT, MAX_GROUP, USER_START}
-use Rattle.model_record.specs.{group_length, IsUserWrite, RecordFits, user_end}
+use Rattle.model_log.specs.{group_length, IsUserWrite, RecordFits, user_end}
 use Rattle.model_script.proofs.Fitting.{none-head, room_is, not_up_to, none-misfit_if, script_fits}
 use Rattle.model_script.proofs.ReadLines.{script_of-ranged}
 use Rattle.model_script.specs.Fit.{Fits, LineFits, ScriptFits, first_misfit, first_misfit_of, group_misfit, item_misfit, line_misfit, lsn_misfit, misfit_if, page_misfit, script_end, total_misfit, user_misfit, write_misfit}

@@ -5,8 +5,7 @@ use Rattle.std.specs.Prelude.{ℕ, ◌≡◌, ◌≤◌, ◌<◌, ◌+◌, ◌*�
 use Rattle.std.specs.List.{AllByRecursion}
 use Rattle.model_base.specs.declared.shape.Shape.{Shape}
 use Rattle.model_base.specs.declared.limits.TheConstants.{BLOCK_SIZE, LSN_LIMIT, MAX_GROUP, USER_START}
-use Rattle.model_record.specs.{group_length, GroupFits, IsGroup, stream_of, user_end}
-use Rattle.model_log.specs.{lsn_of, sn_of}
+use Rattle.model_log.specs.{group_length, GroupFits, IsGroup, lsn_of, sn_of, stream_of, user_end}
 use Rattle.model_script.specs.LineGroup.{group_of}
 use Rattle.model_script.specs.declared.item.Item.{Item}
 use Rattle.model_script.specs.declared.item.Item.TheVariants.{Num, Text, Init}

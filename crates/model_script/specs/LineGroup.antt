@@ -1,7 +1,7 @@
 -- The group that a script line logs, on a store.
 use Rattle.std.specs.Prelude.{ℕ, List, map}
-use Rattle.model_record.specs.declared.rec.Rec.{Rec}
-use Rattle.model_record.specs.declared.rec.Rec.TheVariants as rec
+use Rattle.model_log.specs.declared.rec.Rec.{Rec}
+use Rattle.model_log.specs.declared.rec.Rec.TheVariants as rec
 use Rattle.model_script.specs.declared.item.Item.{Item}
 use Rattle.model_script.specs.declared.item.Item.TheVariants.{Num, Text, Init}
 use Rattle.model_script.specs.declared.script.ScriptLine.{ScriptLine}

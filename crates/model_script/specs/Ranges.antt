@@ -1,7 +1,7 @@
 -- The ranges of what a script's lines say.
 use Rattle.std.specs.Prelude.{◌≡◌, ◌≢◌, ◌≤◌, ◌<◌, ◌^◌, ◌⊎◌, [], length, All}
 use Rattle.std.specs.List.{AllByRecursion}
-use Rattle.model_record.specs.{IsByte, IsWidth}
+use Rattle.model_log.specs.{IsByte, IsWidth}
 use Rattle.model_script.specs.declared.item.Item.{Item}
 use Rattle.model_script.specs.declared.item.Item.TheVariants.{Num, Text, Init}
 use Rattle.model_script.specs.declared.script.ScriptLine.{ScriptLine}

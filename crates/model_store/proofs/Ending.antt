@@ -3,9 +3,8 @@ use Rattle.std.proofs.Common.{◌≡◌, ◌≢◌, ◌&&◌, ◌≤◌, ◌<◌
 use Rattle.std.specs.List.{slice_get}
 use Rattle.std.proofs.lemmas.Bool.{cases_Bool, cases_lt}
 use Rattle.std.proofs.lemmas.Bool.Decides.{nat_tests}
-use Rattle.model_record.specs.declared.group.Whole.{Whole}
-use Rattle.model_record.specs.{group_text, groups_of, stream_of}
-use Rattle.model_log.specs.{block_of, end_of, fits_checksum, fits_number, is_block_at, is_first, is_length, IsDataLsn, IsRunOf, read_block, sn_of, spans_of, start_after, view_of}
+use Rattle.model_log.specs.declared.group.Whole.{Whole}
+use Rattle.model_log.specs.{block_of, end_of, fits_checksum, fits_number, group_text, groups_of, is_block_at, is_first, is_length, IsDataLsn, IsRunOf, read_block, sn_of, spans_of, start_after, stream_of, view_of}
 use Rattle.model_log.specs.declared.block.BlockView.{BlockView}
 use Rattle.model_log.proofs.Runs.{First, first-of, run-first, boundary-end, IsReached, boundary-reached, stream-none, stream-first, lsn-before}
 use Rattle.model_log.proofs.BoundaryLengths.{sn_of-block, sn_of-header}

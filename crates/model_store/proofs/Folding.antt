@@ -4,10 +4,9 @@ use Rattle.std.specs.Prelude.{nat_le}
 use Rattle.std.specs.List.{slice_get, AllByRecursion}
 use Rattle.std.proofs.lemmas.Bool.Decides.{nat_tests}
 use Rattle.model_base.specs.declared.shape.Shape.{Shape}
-use Rattle.model_record.specs.declared.rec.Rec.{Rec}
-use Rattle.model_record.specs.declared.group.Whole.{Whole}
-use Rattle.model_record.specs.{group_length}
-use Rattle.model_log.specs.{end_of, IsRunOf, lsn_of, sn_of, spans_of}
+use Rattle.model_log.specs.declared.rec.Rec.{Rec}
+use Rattle.model_log.specs.declared.group.Whole.{Whole}
+use Rattle.model_log.specs.{end_of, group_length, IsRunOf, lsn_of, sn_of, spans_of}
 use Rattle.model_log.proofs.Runs.{run-first}
 use Rattle.model_log.specs.declared.block.BlockView.{BlockView}
 use Rattle.model_page.specs.declared.content.Content.{Content}

@@ -2,9 +2,8 @@
 use Rattle.std.proofs.Common.{◌≡◌, ℕ, ◌%◌, ◌^◌, ◌<◌, ◌≤◌, ◌⊎◌, inl, inr, Bool, true, false, cond, ◌&&◌, ltb, leb, eqb, List, Option, Some, None, arith, refl, subst}
 use Rattle.std.proofs.lemmas.Bool.Decides.{nat_tests}
 use Rattle.model_base.specs.declared.shape.Shape.{Shape}
-use Rattle.model_base.specs.{is_within_limits, IsWithinLimits}
+use Rattle.model_base.specs.{field, is_within_limits, IsWithinLimits}
 use Rattle.model_base.proofs.ShapeLimits.{is_within_limits_facts}
-use Rattle.model_number.specs.{field}
 use Rattle.model_log.specs.{fits_checksum, header_block, is_checkpoint, newer, newest_checkpoint, offset_of, place_of, read_checkpoint, read_head, shape_of}
 use Rattle.model_log.specs.declared.head.Head.TheVariants.{Good, OtherFormat, Unformatted}
 

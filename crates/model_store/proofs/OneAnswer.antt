@@ -1,13 +1,12 @@
 -- Two devices are read, or refused for one cause: the judging in its order, in which each step leaves one way.
 use Rattle.std.proofs.Common.{◌≡◌, ℕ, ◌<◌, ◌≤◌, ◌⊎◌, inl, inr, List, length, Option, Some, None, arith, refl, sym, ap, ap₂, subst, ◌∙◌}
 use Rattle.model_base.specs.declared.shape.Shape.{Shape}
-use Rattle.model_record.specs.declared.group.Whole.{Whole}
-use Rattle.model_record.specs.{IsFront}
+use Rattle.model_log.specs.declared.group.Whole.{Whole}
+use Rattle.model_log.specs.{end_of, header_block, IsFront, log_device_length, newest_checkpoint, read_head, spans_of}
 use Rattle.model_log.specs.declared.block.BlockView.{BlockView}
 use Rattle.model_log.specs.declared.head.Head.{Head}
 use Rattle.model_log.specs.declared.head.Head.TheVariants.{Good, OtherFormat, Unformatted}
 use Rattle.model_log.specs.declared.layout.TheConstants.{HEADER_BYTES}
-use Rattle.model_log.specs.{end_of, header_block, log_device_length, newest_checkpoint, read_head, spans_of}
 use Rattle.model_page.specs.declared.content.Content.{Content}
 use Rattle.model_page.specs.{data_device_length, IsLost}
 use Rattle.model_store.specs.declared.refusal.Refusal.{Refusal}

@@ -3,10 +3,9 @@ use Rattle.std.proofs.Common.{◌≡◌, ℕ, ◌+◌, ◌<◌, ◌≤◌, inl, 
 use Rattle.std.specs.List.{AllByRecursion}
 use Rattle.std.proofs.lemmas.List.{append-nil, nil_from_length}
 use Rattle.model_base.specs.declared.shape.Shape.{Shape}
-use Rattle.model_record.specs.declared.rec.Rec.{Rec}
-use Rattle.model_record.specs.declared.group.Whole.{Whole}
-use Rattle.model_record.specs.{group_length, group_text, groups_of, IsFront, IsGroup, IsUnfinished, stream_of}
-use Rattle.model_log.specs.{end_of, is_full, IsRunOf, lsn_of, sn_of, spans_of}
+use Rattle.model_log.specs.declared.rec.Rec.{Rec}
+use Rattle.model_log.specs.declared.group.Whole.{Whole}
+use Rattle.model_log.specs.{end_of, group_length, group_text, groups_of, is_full, IsFront, IsGroup, IsRunOf, IsUnfinished, lsn_of, sn_of, spans_of, stream_of}
 use Rattle.model_log.specs.declared.block.BlockView.{BlockView}
 use Rattle.model_log.proofs.Runs.{run-first}
 use Rattle.model_store.specs.Scan.{AreBlocks, IsStorable, AreGroups, AreGroupsOf, IsScan, HasNoStorable, groups_start, data_from}

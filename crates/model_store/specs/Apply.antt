@@ -5,10 +5,10 @@ use Rattle.std.specs.Int.{bytes_high_first}
 use Rattle.model_base.specs.{overwritten}
 use Rattle.model_base.specs.declared.shape.Shape.{Shape}
 use Rattle.model_base.specs.declared.limits.TheConstants.{USER_START}
-use Rattle.model_record.specs.{page_of}
-use Rattle.model_record.specs.declared.rec.Rec.{Rec}
-use Rattle.model_record.specs.declared.rec.Rec.TheVariants.{Num, Text, Init}
-use Rattle.model_record.specs.declared.group.Whole.{Whole}
+use Rattle.model_log.specs.{page_of}
+use Rattle.model_log.specs.declared.rec.Rec.{Rec}
+use Rattle.model_log.specs.declared.rec.Rec.TheVariants.{Num, Text, Init}
+use Rattle.model_log.specs.declared.group.Whole.{Whole}
 use Rattle.model_page.specs.declared.content.Content.{Content}
 
 -- the user bytes of a page after a record on it: the bytes that it writes, or zeros

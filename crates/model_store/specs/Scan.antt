@@ -4,10 +4,9 @@ use Rattle.std.specs.List.{AllByRecursion}
 use Rattle.std.specs.Option.{option_map}
 use Rattle.model_base.specs.declared.shape.Shape.{Shape}
 use Rattle.model_base.specs.declared.limits.TheConstants.{BLOCK_SIZE, LSN_LIMIT, MAX_GROUP}
-use Rattle.model_record.specs.{group_length, group_text, GroupFits, groups_of, IsFront, IsGroup, stream_of}
-use Rattle.model_record.specs.declared.rec.Rec.{Rec}
-use Rattle.model_record.specs.declared.group.Whole.{Whole}
-use Rattle.model_log.specs.{data_of, end_of, is_full, IsRunOf, log_block, read_block, sn_of, spans_of}
+use Rattle.model_log.specs.{data_of, end_of, group_length, group_text, GroupFits, groups_of, is_full, IsFront, IsGroup, IsRunOf, log_block, read_block, sn_of, spans_of, stream_of}
+use Rattle.model_log.specs.declared.rec.Rec.{Rec}
+use Rattle.model_log.specs.declared.group.Whole.{Whole}
 use Rattle.model_log.specs.declared.layout.TheConstants.{BLOCK_HEADER}
 use Rattle.model_log.specs.declared.block.BlockView.{BlockView}
 

@@ -3,13 +3,13 @@ ghost use Rattle.std.specs.Prelude.{◌≡◌, ◌≤◌, ℕ, List, length, Som
 ghost use Rattle.model_base.specs.declared.shape.Shape.{Shape};
 ghost use Rattle.model_device.specs.Disk.{Disk};
 ghost use Rattle.model_page.specs.declared.content.Content.{Content};
-ghost use Rattle.model_record.specs.declared.group.Whole.{Whole};
+ghost use Rattle.model_log.specs.declared.group.Whole.{Whole};
 ghost use Rattle.model_store.specs.Apply.{folded, page_folded};
 ghost use Rattle.model_store.specs.Fair.{IsFair};
 ghost use Rattle.model_store.specs.declared.refusal.Refusal.{Refusal};
 ghost use Rattle.model_store.specs.Reading.{Reading, IsReading, Refuses};
 
-use model_record::one_group;
+use model_log::one_group;
 
 /// A store is read in one way.
 pub fn one_reading()

@@ -8,15 +8,14 @@ use Rattle.model_base.specs.Lines as lines
 use Rattle.model_device.specs.{IsImage, IsWrittenBy, sector, settled}
 use Rattle.model_device.specs.Disk.{Disk}
 use Rattle.model_device.specs.declared.write.Write.{Write}
-use Rattle.model_history.specs.{count_up_to, entries_of_user, HasLeft, IsLeft, IsLegal, IsLegalEntry, lines_of_user, wholes_of}
-use Rattle.model_history.specs.declared.entry.Entry.{Entry}
-use Rattle.model_history.specs.declared.entry.State.TheVariants.{Lost, Flushed}
-use Rattle.model_log.specs.{lsn_of, newer, newest_checkpoint, read_checkpoint, sn_of}
+use Rattle.model_report.specs.{count_up_to, entries_of_user, HasLeft, IsLeft, IsLegal, IsLegalEntry, lines_of_user, wholes_of}
+use Rattle.model_report.specs.declared.entry.Entry.{Entry}
+use Rattle.model_report.specs.declared.entry.State.TheVariants.{Lost, Flushed}
+use Rattle.model_log.specs.{group_length, lsn_of, newer, newest_checkpoint, read_checkpoint, sn_of}
 use Rattle.model_script.specs.declared.script.ScriptLine.{ScriptLine}
-use Rattle.model_number.specs.Spelling as spelling
-use Rattle.model_record.specs.Group as group
-use Rattle.model_record.specs.Record as text
-use Rattle.model_record.specs.{group_length}
+use Rattle.model_base.specs.Spelling as spelling
+use Rattle.model_log.specs.Group as group
+use Rattle.model_log.specs.Record as text
 use Rattle.model_script.specs.{group_of, LineFits, script_end, script_of}
 use Rattle.model_script.specs.Grammar as grammar
 use Rattle.model_base.specs.{default_shape}

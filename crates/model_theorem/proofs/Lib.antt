@@ -1,2 +1,12 @@
 pub mod Admitted
+pub mod Between
+pub mod Closing
+pub mod Cuts
+pub mod Fitting
+pub mod Later
+pub mod Numbered
+pub mod Pages
 pub mod Refused
+pub mod Safe
+pub mod Start
+pub mod Stored

@@ -7,11 +7,11 @@ use Rattle.model_base.specs.{default_shape, HasRisen}
 use Rattle.model_device.specs.{IsImage}
 use Rattle.model_device.specs.Disk.{Disk}
 use Rattle.model_log.specs.{IsTiled, newest_checkpoint}
-use Rattle.model_opening.specs.{formatted_store}
+use Rattle.model_parts.specs.{formatted_store}
 use Rattle.model_store.specs.{folded, IsReading}
 use Rattle.model_store.specs.Reading.{Reading}
-use Rattle.model_history.specs.{count_up_to, entry_spans, wholes_of}
-use Rattle.model_history.specs.declared.entry.Entry.{Entry}
+use Rattle.model_report.specs.{count_up_to, entry_spans, wholes_of}
+use Rattle.model_report.specs.declared.entry.Entry.{Entry}
 use Rattle.model_theorem.specs.Values.{Crash, Opened, Ran, Account, Device, entries_of}
 use Rattle.model_theorem.specs.Run.{IsRun, first_count}
 use Rattle.model_theorem.specs.Crash.{CrashSafe, HasPassedAll, IsStoppedAsAsked}

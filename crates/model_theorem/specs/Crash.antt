@@ -6,8 +6,7 @@ use Rattle.std.specs.Prelude.{ℕ, ◌≡◌, ◌≤◌, ◌<◌, ◌⊎◌, ◌
 use Rattle.model_base.specs.{HasRisen}
 use Rattle.model_device.specs.{IsImage, settled}
 use Rattle.model_store.specs.{HasOldCopies, IsReading, IsUnused}
-use Rattle.model_history.specs.{IsLeft}
-use Rattle.model_report.specs.{report_text}
+use Rattle.model_report.specs.{IsLeft, report_text}
 use Rattle.model_theorem.specs.Opening.{AreUnopened, IsOpenedBefore}
 use Rattle.model_theorem.specs.Run.{IsRun, IsPrefixRead, LosesOnlyByFailure}
 use Rattle.model_theorem.specs.Script.{IsWholeScript, FitsOpened}

@@ -14,8 +14,8 @@ use Rattle.model_script.specs.declared.item.Item.TheVariants.{Num}
 use Rattle.model_script.specs.declared.script.ScriptLine.{ScriptLine}
 use Rattle.model_store.specs.{HasOldCopies, IsReading, IsUnused}
 use Rattle.model_store.specs.Reading.{Reading}
-use Rattle.model_history.specs.declared.entry.Entry.{Entry}
-use Rattle.model_history.specs.declared.entry.State.TheVariants.{Lost, Flushed}
+use Rattle.model_report.specs.declared.entry.Entry.{Entry}
+use Rattle.model_report.specs.declared.entry.State.TheVariants.{Lost, Flushed}
 use Rattle.model_theorem.specs.Opening.{HeldOlder}
 use Rattle.model_theorem.specs.Values.{CrashOptions, Device, Crash, Opened, Ran, Account, entries_of, start_of, marks_of}
 

@@ -1,13 +1,25 @@
+pub mod Closed
 pub mod Crash
+pub mod Crashed
 pub mod Examples
+pub mod Given
+pub mod Kept
 pub mod Opening
 pub mod Premises
 pub mod Run
 pub mod Script
+pub mod Start
+pub mod Stored
 pub mod Values
+pub use Rattle.model_theorem.specs.Closed.{Held, IsClosed, IsHeld, held_of, result_of}
 pub use Rattle.model_theorem.specs.Crash.{AreAnyStops, AreArmedFirst, CrashSafe, HasPassedAll, IsCrashed, IsEveryScript, IsPrinted, IsReadFromDevices, IsStoppedAsAsked, failures_of}
+pub use Rattle.model_theorem.specs.Crashed.{IsCrashOf, before_crash}
+pub use Rattle.model_theorem.specs.Given.{AreGiven}
+pub use Rattle.model_theorem.specs.Kept.{DataHolds, HasPassed, IsKeptPrefix, copy_of}
 pub use Rattle.model_theorem.specs.Opening.{AreUnopened, HasCheckpointFrom, HeldOlder, IsOpenedBefore}
 pub use Rattle.model_theorem.specs.Premises.{IsFresh, RunPremises}
 pub use Rattle.model_theorem.specs.Run.{IsPrefixRead, IsRun, LosesOnlyByFailure, ReadsPrefix, RunPromise, RunSafe}
 pub use Rattle.model_theorem.specs.Script.{FitsOpened, IsWholeScript, room_of}
+pub use Rattle.model_theorem.specs.Start.{IsStart, opened_as}
+pub use Rattle.model_theorem.specs.Stored.{IsBatchOf, IsEither, IsStored}
 pub use Rattle.model_theorem.specs.Values.{Account, CrashOptions, Device, Opened, Ran, RunAccount, RunCall, RunDevice, RunResult, Stop, entries_of, marks_of, start_of}

@@ -6,7 +6,7 @@ use Rattle.model_base.specs.declared.shape.Shape.{Shape}
 use Rattle.model_device.specs.{HasOneImage, IsImage}
 use Rattle.model_device.specs.Disk.{Disk}
 use Rattle.model_log.specs.{newest_checkpoint}
-use Rattle.model_opening.specs.{formatted_store}
+use Rattle.model_parts.specs.{formatted_store}
 use Rattle.model_store.specs.{IsOrderly, IsUnused}
 use Rattle.model_theorem.specs.Values.{Ran}
 

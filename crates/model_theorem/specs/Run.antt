@@ -5,10 +5,9 @@ use Rattle.model_log.specs.{IsBoundary, start_after}
 use Rattle.model_store.specs.{folded, HasOldCopies, IsFair, IsReading}
 use Rattle.model_store.specs.Reading.{Reading}
 use Rattle.model_script.specs.declared.script.ScriptLine.{ScriptLine}
-use Rattle.model_history.specs.{count_up_to, entry_spans, IsLeft, IsLegal, wholes_of}
-use Rattle.model_history.specs.declared.entry.Entry.{Entry}
-use Rattle.model_history.specs.declared.entry.State.TheVariants.{Lost, Flushed}
-use Rattle.model_report.specs.{report_text}
+use Rattle.model_report.specs.{count_up_to, entry_spans, IsLeft, IsLegal, report_text, wholes_of}
+use Rattle.model_report.specs.declared.entry.Entry.{Entry}
+use Rattle.model_report.specs.declared.entry.State.TheVariants.{Lost, Flushed}
 use Rattle.model_theorem.specs.Opening.{AreUnopened, IsOpenedBefore}
 use Rattle.model_theorem.specs.Script.{IsWholeScript, FitsOpened}
 use Rattle.model_theorem.specs.Values.{Opened, Ran, RunAccount, RunCall, RunResult, entries_of}

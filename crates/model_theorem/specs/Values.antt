@@ -6,8 +6,8 @@ use Rattle.model_device.specs.Disk.{Disk}
 use Rattle.model_page.specs.declared.content.Content.{Content}
 use Rattle.model_store.specs.Reading.{Reading}
 use Rattle.model_script.specs.declared.script.ScriptLine.{ScriptLine}
-use Rattle.model_history.specs.declared.entry.Entry.{Entry}
-use Rattle.model_history.specs.declared.entry.Marks.{Marks}
+use Rattle.model_report.specs.declared.entry.Entry.{Entry}
+use Rattle.model_report.specs.declared.entry.Marks.{Marks}
 
 -- SEEN FROM OUTSIDE.
 

@@ -1,12 +1,21 @@
 //! The crash theorem: what is taken for granted, and what is promised, over plain values. The contract of a call fills
 //! them in. Beside these definitions stand laws that say which values the promise admits and which it refuses.
+//!
+//! Below it stands what every drive owes of its run. However far the run came, both devices hold it (`IsHeld`): whatever a
+//! crash leaves of them is read as a prefix of it. A drive that came to its end shows `IsClosed`, and so the crash theorem
+//! holds.
 #![tactic(auto)]
 
 mod examples;
+mod laws;
 
 pub use examples::{
     changed_pages_are_refused, empty_run_is_admitted, gap_is_refused, late_arming_is_refused,
     loss_for_nothing_is_refused, lost_group_is_admitted, missing_flushed_group_is_refused,
     other_start_is_refused, other_stop_is_refused, run_without_opening_is_refused,
     stop_behind_opening_is_refused, stop_for_nothing_is_refused, stopped_opening_is_admitted,
+};
+pub use laws::{
+    closed_run_is_safe, crash_of_closed_run, crash_of_safe_run, held_run_is_opened, held_run_reads,
+    longer_data, opened_store_is_closed, stored_pages_hold, whole_page_is_prefix,
 };

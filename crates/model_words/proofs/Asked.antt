@@ -4,13 +4,12 @@ use Rattle.std.specs.Prelude.{if◌then◌else◌, option_and_then, find, fold, 
 use Rattle.std.specs.Str.{bytes_eq}
 use Rattle.clap.specs.Walk.{Row, Text, with_default}
 use Rattle.clap.proofs.WalkLemmas.{both}
-use Rattle.model_script.specs.{digits_value, is_number, number_below}
-use Rattle.model_command.specs.{Said, are_different, command_of, given_number, is_flag, is_given, is_named, number_or, number_within, said_from, with_option, with_value, word_number}
-use Rattle.model_command.specs.declared.asked.Asked.{Asked}
-use Rattle.model_command.specs.declared.words.Expected.TheVariants.{Any}
-use Rattle.model_command.specs.declared.words.Given.{Given}
-use Rattle.model_command.specs.declared.words.Name.{Name}
-use Rattle.model_command.specs.declared.words.Name.TheVariants as name
+use Rattle.model_script.specs.{digits_value, is_number, number_below, Said, are_different, command_of, given_number, is_flag, is_given, is_named, number_or, number_within, said_from, with_option, with_value, word_number}
+use Rattle.model_script.specs.declared.asked.Asked.{Asked}
+use Rattle.model_script.specs.declared.words.Expected.TheVariants.{Any}
+use Rattle.model_script.specs.declared.words.Given.{Given}
+use Rattle.model_script.specs.declared.words.Name.{Name}
+use Rattle.model_script.specs.declared.words.Name.TheVariants as name
 use Rattle.model_words.specs.Found.{asked_with, is_true, text_number, text_number_or, text_number_within}
 use Rattle.model_words.proofs.Rules.{Place, id, leaf, rules}
 use Rattle.model_words.proofs.Leaf.{check}

@@ -3,10 +3,10 @@ use Rattle.std.proofs.Common.{◌≡◌, ◌∙◌, ◌&&◌, refl, sym, ap, ℕ
 use Rattle.std.specs.Prelude.{if◌then◌else◌, option_and_then, fold}
 use Rattle.std.proofs.Math.Bool.{and-false}
 use Rattle.clap.specs.Walk.{Row, Rule, Text, first_of, with_default}
-use Rattle.model_command.specs.{Said, given_number, is_flag, is_given, number_within, word_number}
-use Rattle.model_command.specs.declared.asked.Asked.{Asked}
-use Rattle.model_command.specs.declared.asked.Command.{Command}
-use Rattle.model_command.specs.declared.words.Name.{Name}
+use Rattle.model_script.specs.{Said, given_number, is_flag, is_given, number_within, word_number}
+use Rattle.model_script.specs.declared.asked.Asked.{Asked}
+use Rattle.model_script.specs.declared.asked.Command.{Command}
+use Rattle.model_script.specs.declared.words.Name.{Name}
 use Rattle.model_words.specs.Found.{is_true, text_number, text_number_or}
 use Rattle.model_words.proofs.Asked.{flag_in, number_in}
 use Rattle.model_words.proofs.Lookups.{Ok, text_in}

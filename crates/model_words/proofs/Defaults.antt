@@ -7,8 +7,8 @@ use Rattle.std.proofs.lemmas.Slice.Eq.{bytes_eq-Decides}
 use Rattle.clap.specs.Walk.{Row, Rule, Text, default_rows, first_of, has_row, with_default, reading_by, at_row, more_values}
 use Rattle.clap.specs.declared.parser.matches.ValueSource.TheVariants.{DefaultValue}
 use Rattle.clap.proofs.WalkLemmas.{both}
-use Rattle.model_command.specs.{is_flag, with_option, with_value, word_number}
-use Rattle.model_command.specs.declared.words.Name.{Name}
+use Rattle.model_script.specs.{is_flag, with_option, with_value, word_number}
+use Rattle.model_script.specs.declared.words.Name.{Name}
 use Rattle.model_words.specs.Found.{is_true}
 use Rattle.model_words.proofs.Rules.{Place, all_read, has_values, id, one_read, plain, two_read, zero_read}
 use Rattle.model_words.proofs.Lookups.{Ok, added}

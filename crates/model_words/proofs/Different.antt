@@ -6,8 +6,8 @@ use Rattle.std.specs.Str.{bytes_eq}
 use Rattle.std.proofs.Math.Bool.{or-false}
 use Rattle.std.proofs.lemmas.List.Folds.{list_any-append}
 use Rattle.clap.specs.Walk.{Row, Text, has_row}
-use Rattle.model_command.specs.{Said, are_different, is_named, spelling, with_option, with_value, word_number}
-use Rattle.model_command.specs.declared.words.Name.{Name}
+use Rattle.model_script.specs.{Said, are_different, is_named, spelling, with_option, with_value, word_number}
+use Rattle.model_script.specs.declared.words.Name.{Name}
 use Rattle.model_words.proofs.Rules.{Place, all_read, id, one_read, plain, two_read, zero_read}
 use Rattle.model_words.proofs.Leaf.{not_groups, not_seed, not_users}
 use Rattle.model_words.proofs.Lookups.{Ok}

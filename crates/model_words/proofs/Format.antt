@@ -3,11 +3,11 @@ use Rattle.std.proofs.Common.{◌≡◌, ◌∙◌, ◌-◌, ◌^◌, inl, inr, 
 use Rattle.std.specs.Prelude.{option_and_then, fold}
 use Rattle.clap.specs.Walk.{Row, Rule, Text, first_of, with_default}
 use Rattle.model_base.specs.declared.limits.TheConstants.{DEFAULT_LOG_BLOCKS, DEFAULT_PAGES, DEFAULT_SPACE, MAX_LOG_BLOCKS, MAX_PAGES, MIN_LOG_BLOCKS}
-use Rattle.model_command.specs.{are_different, format_of, is_flag, is_given, word_number}
-use Rattle.model_command.specs.declared.asked.Asked.{Asked}
-use Rattle.model_command.specs.declared.asked.Command.TheVariants as asked
-use Rattle.model_command.specs.declared.words.Name.{Name}
-use Rattle.model_command.specs.declared.words.Name.TheVariants as name
+use Rattle.model_script.specs.{are_different, format_of, is_flag, is_given, word_number}
+use Rattle.model_script.specs.declared.asked.Asked.{Asked}
+use Rattle.model_script.specs.declared.asked.Command.TheVariants as asked
+use Rattle.model_script.specs.declared.words.Name.{Name}
+use Rattle.model_script.specs.declared.words.Name.TheVariants as name
 use Rattle.model_words.specs.Found.{is_true, text_number_or}
 use Rattle.model_words.proofs.Asked.{or_is, read}
 use Rattle.model_words.proofs.Asked.{Command as Reads}

@@ -9,14 +9,14 @@ use Rattle.clap.specs.Takes.{is_given as was_given}
 use Rattle.clap.specs.Walk.{Row, Rule, Text, first_of, with_default}
 use Rattle.clap.specs.declared.error.kind.ErrorKind.TheVariants as kind
 use Rattle.model_script.specs.declared.misfit.TheConstants.{MAX_USERS}
-use Rattle.model_command.specs.{Said, are_different, gen_of, is_flag, is_given, number_within, with_option, with_value, word_number}
-use Rattle.model_command.specs.declared.asked.Asked.{Asked}
-use Rattle.model_command.specs.declared.asked.Command.{Command}
-use Rattle.model_command.specs.declared.asked.Command.TheVariants as asked
-use Rattle.model_command.specs.declared.words.Given.{Given}
-use Rattle.model_command.specs.declared.words.Name.{Name}
-use Rattle.model_command.specs.declared.words.Name.TheVariants as name
-use Rattle.model_command.specs.declared.words.TheConstants.{DEFAULT_TURNS, MAX_GENERATED, MAX_TURNS}
+use Rattle.model_script.specs.{Said, are_different, gen_of, is_flag, is_given, number_within, with_option, with_value, word_number}
+use Rattle.model_script.specs.declared.asked.Asked.{Asked}
+use Rattle.model_script.specs.declared.asked.Command.{Command}
+use Rattle.model_script.specs.declared.asked.Command.TheVariants as asked
+use Rattle.model_script.specs.declared.words.Given.{Given}
+use Rattle.model_script.specs.declared.words.Name.{Name}
+use Rattle.model_script.specs.declared.words.Name.TheVariants as name
+use Rattle.model_script.specs.declared.words.TheConstants.{DEFAULT_TURNS, MAX_GENERATED, MAX_TURNS}
 use Rattle.model_words.specs.Found.{is_true, text_number, text_number_or, text_number_within}
 use Rattle.model_words.proofs.Asked.{answer, finish, or_is, read, whole_value, within_is}
 use Rattle.model_words.proofs.Asked.{Command as Reads}

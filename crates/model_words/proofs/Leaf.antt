@@ -15,9 +15,9 @@ use Rattle.clap.specs.declared.parser.matches.ValueSource.TheVariants.{CommandLi
 use Rattle.clap.specs.declared.error.kind.ErrorKind.{ErrorKind}
 use Rattle.clap.specs.declared.error.kind.ErrorKind.TheVariants as kind
 use Rattle.clap.proofs.WalkLemmas.{bundle_ends}
-use Rattle.model_command.specs.{is_flag}
-use Rattle.model_command.specs.declared.words.Name.{Name}
-use Rattle.model_command.specs.declared.words.Name.TheVariants as name
+use Rattle.model_script.specs.{is_flag}
+use Rattle.model_script.specs.declared.words.Name.{Name}
+use Rattle.model_script.specs.declared.words.Name.TheVariants as name
 use Rattle.model_words.proofs.Rules.{Place, all_read, flag_set, has_values, id, leaf, one_read, option_of, option_rule, plain, rules, set_rule, two_read, values_of, zero_read}
 use Rattle.model_words.proofs.Uses.{Mode, Use, Word, after, any, end_word, flag_word, flagged, joined_word, named, open_word, other_word, raw_with, value_word, is_bare, number_of, numbered, raw_from, raw_value, read_split, read_to, read_with, repeats, text_row, trailing, use_id, use_row, use_text, value_id, valued, with_use}
 

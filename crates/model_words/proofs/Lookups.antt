@@ -5,8 +5,8 @@ use Rattle.std.specs.Str.{bytes_eq}
 use Rattle.std.proofs.lemmas.Slice.Eq.{bytes_eq-Decides}
 use Rattle.clap.specs.Lexer.{long_of, short_of}
 use Rattle.clap.specs.Walk.{Row, Text, first_of, has_row}
-use Rattle.model_command.specs.{is_flag, name_of}
-use Rattle.model_command.specs.declared.words.Name.{Name}
+use Rattle.model_script.specs.{is_flag, name_of}
+use Rattle.model_script.specs.declared.words.Name.{Name}
 use Rattle.model_words.proofs.Rules.{Place, all_read, id, one_read, plain, two_read, zero_read}
 use Rattle.model_words.proofs.Spelled.{is_member, name_at, name_found, spelled}
 use Rattle.model_words.proofs.Uses.{Use, Word, adds, any, end_word, flag_word, flagged, is_bare, is_value, joined_word, named, number_of, numbered, open_word, other_word, raw_from, raw_value, raw_with, raw_word, trailing, use_id, use_row, use_text, value_word, valued, with_use}

@@ -2,12 +2,12 @@
 use Rattle.std.proofs.Common.{◌≡◌, ◌∙◌, inl, inr, refl, sym, ap, ℕ, Bool, true, false, List, map, codes, Option, Some, None, option_map, true≢false}
 use Rattle.std.specs.Prelude.{fold}
 use Rattle.clap.specs.Walk.{Row, Text, first_of, with_default}
-use Rattle.model_command.specs.{are_different, workers_of, is_flag, is_given, word_number}
-use Rattle.model_command.specs.declared.asked.Asked.{Asked}
-use Rattle.model_command.specs.declared.asked.Command.TheVariants as asked
-use Rattle.model_command.specs.declared.words.Name.{Name}
-use Rattle.model_command.specs.declared.words.Name.TheVariants as name
-use Rattle.model_command.specs.declared.words.TheConstants.{MAX_WORKERS}
+use Rattle.model_script.specs.{are_different, workers_of, is_flag, is_given, word_number}
+use Rattle.model_script.specs.declared.asked.Asked.{Asked}
+use Rattle.model_script.specs.declared.asked.Command.TheVariants as asked
+use Rattle.model_script.specs.declared.words.Name.{Name}
+use Rattle.model_script.specs.declared.words.Name.TheVariants as name
+use Rattle.model_script.specs.declared.words.TheConstants.{MAX_WORKERS}
 use Rattle.model_words.specs.Found.{is_true}
 use Rattle.model_words.proofs.Asked.{or_is, read}
 use Rattle.model_words.proofs.Asked.{Command as Reads}

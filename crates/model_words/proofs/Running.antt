@@ -2,13 +2,13 @@
 use Rattle.std.proofs.Common.{◌≡◌, ◌∙◌, ◌-◌, ◌^◌, inl, inr, refl, sym, ap, ℕ, Bool, true, false, List, map, codes, Option, Some, None, option_map, true≢false}
 use Rattle.std.specs.Prelude.{option_and_then, fold}
 use Rattle.clap.specs.Walk.{Row, Text, first_of, with_default}
-use Rattle.model_command.specs.{are_different, crash_of, drive_of, is_flag, is_given, word_number}
-use Rattle.model_command.specs.declared.asked.Asked.{Asked}
-use Rattle.model_command.specs.declared.asked.Command.TheVariants as asked
-use Rattle.model_command.specs.declared.asked.Drive.{Drive}
-use Rattle.model_command.specs.declared.words.Name.{Name}
-use Rattle.model_command.specs.declared.words.Name.TheVariants as name
-use Rattle.model_command.specs.declared.words.TheConstants.{DEFAULT_TURNS, MAX_TURNS, MAX_WORKERS}
+use Rattle.model_script.specs.{are_different, crash_of, drive_of, is_flag, is_given, word_number}
+use Rattle.model_script.specs.declared.asked.Asked.{Asked}
+use Rattle.model_script.specs.declared.asked.Command.TheVariants as asked
+use Rattle.model_script.specs.declared.asked.Drive.{Drive}
+use Rattle.model_script.specs.declared.words.Name.{Name}
+use Rattle.model_script.specs.declared.words.Name.TheVariants as name
+use Rattle.model_script.specs.declared.words.TheConstants.{DEFAULT_TURNS, MAX_TURNS, MAX_WORKERS}
 use Rattle.model_words.specs.Found.{is_true, text_number, text_number_or}
 use Rattle.model_words.proofs.Asked.{or_is, read, whole_is}
 use Rattle.model_words.proofs.Asked.{Command as Reads}

@@ -7,12 +7,12 @@ use Rattle.std.proofs.Math.Bool.{and-false}
 use Rattle.std.proofs.lemmas.Slice.Eq.{bytes_eq-Decides}
 use Rattle.clap.specs.Lexer.{long_of, short_of}
 use Rattle.clap.specs.Walk.{Text}
-use Rattle.model_command.specs.{Said, is_flag, name_of, nothing_said, said_from, said_with, with_option, with_value, word_number, word_of}
-use Rattle.model_command.specs.declared.words.Expected.{Expected}
-use Rattle.model_command.specs.declared.words.Expected.TheVariants.{Any, Number, Numbers}
-use Rattle.model_command.specs.declared.words.Given.{Given}
-use Rattle.model_command.specs.declared.words.Name.{Name}
-use Rattle.model_command.specs.declared.words.Word.TheVariants.{Flag, Open, Joined, Value}
+use Rattle.model_script.specs.{Said, is_flag, name_of, nothing_said, said_from, said_with, with_option, with_value, word_number, word_of}
+use Rattle.model_script.specs.declared.words.Expected.{Expected}
+use Rattle.model_script.specs.declared.words.Expected.TheVariants.{Any, Number, Numbers}
+use Rattle.model_script.specs.declared.words.Given.{Given}
+use Rattle.model_script.specs.declared.words.Name.{Name}
+use Rattle.model_script.specs.declared.words.Word.TheVariants.{Flag, Open, Joined, Value}
 use Rattle.model_words.proofs.Rules.{Place, all_read, id, one_read, plain, two_read, zero_read}
 use Rattle.model_words.proofs.Spelled.{dash_none, is_member, long_shape, name_found, name_other}
 use Rattle.model_words.proofs.Says.{dashed_number, saying, word_bare, word_end, word_long}

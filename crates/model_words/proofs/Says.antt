@@ -6,11 +6,11 @@ use Rattle.std.specs.Str.{bytes_eq}
 use Rattle.std.proofs.lemmas.List.{take-append-drop}
 use Rattle.clap.specs.Lexer.{long_of, name_and_value, short_of, short_of_rest, strip_byte}
 use Rattle.clap.specs.Walk.{Text}
-use Rattle.model_command.specs.{joined_word, name_of, name_word, spelling, word_number, word_of, word_with}
-use Rattle.model_command.specs.declared.words.Name.{Name}
-use Rattle.model_command.specs.declared.words.Name.TheVariants as name
-use Rattle.model_command.specs.declared.words.Word.{Word}
-use Rattle.model_command.specs.declared.words.Word.TheVariants.{Value, End}
+use Rattle.model_script.specs.{joined_word, name_of, name_word, spelling, word_number, word_of, word_with}
+use Rattle.model_script.specs.declared.words.Name.{Name}
+use Rattle.model_script.specs.declared.words.Name.TheVariants as name
+use Rattle.model_script.specs.declared.words.Word.{Word}
+use Rattle.model_script.specs.declared.words.Word.TheVariants.{Value, End}
 use Rattle.model_words.proofs.Spelled.{dash_none, equals_digits, is_equals, long_shape, name_says, number_by, place, position_none, position_some, place_on, no_place, strip_says, then_says}
 use Rattle.model_words.proofs.Uses.{is_bare}
 

@@ -9,11 +9,10 @@ use Rattle.std.proofs.lemmas.Bool.{eqb-true}
 use Rattle.std.proofs.lemmas.Slice.Eq.{bytes_eq-Decides}
 use Rattle.clap.specs.Lexer.{long_of, long_of_rest, name_and_value, strip_byte}
 use Rattle.clap.specs.Walk.{Text}
-use Rattle.model_script.specs.{number_below, digits_value}
-use Rattle.model_command.specs.{name_of, spelling, word_number}
-use Rattle.model_command.specs.Words.{every_name}
-use Rattle.model_command.specs.declared.words.Name.{Name}
-use Rattle.model_command.specs.declared.words.Name.TheVariants as name
+use Rattle.model_script.specs.{number_below, digits_value, name_of, spelling, word_number}
+use Rattle.model_script.specs.Words.{every_name}
+use Rattle.model_script.specs.declared.words.Name.{Name}
+use Rattle.model_script.specs.declared.words.Name.TheVariants as name
 use Rattle.model_words.proofs.Rules.{id}
 
 -- ---- names

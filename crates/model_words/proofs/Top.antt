@@ -12,8 +12,8 @@ use Rattle.clap.specs.declared.error.kind.ErrorKind.{ErrorKind}
 use Rattle.clap.specs.declared.error.kind.ErrorKind.TheVariants as kind
 use Rattle.clap.proofs.OnLiterals.{clap_on_literals}
 use Rattle.clap.proofs.WalkLemmas.{walk_stopped}
-use Rattle.model_command.specs.declared.asked.Asked.{Asked}
-use Rattle.model_command.specs.declared.words.Name.{Name}
+use Rattle.model_script.specs.declared.asked.Asked.{Asked}
+use Rattle.model_script.specs.declared.words.Name.{Name}
 use Rattle.model_words.specs.Found.{asked_from, asked_with, walked_asked}
 use Rattle.model_words.proofs.Leaf.{bare_bundle, bare_met, dashed_bundle, outcome, result_of}
 use Rattle.model_words.proofs.Uses.{is_bare}

@@ -6,8 +6,8 @@ use Rattle.clap.specs.Lexer.{long_of, short_of}
 use Rattle.clap.specs.Walk.{Row, Text, has_row}
 use Rattle.clap.specs.declared.builder.value_parser.Reading.TheVariants as reading
 use Rattle.clap.specs.declared.parser.matches.ValueSource.TheVariants.{CommandLine}
-use Rattle.model_command.specs.{is_flag}
-use Rattle.model_command.specs.declared.words.Name.{Name}
+use Rattle.model_script.specs.{is_flag}
+use Rattle.model_script.specs.declared.words.Name.{Name}
 use Rattle.model_words.proofs.Rules.{Place, all_read, id, one_read, plain, two_read, zero_read}
 
 pub data Use : Type 0 where

@@ -7,12 +7,12 @@ use Rattle.std.proofs.lemmas.Slice.Eq.{bytes_eq-Decides}
 use Rattle.clap.specs.Walk.{Names, Text, answers_to, nothing_held, walk_from, with_default}
 use Rattle.clap.specs.Simple.{names_of}
 use Rattle.clap.proofs.OnLiterals.{clap_on_literals}
-use Rattle.model_command.specs.{Said, asked_of, command_of, is_given, said_from}
-use Rattle.model_command.specs.declared.asked.Asked.{Asked}
-use Rattle.model_command.specs.declared.words.Expected.TheVariants.{Any}
-use Rattle.model_command.specs.declared.words.Given.{Given}
-use Rattle.model_command.specs.declared.words.Name.{Name}
-use Rattle.model_command.specs.declared.words.Name.TheVariants as name
+use Rattle.model_script.specs.{Said, asked_of, command_of, is_given, said_from}
+use Rattle.model_script.specs.declared.asked.Asked.{Asked}
+use Rattle.model_script.specs.declared.words.Expected.TheVariants.{Any}
+use Rattle.model_script.specs.declared.words.Given.{Given}
+use Rattle.model_script.specs.declared.words.Name.{Name}
+use Rattle.model_script.specs.declared.words.Name.TheVariants as name
 use Rattle.model_words.specs.Found.{asked_with, walked_asked}
 use Rattle.model_words.proofs.Asked.{command_reads, finish}
 use Rattle.model_words.proofs.Asked.{Command as Reads}

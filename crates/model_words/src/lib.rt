@@ -1,3 +1,3 @@
 //! What `clap` makes of the words of a call, and that it is what they ask for. Nothing runs here; what the words ask for
-//! stands in `model_command`.
+//! stands in `model_script`.
 #![tactic(auto)]

@@ -2,8 +2,8 @@
 use Rattle.std.proofs.Common.{◌≡◌, ◌≤◌, ◌<◌, ◌+◌, ◌*◌, ℕ, List, [], ◌∷◌, ◌++◌, length, take, drop, set, get_or, sym, ap, ap₂, ◌∙◌, arith}
 use Rattle.std.specs.Prelude.{Some, slice_get}
 use borrow.Rule.Slice.PartMut.{put_mid}
-use Rattle.model_record.specs.declared.rec.Rec.{Rec}
-use Rattle.model_record.specs.{page_of}
+use Rattle.model_log.specs.declared.rec.Rec.{Rec}
+use Rattle.model_log.specs.{page_of}
 use Rattle.model_page.specs.declared.content.Content.{Content}
 use Rattle.model_store.specs.{applied, user_after_own}
 use Rattle.redo_apply.specs.Frames.{contents}

@@ -3,8 +3,8 @@ use Rattle.std.proofs.Common.{◌≡◌, ◌≤◌, ◌<◌, ◌+◌, ◌*◌, �
 use Rattle.std.specs.Prelude.{Some, slice_get, nat_le}
 use Rattle.std.proofs.lemmas.Bool.Decides.{nat_tests}
 use Rattle.model_base.specs.declared.shape.Shape.{Shape}
-use Rattle.model_record.specs.{GroupFits, page_of, RecordFits}
-use Rattle.model_record.specs.declared.rec.Rec.{Rec}
+use Rattle.model_log.specs.{GroupFits, page_of, RecordFits}
+use Rattle.model_log.specs.declared.rec.Rec.{Rec}
 use Rattle.model_page.specs.declared.content.Content.{Content}
 use Rattle.model_store.specs.{applied, page_after}
 use Rattle.model_store.proofs.Folding.{get-applied}

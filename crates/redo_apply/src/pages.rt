@@ -3,15 +3,15 @@ ghost use Rattle.std.specs.Prelude.{◌≡◌, ◌+◌, ◌≤◌, ◌<◌, ◌�
 ghost use Rattle.model_base.specs.{IsWithinLimits};
 ghost use Rattle.model_base.specs.declared.shape.Shape.{Shape};
 ghost use Rattle.model_page.specs.{blank_pages};
-ghost use Rattle.model_record.specs.{page_of};
+ghost use Rattle.model_log.specs.{page_of};
 ghost use Rattle.model_store.specs.{applied, page_after};
 ghost use Rattle.redo_apply.specs.Fits.{ArePagesOf, FitsPages, WritesWithin};
 ghost use Rattle.redo_apply.specs.Replay.{AreAfterWhere, HaveLsns};
 
 use crate::record::{page_of, put_record};
 use model_base::{Shape, USER_START};
+use model_log::{Group, Rec};
 use model_page::TRAILER_LENGTH;
-use model_record::{Group, Rec};
 use redo_lsn::NoMemory;
 use std::alloc::{AllocError, Global};
 use std::marker::Model;

@@ -2,12 +2,12 @@
 ghost use Rattle.std.specs.Prelude.{◌≡◌, ◌+◌, ◌≤◌, ◌-◌, length};
 ghost use Rattle.std.specs.Int.{bytes_high_first};
 ghost use Rattle.model_base.specs.{overwritten};
-ghost use Rattle.model_record.specs.{page_of};
+ghost use Rattle.model_log.specs.{page_of};
 ghost use Rattle.model_store.specs.{user_after_own};
 ghost use Rattle.redo_apply.specs.Fits.{WritesWithin};
 
 use model_base::USER_START;
-use model_record::Rec;
+use model_log::Rec;
 
 /// Fills the place with the lowest bytes of the number, the highest of them first.
 fn write_number(place: &mut [u8], value: u64)

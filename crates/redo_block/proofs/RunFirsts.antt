@@ -1,9 +1,8 @@
 -- The first offsets of a run's blocks fit the blocks that are cut from the run's bytes.
 use Rattle.std.proofs.Common.{◌≡◌, ◌≤◌, ◌<◌, ◌+◌, ◌-◌, ◌*◌, ◌/◌, ◌%◌, ℕ, suc, min, List, [], ◌∷◌, length, get_or, drop, refl, sym, ap, subst, ◌∙◌, ⊎_elim, length-take, length-drop, arith, IsTrue}
 use Rattle.std.proofs.lemmas.Bool.{cases_lt}
-use Rattle.model_record.specs.declared.group.Whole.{Whole}
-use Rattle.model_record.specs.{groups_of, stream_of}
-use Rattle.model_log.specs.{block_of, first_at, is_first, IsAtDataStart, IsGivenTo, IsRunOf, length_at, length_of, sn_of, spans_of}
+use Rattle.model_log.specs.declared.group.Whole.{Whole}
+use Rattle.model_log.specs.{block_of, first_at, groups_of, is_first, IsAtDataStart, IsGivenTo, IsRunOf, length_at, length_of, sn_of, spans_of, stream_of}
 use Rattle.model_log.proofs.Runs.{IsReached, boundary-reached, data-start}
 use Rattle.model_log.proofs.Crossings.{TellsFirst, first-tells}
 use Rattle.model_log.proofs.BoundaryLengths.{sn_of-rises, sn_of-start, sn_of-block, length-stream_between, length-reached, length_of-behind}

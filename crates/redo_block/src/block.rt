@@ -1,12 +1,10 @@
 // One block of the log, filled and read in place.
 ghost use Rattle.std.specs.Prelude.{◌≡◌, ◌≢◌, ◌≤◌, ◌<◌, ◌^◌, ◌↔◌, length, None, IfSome, IsTrue};
-ghost use Rattle.model_log.specs.{block_text, data_of, fits_number, is_first, is_length, length_of, read_block, view_of};
-ghost use Rattle.model_stop.specs.{fit_of};
-ghost use Rattle.model_stop.specs.declared.fit.Fit.TheVariants.{Whole};
+ghost use Rattle.model_log.specs.{block_text, data_of, fit_of, fits_number, is_first, is_length, length_of, read_block, view_of};
+ghost use Rattle.model_log.specs.declared.fit.Fit.TheVariants.{Whole};
 
 use model_base::BLOCK_SIZE;
-use model_log::{BLOCK_DATA, BLOCK_DATA_END, BLOCK_HEADER, BlockView};
-use model_stop::Fit;
+use model_log::{BLOCK_DATA, BLOCK_DATA_END, BLOCK_HEADER, BlockView, Fit};
 use redo_crc::sector::{field_u16, field_u32, is_sealed, put, seal};
 use redo_lsn::number_of;
 

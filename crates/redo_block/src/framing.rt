@@ -1,6 +1,6 @@
 // A stream cut into blocks, and joined again.
 ghost use Rattle.std.specs.Prelude.{◌≡◌, ◌≤◌, ◌<◌, ◌+◌, ◌*◌, ◌%◌, ◌^◌, ℕ, List, length, min, All, IfOk, IsTrue, ◌↔◌};
-ghost use Rattle.model_record.specs.declared.group.Whole.{Whole};
+ghost use Rattle.model_log.specs.declared.group.Whole.{Whole};
 ghost use Rattle.model_log.specs.{block_of, framed, is_first, IsAtDataStart, IsGivenTo, IsRunOf, length_of};
 ghost use Rattle.redo_block.specs.Framing.{AreFirsts, unframed};
 

@@ -9,5 +9,4 @@ mod framing;
 pub use block::{block_data, fill, is_first, length_of, read, why};
 pub use filling::frame_into;
 pub use framing::{are_firsts, frame, run_firsts_fit, unframe, unframe_of_frame};
-pub use model_log::{BlockView, block_reads_back, given_is_framed};
-pub use model_stop::Fit;
+pub use model_log::{BlockView, Fit, block_reads_back, given_is_framed};

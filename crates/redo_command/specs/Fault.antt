@@ -1,6 +1,6 @@
 -- Why words aren't read.
 use Rattle.std.specs.Prelude.{ℕ, ◌≡◌, List, None}
-use Rattle.model_command.specs.{asked_of}
+use Rattle.model_script.specs.{asked_of}
 use Rattle.redo_command.specs.declared.fault.WordsFault.{WordsFault}
 use Rattle.redo_command.specs.declared.fault.WordsFault.TheVariants.{NotCommand, NoMemory}
 

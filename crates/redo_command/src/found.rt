@@ -2,15 +2,16 @@
 ghost use Rattle.std.specs.Prelude.{◌≡◌, codes, option_and_then, option_map};
 ghost use Rattle.clap.specs.Words.{first_of, found_of, rows_of};
 ghost use Rattle.model_base.specs.declared.limits.TheConstants.{DEFAULT_LOG_BLOCKS, DEFAULT_PAGES, DEFAULT_SPACE, MAX_LOG_BLOCKS, MAX_PAGES, MIN_LOG_BLOCKS};
-ghost use Rattle.model_command.specs.{number_within, word_number};
+ghost use Rattle.model_script.specs.{number_within, word_number};
 ghost use Rattle.model_words.specs.Found.{asked_with, command_from, crash_from, drive_from, format_from, gen_from, is_true, text_number, text_number_or, text_number_within, workers_from};
 
 use clap::ArgMatches;
 use model_base::{
     DEFAULT_LOG_BLOCKS, DEFAULT_PAGES, DEFAULT_SPACE, MAX_LOG_BLOCKS, MAX_PAGES, MIN_LOG_BLOCKS,
 };
-use model_command::{Asked, Command, DEFAULT_TURNS, Drive, MAX_GENERATED, MAX_TURNS, MAX_WORKERS};
-use model_script::MAX_USERS;
+use model_script::{
+    Asked, Command, DEFAULT_TURNS, Drive, MAX_GENERATED, MAX_TURNS, MAX_USERS, MAX_WORKERS,
+};
 use redo_script::number_up_to;
 
 // The text of an argument.

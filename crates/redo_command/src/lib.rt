@@ -8,5 +8,5 @@ mod found;
 mod words;
 
 pub use fault::WordsFault;
-pub use model_command::{Asked, Command, Drive};
+pub use model_script::{Asked, Command, Drive};
 pub use words::read_words;

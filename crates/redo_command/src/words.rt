@@ -1,14 +1,14 @@
 // The words of a call.
 ghost use Rattle.std.specs.Prelude.{◌≡◌, Some, IfOk, IfErr, map};
 ghost use Rattle.std.specs.String.{string_bytes};
-ghost use Rattle.model_command.specs.{asked_of};
+ghost use Rattle.model_script.specs.{asked_of};
 ghost use Rattle.redo_command.specs.Fault.{IsFaultOf};
 
 use crate::WordsFault;
 use crate::app::redolab_command;
 use crate::found::read_asked;
 use clap::error::ErrorKind;
-use model_command::Asked;
+use model_script::Asked;
 use std::alloc::Global;
 
 /// What the words of a call ask for, without the name of the program.

@@ -4,7 +4,7 @@ use Rattle.std.specs.Int.{bytes_high_first}
 use Rattle.std.proofs.lemmas.Slice.{take-put_mid}
 use Rattle.std.proofs.lemmas.List.{length-replicate}
 use borrow.Rule.Slice.PartMut.{put_mid, mid_of}
-use Rattle.model_number.specs.{crc_of, padded_to}
+use Rattle.model_base.specs.{crc_of, padded_to}
 use Rattle.model_log.specs.{with_checksum}
 
 -- what a part of the sector has is as long as it

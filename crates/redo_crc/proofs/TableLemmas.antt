@@ -6,7 +6,7 @@ use Rattle.std.proofs.lemmas.List.Sums.{fold-append}
 use Rattle.std.proofs.lemmas.List.{take-append-drop}
 use Rattle.std.proofs.lemmas.Nat.{xor_shr, xor_mod, and_mask}
 use lib.Bits.{xor_assoc, xor_shifted, xor_zero_l, xor_zero_r, xor_comm, xor_self}
-use Rattle.model_number.specs.{after_bit, after_byte, after_eight_bits, all_ones, crc_of, polynomial, register_after}
+use Rattle.model_base.specs.{after_bit, after_byte, after_eight_bits, all_ones, crc_of, polynomial, register_after}
 use Rattle.redo_crc.specs.Parts.{HasTaken}
 use Rattle.redo_crc.specs.Tables.{after_zeros}
 use Rattle.redo_crc.specs.declared.tables.TheConstants.{TABLES}

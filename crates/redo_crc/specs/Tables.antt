@@ -1,6 +1,6 @@
 -- What the tables have.
 use Rattle.std.specs.Prelude.{ℕ, zero, suc}
-use Rattle.model_number.specs.{after_eight_bits}
+use Rattle.model_base.specs.{after_eight_bits}
 
 -- the register after so many zero bytes
 unfoldable pub after_zeros : ℕ → ℕ → ℕ

@@ -1,6 +1,6 @@
 // A checksum in the making.
 ghost use Rattle.std.specs.Prelude.{◌≡◌, ℕ, List, [], ◌++◌, bit_xor};
-ghost use Rattle.model_number.specs.{all_ones, crc_of, register_after};
+ghost use Rattle.model_base.specs.{all_ones, crc_of, register_after};
 ghost use Rattle.redo_crc.specs.Parts.{HasTaken};
 
 use crate::step::register_after;
@@ -22,7 +22,7 @@ impl Model for Crc {
 
 impl Crc {
     /// Before the first byte.
-    #[tactic(auto, unfolding(model_number::specs::Crc32c::register_after))]
+    #[tactic(auto, unfolding(model_base::specs::Crc32c::register_after))]
     pub fn new() -> Self
         ensures register { result ≡ all_ones }
         ensures taken { HasTaken result [] }
@@ -40,7 +40,7 @@ impl Crc {
     }
 
     /// The checksum of the bytes so far.
-    #[tactic(auto, unfolding(model_number::specs::Crc32c::crc_of))]
+    #[tactic(auto, unfolding(model_base::specs::Crc32c::crc_of))]
     pub fn value(&self) -> u32
         ensures register { result ≡ bit_xor self.now all_ones }
         ensures taken { (text : List ℕ) → HasTaken self.now text → result ≡ crc_of text }
@@ -50,7 +50,7 @@ impl Crc {
 }
 
 /// The CRC-32C of the bytes.
-#[tactic(auto, unfolding(model_number::specs::Crc32c::crc_of))]
+#[tactic(auto, unfolding(model_base::specs::Crc32c::crc_of))]
 pub fn crc32c(bytes: &[u8]) -> u32
     ensures { result ≡ crc_of bytes.now }
 {

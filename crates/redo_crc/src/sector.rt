@@ -1,6 +1,6 @@
 //! A sector of 512 bytes that is filled from its front and ends with its checksum, and the fields that it has.
 ghost use Rattle.std.specs.Prelude.{◌≡◌, ◌≤◌, ◌+◌, ◌++◌, length, take, drop};
-ghost use Rattle.model_number.specs.{field, padded_to};
+ghost use Rattle.model_base.specs.{field, padded_to};
 ghost use Rattle.model_log.specs.{fits_checksum, with_checksum};
 
 use crate::crc32c;

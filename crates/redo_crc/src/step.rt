@@ -1,6 +1,6 @@
 // What the bytes of a text do to a register: eight at once, and the last few one by one.
 ghost use Rattle.std.specs.Prelude.{◌≡◌, ◌<◌};
-ghost use Rattle.model_number.specs.{after_byte, after_eight_bits, register_after};
+ghost use Rattle.model_base.specs.{after_byte, after_eight_bits, register_after};
 ghost use Rattle.redo_crc.specs.Tables.{after_zeros};
 
 use crate::tables::{STRIDE, TABLES};
@@ -19,7 +19,7 @@ pub(crate) fn register_after(register: u32, bytes: &[u8]) -> u32
 }
 
 // The register after these bytes, taken one by one.
-#[tactic(auto, unfolding(model_number::specs::Crc32c::register_after))]
+#[tactic(auto, unfolding(model_base::specs::Crc32c::register_after))]
 fn after_each(register: u32, bytes: &[u8]) -> u32
     ensures { result ≡ register_after register bytes.now }
 {

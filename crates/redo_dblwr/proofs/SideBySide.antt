@@ -7,9 +7,9 @@ use Rattle.std.proofs.lemmas.Slice.{drop-put_mid, take-put_mid}
 use borrow.Rule.Slice.PartMut.{put_mid}
 use Rattle.model_base.specs.declared.shape.Shape.{Shape}
 use Rattle.model_page.specs.{page_text}
-use Rattle.model_datadev.specs.{batch_of, batch_text, Fresh, new_text}
-use Rattle.model_datadev.proofs.Batches.{length-page_text}
-use Rattle.model_datadev.proofs.Joined.{fresh_of, batch-at}
+use Rattle.model_parts.specs.{batch_of, batch_text, Fresh, new_text}
+use Rattle.model_parts.proofs.Batches.{length-page_text}
+use Rattle.model_parts.proofs.Joined.{fresh_of, batch-at}
 
 -- a part that is written over keeps the length
 pub length-put : (at k : ℕ) (old new : List ℕ) → length new ≡ k → at + k ≤ length old → length (put_mid at k old new) ≡ length old

@@ -3,8 +3,8 @@ use Rattle.std.proofs.Common.{◌≡◌, ◌≤◌, ◌+◌, ◌-◌, ◌*◌, �
 use Rattle.std.proofs.lemmas.List.{drop-take, take-take}
 use Rattle.model_base.specs.{IsWithinLimits}
 use Rattle.model_base.specs.declared.shape.Shape.{Shape}
-use Rattle.model_datadev.proofs.Stretches.{piece, stretch-piece}
-use Rattle.model_datadev.specs.{SameSlots}
+use Rattle.model_parts.proofs.Stretches.{piece, stretch-piece}
+use Rattle.model_parts.specs.{SameSlots}
 
 -- of the first bytes a piece within them is the same
 piece-front : (n whole : ℕ) (bytes : List ℕ) → n * 4096 + 4096 ≤ whole → piece (n * 4096) (take whole bytes) ≡ piece (n * 4096) bytes

@@ -1,7 +1,7 @@
 // The copies of pages in the slots of the doublewrite area.
 ghost use Rattle.std.specs.Prelude.{◌≡◌, ◌≤◌, ◌*◌, length, IfSome, OnOk};
 ghost use Rattle.model_base.specs.{IsWithinLimits};
-ghost use Rattle.model_datadev.specs.{SameSlots};
+ghost use Rattle.model_parts.specs.{SameSlots};
 ghost use Rattle.model_page.specs.{data_device_length};
 ghost use Rattle.redo_disk.specs.{HasCause, MakesCall, Reads};
 

@@ -1,7 +1,7 @@
 // One stretch of page size on the data device: a slot of the doublewrite area, or the place of a page.
 ghost use Rattle.std.specs.Prelude.{◌≡◌, ◌≤◌, ◌<◌, ◌*◌, ◌+◌, [], ◌∷◌, length, IfSome, OnOk};
 ghost use Rattle.model_base.specs.{IsWithinLimits};
-ghost use Rattle.model_datadev.specs.{place_at};
+ghost use Rattle.model_parts.specs.{place_at};
 ghost use Rattle.model_page.specs.{data_device_length, stretch_at};
 ghost use Rattle.redo_dblwr.specs.Requests.{stretch_read};
 ghost use Rattle.redo_disk.specs.{error_of, HasCause, MakesCall, MakesCalls, Reads, Serve};

@@ -1,6 +1,6 @@
 // The pages of a batch, sealed side by side as they go into the slots.
 ghost use Rattle.std.specs.Prelude.{◌≡◌, ◌≤◌, ◌*◌, length, take, drop};
-ghost use Rattle.model_datadev.specs.{batch_of, batch_text};
+ghost use Rattle.model_parts.specs.{batch_of, batch_text};
 ghost use Rattle.model_page.specs.{page_text};
 
 use model_base::{PAGE_SIZE, Shape, USER_BYTES, USER_START};

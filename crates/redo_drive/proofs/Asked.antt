@@ -2,7 +2,7 @@
 use Rattle.std.proofs.Common.{List, subst, sym, ℕ}
 use Rattle.model_core.specs.Actors as model
 use Rattle.model_core.specs.declared.ops.Op.TheVariants as op
-use Rattle.model_datadev.specs.{batch_of, Fresh}
+use Rattle.model_parts.specs.{batch_of, Fresh}
 use Rattle.redo_drive.proofs.Lent.{lent_batch}
 use Rattle.redo_disk.specs.{Call, MakesCalls, Serve}
 use Rattle.redo_drive.proofs.Served.{LendsBatch}

@@ -4,8 +4,8 @@ use Rattle.std.specs.List.{slice_get}
 use lib.ListN.{get_elem?}
 use mathlib.Core.Option.{some}
 use Rattle.model_core.specs.{BatchPage, KeptPage}
-use Rattle.model_datadev.specs.{after_batch, Fresh, IsLater}
-use Rattle.model_finish.specs.{content_of, contents_of, new_content}
+use Rattle.model_parts.specs.{after_batch, Fresh, IsLater}
+use Rattle.model_running.specs.{content_of, contents_of, new_content}
 use Rattle.model_page.specs.{user_part}
 use Rattle.model_page.specs.declared.content.Content.{Content}
 use Rattle.model_pagecore.specs.{kept_in, renewed}

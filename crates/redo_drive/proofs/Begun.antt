@@ -3,17 +3,15 @@ use Rattle.std.proofs.Common.{List, None, Option, Some, [], ap, arith, false, ge
 use Rattle.std.specs.Prelude.{IfSome}
 use Rattle.model_base.specs.{IsWithinLimits}
 use Rattle.model_base.specs.declared.shape.Shape.{Shape}
-use Rattle.model_datadev.specs.{IsUpTo, read_as}
-use Rattle.model_datadev.specs.Stored.{Stored}
+use Rattle.model_parts.specs.{first_marks, IsLive, IsUpTo, read_as, start_of}
+use Rattle.model_parts.specs.Stored.{Stored}
 use Rattle.model_device.specs.Disk.{Disk}
-use Rattle.model_finish.specs.{content_of}
-use Rattle.model_logdev.specs.{first_marks, IsLive}
-use Rattle.model_logdev.specs.declared.marks.LogMarks.{LogMarks}
-use Rattle.model_opening.specs.{start_of}
+use Rattle.model_running.specs.{content_of}
+use Rattle.model_parts.specs.declared.marks.LogMarks.{LogMarks}
 use Rattle.model_page.specs.{blank_page}
 use Rattle.model_page.specs.declared.content.Content.{Content}
-use Rattle.model_run.proofs.Start.{start-live}
-use Rattle.model_run.specs.{IsStart}
+use Rattle.model_theorem.proofs.Start.{start-live}
+use Rattle.model_theorem.specs.{IsStart}
 use Rattle.model_script.specs.declared.script.ScriptLine.{ScriptLine}
 use Rattle.model_store.specs.Reading.{Reading}
 use Rattle.redo_drive.proofs.DataPartStarts.{opened_begins}

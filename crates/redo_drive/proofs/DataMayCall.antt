@@ -7,8 +7,8 @@ use native.Mathlib.Decide.{dec_le, ℕ_discrete}
 use Rattle.model_base.specs.{IsWithinLimits}
 use Rattle.model_base.specs.declared.shape.Shape.{Shape}
 use Rattle.model_core.specs.{BatchPage, KeptPage}
-use Rattle.model_datadev.proofs.Joined.{batch-at, length-batch_of}
-use Rattle.model_datadev.specs.{Fresh, IsWritable}
+use Rattle.model_parts.proofs.Joined.{batch-at, length-batch_of}
+use Rattle.model_parts.specs.{Fresh, IsWritable}
 use Rattle.model_pagecore.specs.{CanBatch}
 use Rattle.redo_drive.proofs.Batches.{fresh_at, fresh_length}
 use Rattle.redo_drive.proofs.DataPartLaws.{not_failed}

@@ -7,16 +7,15 @@ use mathlib.Core.Option.{some}
 use Rattle.model_base.specs.declared.shape.Shape.{Shape}
 use Rattle.model_core.specs.{BatchPage, KeptPage}
 use Rattle.model_core.specs.Setup.{Setup}
-use Rattle.model_datadev.specs.{Fresh, IsKnown, IsOldOrNew, IsUpTo, Keeps, KeepsPage}
-use Rattle.model_datadev.specs.Stored.{Stored}
+use Rattle.model_parts.specs.{Fresh, IsKnown, IsOldOrNew, IsUpTo, Keeps, KeepsPage}
+use Rattle.model_parts.specs.Stored.{Stored}
 use Rattle.model_device.specs.Disk.{Disk}
-use Rattle.model_finish.specs.{ArePrefixes, content_in, contents_of, DataTells, HasItsPages, new_content}
+use Rattle.model_running.specs.{ArePrefixes, content_in, contents_of, DataTells, HasItsPages, new_content}
 use Rattle.model_page.specs.declared.content.Content.{Content}
 use Rattle.model_pagecore.specs.{AreApart}
-use Rattle.model_record.specs.declared.group.Whole.{Whole}
-use Rattle.model_run.proofs.Stored.{stored-holds}
-use Rattle.model_run.specs.{copy_of, DataHolds, IsEither, IsStored}
-use Rattle.model_theorem.specs.{Opened}
+use Rattle.model_log.specs.declared.group.Whole.{Whole}
+use Rattle.model_theorem.proofs.Stored.{stored-holds}
+use Rattle.model_theorem.specs.{copy_of, DataHolds, IsEither, IsStored, Opened}
 use Rattle.redo_drive.specs.DataPartSide.{HoldsPages, data_side, fresh_batch, fresh_page}
 use Rattle.redo_disk.specs.Seen.{Seen}
 use Rattle.redo_store.specs.Part.{Part}

@@ -6,9 +6,9 @@ use Rattle.model_base.specs.{HasRisen, last_count}
 use Rattle.model_base.specs.declared.shape.Shape.{Shape}
 use Rattle.model_core.specs.DataSide.{DataSide}
 use Rattle.model_core.specs.{BatchPage, IsDataCode, KeptPage}
-use Rattle.model_datadev.specs.{after_batch, Fresh, IsLater, IsUpTo, Keeps}
-use Rattle.model_datadev.specs.Stored.{Stored}
-use Rattle.model_finish.specs.{contents_of}
+use Rattle.model_parts.specs.{after_batch, Fresh, IsLater, IsUpTo, Keeps}
+use Rattle.model_parts.specs.Stored.{Stored}
+use Rattle.model_running.specs.{contents_of}
 use Rattle.model_page.specs.declared.content.Content.{Content}
 use Rattle.model_pagecore.specs.{AfterBatch, CanBatch, renewed}
 use Rattle.model_pagecore.specs.DataLaws.{DataLaws}

@@ -5,9 +5,9 @@ use Rattle.model_base.specs.declared.shape.Shape.{Shape}
 use Rattle.model_core.specs.DataSide.{DataSide}
 use Rattle.model_core.specs.{KeptPage}
 use Rattle.model_core.specs.Setup.{Setup}
-use Rattle.model_datadev.specs.{IsUpTo, read_as}
-use Rattle.model_datadev.specs.Stored.{Stored}
-use Rattle.model_finish.specs.{contents_of}
+use Rattle.model_parts.specs.{IsUpTo, read_as}
+use Rattle.model_parts.specs.Stored.{Stored}
+use Rattle.model_running.specs.{contents_of}
 use Rattle.model_page.specs.declared.content.Content.{Content}
 use Rattle.model_store.specs.Reading.{Reading}
 use Rattle.redo_drive.specs.DataPartSide.{HasBegun, data_side}

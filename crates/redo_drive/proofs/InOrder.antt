@@ -6,9 +6,9 @@ use Rattle.std.proofs.lemmas.List.Sums.{sum_by-cons}
 use Rattle.std.specs.List.{sum_by}
 use Rattle.std.specs.List.Sorted.{IsNonDecreasingBy, IsPermutation}
 use native.Mathlib.Decide.{dec_le, ℕ_discrete}
-use Rattle.model_history.specs.declared.entry.Entry.{Entry}
-use Rattle.model_history.specs.declared.entry.State.{State}
-use Rattle.model_history.specs.declared.entry.State.TheVariants.{Copied, Flushed, Lost, Written}
+use Rattle.model_report.specs.declared.entry.Entry.{Entry}
+use Rattle.model_report.specs.declared.entry.State.{State}
+use Rattle.model_report.specs.declared.entry.State.TheVariants.{Copied, Flushed, Lost, Written}
 
 -- a number of each entry, added up
 abbrev pub total : (Entry → ℕ) → List Entry → ℕ

@@ -8,23 +8,21 @@ use Rattle.model_core.specs.LogSide.{LogSide}
 use Rattle.model_core.specs.{lsn}
 use Rattle.model_device.specs.{synced}
 use Rattle.model_device.specs.Disk.{Disk}
-use Rattle.model_finish.proofs.ClosedStore.{held_run}
-use Rattle.model_finish.proofs.Finished.{finished_losses, finished_run, marks_same}
-use Rattle.model_finish.proofs.FinishedPages.{finished_pages}
-use Rattle.model_finish.proofs.FinishedStore.{stands_for_run}
-use Rattle.model_finish.proofs.Seated.{seated_end, seated_seats}
-use Rattle.model_finish.specs.{CausesAreFailures, DataTells, HasCause, HasItsPages, IsOfScript, LeavesOpen, LogTells, run_of, word_marks}
-use Rattle.model_history.specs.{IsLeft}
-use Rattle.model_history.specs.declared.entry.Entry.{Entry}
-use Rattle.model_history.specs.declared.entry.Marks.{Marks}
+use Rattle.model_running.proofs.ClosedStore.{held_run}
+use Rattle.model_running.proofs.Finished.{finished_losses, finished_run, marks_same}
+use Rattle.model_running.proofs.FinishedPages.{finished_pages}
+use Rattle.model_running.proofs.FinishedStore.{stands_for_run}
+use Rattle.model_running.proofs.Seated.{seated_end, seated_seats}
+use Rattle.model_running.specs.{CausesAreFailures, DataTells, HasCause, HasItsPages, HaveEnded, IsOfScript, LeavesOpen, LogTells, run_of, word_marks}
+use Rattle.model_report.specs.{IsLeft}
+use Rattle.model_report.specs.declared.entry.Entry.{Entry}
+use Rattle.model_report.specs.declared.entry.Marks.{Marks}
 use Rattle.model_log.specs.{start_after}
 use Rattle.model_page.specs.declared.content.Content.{Content}
-use Rattle.model_run.proofs.Start.{start-given}
-use Rattle.model_run.specs.{IsHeld, IsStart, opened_as}
-use Rattle.model_running.specs.{HaveEnded}
+use Rattle.model_theorem.proofs.Start.{start-given}
+use Rattle.model_theorem.specs.{IsHeld, IsRun, IsStart, LosesOnlyByFailure, opened_as}
 use Rattle.model_script.specs.declared.script.ScriptLine.{ScriptLine}
 use Rattle.model_store.specs.Reading.{Reading}
-use Rattle.model_theorem.specs.{IsRun, LosesOnlyByFailure}
 use Rattle.model_theorem.specs.Values as theorem
 use Rattle.redo_drive.proofs.DataPartEnds.{data_tells}
 use Rattle.redo_drive.specs.DataPartSide as data_part

@@ -6,8 +6,8 @@ use Rattle.std.specs.Prelude.{map}
 use lib.ListN.{get_elem?}
 use mathlib.Core.Option.{some}
 use Rattle.model_core.specs.{BatchPage}
-use Rattle.model_datadev.specs.{batch_of, Fresh}
-use Rattle.model_finish.proofs.CellsApply.{user_length}
+use Rattle.model_parts.specs.{batch_of, Fresh}
+use Rattle.model_running.proofs.CellsApply.{user_length}
 use Rattle.model_page.specs.{user_part}
 use Rattle.redo_drive.specs.DataPartSide.{IsBatchOf, fresh_batch, fresh_page}
 

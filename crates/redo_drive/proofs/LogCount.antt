@@ -5,8 +5,8 @@ use mathlib.Core.Option.{some}
 use native.Mathlib.Decide.{ℕ_discrete}
 use Rattle.model_core.specs.{Entry}
 use Rattle.model_core.specs.Setup.{Setup}
-use Rattle.model_finish.specs.{IsOfScript}
-use Rattle.model_history.specs.{lines_of_user}
+use Rattle.model_running.specs.{IsOfScript}
+use Rattle.model_report.specs.{lines_of_user}
 use Rattle.model_logcore.proofs.UserGroups.{none_of, one_of}
 use Rattle.model_logcore.specs.{count_of, Place, Tiled}
 use Rattle.model_script.specs.declared.script.ScriptLine.{ScriptLine}

@@ -2,12 +2,12 @@
 use Rattle.std.proofs.Common.{List, [], None, ap, arith, drop, false, get_or, inl, inr, length, length-drop, length-take, min, refl, subst, suc, sym, take, ⊎_elim, IsTrue, ℕ, ◌%◌, ◌*◌, ◌+◌, ◌-◌, ◌/◌, ◌<◌, ◌∙◌, ◌∷◌, ◌≡◌, ◌≤◌, ◌⊎◌, ◌^◌}
 use Rattle.model_core.proofs.Lsns.{lsn_less, lsn_offset}
 use Rattle.model_core.specs.{ceiling, Entry, first_of, floor, IsBound, lsn, Tiles}
-use Rattle.model_finish.proofs.FirstsFit.{first_fits, first_place}
-use Rattle.model_finish.proofs.Given.{sn_of_block}
-use Rattle.model_finish.proofs.Places.{sn_back}
+use Rattle.model_running.proofs.FirstsFit.{first_fits, first_place}
+use Rattle.model_running.proofs.Given.{sn_of_block}
+use Rattle.model_running.proofs.Places.{sn_back}
 use Rattle.model_log.specs.{block_of, is_first, length_of, sn_of}
 use Rattle.model_logcore.specs.{CanCheckpoint, CanWrite}
-use Rattle.model_logdev.specs.{MayBeNext}
+use Rattle.model_parts.specs.{MayBeNext}
 use Rattle.redo_block.specs.{AreFirsts}
 use Rattle.redo_disk.specs.Seen.{Seen}
 use Rattle.redo_logdev.specs.{MayWrite}

@@ -5,8 +5,8 @@ use Rattle.model_base.specs.declared.shape.Shape.{Shape}
 use Rattle.model_core.specs.{lsn}
 use Rattle.model_core.specs.Setup.{Setup}
 use Rattle.model_device.specs.Disk.{Disk}
-use Rattle.model_finish.specs.{LogTells}
-use Rattle.model_logdev.specs.{LogHolds}
+use Rattle.model_running.specs.{LogTells}
+use Rattle.model_parts.specs.{LogHolds}
 use Rattle.redo_disk.specs.Seen.{Seen}
 use Rattle.redo_disk.specs.declared.error.DevError.{DevError}
 use Rattle.redo_disk.specs.declared.error.DevError.TheVariants.{Failed, NoMemory}

@@ -6,16 +6,16 @@ use Rattle.model_core.specs.{Entry, IsLogCode, lsn, Tiles}
 use Rattle.model_core.specs.LogSide.{LogSide}
 use Rattle.model_core.proofs.Lsns.{lsn_less}
 use Rattle.model_device.specs.Disk.{Disk}
-use Rattle.model_finish.proofs.Given.{given_to}
-use Rattle.model_finish.proofs.Groups.{groups_snoc, has_length, places, run_of_log, spans_end}
+use Rattle.model_running.proofs.Given.{given_to}
+use Rattle.model_running.proofs.Groups.{groups_snoc, has_length, places, run_of_log, spans_end}
 use Rattle.model_log.proofs.Runs.{run-push}
 use Rattle.model_log.specs.{block_of, IsGivenTo, IsRunOf, Span, spans_of}
 use Rattle.model_logcore.specs.{AfterCheckpoint, AfterSync, AfterWrite, CanCheckpoint, CanWrite}
 use Rattle.model_logcore.specs.LogLaws.{LogLaws}
-use Rattle.model_logdev.proofs.Crash.{longer-holds, longer-written}
-use Rattle.model_logdev.specs.{after_asked, after_checkpoint, after_given, after_synced, after_written, next_number}
-use Rattle.model_logdev.specs.declared.marks.LogMarks.{LogMarks}
-use Rattle.model_record.specs.declared.group.Whole.{Whole}
+use Rattle.model_parts.proofs.LogCrash.{longer-holds, longer-written}
+use Rattle.model_parts.specs.{after_asked, after_checkpoint, after_given, after_synced, after_written, next_number}
+use Rattle.model_parts.specs.declared.marks.LogMarks.{LogMarks}
+use Rattle.model_log.specs.declared.group.Whole.{Whole}
 use Rattle.redo_disk.specs.Seen.{Seen}
 use Rattle.redo_logdev.specs.{PartHolds}
 use Rattle.redo_logdev.specs.Part.{Part}

@@ -2,7 +2,7 @@
 use Rattle.std.proofs.Common.{Bool, Err, None, Ok, Option, Result, Some, ap, arith, cond, false, inl, inr, refl, sym, true, ⊎_elim, ℕ, ◌<◌, ◌==◌, ◌∙◌, ◌≡◌, ◌≤◌}
 use Rattle.std.specs.Prelude.{OnErr, OnOk}
 use Rattle.model_base.specs.{HasRisen, last_count}
-use Rattle.model_logdev.specs.declared.marks.LogMarks.{LogMarks}
+use Rattle.model_parts.specs.declared.marks.LogMarks.{LogMarks}
 use Rattle.redo_disk.specs.Seen.{Seen}
 use Rattle.redo_disk.specs.declared.error.DevError.{DevError}
 use Rattle.redo_disk.specs.declared.error.DevError.TheVariants.{Failed, NoMemory}

@@ -9,23 +9,21 @@ use mathlib.Core.Option.{some}
 use native.Mathlib.Decide.{dec_le}
 use Rattle.model_base.specs.declared.limits.TheConstants.{LSN_LIMIT}
 use Rattle.model_base.specs.declared.shape.Shape.{Shape}
-use Rattle.model_changes.specs.{changes_of}
-use Rattle.model_core.specs.{Actor, change_at, Line, line_at, Listed, lsn}
+use Rattle.model_core.specs.{Actor, change_at, changes_of, Line, line_at, Listed, lsn}
 use Rattle.model_core.specs.DataSide.{DataSide}
 use Rattle.model_core.specs.LogSide.{LogSide}
 use Rattle.model_core.specs.Setup.{Setup}
 use Rattle.model_core.specs.Actors as actor
 use Rattle.model_device.specs.Disk.{Disk}
-use Rattle.model_finish.proofs.Groups.{line_below}
-use Rattle.model_finish.proofs.Scripted.{scripted}
-use Rattle.model_history.specs.{lines_of_user}
+use Rattle.model_running.proofs.Groups.{line_below}
+use Rattle.model_running.proofs.Scripted.{scripted}
+use Rattle.model_report.specs.{lines_of_user}
 use Rattle.model_logcore.specs.{left_to_reserve, StartPart, sum_over_actors}
-use Rattle.model_logdev.specs.{first_marks}
-use Rattle.model_logdev.specs.declared.marks.LogMarks.{LogMarks}
-use Rattle.model_opening.specs.{start_of}
+use Rattle.model_parts.specs.{first_marks, start_of}
+use Rattle.model_parts.specs.declared.marks.LogMarks.{LogMarks}
 use Rattle.model_log.specs.{IsAtDataStart, lsn_of, sn_of}
 use Rattle.model_page.specs.declared.content.Content.{Content}
-use Rattle.model_run.specs.{IsStart}
+use Rattle.model_theorem.specs.{IsStart}
 use Rattle.model_running.proofs.StartRunning.{store_starts}
 use Rattle.model_running.specs.{AreSeated, IsRunning}
 use Rattle.model_running.specs.RunningStore.{RunningStore}
@@ -39,7 +37,7 @@ use Rattle.redo_disk.specs.Seen.{Seen}
 use Rattle.redo_drive.proofs.LogPartStarts as log_starting
 use Rattle.redo_drive.specs.LogPartSide as log_side
 use Rattle.redo_drive.proofs.Begun.{data_begun, log_begun}
-use Rattle.model_finish.proofs.LineBytes.{GetsBytes, changes_get_bytes}
+use Rattle.model_running.proofs.LineBytes.{GetsBytes, changes_get_bytes}
 use Rattle.redo_drive.proofs.ScriptRoom.{room_for_all}
 use Rattle.redo_drive.proofs.StartActors.{IsNew, are_new, are_seated, seat_of_user, writer_seat}
 use Rattle.redo_drive.proofs.StartWordsPages.{full_pages, has_opened_pages}

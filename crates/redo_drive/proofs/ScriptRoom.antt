@@ -6,14 +6,12 @@ use Rattle.std.specs.List.{AllByRecursion, flat_map}
 use native.Mathlib.Decide.{ℕ_discrete}
 use Rattle.model_base.specs.declared.limits.TheConstants.{LSN_LIMIT}
 use Rattle.model_base.specs.declared.shape.Shape.{Shape}
-use Rattle.model_changes.specs.{collected}
-use Rattle.model_core.specs.{Actor, Line, lsn, new_flusher, new_user, new_writer, UserState}
+use Rattle.model_core.specs.{Actor, collected, Line, lsn, new_flusher, new_user, new_writer, UserState}
 use Rattle.model_core.specs.Actors as actor
-use Rattle.model_finish.proofs.Places.{lsn_is}
-use Rattle.model_history.specs.{lines_of_user}
-use Rattle.model_log.specs.{sn_of}
+use Rattle.model_running.proofs.Places.{lsn_is}
+use Rattle.model_report.specs.{lines_of_user}
+use Rattle.model_log.specs.{group_length, group_text, sn_of, stream_of}
 use Rattle.model_logcore.specs.{left_to_reserve, lengths, sum_over_actors}
-use Rattle.model_record.specs.{group_length, group_text, stream_of}
 use Rattle.model_script.specs.{group_of, LineFits, script_end}
 use Rattle.model_script.specs.declared.misfit.TheConstants.{MAX_USERS}
 use Rattle.model_script.specs.declared.script.ScriptLine.{ScriptLine}

@@ -5,10 +5,9 @@ use Rattle.std.proofs.lemmas.List.{map-append}
 use lib.ListN.{get_elem?}
 use mathlib.Core.Option.{some, some-injective, some-ne-none}
 use native.Mathlib.Decide.{dec_le, ℕ_discrete}
-use Rattle.model_changes.proofs.Collected.{collected_next, collected_none}
-use Rattle.model_changes.specs.{collected}
+use Rattle.model_core.proofs.Collected.{collected_next, collected_none}
+use Rattle.model_core.specs.{Actor, collected, Line, new_user, UserState}
 use Rattle.model_core.proofs.Lists.{at_last, at_longer}
-use Rattle.model_core.specs.{Actor, Line, new_user, UserState}
 use Rattle.model_core.specs.Actors as actor
 use Rattle.redo_drive.specs.Setups.{user_of, users_below}
 

@@ -8,14 +8,14 @@ use mathlib.Core.Option.{some, some-injective, some-ne-none}
 use native.Mathlib.Decide.{dec_le}
 use Rattle.model_base.specs.declared.limits.TheConstants.{MAX_GROUP}
 use Rattle.model_base.specs.declared.shape.Shape.{Shape}
-use Rattle.model_changes.proofs.Collected.{group_has_text}
+use Rattle.model_core.proofs.Collected.{group_has_text}
 use Rattle.model_core.specs.{Actor, Line, line_at, lsn, new_checkpointer, new_cleaner, new_closer, new_flusher, new_user, new_writer, UserState}
 use Rattle.model_core.specs.Actors as actor
 use Rattle.model_core.specs.Setup.{Setup}
-use Rattle.model_finish.proofs.Groups.{line_below}
-use Rattle.model_history.specs.{lines_of_user}
+use Rattle.model_running.proofs.Groups.{line_below}
+use Rattle.model_report.specs.{lines_of_user}
 use Rattle.model_logcore.specs.{StartActor, StartUser}
-use Rattle.model_logdev.proofs.Bytes.{group-bytes}
+use Rattle.model_parts.proofs.Bytes.{group-bytes}
 use Rattle.model_page.specs.declared.content.Content.{Content}
 use Rattle.model_running.specs.{ArePageActors, AreSeated}
 use Rattle.model_script.specs.{group_of, IsScriptLine, LineFits}

@@ -10,7 +10,7 @@ use Rattle.model_base.specs.declared.shape.Shape.{Shape}
 use Rattle.model_core.specs.{KeptPage}
 use Rattle.model_core.specs.Setup.{Setup}
 use Rattle.model_core.specs.declared.limits.TheConstants.{FRAME_CELLS}
-use Rattle.model_finish.specs.{content_of, HasItsPages}
+use Rattle.model_running.specs.{content_of, HasItsPages}
 use Rattle.model_page.specs.{user_part}
 use Rattle.model_page.specs.declared.content.Content.{Content}
 use Rattle.model_page.specs.declared.page.TheConstants.{TRAILER_LENGTH}

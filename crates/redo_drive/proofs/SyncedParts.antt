@@ -4,17 +4,16 @@ use Rattle.std.specs.Prelude.{IfSome, is_some}
 use Rattle.model_base.specs.declared.shape.Shape.{Shape}
 use Rattle.model_core.specs.{BatchPage, KeptPage, lsn}
 use Rattle.model_core.specs.Setup.{Setup}
-use Rattle.model_datadev.specs.{IsUpTo}
-use Rattle.model_datadev.specs.Stored.{Stored}
+use Rattle.model_parts.specs.{after_synced, IsUpTo, IsWritten, LogHolds}
+use Rattle.model_parts.specs.Stored.{Stored}
 use Rattle.model_device.specs.{settled, synced}
 use Rattle.model_device.specs.Disk.{Disk}
-use Rattle.model_finish.specs.{contents_of, LogTells}
-use Rattle.model_logdev.proofs.Checkpoints.{synced-holds}
-use Rattle.model_logdev.proofs.Images.{beside-kept}
-use Rattle.model_logdev.proofs.Windows.{wider}
-use Rattle.model_logdev.specs.{after_synced, IsWritten, LogHolds}
-use Rattle.model_logdev.specs.declared.marks.LogMarks.{LogMarks}
-use Rattle.model_record.specs.declared.group.Whole.{Whole}
+use Rattle.model_running.specs.{contents_of, LogTells}
+use Rattle.model_parts.proofs.Checkpoints.{synced-holds}
+use Rattle.model_parts.proofs.LogImages.{beside-kept}
+use Rattle.model_parts.proofs.Windows.{wider}
+use Rattle.model_parts.specs.declared.marks.LogMarks.{LogMarks}
+use Rattle.model_log.specs.declared.group.Whole.{Whole}
 use Rattle.redo_drive.specs.DataPartSide.{HoldsPages, fresh_batch}
 use Rattle.redo_disk.specs.Seen.{Seen}
 use Rattle.redo_logdev.specs.{DiskHolds}

@@ -10,9 +10,9 @@ use Rattle.model_core.proofs.Lsns.{lsn_less, sn_below}
 use Rattle.model_core.specs.Actors as model
 use Rattle.model_core.specs.{end_of, entries, entries_from, entry, Line, line_at, lsn, sum_of, Tiles, UserState}
 use Rattle.model_core.specs.Groups as core
-use Rattle.model_finish.specs.{entry_of, history_of, word_marks}
-use Rattle.model_history.specs.declared.entry.Entry.{Entry}
-use Rattle.model_history.specs.declared.entry.Marks.{Marks}
+use Rattle.model_running.specs.{entry_of, history_of, word_marks}
+use Rattle.model_report.specs.declared.entry.Entry.{Entry}
+use Rattle.model_report.specs.declared.entry.Marks.{Marks}
 use Rattle.model_logcore.proofs.AnswersFit.{small_sn}
 use Rattle.model_logcore.specs.{LogGhost, sum_over_actors, UserFits}
 use Rattle.model_logcore.specs.LogHalf.{LogHalf}

@@ -7,13 +7,12 @@ use Rattle.std.specs.List.{AllByRecursion}
 use Rattle.std.specs.Option.{option_map}
 use native.Mathlib.Decide.{dec_le}
 use Rattle.model_base.specs.declared.shape.Shape.{Shape}
-use Rattle.model_changes.specs.{line_of}
-use Rattle.model_core.specs.{Line}
-use Rattle.model_finish.proofs.Groups.{line_below}
-use Rattle.model_finish.specs.{IsOfScript}
-use Rattle.model_history.specs.{lines_of_user}
+use Rattle.model_core.specs.{Line, line_of}
+use Rattle.model_running.proofs.Groups.{line_below}
+use Rattle.model_running.specs.{IsOfScript}
+use Rattle.model_report.specs.{lines_of_user}
 use Rattle.model_page.specs.declared.content.Content.{Content}
-use Rattle.model_record.specs.declared.rec.Rec.{Rec}
+use Rattle.model_log.specs.declared.rec.Rec.{Rec}
 use Rattle.model_script.specs.{group_of, IsScriptLine, LineFits}
 use Rattle.model_script.specs.declared.misfit.TheConstants.{MAX_USERS}
 use Rattle.model_script.specs.declared.script.ScriptLine.{ScriptLine}

@@ -3,9 +3,9 @@ use Rattle.std.specs.Prelude.{Bool, List, None, Option, Some, [], if◌then◌el
 use Rattle.std.specs.List.{AllByRecursion}
 use Rattle.model_base.specs.declared.shape.Shape.{Shape}
 use Rattle.model_core.specs.{Listed, lsn}
-use Rattle.model_finish.specs.{HasItsPages, IsOfScript}
+use Rattle.model_running.specs.{HasItsPages, IsOfScript}
 use Rattle.model_log.specs.declared.layout.TheConstants.{BLOCK_HEADER}
-use Rattle.model_opening.specs.{start_of}
+use Rattle.model_parts.specs.{start_of}
 use Rattle.model_script.specs.{IsScriptLine, round_end, ScriptFits}
 use Rattle.model_script.specs.declared.script.ScriptLine.{ScriptLine}
 use Rattle.model_store.specs.Reading.{Reading}

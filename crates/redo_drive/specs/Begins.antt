@@ -1,7 +1,7 @@
 -- A run at its beginning, with all that the invariant starts from.
 use Rattle.std.specs.Prelude.{Bool, IfSome, List, [], length, vec_capacity, ℕ, ◌-◌, ◌≡◌, ◌≤◌}
 use Rattle.model_core.specs.{flat, Listed, SharedWords}
-use Rattle.model_run.specs.{IsStart}
+use Rattle.model_theorem.specs.{IsStart}
 use Rattle.model_running.specs.StartStore.{StartStore}
 use Rattle.model_script.specs.declared.script.ScriptLine.{ScriptLine}
 use Rattle.model_store.specs.Reading.{Reading}

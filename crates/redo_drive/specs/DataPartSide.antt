@@ -5,8 +5,8 @@ use Rattle.model_base.specs.declared.limits.TheConstants.{USER_BYTES}
 use Rattle.model_base.specs.declared.shape.Shape.{Shape}
 use Rattle.model_core.specs.DataSide.{DataSide}
 use Rattle.model_core.specs.{BatchPage, data_device_code, KeptPage, no_memory_code}
-use Rattle.model_datadev.specs.{after_batch, batch_of, Fresh, IsLater}
-use Rattle.model_finish.specs.{contents_of, new_content}
+use Rattle.model_parts.specs.{after_batch, batch_of, Fresh, IsLater}
+use Rattle.model_running.specs.{contents_of, new_content}
 use Rattle.model_page.specs.declared.content.Content.{Content}
 use Rattle.redo_disk.specs.Seen.{Seen}
 use Rattle.redo_disk.specs.declared.error.DevError.{DevError}

@@ -2,13 +2,12 @@
 use Rattle.std.specs.Prelude.{IfSome, List, None, Some, ℕ, ◌+◌, ◌<◌, ◌≡◌, ◌≢◌, ◌⊎◌}
 use Rattle.model_device.specs.{synced}
 use Rattle.model_device.specs.Disk.{Disk}
-use Rattle.model_finish.specs.{LeavesOpen}
-use Rattle.model_history.specs.{IsLeft}
+use Rattle.model_running.specs.{LeavesOpen}
+use Rattle.model_report.specs.{IsLeft}
 use Rattle.model_log.specs.{start_after}
-use Rattle.model_run.specs.{IsClosed, IsHeld, IsStart, opened_as}
+use Rattle.model_theorem.specs.{IsClosed, IsHeld, IsRun, IsStart, LosesOnlyByFailure, opened_as, Ran}
 use Rattle.model_script.specs.declared.script.ScriptLine.{ScriptLine}
 use Rattle.model_store.specs.Reading.{Reading}
-use Rattle.model_theorem.specs.{IsRun, LosesOnlyByFailure, Ran}
 use Rattle.redo_disk.specs.{Call, failures}
 use Rattle.redo_disk.specs.Seen.{Seen}
 use Rattle.redo_disk.specs.declared.error.DevError.TheVariants.{NoMemory}

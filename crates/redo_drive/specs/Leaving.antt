@@ -2,8 +2,8 @@
 use Rattle.std.specs.Prelude.{Bool, IfSome, List, slice_index, ℕ, ◌≡◌}
 use Rattle.model_core.specs.{index}
 use Rattle.model_core.specs.declared.words.Word.TheVariants as word
-use Rattle.model_finish.specs.{history_of, marks_in, word_marks}
-use Rattle.model_run.specs.{IsStart}
+use Rattle.model_running.specs.{history_of, marks_in, word_marks}
+use Rattle.model_theorem.specs.{IsStart}
 use Rattle.model_script.specs.declared.script.ScriptLine.{ScriptLine}
 use Rattle.model_store.specs.Reading.{Reading}
 use Rattle.redo_disk.specs.{Call}

@@ -4,10 +4,10 @@ use Rattle.model_base.specs.{HasRisen}
 use Rattle.model_base.specs.declared.limits.TheConstants.{BLOCK_SIZE}
 use Rattle.model_core.specs.{Entry, log_device_code, lsn, no_memory_code}
 use Rattle.model_core.specs.LogSide.{LogSide}
-use Rattle.model_finish.specs.{AreWholesOf}
-use Rattle.model_logdev.specs.{after_asked, after_checkpoint, after_given, after_synced, after_written, next_number}
-use Rattle.model_logdev.specs.declared.marks.LogMarks.{LogMarks}
-use Rattle.model_record.specs.declared.group.Whole.{Whole}
+use Rattle.model_running.specs.{AreWholesOf}
+use Rattle.model_parts.specs.{after_asked, after_checkpoint, after_given, after_synced, after_written, next_number}
+use Rattle.model_parts.specs.declared.marks.LogMarks.{LogMarks}
+use Rattle.model_log.specs.declared.group.Whole.{Whole}
 use Rattle.redo_disk.specs.Seen.{Seen}
 use Rattle.redo_disk.specs.declared.error.DevError.{DevError}
 use Rattle.redo_disk.specs.declared.error.DevError.TheVariants.{Failed, NoMemory}

@@ -12,8 +12,7 @@ use Rattle.model_core.specs.declared.limits.TheConstants.{FRAME_CELLS}
 use Rattle.model_core.specs.declared.ops.Answer.{Answer}
 use Rattle.model_core.specs.declared.ops.Op.{Op}
 use Rattle.model_core.specs.declared.ops.Op.TheVariants as op
-use Rattle.model_datadev.specs.{IsWritable}
-use Rattle.model_logdev.specs.{MayBeNext}
+use Rattle.model_parts.specs.{IsWritable, MayBeNext}
 use Rattle.model_running.specs.ListReady.{ListReady}
 use Rattle.redo_drive.specs.DataPartSide as data_part
 use Rattle.redo_disk.specs.Seen.{Seen}

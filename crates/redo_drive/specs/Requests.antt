@@ -1,7 +1,7 @@
 -- What each call of the log part asks of its device, and in which order.
 use Rattle.std.specs.Prelude.{List, [], ℕ, ◌%◌, ◌^◌, ◌∷◌}
 use Rattle.model_log.specs.{block_of, framed}
-use Rattle.model_logdev.specs.{next_number}
+use Rattle.model_parts.specs.{next_number}
 use Rattle.redo_disk.specs.{put_requests, Request, ToSync}
 use Rattle.redo_logdev.specs.Calls.{checkpoint_write, round_writes}
 use Rattle.redo_logdev.specs.Part.{Part}

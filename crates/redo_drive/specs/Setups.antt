@@ -1,14 +1,13 @@
 -- What never changes in the run of a script on a store, and its actors as it begins.
 use Rattle.std.specs.Prelude.{Bool, List, [], cond, false, length, map, true, ℕ, ◌++◌, ◌+◌, ◌==◌, ◌∷◌}
 use Rattle.model_base.specs.declared.shape.Shape.{Shape}
-use Rattle.model_changes.specs.{collected}
-use Rattle.model_core.specs.{Actor, Line, new_checkpointer, new_cleaner, new_closer, new_flusher, new_user, new_writer, UserState}
+use Rattle.model_core.specs.{Actor, collected, Line, new_checkpointer, new_cleaner, new_closer, new_flusher, new_user, new_writer, UserState}
 use Rattle.model_core.specs.Actors as actor
 use Rattle.model_core.specs.Setup.{Setup}
-use Rattle.model_history.specs.{lines_of_user}
+use Rattle.model_report.specs.{lines_of_user}
 use Rattle.model_log.specs.{sn_of}
 use Rattle.model_page.specs.declared.content.Content.{Content}
-use Rattle.model_record.specs.declared.rec.Rec.{Rec}
+use Rattle.model_log.specs.declared.rec.Rec.{Rec}
 use Rattle.model_script.specs.{group_of}
 use Rattle.model_script.specs.declared.misfit.TheConstants.{MAX_USERS}
 use Rattle.model_script.specs.declared.script.ScriptLine.{ScriptLine}

@@ -1,7 +1,7 @@
 // The call of the data part, answered by a code.
 ghost use Rattle.std.specs.Prelude.{List, None, ◌≡◌};
 ghost use Rattle.model_core.specs.{BatchPage};
-ghost use Rattle.model_datadev.specs.{batch_of, IsWritable};
+ghost use Rattle.model_parts.specs.{batch_of, IsWritable};
 ghost use Rattle.redo_drive.specs.DataPartSide.{DataWrote, IsBatchOf, result_code};
 ghost use Rattle.redo_disk.specs.{MakesCalls, Serve};
 ghost use Rattle.redo_store.specs.Requests.{batch_requests};

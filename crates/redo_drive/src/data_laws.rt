@@ -4,13 +4,12 @@ ghost use Rattle.model_base.specs.declared.shape.Shape.{Shape};
 ghost use Rattle.model_core.specs.{BatchPage, KeptPage};
 ghost use Rattle.model_core.specs.Setup.{Setup};
 ghost use Rattle.model_device.specs.Disk.{Disk};
-ghost use Rattle.model_finish.specs.{ArePrefixes, content_in, contents_of, DataTells, HasItsPages};
+ghost use Rattle.model_running.specs.{ArePrefixes, content_in, contents_of, DataTells, HasItsPages};
 ghost use Rattle.model_page.specs.declared.content.Content.{Content};
 ghost use Rattle.model_pagecore.specs.{AreApart};
 ghost use Rattle.model_pagecore.specs.DataLaws.{DataLaws};
-ghost use Rattle.model_record.specs.declared.group.Whole.{Whole};
-ghost use Rattle.model_run.specs.{IsStored};
-ghost use Rattle.model_theorem.specs.{Opened};
+ghost use Rattle.model_log.specs.declared.group.Whole.{Whole};
+ghost use Rattle.model_theorem.specs.{IsStored, Opened};
 ghost use Rattle.redo_drive.specs.DataPartSide.{HasBegun, HoldsPages, data_side};
 ghost use Rattle.redo_store.specs.Part.{Part};
 

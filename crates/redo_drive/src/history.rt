@@ -1,12 +1,12 @@
 // The history of a run.
 ghost use Rattle.std.specs.Prelude.{ℕ, [], ◌++◌, ◌+◌, ◌≡◌, ◌<◌, ◌≤◌, if◌then◌else◌, length, nat_lt, slice_index, slice_index_or, vec_capacity};
-ghost use Rattle.model_history.specs.{state_by};
-ghost use Rattle.model_history.specs.declared.entry.State.TheVariants as state;
+ghost use Rattle.model_report.specs.{state_by};
+ghost use Rattle.model_report.specs.declared.entry.State.TheVariants as state;
 ghost use Rattle.redo_drive.specs.History.{HasGroups, HasReserved, ListsInOrder, all_listed, listed, listed_from, listed_group};
 ghost use Rattle.redo_drive.specs.Views.{view_of};
 
 use crate::actor::Actor;
-use model_history::{Entry, History, Marks, State};
+use model_report::{Entry, History, Marks, State};
 use redo_lsn::lsn_of;
 use redo_useractor::UserActor;
 

@@ -1,6 +1,6 @@
 // The calls of the log part, answered by a code.
 ghost use Rattle.std.specs.Prelude.{◌≡◌, None};
-ghost use Rattle.model_logdev.specs.{MayBeNext};
+ghost use Rattle.model_parts.specs.{MayBeNext};
 ghost use Rattle.redo_disk.specs.{MakesCalls, Serve};
 ghost use Rattle.redo_logdev.specs.{MayWrite};
 ghost use Rattle.redo_drive.specs.LogPartSide.{LogCheckpointed, LogSynced, LogWrote, result_code};

@@ -6,7 +6,7 @@ ghost use Rattle.model_core.specs.{Actor, Lent, LogServed, SharedWords};
 ghost use Rattle.model_core.specs.Setup.{Setup};
 ghost use Rattle.model_core.specs.declared.ops.Op.{Op};
 ghost use Rattle.model_device.specs.Disk.{Disk};
-ghost use Rattle.model_finish.specs.{LogTells};
+ghost use Rattle.model_running.specs.{LogTells};
 ghost use Rattle.model_logcore.specs.{LogGhost, LogWatermarks};
 ghost use Rattle.model_logcore.specs.LogHalf.{LogHalf};
 ghost use Rattle.model_logcore.specs.LogLaws.{LogLaws};

@@ -17,7 +17,7 @@ use crate::parts::Parts;
 use crate::seating::seat_actors;
 use crate::start_words::start_words;
 use model_base::Shape;
-use model_history::Entry;
+use model_report::Entry;
 use model_script::Script;
 use redo_apply::Pages;
 use redo_disk::Sectors;

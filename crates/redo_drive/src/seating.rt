@@ -11,7 +11,7 @@ ghost use Rattle.redo_drive.specs.Views.{views_of};
 
 use crate::actor::Actor;
 use model_base::Shape;
-use model_record::Group;
+use model_log::Group;
 use model_script::{MAX_USERS, ScriptLine};
 use redo_logactors::{Closer, Flusher, Writer};
 use redo_lsn::NoMemory;

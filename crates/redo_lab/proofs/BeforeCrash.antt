@@ -2,18 +2,17 @@
 use Rattle.std.proofs.Common.{ℕ, ◌≡◌, ◌<◌, ◌+◌, List, [], Option, Some, None, IfSome, refl, sym, subst, arith}
 use Rattle.model_base.specs.{default_shape}
 use Rattle.model_device.specs.{IsImage}
-use Rattle.model_command.specs.declared.asked.Command.{Command}
-use Rattle.model_command.specs.declared.asked.Drive.{Drive}
+use Rattle.model_script.specs.declared.asked.Command.{Command}
+use Rattle.model_script.specs.declared.asked.Drive.{Drive}
 use Rattle.model_device.specs.Disk.{Disk}
-use Rattle.model_history.specs.{IsLeft}
-use Rattle.model_opening.specs.{formatted_store, IsOpenable, KeepsOpened}
+use Rattle.model_report.specs.{IsLeft}
+use Rattle.model_parts.specs.{formatted_store, IsOpenable, KeepsOpened}
 use Rattle.model_report.specs.declared.fault.Fault.{Fault}
 use Rattle.model_report.specs.declared.fault.Fault.TheVariants as fault
-use Rattle.model_run.specs.{opened_as}
+use Rattle.model_theorem.specs.{entries_of, IsOpenedBefore, LosesOnlyByFailure, Opened, opened_as, Ran, ReadsPrefix, RunResult, RunSafe}
 use Rattle.model_script.specs.declared.script.ScriptLine.{ScriptLine}
 use Rattle.model_store.specs.{IsFair}
 use Rattle.model_store.specs.Reading.{Reading}
-use Rattle.model_theorem.specs.{entries_of, IsOpenedBefore, LosesOnlyByFailure, Opened, Ran, ReadsPrefix, RunResult, RunSafe}
 use Rattle.redo_open.specs.{WhereBothTell}
 use Rattle.redo_lab.specs.declared.playing.Played.{Played}
 use Rattle.redo_lab.specs.declared.playing.Stops.{Stops}

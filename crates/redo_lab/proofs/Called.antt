@@ -1,7 +1,7 @@
 -- A whole call, put together from what its command came to and what was printed.
 use Rattle.std.proofs.Common.{ℕ, ◌≡◌, ◌+◌, ◌⊎◌, List, Option, Some, None, refl, subst, arith}
 use Rattle.model_base.specs.declared.limits.TheConstants.{MAX_SCRIPT}
-use Rattle.model_command.specs.declared.asked.Command.{Command}
+use Rattle.model_script.specs.declared.asked.Command.{Command}
 use Rattle.model_report.specs.declared.fault.Fault.{Fault}
 use Rattle.model_report.specs.declared.fault.Fault.TheVariants.{Memory, Words}
 use Rattle.redo_disk.specs as device

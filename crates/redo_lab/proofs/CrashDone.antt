@@ -1,16 +1,15 @@
 -- What a crash comes to: a report, or why there is none.
-use Rattle.model_theorem.specs.{ReadsPrefix}
+use Rattle.model_theorem.specs.{entries_of, IsOpenedBefore, LosesOnlyByFailure, Opened, Ran, ReadsPrefix}
 use Rattle.std.proofs.Common.{ℕ, ◌≡◌, ◌+◌, List, Option, Some, None, IfSome, refl, sym, subst, ◌∙◌, inr, arith}
 use Rattle.std.proofs.lemmas.Bool.{false≢true}
-use Rattle.model_command.specs.declared.asked.Command.TheVariants.{Crash}
-use Rattle.model_command.specs.declared.asked.Drive.{Drive}
+use Rattle.model_script.specs.declared.asked.Command.TheVariants.{Crash}
+use Rattle.model_script.specs.declared.asked.Drive.{Drive}
 use Rattle.model_device.specs.Disk.{Disk}
 use Rattle.model_report.specs.declared.fault.Fault.{Fault}
 use Rattle.model_report.specs.declared.fault.Fault.TheVariants as fault
 use Rattle.model_script.specs.declared.script.ScriptLine.{ScriptLine}
 use Rattle.model_store.specs.declared.refusal.Refusal.{Refusal}
-use Rattle.model_theorem.specs.{entries_of, IsOpenedBefore, LosesOnlyByFailure, Opened, Ran}
-use Rattle.model_history.specs.{IsLeft}
+use Rattle.model_report.specs.{IsLeft}
 use Rattle.redo_lab.specs.declared.outcome.Outcome.{Outcome}
 use Rattle.redo_lab.specs.declared.outcome.Outcome.TheVariants as outcome
 use Rattle.redo_lab.specs.declared.playing.Played.{Played}

@@ -2,11 +2,10 @@
 use Rattle.std.proofs.Common.{ℕ, ◌≡◌, ◌≢◌, Bool, List, Option, Some, None, IfSome, refl, sym, ap, subst, ◌∙◌, ⊎_elim, arith}
 use Rattle.model_device.specs.{Crashes, IsImage, settled}
 use Rattle.model_device.specs.Disk.{Disk}
-use Rattle.model_run.specs.{before_crash, IsCrashOf}
+use Rattle.model_theorem.specs.{Account, AreArmedFirst, before_crash, CrashSafe, Device, failures_of, FitsOpened, IsCrashed, IsCrashOf, IsOpenedBefore, IsStoppedAsAsked, Opened, Ran, RunSafe}
 use Rattle.model_script.specs.declared.script.ScriptLine.{ScriptLine}
 use Rattle.model_store.specs.{HasOldCopies, IsReading}
 use Rattle.model_store.specs.Reading.{Reading}
-use Rattle.model_theorem.specs.{Account, AreArmedFirst, CrashSafe, Device, failures_of, FitsOpened, IsCrashed, IsOpenedBefore, IsStoppedAsAsked, Opened, Ran, RunSafe}
 use Rattle.model_theorem.specs.Values as values
 use Rattle.redo_disk.specs.{OnTold}
 use Rattle.redo_disk.specs.Seen.{Seen}

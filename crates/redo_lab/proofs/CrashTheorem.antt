@@ -1,14 +1,13 @@
 -- The crash theorem of a call, put together.
 use Rattle.std.proofs.Common.{ℕ, ◌≡◌, ◌≢◌, ◌+◌, List, Option, Some, None, IfSome, refl, subst, arith}
-use Rattle.model_command.specs.declared.asked.Drive.{Drive}
+use Rattle.model_script.specs.declared.asked.Drive.{Drive}
 use Rattle.model_device.specs.Disk.{Disk}
 use Rattle.model_script.specs.declared.script.ScriptLine.{ScriptLine}
-use Rattle.model_theorem.specs.{Account, CrashSafe, Opened, Ran, RunSafe}
+use Rattle.model_theorem.specs.{Account, AreAnyStops, CrashSafe, FitsOpened, IsCrashed, Opened, Ran, RunSafe}
 use Rattle.model_theorem.specs.Premises.{Premises}
 use Rattle.model_theorem.specs.Values as values
 use Rattle.redo_lab.specs.declared.playing.Stops.{Stops}
-use Rattle.model_command.specs.declared.asked.Command.{Command}
-use Rattle.model_theorem.specs.{AreAnyStops, FitsOpened, IsCrashed}
+use Rattle.model_script.specs.declared.asked.Command.{Command}
 use Rattle.redo_lab.proofs.BeforeCrash.{IsBeforeCrash, IsSafeOn, result_on}
 use Rattle.redo_lab.proofs.CrashSafe.{CrashLaw, HasTold, armed-first, device_of, fits-run, has-told, is-crashed, is-device, same-copies, stopped-as}
 use Rattle.redo_lab.proofs.RunPlayed.{FormattedLaw, armed-same, was-found, whole-script}

@@ -4,10 +4,10 @@ use Rattle.std.proofs.Common.{ℕ, ◌≡◌, List, Result, Ok, Err, IfSome, IfO
 use Rattle.std.proofs.lemmas.Bool.{false≢true}
 use Rattle.model_base.specs.{IsWithinLimits}
 use Rattle.model_base.specs.declared.shape.Shape.{Shape}
-use Rattle.model_command.specs.declared.asked.Command.TheVariants.{Format}
+use Rattle.model_script.specs.declared.asked.Command.TheVariants.{Format}
 use Rattle.model_device.specs.Disk.{Disk}
-use Rattle.model_opening.specs.Formatted as opening
-use Rattle.model_opening.specs.{formatted_store, IsOpenable}
+use Rattle.model_parts.specs.Formatted as opening
+use Rattle.model_parts.specs.{formatted_store, IsOpenable}
 use Rattle.model_report.specs.{format_text}
 use Rattle.model_store.specs.{IsOrderly}
 use Rattle.model_store.specs.declared.refusal.Refusal.TheVariants as refusal

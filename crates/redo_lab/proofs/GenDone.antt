@@ -1,6 +1,6 @@
 -- What a run of the script of a seed comes to whose lines were run.
 use Rattle.std.proofs.Common.{ℕ, ◌≡◌, true, false, List, Some, None, inr, arith}
-use Rattle.model_command.specs.declared.asked.Command.TheVariants.{Gen}
+use Rattle.model_script.specs.declared.asked.Command.TheVariants.{Gen}
 use Rattle.model_report.specs.declared.fault.Fault.{Fault}
 use Rattle.model_report.specs.declared.fault.Fault.TheVariants as fault
 use Rattle.model_script.specs.{generated_lines}

@@ -1,9 +1,9 @@
 -- A store in use, as long as both devices mean what they meant.
 use Rattle.std.proofs.Common.{ℕ, ◌≡◌, List, Option, Some}
 use Rattle.model_device.specs.Disk.{Disk}
-use Rattle.model_opening.specs.{IsAtRest, IsOpenable, KeepsOpened}
+use Rattle.model_parts.specs.{IsAtRest, IsOpenable, KeepsOpened}
 use Rattle.model_store.specs.{IsReading, IsUnused, OpensOrderly}
-use Rattle.model_opening.proofs.Formatted.{zeros-refused}
+use Rattle.model_parts.proofs.Formatted.{zeros-refused}
 use Rattle.model_store.specs.Reading.{Reading}
 use Rattle.model_store.specs.declared.refusal.Refusal.TheVariants.{NotFormatted}
 use Rattle.model_theorem.specs.{IsFresh, Opened}

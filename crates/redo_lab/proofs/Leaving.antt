@@ -2,7 +2,7 @@
 use Rattle.std.proofs.Common.{ℕ, ◌≡◌, List, ap, subst, inl, inr, ⊎_elim, Bool}
 use Rattle.model_base.specs.declared.shape.Shape.{Shape}
 use Rattle.model_device.specs.Disk.{Disk}
-use Rattle.model_opening.specs.{IsOpenable, KeepsOpened}
+use Rattle.model_parts.specs.{IsOpenable, KeepsOpened}
 use Rattle.model_script.specs.declared.script.ScriptLine.{ScriptLine}
 use Rattle.model_store.specs.{IsFair, Opens}
 use Rattle.model_store.specs.Reading.{Reading}

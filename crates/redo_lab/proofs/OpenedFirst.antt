@@ -3,11 +3,10 @@ use Rattle.std.proofs.Common.{◌+◌, Some, None, inl, refl, ap, ◌∙◌, ari
 use Rattle.model_device.specs.{IsImage}
 use Rattle.model_device.specs.Disk.{Disk}
 use Rattle.model_log.specs.{newest_checkpoint}
-use Rattle.model_opening.specs.{IsOpenable}
-use Rattle.model_run.specs.{IsHeld}
-use Rattle.model_run.specs.Closed.{Held}
+use Rattle.model_parts.specs.{IsOpenable}
+use Rattle.model_theorem.specs.{HeldOlder, IsHeld, IsOpenedBefore}
+use Rattle.model_theorem.specs.Closed.{Held}
 use Rattle.model_store.specs.Reading.{Reading}
-use Rattle.model_theorem.specs.{HeldOlder, IsOpenedBefore}
 use Rattle.redo_open.specs.{HasSameCheckpoint}
 
 -- a log device that holds a run tells that opening came to its end

@@ -5,13 +5,13 @@ use Rattle.std.proofs.lemmas.Bool.{eq-eqb}
 use Rattle.model_base.specs.{default_shape}
 use Rattle.model_base.specs.declared.limits.TheConstants.{BLOCK_SIZE}
 use Rattle.model_base.specs.declared.shape.Shape.{Shape}
-use Rattle.model_command.specs.declared.asked.Drive.{Drive}
+use Rattle.model_script.specs.declared.asked.Drive.{Drive}
 use Rattle.model_device.specs.{synced}
 use Rattle.model_device.specs.Disk.{Disk}
 use Rattle.model_log.specs.{block_of, IsAtDataStart, start_after}
 use Rattle.model_log.specs.declared.layout.TheConstants.{BLOCK_HEADER}
-use Rattle.model_opening.specs.{formatted_store, IsFormatted, IsOpenable, IsReady}
-use Rattle.model_run.specs.{IsClosed, IsHeld, IsStart, opened_as}
+use Rattle.model_parts.specs.{formatted_store, IsFormatted, IsOpenable, IsReady}
+use Rattle.model_theorem.specs.{IsClosed, IsHeld, IsStart, LosesOnlyByFailure, opened_as}
 use Rattle.model_script.specs.{first_misfit, LineFits, ScriptFits}
 use Rattle.model_script.specs.declared.misfit.Misfit.{Misfit}
 use Rattle.model_script.specs.declared.script.ScriptLine.{ScriptLine}
@@ -34,7 +34,6 @@ use Rattle.redo_drive.specs.Drive.{failed_in}
 use Rattle.redo_drive.specs.declared.drive.Driven.{Driven}
 use Rattle.redo_drive.specs.declared.drive.RunEnd.{RunEnd}
 use Rattle.redo_drive.specs.declared.drive.RunEnd.TheVariants.{Done, Spent}
-use Rattle.model_theorem.specs.{LosesOnlyByFailure}
 use Rattle.redo_drive.specs.Beginning.{IsOpenedAs as IsStartedAs}
 use Rattle.model_report.specs.declared.fault.Fault.TheVariants as fault
 use Rattle.redo_lab.specs.declared.playing.Course.{Course}

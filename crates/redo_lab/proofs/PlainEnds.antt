@@ -2,8 +2,8 @@
 use Rattle.std.proofs.lemmas.Bool.{false≢true}
 use Rattle.std.proofs.Common.{ℕ, ◌≡◌, ◌<◌, Bool, true, false, if◌then◌else◌, List, Some, None, Result, Ok, Err, IfOk, subst, arith}
 use Rattle.model_base.specs.{HasRisen}
-use Rattle.model_command.specs.declared.asked.Command.{Command}
-use Rattle.model_command.specs.declared.asked.Command.TheVariants.{Recover, Dump, Gen}
+use Rattle.model_script.specs.declared.asked.Command.{Command}
+use Rattle.model_script.specs.declared.asked.Command.TheVariants.{Recover, Dump, Gen}
 use Rattle.model_report.specs.{dump_text, recover_text}
 use Rattle.model_report.specs.declared.fault.Fault.TheVariants as fault
 use Rattle.model_script.specs.{generated_text}
@@ -12,8 +12,8 @@ use Rattle.model_store.specs.Reading.{Reading}
 use Rattle.model_store.specs.declared.refusal.Refusal.{Refusal}
 use Rattle.model_store.specs.declared.refusal.Refusal.TheVariants as refusal
 use Rattle.redo_disk.specs.{failures}
-use Rattle.model_stop.specs.{IsStop}
-use Rattle.model_stop.specs.declared.cause.Cause.{Cause}
+use Rattle.model_log.specs.{IsStop}
+use Rattle.model_log.specs.declared.cause.Cause.{Cause}
 use Rattle.redo_recover.specs.Devices.{OnContent}
 use Rattle.redo_recover.specs.{data_error, HasCauseIn, log_error, OnContents}
 use Rattle.redo_recover.specs.declared.fault.RecFault.{RecFault}

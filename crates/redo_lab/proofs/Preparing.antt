@@ -5,7 +5,7 @@ use Rattle.model_base.specs.{default_shape}
 use Rattle.model_device.specs.Disk.{Disk}
 use Rattle.model_log.specs.{log_device_length}
 use Rattle.model_log.specs.declared.layout.TheConstants.{HEADER_BYTES}
-use Rattle.model_opening.specs.{IsFormatted}
+use Rattle.model_parts.specs.{IsFormatted}
 use Rattle.model_page.specs.{data_device_length}
 use Rattle.model_store.specs.{IsUnused}
 use Rattle.model_store.specs.declared.refusal.Refusal.{Refusal}

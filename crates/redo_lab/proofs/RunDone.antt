@@ -1,7 +1,7 @@
 -- What the command `run` comes to whose lines were run.
 use Rattle.std.proofs.Common.{ℕ, List, Option, Some, None, sym, subst, ⊎_elim, arith}
-use Rattle.model_command.specs.declared.asked.Command.TheVariants.{Run}
-use Rattle.model_command.specs.declared.asked.Drive.{Drive}
+use Rattle.model_script.specs.declared.asked.Command.TheVariants.{Run}
+use Rattle.model_script.specs.declared.asked.Drive.{Drive}
 use Rattle.model_report.specs.declared.fault.Fault.{Fault}
 use Rattle.model_report.specs.declared.fault.Fault.TheVariants as fault
 use Rattle.model_script.specs.declared.script.ScriptLine.{ScriptLine}

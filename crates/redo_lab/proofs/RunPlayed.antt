@@ -4,15 +4,14 @@ use Rattle.model_base.specs.{default_shape, IsWithinLimits}
 use Rattle.model_base.specs.declared.shape.Shape.{Shape}
 use Rattle.model_device.specs.{IsImage}
 use Rattle.model_device.specs.Disk.{Disk}
-use Rattle.model_history.specs.{IsLeft}
-use Rattle.model_opening.specs.{formatted_store, IsFormatted, IsOpenable}
+use Rattle.model_report.specs.{IsLeft}
+use Rattle.model_parts.specs.{formatted_store, IsFormatted, IsOpenable}
 use Rattle.model_page.specs.declared.content.Content.{Content}
-use Rattle.model_run.specs.{IsClosed, IsHeld, opened_as, result_of}
-use Rattle.model_run.specs.Closed.{Closed, Held}
+use Rattle.model_theorem.specs.{AreUnopened, HeldOlder, IsClosed, IsFresh, IsHeld, IsOpenedBefore, IsWholeScript, Opened, opened_as, Ran, ReadsPrefix, result_of, RunSafe}
+use Rattle.model_theorem.specs.Closed.{Closed, Held}
 use Rattle.model_script.specs.declared.script.ScriptLine.{ScriptLine}
 use Rattle.model_store.specs.{IsFair, Opens, OpensOrderly, OpensUnused}
 use Rattle.model_store.specs.Reading.{Reading}
-use Rattle.model_theorem.specs.{AreUnopened, HeldOlder, IsFresh, IsOpenedBefore, IsWholeScript, Opened, Ran, ReadsPrefix, RunSafe}
 use Rattle.redo_disk.specs.Seen.{Seen}
 use Rattle.redo_open.specs.{HasSameCheckpoint, WhereBothTell}
 use Rattle.redo_lab.specs.declared.playing.Played.{Played}

@@ -2,7 +2,7 @@
 use Rattle.std.proofs.Common.{ℕ, ◌≡◌, ◌≤◌, Bool, List, Option, Some, None, IfSome, sym, ap, subst, ◌∙◌, ⊎_elim, arith}
 use Rattle.model_base.specs.{default_shape}
 use Rattle.model_base.specs.declared.shape.Shape.{Shape}
-use Rattle.model_command.specs.declared.asked.Command.{Command}
+use Rattle.model_script.specs.declared.asked.Command.{Command}
 use Rattle.model_device.specs.Disk.{Disk}
 use Rattle.model_log.specs.{start_after}
 use Rattle.model_log.specs.declared.layout.TheConstants.{HEADER_BYTES}

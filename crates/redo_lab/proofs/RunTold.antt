@@ -1,14 +1,14 @@
 -- What is told of a run whose lines were played, by its report or by its summary.
 use Rattle.std.proofs.Common.{ℕ, ◌≡◌, ◌+◌, Bool, List, Some, subst, arith}
-use Rattle.model_command.specs.declared.asked.Drive.{Drive}
+use Rattle.model_script.specs.declared.asked.Drive.{Drive}
 use Rattle.model_device.specs.Disk.{Disk}
-use Rattle.model_history.specs.{IsLeft}
+use Rattle.model_report.specs.{IsLeft}
 use Rattle.model_script.specs.declared.script.ScriptLine.{ScriptLine}
 use Rattle.model_theorem.specs.{IsOpenedBefore, LosesOnlyByFailure, Ran}
 use Rattle.redo_disk.specs.Seen.{Seen}
 use Rattle.redo_lab.specs.declared.playing.Played.{Played}
 use Rattle.redo_lab.specs.declared.playing.Stops.{Stops}
-use Rattle.model_command.specs.declared.asked.Command.{Command}
+use Rattle.model_script.specs.declared.asked.Command.{Command}
 use Rattle.redo_lab.proofs.Leaving.{run-reads}
 use Rattle.redo_lab.proofs.OpenedFirst.{OpenedLaw}
 use Rattle.redo_lab.proofs.RunPlayed.{ClosedLaws, FormattedLaw, armed-same, held-with, holds-closed, opened-before, told-still, was-found}

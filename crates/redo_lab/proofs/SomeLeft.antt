@@ -3,8 +3,8 @@ use Rattle.std.proofs.Common.{ℕ, zero, suc, ◌≡◌, ◌≤◌, ◌<◌, ◌
 use Rattle.std.specs.Prelude.{nat_lt}
 use Rattle.std.proofs.lemmas.Bool.{cases_lt}
 use Rattle.std.proofs.lemmas.Bool.Decides.{nat_tests}
-use Rattle.model_history.specs.{entries_of_user, HasLeft, IsLeft, lines_of_user}
-use Rattle.model_history.specs.declared.entry.Entry.{Entry}
+use Rattle.model_report.specs.{entries_of_user, HasLeft, IsLeft, lines_of_user}
+use Rattle.model_report.specs.declared.entry.Entry.{Entry}
 use Rattle.model_script.specs.declared.script.ScriptLine.{ScriptLine}
 
 -- of so many users, from one on, those of which something is counted

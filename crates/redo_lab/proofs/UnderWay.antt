@@ -3,7 +3,7 @@ use Rattle.std.proofs.Common.{ℕ, ◌≡◌, ◌≢◌, ◌≤◌, ◌<◌, ◌
 use Rattle.model_base.specs.{default_shape, IsWithinLimits}
 use Rattle.model_device.specs.Disk.{Disk}
 use Rattle.model_log.specs.declared.layout.TheConstants.{HEADER_BYTES}
-use Rattle.model_opening.specs.{formatted_store, IsFormatted, IsOpenable, KeepsOpened}
+use Rattle.model_parts.specs.{formatted_store, IsFormatted, IsOpenable, KeepsOpened}
 use Rattle.model_script.specs.declared.script.ScriptLine.{ScriptLine}
 use Rattle.model_store.specs.{IsReading, IsUnused, Refuses}
 use Rattle.model_store.specs.Reading.{Reading}

@@ -1,14 +1,14 @@
 -- A command whose script wasn't read: it called no device.
 use Rattle.model_base.specs.{HasRisen}
-use Rattle.model_command.specs.declared.asked.Command.{Command}
+use Rattle.model_script.specs.declared.asked.Command.{Command}
 use Rattle.redo_memdisk.specs.declared.fuse.Fuse.{Fuse}
 use Rattle.redo_memdisk.specs.{fresh}
 use Rattle.redo_disk.specs.Seen.{Seen}
 use Rattle.std.proofs.Common.{ℕ, ◌≡◌, ◌<◌, Bool, List, length, Option, Some, None, IfSome, refl, sym, ap, subst, ◌∙◌, inl, arith, ◌≢◌, true}
 use Rattle.std.proofs.lemmas.Bool.{false≢true}
 use Rattle.model_base.specs.declared.limits.TheConstants.{MAX_SCRIPT}
-use Rattle.model_command.specs.declared.asked.Command.TheVariants.{Run, Crash}
-use Rattle.model_command.specs.declared.asked.Drive.{Drive}
+use Rattle.model_script.specs.declared.asked.Command.TheVariants.{Run, Crash}
+use Rattle.model_script.specs.declared.asked.Drive.{Drive}
 use Rattle.model_report.specs.declared.fault.Fault.{Fault}
 use Rattle.model_report.specs.declared.fault.Fault.TheVariants as fault
 use Rattle.model_script.specs.{script_of}

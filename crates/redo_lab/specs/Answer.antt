@@ -2,14 +2,14 @@
 use Rattle.std.specs.Prelude.{ℕ, if◌then◌else◌, Bool, ◌≡◌, ◌≢◌, true, false, List, Option, Some, None}
 use Rattle.model_base.specs.{default_shape}
 use Rattle.model_base.specs.declared.shape.Shape.{Shape}
-use Rattle.model_command.specs.declared.asked.Command.{Command}
-use Rattle.model_command.specs.declared.asked.Command.TheVariants.{Format, Run, Crash, Recover, Dump, Gen}
-use Rattle.model_command.specs.declared.asked.Drive.{Drive}
+use Rattle.model_script.specs.declared.asked.Command.{Command}
+use Rattle.model_script.specs.declared.asked.Command.TheVariants.{Format, Run, Crash, Recover, Dump, Gen}
+use Rattle.model_script.specs.declared.asked.Drive.{Drive}
 use Rattle.model_device.specs.Disk.{Disk}
 use Rattle.model_report.specs.{dump_text, format_text, recover_text}
 use Rattle.model_script.specs.{generated_text}
-use Rattle.model_stop.specs.{IsStop}
-use Rattle.model_stop.specs.declared.cause.Cause.{Cause}
+use Rattle.model_log.specs.{IsStop}
+use Rattle.model_log.specs.declared.cause.Cause.{Cause}
 use Rattle.model_store.specs.{IsReading}
 use Rattle.model_store.specs.Reading.{Reading}
 use Rattle.model_theorem.specs.{Account, CrashOptions, CrashSafe, Device, Opened, Stop}

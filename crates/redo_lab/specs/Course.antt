@@ -2,23 +2,22 @@
 use Rattle.std.specs.Prelude.{ℕ, ◌≡◌, ◌≤◌, ◌<◌, ◌+◌, ◌⊎◌, Bool, List, Option, Some, None, IfSome}
 use Rattle.model_device.specs.{synced}
 use Rattle.model_device.specs.Disk.{Disk}
-use Rattle.model_history.specs.{IsLeft}
+use Rattle.model_report.specs.{IsLeft}
 use Rattle.model_log.specs.{start_after}
-use Rattle.model_opening.specs.{IsOpenable, KeepsOpened}
+use Rattle.model_parts.specs.{IsOpenable, KeepsOpened}
 use Rattle.model_report.specs.declared.fault.Fault.{Fault}
 use Rattle.model_report.specs.declared.fault.Fault.TheVariants as fault
-use Rattle.model_run.specs.{IsClosed, IsHeld, opened_as}
+use Rattle.model_theorem.specs.{FitsOpened, IsClosed, IsHeld, IsRun, LosesOnlyByFailure, Opened, opened_as, Ran, room_of}
 use Rattle.model_script.specs.{first_misfit}
 use Rattle.model_script.specs.declared.misfit.Misfit.{Misfit}
 use Rattle.model_script.specs.declared.script.ScriptLine.{ScriptLine}
 use Rattle.model_store.specs.Reading.{Reading}
 use Rattle.model_store.specs.declared.refusal.Refusal.{Refusal}
-use Rattle.model_theorem.specs.{FitsOpened, IsRun, LosesOnlyByFailure, Opened, Ran, room_of}
 use Rattle.redo_disk.specs.{Call}
 use Rattle.redo_disk.specs.Seen.{Seen}
 use Rattle.redo_drive.specs.declared.drive.RunEnd.{RunEnd}
 use Rattle.redo_drive.specs.declared.drive.RunEnd.TheVariants.{Done, Spent}
-use Rattle.model_command.specs.declared.asked.Drive.{Drive}
+use Rattle.model_script.specs.declared.asked.Drive.{Drive}
 use Rattle.redo_open.specs.{HasSameCheckpoint, WhereBothTell}
 use Rattle.model_store.specs.{IsUnused}
 use Rattle.redo_lab.specs.declared.playing.Course.{Course}

@@ -1,6 +1,6 @@
 -- What is told of a run by its drive. A new drive is one more case of `TellsOf`.
 use Rattle.std.specs.Prelude.{◌≡◌, Bool, true, false, List, Option}
-use Rattle.model_command.specs.declared.asked.Drive.{Drive}
+use Rattle.model_script.specs.declared.asked.Drive.{Drive}
 use Rattle.model_device.specs.Disk.{Disk}
 use Rattle.model_log.specs.{start_after}
 use Rattle.model_script.specs.declared.script.ScriptLine.{ScriptLine}

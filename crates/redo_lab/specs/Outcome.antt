@@ -1,8 +1,8 @@
 -- What a command comes to on two devices, before anything is printed.
 use Rattle.std.specs.Prelude.{ℕ, ◌≡◌, ◌≢◌, true, false, List, [], None, Result, Ok, Err}
 use Rattle.model_base.specs.{HasRisen}
-use Rattle.model_command.specs.declared.asked.Command.{Command}
-use Rattle.model_command.specs.declared.asked.Command.TheVariants.{Run}
+use Rattle.model_script.specs.declared.asked.Command.{Command}
+use Rattle.model_script.specs.declared.asked.Command.TheVariants.{Run}
 use Rattle.model_report.specs.declared.fault.Fault.{Fault}
 use Rattle.model_report.specs.declared.fault.Fault.TheVariants.{Memory}
 use Rattle.redo_disk.specs as device

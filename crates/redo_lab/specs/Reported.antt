@@ -1,9 +1,8 @@
 -- The text of a report: of a run, or of none where opening was stopped, and behind a crash of what was read.
 use Rattle.std.specs.Prelude.{ℕ, ◌≡◌, ◌⊎◌, List, length, Option, Some, None}
 use Rattle.std.specs.Borrow.{Bor}
-use Rattle.model_history.specs.{IsLeft}
+use Rattle.model_report.specs.{IsLeft, report_text, summary_text}
 use Rattle.model_page.specs.declared.content.Content.{Content}
-use Rattle.model_report.specs.{report_text, summary_text}
 use Rattle.model_report.specs.declared.fault.Fault.{Fault}
 use Rattle.model_report.specs.declared.fault.Fault.TheVariants.{Memory}
 use Rattle.model_script.specs.declared.script.ScriptLine.{ScriptLine}

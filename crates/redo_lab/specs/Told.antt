@@ -1,10 +1,9 @@
 -- WHAT IS TOLD OF A RUN, by a report, a summary or spent turns: always of one run, which is the drive's.
 use Rattle.std.specs.Prelude.{ℕ, ◌≡◌, List, length, Option, Some, None, IfSome}
-use Rattle.model_command.specs.declared.asked.Command.{Command}
-use Rattle.model_command.specs.declared.asked.Drive.{Drive}
+use Rattle.model_script.specs.declared.asked.Command.{Command}
+use Rattle.model_script.specs.declared.asked.Drive.{Drive}
 use Rattle.model_device.specs.Disk.{Disk}
-use Rattle.model_history.specs.{IsLeft}
-use Rattle.model_report.specs.{report_text, summary_text}
+use Rattle.model_report.specs.{IsLeft, report_text, summary_text}
 use Rattle.model_script.specs.declared.script.ScriptLine.{ScriptLine}
 use Rattle.model_store.specs.{IsReading}
 use Rattle.model_store.specs.Reading.{Reading}

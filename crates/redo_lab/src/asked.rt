@@ -7,8 +7,8 @@ ghost use Rattle.redo_lab.specs.Playing.{command_for};
 
 use crate::crash_command::Crashing;
 use crate::playing::Stops;
-use model_command::{Command, Drive};
 use model_report::Fault;
+use model_script::{Command, Drive};
 use redo_command::{WordsFault, read_words};
 use redo_machine::Turns;
 use std::alloc::Global;

@@ -1,8 +1,8 @@
 // A command, done on two devices.
 ghost use Rattle.std.specs.Prelude.{ℕ, List, ◌≡◌, ◌+◌, ◌≤◌, true, false, IfSome};
 ghost use Rattle.model_base.specs.declared.limits.TheConstants.{MAX_SCRIPT};
-ghost use Rattle.model_command.specs.declared.asked.Drive.{Drive as Asked};
-ghost use Rattle.model_command.specs.declared.words.TheConstants.{MAX_WORKERS};
+ghost use Rattle.model_script.specs.declared.asked.Drive.{Drive as Asked};
+ghost use Rattle.model_script.specs.declared.words.TheConstants.{MAX_WORKERS};
 ghost use Rattle.redo_io.specs.{SourceSeen, TakesAtMost};
 ghost use Rattle.redo_io.specs.declared.read.TheConstants.{PIECE};
 ghost use Rattle.redo_lab.specs.Asked.{IsWithin, runs_in_threads};
@@ -19,9 +19,8 @@ use crate::playing::{Ran, Stops, by_turns, in_threads};
 use crate::run_command::run_command;
 use crate::script::read_script;
 use crate::simple::{format_devices, print_pages, print_store};
-use model_command::Command;
-use model_opening::openable_reads;
-use model_script::{Script, read_lines_are_ranged};
+use model_parts::openable_reads;
+use model_script::{Command, Script, read_lines_are_ranged};
 use redo_disk::Sectors;
 use redo_io::Source;
 use redo_threads::Gate;

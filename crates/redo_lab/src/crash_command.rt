@@ -1,8 +1,8 @@
 // The command `crash`.
 ghost use Rattle.std.specs.Prelude.{ℕ, ◌≤◌, List, Some, IfOk, length};
 ghost use Rattle.model_base.specs.declared.limits.TheConstants.{MAX_PAGES};
-ghost use Rattle.model_command.specs.declared.asked.Drive.{Drive as Asked};
-ghost use Rattle.model_command.specs.declared.words.TheConstants.{MAX_WORKERS};
+ghost use Rattle.model_script.specs.declared.asked.Drive.{Drive as Asked};
+ghost use Rattle.model_script.specs.declared.words.TheConstants.{MAX_WORKERS};
 ghost use Rattle.redo_io.specs.{SourceSeen};
 ghost use Rattle.redo_memdisk.specs.{entry_of};
 ghost use Rattle.redo_lab.specs.Handed.{AreOf};
@@ -18,10 +18,10 @@ use crate::outcome::{Done, Outcome};
 use crate::playing::{Course, Played, Ran, Stops};
 use crate::reading::contents;
 use crate::reporting::report_of;
-use model_opening::{formatted_is_openable, openable_reads};
-use model_run::{closed_run_is_safe, crash_of_safe_run, held_run_is_opened, held_run_reads};
+use model_parts::{formatted_is_openable, openable_reads};
 use model_script::{Script, unfit_is_misfit};
 use model_store::{one_answer, one_reading};
+use model_theorem::{closed_run_is_safe, crash_of_safe_run, held_run_is_opened, held_run_reads};
 use redo_disk::Sectors;
 use redo_io::Text;
 use redo_lsn::NoMemory;

@@ -2,7 +2,7 @@
 ghost use Rattle.std.specs.Prelude.{◌≡◌, ◌≤◌, ◌<◌, ◌^◌, true, false, IfErr, IfOk};
 ghost use Rattle.std.specs.List.{AllByRecursion};
 ghost use Rattle.model_base.specs.{IsWithinLimits};
-ghost use Rattle.model_command.specs.declared.asked.Drive.{Drive as Asked};
+ghost use Rattle.model_script.specs.declared.asked.Drive.{Drive as Asked};
 ghost use Rattle.model_log.specs.declared.layout.TheConstants.{BLOCK_HEADER};
 ghost use Rattle.model_report.specs.declared.fault.Fault.TheVariants.{Memory};
 ghost use Rattle.model_script.specs.{IsScriptLine, ScriptFits};
@@ -21,10 +21,9 @@ ghost use Rattle.redo_lab.specs.Playing.{AreArmed, AreEntered, AreLeftOpened, Ar
 use crate::faults::fault_of;
 use crate::prepare::prepare;
 use model_base::{BLOCK_SIZE, Shape};
-use model_history::{History, Marks};
 use model_log::BLOCK_HEADER;
-use model_opening::formatted_is_openable;
-use model_report::Fault;
+use model_parts::formatted_is_openable;
+use model_report::{Fault, History, Marks};
 use model_script::{Script, fitting_script};
 use model_store::{one_answer, one_reading};
 use redo_disk::{DevError, Sectors};

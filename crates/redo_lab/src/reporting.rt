@@ -4,8 +4,8 @@ ghost use Rattle.redo_lab.specs.Reported.{IsReportOf, run_of};
 ghost use Rattle.redo_report.specs.{read_of};
 
 use crate::playing::Played;
-use model_history::History;
 use model_page::Content;
+use model_report::History;
 use model_script::Script;
 use redo_io::Text;
 use redo_lsn::NoMemory;

@@ -1,7 +1,7 @@
 // The command `run`.
 ghost use Rattle.std.specs.Prelude.{ℕ, List, None};
-ghost use Rattle.model_command.specs.declared.asked.Command.TheVariants.{Run};
-ghost use Rattle.model_command.specs.declared.asked.Drive.{Drive as Asked};
+ghost use Rattle.model_script.specs.declared.asked.Command.TheVariants.{Run};
+ghost use Rattle.model_script.specs.declared.asked.Drive.{Drive as Asked};
 ghost use Rattle.redo_io.specs.{SourceSeen};
 ghost use Rattle.redo_lab.specs.Course.{ran_of};
 ghost use Rattle.redo_lab.specs.Handed.{AreOf};
@@ -13,11 +13,11 @@ ghost use Rattle.redo_lab.specs.Script.{IsScriptRead};
 use crate::outcome::{Done, Outcome};
 use crate::playing::{Course, Played, Ran};
 use crate::reporting::report_of;
-use model_opening::{formatted_is_openable, openable_reads};
+use model_parts::{formatted_is_openable, openable_reads};
 use model_report::Fault;
-use model_run::{closed_run_is_safe, held_run_is_opened, held_run_reads};
 use model_script::{Script, unfit_is_misfit};
 use model_store::{one_answer, one_reading};
+use model_theorem::{closed_run_is_safe, held_run_is_opened, held_run_reads};
 use redo_disk::Sectors;
 use std::alloc::Global;
 

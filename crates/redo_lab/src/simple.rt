@@ -1,8 +1,8 @@
 // The commands that take no script.
 ghost use Rattle.std.specs.Prelude.{ℕ, List, ◌≤◌};
 ghost use Rattle.model_base.specs.{IsWithinLimits};
-ghost use Rattle.model_command.specs.declared.asked.Command.TheVariants.{Format, Recover, Dump};
-ghost use Rattle.model_command.specs.declared.words.TheConstants.{MAX_WORKERS};
+ghost use Rattle.model_script.specs.declared.asked.Command.TheVariants.{Format, Recover, Dump};
+ghost use Rattle.model_script.specs.declared.words.TheConstants.{MAX_WORKERS};
 ghost use Rattle.redo_io.specs.{SourceSeen};
 ghost use Rattle.redo_lab.specs.Answer.{shape_of};
 ghost use Rattle.redo_lab.specs.Handed.{AreOf};
@@ -12,7 +12,7 @@ use crate::faults::fault_of;
 use crate::outcome::{Done, Outcome};
 use crate::reading::{listing_of, reading_text};
 use crate::shapes::shape_of;
-use model_opening::formatted_is_openable;
+use model_parts::formatted_is_openable;
 use model_store::one_answer;
 use redo_disk::Sectors;
 use redo_memdisk::Fused;

@@ -2,22 +2,21 @@
 use Rattle.std.proofs.Common.{◌≡◌, ◌≤◌, ◌<◌, ◌+◌, ◌*◌, ◌%◌, ◌^◌, ℕ, List, [], length, Option, Some, None, sym, ap, subst, ◌∙◌, ⊎_elim, arith}
 use Rattle.std.proofs.lemmas.Bool.{cases_lt}
 use Rattle.model_base.specs.declared.shape.Shape.{Shape}
-use Rattle.model_record.specs.declared.group.Whole.{Whole}
+use Rattle.model_log.specs.declared.group.Whole.{Whole}
 use Rattle.model_device.specs.Disk.{Disk}
 use Rattle.model_device.specs.{FailsWrite, synced, written}
 use Rattle.model_log.specs.{block_of, checkpoint_text, framed, IsGivenTo, place_of, sn_of}
 use Rattle.redo_disk.specs.{write_at}
-use Rattle.model_logdev.proofs.Places.{HasBlocks}
+use Rattle.model_parts.proofs.Places.{HasBlocks}
 use Rattle.redo_disk.specs.declared.error.DevError.{DevError}
-use Rattle.model_logdev.specs.{after_asked, after_checkpoint, after_given, after_synced, after_written, first_marks, HasNextNumber, IsFresh, LogHolds, MayBeNext, next_number, other_place}
-use Rattle.model_logdev.specs.declared.marks.LogMarks.{LogMarks}
+use Rattle.model_parts.specs.{after_asked, after_checkpoint, after_given, after_synced, after_written, first_marks, HasNextNumber, IsFresh, LogHolds, MayBeNext, next_number, other_place}
+use Rattle.model_parts.specs.declared.marks.LogMarks.{LogMarks}
 use Rattle.redo_logdev.specs.Part.{Part, IsSound, MayWrite, DiskHolds}
 use Rattle.redo_logdev.specs.Calls.{written_round, FailsRound}
-use Rattle.model_log.proofs.BoundaryLengths.{sn_of-block}
-use Rattle.model_log.proofs.BoundaryLengths.{sn_of-rises}
-use Rattle.model_logdev.proofs.Fresh.{fresh-holds}
+use Rattle.model_log.proofs.BoundaryLengths.{sn_of-block, sn_of-rises}
+use Rattle.model_parts.proofs.LogFresh.{fresh-holds}
 use Rattle.model_device.proofs.MayHold.{adds-written, adds-failed}
-use Rattle.model_logdev.proofs.Checkpoints.{synced-holds, WritesSector, checkpoint-holds, checkpointed-holds, next-place}
+use Rattle.model_parts.proofs.Checkpoints.{synced-holds, WritesSector, checkpoint-holds, checkpointed-holds, next-place}
 use Rattle.redo_logdev.proofs.WriteTo.{IsCut, count-firsts, ends-below, write_to-ok, write_to-err}
 
 pub sync-ok : (shape : Shape) (s : ℕ) (wholes : List Whole) (marks : LogMarks) (failed : Option DevError) (a b : Disk) → failed ≡ None

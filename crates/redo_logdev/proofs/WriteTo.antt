@@ -4,7 +4,7 @@ use Rattle.std.proofs.lemmas.List.{take_all, take-take, drop-take, drop-drop}
 use Rattle.std.proofs.lemmas.Bool.{cases_lt}
 use Rattle.std.proofs.lemmas.Nat.{div-add-mod', mod-mul-add}
 use Rattle.model_base.specs.declared.shape.Shape.{Shape}
-use Rattle.model_record.specs.declared.group.Whole.{Whole}
+use Rattle.model_log.specs.declared.group.Whole.{Whole}
 use Rattle.model_device.specs.{Adds, Covers, FailsWrite}
 use Rattle.model_device.specs.Disk.{Disk}
 use Rattle.model_device.specs.declared.write.Write.{Write}
@@ -12,11 +12,11 @@ use Rattle.model_log.specs.{block_of, framed, IsAtDataStart, IsBoundaryBlock, Is
 use Rattle.model_log.proofs.Runs.{lsn-before}
 use Rattle.model_log.proofs.BoundaryLengths.{sn_of-block, sn_of-header}
 use Rattle.model_log.proofs.CutStream.{length-framed, given-framed, some-below}
-use Rattle.model_logdev.specs.{after_given, after_written, AreInOrder, IsLive, IsWritten, LogHolds, other_place, round_of, sector_of}
-use Rattle.model_logdev.specs.declared.marks.LogMarks.{LogMarks}
+use Rattle.model_parts.specs.{after_given, after_written, AreInOrder, IsLive, IsWritten, LogHolds, other_place, round_of, sector_of}
+use Rattle.model_parts.specs.declared.marks.LogMarks.{LogMarks}
 use Rattle.model_device.proofs.MayHold.{adds-failed}
-use Rattle.model_logdev.proofs.Places.{place-within, sector-place}
-use Rattle.model_logdev.proofs.Writing.{WritesBlocks, IsWriting, writing-begin, writing-adds, writing-more, writing-end}
+use Rattle.model_parts.proofs.Places.{place-within, sector-place}
+use Rattle.model_parts.proofs.Writing.{WritesBlocks, IsWriting, writing-begin, writing-adds, writing-more, writing-end}
 use Rattle.redo_block.specs.{AreFirsts}
 use Rattle.redo_disk.specs.{write_at}
 use Rattle.redo_logdev.specs.Calls.{written_if, front_of, back_of, written_round, FailsRound}

@@ -2,12 +2,12 @@
 use Rattle.std.specs.Prelude.{ℕ, ◌≡◌, ◌≤◌, ◌<◌, ◌+◌, ◌-◌, ◌%◌, ◌^◌, List, length, Option, None, Result, IfSome}
 use Rattle.model_base.specs.declared.shape.Shape.{Shape}
 use Rattle.model_base.specs.declared.limits.TheConstants.{BLOCK_SIZE, START_LSN, MIN_LOG_BLOCKS, MAX_LOG_BLOCKS}
-use Rattle.model_record.specs.declared.group.Whole.{Whole}
+use Rattle.model_log.specs.declared.group.Whole.{Whole}
 use Rattle.model_device.specs.Disk.{Disk}
 use Rattle.model_log.specs.{block_of, IsDataLsn, IsGivenTo, log_device_length, sn_of}
 use Rattle.model_log.specs.declared.layout.TheConstants.{RING_SIZE}
-use Rattle.model_logdev.specs.{HasNextNumber, IsWritten, LogHolds, round_of}
-use Rattle.model_logdev.specs.declared.marks.LogMarks.{LogMarks}
+use Rattle.model_parts.specs.{HasNextNumber, IsWritten, LogHolds, round_of}
+use Rattle.model_parts.specs.declared.marks.LogMarks.{LogMarks}
 use Rattle.redo_block.specs.{AreFirsts}
 use Rattle.redo_disk.specs.{error_of, HasCause}
 use Rattle.redo_disk.specs.Seen.{Seen}

@@ -3,7 +3,7 @@ ghost use Rattle.std.specs.Prelude.{◌≡◌, ◌≤◌, ◌<◌, ◌%◌, ◌^
 ghost use Rattle.model_base.specs.declared.limits.TheConstants.{BLOCK_SIZE, START_LSN, MIN_LOG_BLOCKS, MAX_LOG_BLOCKS};
 ghost use Rattle.model_device.specs.{FailsWrite};
 ghost use Rattle.model_log.specs.{log_device_length};
-ghost use Rattle.model_logdev.specs.{round_of};
+ghost use Rattle.model_parts.specs.{round_of};
 ghost use Rattle.redo_disk.specs.{error_of, HasCause, IsRange, MakesCalls, OnTold, Serve, write_at};
 ghost use Rattle.redo_logdev.specs.Calls.{written_if, written_round, FailsRound, round_writes, some_write};
 

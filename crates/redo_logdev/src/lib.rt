@@ -7,5 +7,5 @@ mod blocks;
 mod calls;
 mod part;
 
-pub use model_logdev::LogMarks;
+pub use model_parts::LogMarks;
 pub use part::LogPart;

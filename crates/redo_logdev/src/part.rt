@@ -2,12 +2,12 @@
 ghost use Rattle.std.specs.Prelude.{◌≡◌, ◌≤◌, ◌<◌, ◌-◌, ◌^◌, [], None, IfOk, IfSome, MatchResult};
 ghost use Rattle.model_base.specs.declared.limits.TheConstants.{FIRST_DATA_LSN, MAX_LOG_BLOCKS, MIN_LOG_BLOCKS};
 ghost use Rattle.model_log.specs.{IsAtDataStart, log_device_length};
-ghost use Rattle.model_logdev.specs.{first_marks, IsFresh};
+ghost use Rattle.model_parts.specs.{first_marks, IsFresh};
 ghost use Rattle.redo_logdev.specs.Part.{PartHolds};
 
 use model_base::Shape;
 use model_log::BLOCK_HEADER;
-use model_logdev::LogMarks;
+use model_parts::LogMarks;
 use redo_disk::{DevError, Sectors};
 use redo_lsn::NoMemory;
 use std::alloc::Global;

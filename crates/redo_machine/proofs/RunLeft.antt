@@ -2,11 +2,10 @@
 use Rattle.std.proofs.Common.{Bool, List, ap, slice_index, subst, sym, ⊎_elim, inl, inr, ℕ, ◌∙◌, ◌≡◌}
 use Rattle.model_core.specs.{index, lsn}
 use Rattle.model_core.specs.declared.words.Word.TheVariants as word
-use Rattle.model_finish.proofs.OpenLines as open_lines
-use Rattle.model_finish.proofs.Seated.{seated_seats}
-use Rattle.model_finish.specs.{history_of, LeavesOpen, marks_in, word_marks}
-use Rattle.model_history.specs.declared.entry.Entry.{Entry}
-use Rattle.model_running.specs.{HaveEnded, IsDone, IsSpent, TakesTurns}
+use Rattle.model_running.proofs.OpenLines as open_lines
+use Rattle.model_running.proofs.Seated.{seated_seats}
+use Rattle.model_running.specs.{HaveEnded, history_of, IsDone, IsSpent, LeavesOpen, marks_in, TakesTurns, word_marks}
+use Rattle.model_report.specs.declared.entry.Entry.{Entry}
 use Rattle.model_script.specs.declared.script.ScriptLine.{ScriptLine}
 use Rattle.redo_disk.specs.{Call}
 use Rattle.redo_disk.specs.Seen.{Seen}

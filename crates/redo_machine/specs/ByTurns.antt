@@ -2,7 +2,7 @@
 use Rattle.std.specs.Prelude.{List, slice_index, ◌≡◌}
 use Rattle.model_core.specs.{index}
 use Rattle.model_core.specs.declared.words.Word.TheVariants as word
-use Rattle.model_finish.specs.{marks_in}
+use Rattle.model_running.specs.{marks_in}
 use Rattle.model_script.specs.declared.script.ScriptLine.{ScriptLine}
 use Rattle.redo_disk.specs.{Call}
 use Rattle.redo_disk.specs.Seen.{Seen}

@@ -2,13 +2,13 @@
 ghost use Rattle.std.specs.Prelude.{◌≡◌, ◌≤◌, [], length, slice_index, vec_capacity};
 ghost use Rattle.model_core.specs.{index, IsWord};
 ghost use Rattle.model_core.specs.declared.words.Word.TheVariants as word_is;
-ghost use Rattle.model_finish.specs.{history_of, marks_in, word_marks};
+ghost use Rattle.model_running.specs.{history_of, marks_in, word_marks};
 ghost use Rattle.redo_drive.specs.History.{ListsInOrder};
 ghost use Rattle.redo_drive.specs.Playing.{RunOf};
 ghost use Rattle.redo_drive.specs.Running.{IsOnRun, RunsOn};
 
 use crate::machine::Machine;
-use model_history::Marks;
+use model_report::Marks;
 use redo_disk::Sectors;
 use redo_drive::{Parts, history_of};
 use redo_pageactors::Closed;

@@ -3,7 +3,7 @@ ghost use Rattle.std.specs.Prelude.{◌≡◌, IfErr, IfOk};
 ghost use Rattle.redo_drive.specs.Beginning.{MayBegin};
 ghost use Rattle.redo_drive.specs.Begins.{BeginsRun};
 
-use model_history::Entry;
+use model_report::Entry;
 use model_script::Script;
 use redo_disk::Sectors;
 use redo_drive::{Actor, Beginning, Parts, begin_run};

@@ -3,9 +3,9 @@ use Rattle.std.proofs.Common.{◌≡◌, ℕ, ◌+◌, ◌-◌, ◌*◌, ◌/◌
 use Rattle.std.proofs.lemmas.Bool.{cases_lt}
 use Rattle.std.proofs.lemmas.List.{append_assoc, take_at, take-take, length-take, length-take-le, length-drop, take-append-drop, take-append-le, drop-take}
 use Rattle.std.specs.Int.{bytes_high_first}
-use Rattle.model_number.specs.declared.got.Got.TheVariants.{Value, Short, Bad}
-use Rattle.model_number.specs.{Gives, spelling32, spelling64, Spells32, Spells64}
-use Rattle.model_number.proofs.ByteLemmas.{AreBytes, AreBytes-of_number, AreBytes-append, AreBytes-drop, AreBytes-take, bytes-number, length-bytes_high_first, number_onto, number-lt, pow256_le}
+use Rattle.model_base.specs.declared.got.Got.TheVariants.{Value, Short, Bad}
+use Rattle.model_base.specs.{Gives, spelling32, spelling64, Spells32, Spells64}
+use Rattle.model_base.proofs.ByteLemmas.{AreBytes, AreBytes-of_number, AreBytes-append, AreBytes-drop, AreBytes-take, bytes-number, length-bytes_high_first, number_onto, number-lt, pow256_le}
 use Rattle.redo_num.proofs.ReadLemmas.{not_nil}
 
 -- the spelling of a number by its halves

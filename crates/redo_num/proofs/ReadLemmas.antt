@@ -4,12 +4,12 @@ use Rattle.std.proofs.Math.Nat.{mul-le-mul_right}
 use Rattle.std.proofs.lemmas.List.{append-nil, take_all, length-take-le}
 use Rattle.std.proofs.lemmas.Nat.{pow-add}
 use Rattle.std.specs.Int.{bytes_high_first}
-use Rattle.model_number.specs.declared.got.Got.{Got}
-use Rattle.model_number.specs.declared.got.Got.TheVariants.{Value, Short, Bad}
-use Rattle.model_number.specs.declared.table.Row.{Row}
-use Rattle.model_number.specs.{BeginsNone, BeginsWith, Gives, HasAllFrom, IsFrontOf, IsRow, spelling32, Spells32, SpellsIn}
-use Rattle.model_number.proofs.ByteLemmas.{AreBytes, AreBytes-of_number, AreBytes-back, AreBytes-take, bytes-number, bytes-parts, length-bytes_high_first, number_onto, number-append, number-bytes, number-lt, pow256_le, pow256_pos}
-use Rattle.model_number.proofs.SpellingLemmas.{length-spelling_in, length-spelling32, slice_index-append}
+use Rattle.model_base.specs.declared.got.Got.{Got}
+use Rattle.model_base.specs.declared.got.Got.TheVariants.{Value, Short, Bad}
+use Rattle.model_base.specs.declared.table.Row.{Row}
+use Rattle.model_base.specs.{BeginsNone, BeginsWith, Gives, HasAllFrom, IsFrontOf, IsRow, spelling32, Spells32, SpellsIn}
+use Rattle.model_base.proofs.ByteLemmas.{AreBytes, AreBytes-of_number, AreBytes-back, AreBytes-take, bytes-number, bytes-parts, length-bytes_high_first, number_onto, number-append, number-bytes, number-lt, pow256_le, pow256_pos}
+use Rattle.model_base.proofs.SpellingLemmas.{length-spelling_in, length-spelling32, slice_index-append}
 
 -- The numbers of so many bytes that begin with the bytes at hand meet those of the row.
 pub record Meets (row : Row) (front rest : List ℕ) : Type 0 where

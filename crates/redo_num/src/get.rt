@@ -1,10 +1,10 @@
 // Reading a number's spelling off the front of bytes.
 ghost use Rattle.std.specs.Prelude.{◌≡◌, ◌≤◌, ◌<◌, length};
-ghost use Rattle.model_number.specs.{Gives, IsRow, number_from_bytes, Spells32, Spells64, SpellsIn};
+ghost use Rattle.model_base.specs.{Gives, IsRow, number_from_bytes, Spells32, Spells64, SpellsIn};
 
 use crate::HALF;
 use crate::table::row_beginning_with;
-use model_number::{Got, Row};
+use model_base::{Got, Row};
 
 // A byte below this spells itself; the first bytes of longer spellings have a mark.
 const MARKED: u8 = 0x80;

@@ -6,7 +6,7 @@ mod put;
 mod table;
 
 pub use get::{get32, get64};
-pub use model_number::{Got, one_spelling};
+pub use model_base::{Got, one_spelling};
 pub use put::{put32, put64};
 
 // A number of 64 bits is its high half times this, and its low half.

@@ -1,7 +1,6 @@
 // Writing a number's spelling into bytes.
 ghost use Rattle.std.specs.Prelude.{◌≡◌, ◌+◌, ◌≤◌, length};
-ghost use Rattle.model_base.specs.{overwritten};
-ghost use Rattle.model_number.specs.{spelling32, spelling64};
+ghost use Rattle.model_base.specs.{overwritten, spelling32, spelling64};
 
 use crate::HALF;
 use crate::table::row_of;

@@ -1,8 +1,8 @@
 // The row of a number in the table of spellings, and the row that a first byte tells.
 ghost use Rattle.std.specs.Prelude.{MatchOption};
-ghost use Rattle.model_number.specs.{BeginsNone, HasAllFrom, IsRowOf};
+ghost use Rattle.model_base.specs.{BeginsNone, HasAllFrom, IsRowOf};
 
-use model_number::{
+use model_base::{
     FOURTEEN_BITS, LOW_10_BITS, LOW_17_BITS, LOW_24_BITS, Row, SEVEN_BITS, TWENTY_EIGHT_BITS,
     TWENTY_ONE_BITS, WHOLE,
 };

@@ -10,10 +10,9 @@ use Rattle.model_device.proofs.Images.{sector-after_write, settled_images}
 use Rattle.model_device.proofs.MayHold.{adds-written, adds-failed}
 use Rattle.model_device.proofs.Overwritten.{length-overwritten, part-overwritten_inside}
 use Rattle.model_log.specs.{head_text, log_device_length, offset_of}
-use Rattle.model_logdev.specs.{sector_of}
-use Rattle.model_logdev.proofs.Images.{sector-log_block}
-use Rattle.model_logdev.proofs.Places.{HasBlocks, sector-place, place-within, place-from}
-use Rattle.model_opening.specs.{zero_block}
+use Rattle.model_parts.specs.{sector_of, zero_block}
+use Rattle.model_parts.proofs.LogImages.{sector-log_block}
+use Rattle.model_parts.proofs.Places.{HasBlocks, sector-place, place-within, place-from}
 use Rattle.model_page.specs.{data_device_length}
 use Rattle.redo_disk.specs.{HasSize}
 use Rattle.redo_open.specs.Blank.{LosesHead, IsHeadless, HasNoHead, HasNoBlocks, MayHaveHead, HasHeadNow, HasBlankPages}

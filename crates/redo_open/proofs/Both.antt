@@ -5,8 +5,8 @@ use Rattle.model_device.specs.Disk.{Disk}
 use Rattle.model_log.specs.{log_device_length, newer, newest_checkpoint, read_checkpoint}
 use Rattle.model_store.specs.{IsOrderly}
 use Rattle.model_store.specs.Reading.{Reading}
-use Rattle.model_opening.specs.{HasSameHeaders, IsCleared, IsOpenable, IsReady, KeepsOpened, start_block, start_of}
-use Rattle.model_opening.proofs.Keeping.{openable-keeps, rewriting-keeps, marking-keeps, opened-ready}
+use Rattle.model_parts.specs.{HasSameHeaders, IsCleared, IsOpenable, IsReady, KeepsOpened, start_block, start_of}
+use Rattle.model_parts.proofs.Keeping.{openable-keeps, rewriting-keeps, marking-keeps, opened-ready}
 use Rattle.redo_disk.specs.{OnTold}
 use Rattle.redo_open.specs.Clear.{IsClearable, ClearsBlocks, HasCleared}
 use Rattle.redo_open.specs.Devices.{HasSameCheckpoint, IsFrom, WhereBothTell}

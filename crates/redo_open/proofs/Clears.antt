@@ -12,11 +12,10 @@ use Rattle.model_device.proofs.Images.{sector-after_write, settled_images}
 use Rattle.model_device.proofs.MayHold.{adds-written, adds-failed, holds-sector, one-sector}
 use Rattle.model_device.proofs.Overwritten.{length-overwritten, part-overwritten_inside}
 use Rattle.model_log.specs.{block_of, log_block, log_device_length, offset_of}
-use Rattle.model_logdev.specs.{IsInRound, sector_of}
-use Rattle.model_logdev.proofs.Images.{sector-log_block}
-use Rattle.model_logdev.proofs.Places.{HasBlocks, sector-place, place-within, place-from, place-on, one-place_each}
-use Rattle.model_opening.specs.{HasSameHeaders, IsAtRest, IsClearing, IsOutside, zero_block}
-use Rattle.model_opening.proofs.Next.{cleared-clearing}
+use Rattle.model_parts.specs.{HasSameHeaders, IsAtRest, IsClearing, IsInRound, IsOutside, sector_of, zero_block}
+use Rattle.model_parts.proofs.LogImages.{sector-log_block}
+use Rattle.model_parts.proofs.Places.{HasBlocks, sector-place, place-within, place-from, place-on, one-place_each}
+use Rattle.model_parts.proofs.Next.{cleared-clearing}
 use Rattle.redo_open.proofs.Rows.{length-zeros}
 use Rattle.redo_open.specs.Clear.{MayStart, IsPiece, ClearsBlocks, HasCleared, MayKeep, IsClearedTo, IsClearingTo}
 

@@ -10,7 +10,7 @@ use Rattle.model_device.specs.declared.write.Write.{Write}
 use Rattle.model_device.proofs.Images.{sector-after_write}
 use Rattle.model_device.proofs.Overwritten.{part-overwritten_inside}
 use Rattle.model_device.proofs.MayHold.{adds-written, adds-failed}
-use Rattle.model_opening.specs.{zero_block}
+use Rattle.model_parts.specs.{zero_block}
 use Rattle.redo_disk.specs.{HasSize, IsRange, write_at}
 use Rattle.redo_disk.proofs.Sizes.{HasSize-written, HasSize-FailsWrite}
 use Rattle.redo_open.proofs.Rows.{length-zeros}

@@ -7,11 +7,10 @@ use Rattle.model_device.specs.{IsImage, sector, settled}
 use Rattle.model_device.specs.Disk.{Disk}
 use Rattle.model_device.proofs.Images.{settled_images}
 use Rattle.model_log.specs.{checkpoint_text, head_text, header_block, log_block, log_device_length, offset_of}
-use Rattle.model_logdev.specs.{sector_of}
-use Rattle.model_logdev.proofs.Images.{sector-log_block}
-use Rattle.model_logdev.proofs.Places.{HasBlocks, sector-place, place-within, place-from}
-use Rattle.model_opening.specs.{IsAtRest, IsFormatted, IsFormattedData, IsFormattedLog, KeepsNoStore, zero_block}
-use Rattle.model_opening.proofs.Formatted.{zeros-refused, formatted-orderly}
+use Rattle.model_parts.specs.{IsAtRest, IsFormatted, IsFormattedData, IsFormattedLog, KeepsNoStore, sector_of, zero_block}
+use Rattle.model_parts.proofs.LogImages.{sector-log_block}
+use Rattle.model_parts.proofs.Places.{HasBlocks, sector-place, place-within, place-from}
+use Rattle.model_parts.proofs.Formatted.{zeros-refused, formatted-orderly}
 use Rattle.redo_disk.specs.{HasSize, OnTold}
 use Rattle.redo_open.specs.Blank.{LosesHead, IsHeadless, HasNoHead, HasNoBlocks, HasFirstCheckpoint, MayHaveHead, HasHeadNow, HasBlankPages}
 use Rattle.redo_open.specs.Devices.{WhereBothTell}

@@ -2,8 +2,8 @@
 use Rattle.std.proofs.Common.{◌≡◌, ◌≤◌, ◌<◌, ◌+◌, ◌∙◌, length, ℕ, [], List, false, Bool, None, refl, sym, ap, subst, arith}
 use Rattle.std.specs.Prelude.{IfSome, Err, Ok, OnOk, Result, is_some}
 use Rattle.model_base.specs.declared.shape.Shape.{Shape}
-use Rattle.model_datadev.specs.{after_batch, batch_of, Fresh, IsLater, IsUpTo, Keeps}
-use Rattle.model_datadev.specs.Stored.{Stored}
+use Rattle.model_parts.specs.{after_batch, batch_of, Fresh, IsLater, IsUpTo, Keeps}
+use Rattle.model_parts.specs.Stored.{Stored}
 use Rattle.model_page.specs.declared.content.Content.{Content}
 use Rattle.redo_disk.specs.Seen.{Seen}
 use Rattle.redo_disk.specs.declared.error.DevError.{DevError}

@@ -7,9 +7,9 @@ use Rattle.std.proofs.lemmas.Bool.Decides.{nat_tests}
 use Rattle.std.proofs.lemmas.List.{drop-append-le, drop_at, length-append, length-drop, length_push, take-append-le, take_all}
 use Rattle.std.proofs.lemmas.Option.{slice_get_within}
 use Rattle.model_base.specs.declared.shape.Shape.{Shape}
-use Rattle.model_datadev.proofs.Joined.{IsPairAt, batch-at, pair-at}
-use Rattle.model_datadev.specs.{after_batch, batch_of, Fresh, IsLater, IsNew, IsUpTo, IsWritable, Keeps}
-use Rattle.model_datadev.specs.Stored.{Stored}
+use Rattle.model_parts.proofs.Joined.{IsPairAt, batch-at, pair-at}
+use Rattle.model_parts.specs.{after_batch, batch_of, Fresh, IsLater, IsNew, IsUpTo, IsWritable, Keeps}
+use Rattle.model_parts.specs.Stored.{Stored}
 use Rattle.model_device.specs.Disk.{Disk}
 use Rattle.model_page.proofs.Kept.{same_content}
 use Rattle.model_page.specs.declared.content.Content.{Content}

@@ -7,7 +7,7 @@ use Rattle.model_device.specs.declared.write.Write.{Write}
 use Rattle.model_log.specs.{checkpoint_text, log_device_length, offset_of}
 use Rattle.model_log.specs.declared.layout.TheConstants.{RING_SIZE}
 use Rattle.model_log.proofs.Sealed.{length-padded, length-sealed}
-use Rattle.model_number.specs.{padded_to}
+use Rattle.model_base.specs.{padded_to}
 use Rattle.redo_disk.proofs.Made.{weaker_calls}
 use Rattle.redo_disk.specs.{Call, EndWith, MakesCalls}
 use Rattle.redo_disk.specs.declared.error.DevError.{DevError}

@@ -10,10 +10,9 @@ use Rattle.model_device.proofs.Images.{sector-after_write, settled_images}
 use Rattle.model_device.proofs.MayHold.{adds-written, adds-failed, holds-sector}
 use Rattle.model_device.proofs.Overwritten.{length-overwritten, part-overwritten_inside}
 use Rattle.model_log.specs.{checkpoint_text, log_device_length, offset_of, place_of}
-use Rattle.model_logdev.specs.{sector_of}
-use Rattle.model_logdev.proofs.Images.{sector-log_block, place-cases}
-use Rattle.model_logdev.proofs.Places.{HasBlocks, sector-place, place-within, place-from}
-use Rattle.model_opening.specs.{IsMarked, IsMarking}
+use Rattle.model_parts.specs.{IsMarked, IsMarking, sector_of}
+use Rattle.model_parts.proofs.LogImages.{sector-log_block, place-cases}
+use Rattle.model_parts.proofs.Places.{HasBlocks, sector-place, place-within, place-from}
 use Rattle.redo_open.specs.Mark.{IsSettledLog, MarksLog, HasMarked}
 
 pub header-place : (number : ℕ) → (1 ≤ place_of number) × (place_of number < 4)

@@ -6,8 +6,8 @@ use Rattle.model_device.specs.{IsImage, settled}
 use Rattle.model_device.specs.Disk.{Disk}
 use Rattle.model_device.proofs.Images.{settled_images}
 use Rattle.model_page.specs.{place_lsn, slot_bytes}
-use Rattle.model_datadev.specs.{IsRepaired, KeepsAll, KeepsSame}
-use Rattle.model_datadev.proofs.Kept.{same-place_lsn}
+use Rattle.model_parts.specs.{IsRepaired, KeepsAll, KeepsSame}
+use Rattle.model_parts.proofs.Kept.{same-place_lsn}
 use Rattle.model_store.specs.{IsFair}
 use Rattle.model_store.proofs.Fairness.{base-fair}
 use Rattle.redo_open.specs.Mend.{IsSettledData, StaysKept, IsMended, AreMended}

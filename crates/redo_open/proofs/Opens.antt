@@ -5,15 +5,14 @@ use Rattle.std.specs.List.{slice_get}
 use Rattle.std.proofs.lemmas.Option.{slice_get_within}
 use Rattle.model_base.specs.declared.shape.Shape.{Shape}
 use Rattle.model_base.specs.{IsWithinLimits}
-use Rattle.model_datadev.specs.{Fresh, ImageHolds, IsNew, IsUpTo, Keeps, KeepsAll, KeepsPage, read_as}
-use Rattle.model_datadev.specs.Stored.{Stored}
-use Rattle.model_datadev.proofs.Orderly.{orderly-opened}
-use Rattle.model_datadev.proofs.Parts.{opened-stored}
+use Rattle.model_parts.specs.{AreHeld, AreRepaired, Fresh, ImageHolds, IsNew, IsRewriting, IsUpTo, IsWrittenOver, Keeps, KeepsAll, KeepsPage, read_as}
+use Rattle.model_parts.specs.Stored.{Stored}
+use Rattle.model_parts.proofs.Orderly.{orderly-opened}
+use Rattle.model_parts.proofs.Parts.{opened-stored}
 use Rattle.model_device.specs.{settled}
 use Rattle.model_device.specs.Disk.{Disk}
-use Rattle.model_opening.specs.{AreHeld, IsRepaired, IsRewriting, IsWrittenOver}
-use Rattle.model_opening.proofs.Mended.{repaired-orderly, held_at, repaired-held}
-use Rattle.model_opening.proofs.Pages.{read-page, repairing-image, writing-image}
+use Rattle.model_parts.proofs.Mended.{repaired-orderly, held_at, repaired-held}
+use Rattle.model_parts.proofs.Pages.{read-page, repairing-image, writing-image}
 use Rattle.model_page.proofs.Kept.{same_kept}
 use Rattle.model_page.specs.{IsInPlace, IsKept}
 use Rattle.model_page.specs.declared.content.Content.{Content}
@@ -43,7 +42,7 @@ repair-keeps shape pages log_bytes data_bytes opened a b is same =
 
 -- a page that has still the lsn with which it was found is in its place then
 found-held : (log_bytes : List ℕ) (opened : Reading) (places : Places) (a b : List ℕ) (p : ℕ) (one : Found) (page : Content) → length opened.pages ≡ opened.shape.pages
-    → IsRepaired opened.shape a b → AreFoundOn opened.shape places opened.pages a
+    → AreRepaired opened.shape a b → AreFoundOn opened.shape places opened.pages a
     → slice_get places.found.items p ≡ Some one → slice_get opened.pages p ≡ Some page → one.lsn ≡ page.lsn → held_at opened.shape b p ≡ read_as opened p
 found-held log_bytes opened places a b p one page count repaired found there at lsns =
     let within = slice_get_within opened.pages p page at in
@@ -52,14 +51,14 @@ found-held log_bytes opened places a b p one page count repaired found there at 
     let are : AreHeld opened.shape b (held_at opened.shape b) = repaired-held opened.shape a b repaired in
     same_kept opened.shape b p (held_at opened.shape b p) page (inl (are p below)) kept ∙ sym (read-page opened p page at)
 
-mended-repaired : (shape : Shape) (a b : Disk) → AreMended shape shape.pages a b → IsRepaired shape a.base b.base
+mended-repaired : (shape : Shape) (a b : Disk) → AreMended shape shape.pages a b → AreRepaired shape a.base b.base
 mended-repaired shape a b is = record { same_length = is.stays.same_length; same = is.stays.same; slots = is.stays.slots; pass = is.pass }
 
 may-write-own : (log_bytes : List ℕ) (opened : Reading) (places : Places) (a b : Disk) → IsWithinLimits opened.shape → IsOrderly log_bytes a.base opened
     → AreFoundOn opened.shape places opened.pages a.base → AreMended opened.shape opened.shape.pages a b → MayBeWritten opened.shape opened.pages places.found.items a.base opened (Some b)
 may-write-own log_bytes opened places a b limits orderly found mended =
     let shape : Shape = opened.shape in
-    let repaired : IsRepaired shape a.base b.base = mended-repaired shape a b mended in
+    let repaired : AreRepaired shape a.base b.base = mended-repaired shape a b mended in
     let again : IsOrderly log_bytes b.base opened = repaired-orderly log_bytes a.base b.base opened orderly repaired in
     let held : ℕ → Content = held_at shape b.base in
     let are : AreHeld shape b.base held = repaired-held shape a.base b.base repaired in

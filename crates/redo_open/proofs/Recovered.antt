@@ -8,11 +8,10 @@ use Rattle.model_device.specs.{settled}
 use Rattle.model_device.specs.Disk.{Disk}
 use Rattle.model_device.proofs.Images.{settled_images}
 use Rattle.model_log.specs.{IsAtDataStart, start_after}
-use Rattle.model_logdev.specs.{first_marks, next_number}
-use Rattle.model_opening.specs.{IsOpenable, IsReady, KeepsOpened}
-use Rattle.model_opening.proofs.Keeping.{openable-keeps}
+use Rattle.model_parts.specs.{first_marks, IsOpenable, IsReady, KeepsOpened, next_number}
+use Rattle.model_parts.proofs.Keeping.{openable-keeps}
 use Rattle.model_page.specs.declared.content.Content.{Content}
-use Rattle.model_record.specs.declared.group.Whole.{Whole}
+use Rattle.model_log.specs.declared.group.Whole.{Whole}
 use Rattle.model_store.specs.{IsOrderly}
 use Rattle.model_store.specs.Reading.{Reading}
 use Rattle.model_store.proofs.Ending.{StartsBehind, starts-behind}

@@ -4,9 +4,9 @@ use Rattle.std.specs.Prelude.{IfSome, MatchOption}
 use Rattle.std.specs.List.{slice_get}
 use Rattle.std.proofs.lemmas.Option.{slice_get_within}
 use Rattle.model_base.specs.declared.shape.Shape.{Shape}
-use Rattle.model_datadev.proofs.Kept.{same-place_lsn}
-use Rattle.model_datadev.proofs.Repairs.{same-best}
-use Rattle.model_datadev.specs.{SameSlots}
+use Rattle.model_parts.proofs.Kept.{same-place_lsn}
+use Rattle.model_parts.proofs.Repairs.{same-best}
+use Rattle.model_parts.specs.{SameSlots}
 use Rattle.model_device.specs.Disk.{Disk}
 use Rattle.model_page.specs.{IsBestCopy, place_bytes, place_lsn, slot_bytes}
 use Rattle.model_page.specs.declared.content.Content.{Content}

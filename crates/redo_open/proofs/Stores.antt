@@ -4,8 +4,8 @@ use Rattle.std.specs.Prelude.{IfErr, IfSome}
 use Rattle.model_base.specs.{HasRisen}
 use Rattle.model_device.specs.{settled, synced}
 use Rattle.model_device.specs.Disk.{Disk}
-use Rattle.model_opening.specs.{IsOpenable, KeepsOpened}
-use Rattle.model_record.proofs.Several.{one_group}
+use Rattle.model_parts.specs.{IsOpenable, KeepsOpened}
+use Rattle.model_log.proofs.Several.{one_group}
 use Rattle.model_store.specs.{IsOrderly, IsReading}
 use Rattle.model_store.specs.Reading.{Reading}
 use Rattle.model_store.specs.declared.refusal.Refusal.{Refusal}

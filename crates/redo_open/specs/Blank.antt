@@ -6,7 +6,7 @@ use Rattle.model_device.specs.{IsImage, sector, settled}
 use Rattle.model_device.specs.Disk.{Disk}
 use Rattle.model_log.specs.{checkpoint_text, head_text, header_block, log_block}
 use Rattle.model_log.specs.declared.layout.TheConstants.{HEADER_BYTES}
-use Rattle.model_opening.specs.{IsFormattedData, zero_block}
+use Rattle.model_parts.specs.{IsFormattedData, zero_block}
 
 -- each image is one of before, or its header is zeros
 pub record LosesHead (old new : Disk) : Type 0 where

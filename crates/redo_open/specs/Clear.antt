@@ -8,8 +8,7 @@ use Rattle.model_device.specs.Disk.{Disk}
 use Rattle.model_device.specs.MayHold.{MayHold}
 use Rattle.model_log.specs.{block_of, IsAtDataStart, log_block, log_device_length, offset_of}
 use Rattle.model_log.specs.declared.layout.TheConstants.{BLOCK_HEADER}
-use Rattle.model_logdev.specs.{round_of, sector_of}
-use Rattle.model_opening.specs.{HasSameHeaders, IsAtRest, IsCleared, IsClearing, IsKept, IsOutside, zero_block}
+use Rattle.model_parts.specs.{HasSameHeaders, IsAtRest, IsCleared, IsClearing, IsKept, IsOutside, round_of, sector_of, zero_block}
 
 -- where a run may start: behind the end of a log that is read from the checkpoint on
 pub record MayStart (shape : Shape) (ckpt start : ℕ) : Type 0 where

@@ -4,7 +4,7 @@ use Rattle.model_base.specs.{HasRisen}
 use Rattle.model_device.specs.{settled}
 use Rattle.model_device.specs.Disk.{Disk}
 use Rattle.model_log.specs.{newest_checkpoint}
-use Rattle.model_opening.specs.{IsAtRest, IsReady, KeepsOpened}
+use Rattle.model_parts.specs.{IsAtRest, IsReady, KeepsOpened}
 use Rattle.model_store.specs.{IsOrderly}
 use Rattle.model_store.specs.Reading.{Reading}
 use Rattle.redo_disk.specs.Seen.{Seen}

@@ -4,7 +4,7 @@ use Rattle.model_base.specs.declared.limits.TheConstants.{BLOCK_SIZE}
 use Rattle.model_device.specs.{sector}
 use Rattle.model_device.specs.Disk.{Disk}
 use Rattle.model_device.specs.MayHold.{MayHold}
-use Rattle.model_opening.specs.{zero_block}
+use Rattle.model_parts.specs.{zero_block}
 use Rattle.redo_disk.specs.{HasSize}
 
 -- the sector is one of those from the one offset up to the other

@@ -2,8 +2,8 @@
 use Rattle.std.specs.Prelude.{ℕ, ◌≡◌, ◌≤◌, ◌<◌, ◌*◌, ◌⊎◌, false, List, [], length, take, drop, Option, None, Some, Result, OnOk, IfSome, slice_get}
 use Rattle.model_base.specs.declared.limits.TheConstants.{SLOTS, USER_BYTES}
 use Rattle.model_base.specs.declared.shape.Shape.{Shape}
-use Rattle.model_datadev.specs.{IsUpTo}
-use Rattle.model_datadev.specs.Stored.{Stored}
+use Rattle.model_parts.specs.{IsUpTo}
+use Rattle.model_parts.specs.Stored.{Stored}
 use Rattle.model_device.specs.Disk.{Disk}
 use Rattle.model_page.specs.declared.content.Content.{Content}
 use Rattle.redo_disk.specs.{HasCause}

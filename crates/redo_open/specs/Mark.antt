@@ -4,7 +4,7 @@ use Rattle.model_base.specs.declared.shape.Shape.{Shape}
 use Rattle.model_device.specs.{IsImage, settled}
 use Rattle.model_device.specs.Disk.{Disk}
 use Rattle.model_log.specs.{log_device_length}
-use Rattle.model_opening.specs.{IsMarked, IsMarking}
+use Rattle.model_parts.specs.{IsMarked, IsMarking}
 
 -- nothing is pending on the device, which is as long as the shape asks
 pub record IsSettledLog (shape : Shape) (disk : Disk) : Type 0 where

@@ -3,7 +3,7 @@ use Rattle.std.specs.Prelude.{ℕ, ◌≡◌, ◌≢◌, ◌≤◌, ◌<◌, len
 use Rattle.model_base.specs.declared.shape.Shape.{Shape}
 use Rattle.model_device.specs.{settled}
 use Rattle.model_device.specs.Disk.{Disk}
-use Rattle.model_datadev.specs.{KeepsSame, SameSlots}
+use Rattle.model_parts.specs.{KeepsSame, SameSlots}
 use Rattle.model_page.specs.{data_device_length, place_bytes, place_lsn, slot_bytes}
 use Rattle.redo_recover.specs.{IsFoundAt}
 use Rattle.redo_recover.specs.declared.places.Found.{Found}

@@ -2,9 +2,8 @@
 use Rattle.std.specs.Prelude.{ℕ, ◌≡◌, ◌≢◌, ◌≤◌, ◌<◌, ◌+◌, List, length, Option, None, Result, Ok, Err, IfOk, IfErr, IfSome}
 use Rattle.model_base.specs.{HasRisen}
 use Rattle.model_base.specs.declared.limits.TheConstants.{LSN_LIMIT}
-use Rattle.model_logdev.specs.{first_marks, next_number}
+use Rattle.model_parts.specs.{first_marks, IsReady, KeepsOpened, next_number, start_of}
 use Rattle.model_device.specs.{settled}
-use Rattle.model_opening.specs.{IsReady, KeepsOpened, start_of}
 use Rattle.model_store.specs.{IsOrderly, IsReading, Refuses}
 use Rattle.model_store.specs.Reading.{Reading}
 use Rattle.model_store.specs.declared.refusal.Refusal.{Refusal}

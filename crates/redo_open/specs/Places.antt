@@ -2,11 +2,10 @@
 use Rattle.std.specs.Prelude.{ℕ, ◌≡◌, ◌≤◌, ◌<◌, ◌⊎◌, false, List, [], Option, None, Result, OnOk, IfErr, IfSome, IsErrOf}
 use Rattle.model_base.specs.{HasRisen}
 use Rattle.model_base.specs.declared.shape.Shape.{Shape}
-use Rattle.model_datadev.specs.{IsUpTo, read_as}
-use Rattle.model_datadev.specs.Stored.{Stored}
+use Rattle.model_parts.specs.{IsRewriting, IsUpTo, read_as}
+use Rattle.model_parts.specs.Stored.{Stored}
 use Rattle.model_device.specs.{settled}
 use Rattle.model_device.specs.Disk.{Disk}
-use Rattle.model_opening.specs.{IsRewriting}
 use Rattle.model_page.specs.{IsKept}
 use Rattle.model_page.specs.declared.content.Content.{Content}
 use Rattle.model_store.specs.{IsFair, IsOrderly}

@@ -1,8 +1,8 @@
 -- The data device while pages are written as they were read, one after another.
 use Rattle.std.specs.Prelude.{ℕ, ◌≡◌, ◌<◌, ◌⊎◌, false, List, [], Option, None, Some, Result, OnOk, IfSome, slice_get}
 use Rattle.model_base.specs.declared.shape.Shape.{Shape}
-use Rattle.model_datadev.specs.{Fresh, IsNew, IsUpTo, Keeps}
-use Rattle.model_datadev.specs.Stored.{Stored}
+use Rattle.model_parts.specs.{Fresh, IsNew, IsUpTo, Keeps}
+use Rattle.model_parts.specs.Stored.{Stored}
 use Rattle.model_device.specs.Disk.{Disk}
 use Rattle.model_page.specs.declared.content.Content.{Content}
 use Rattle.redo_disk.specs.{HasCause}

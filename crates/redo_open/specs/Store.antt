@@ -1,7 +1,7 @@
 -- What a step of opening on the data part leaves, whatever it answers.
 use Rattle.std.specs.Prelude.{◌≡◌, None, Result, OnOk}
 use Rattle.model_base.specs.declared.shape.Shape.{Shape}
-use Rattle.model_datadev.specs.{KeepsAll}
+use Rattle.model_parts.specs.{KeepsAll}
 use Rattle.model_device.specs.Disk.{Disk}
 use Rattle.redo_disk.specs.{HasCause, OnTold}
 use Rattle.redo_disk.specs.Seen.{Seen}

@@ -2,7 +2,7 @@
 ghost use Rattle.std.specs.Prelude.{◌≤◌, OnOk, IfErr, IfSome};
 ghost use Rattle.model_base.specs.{IsWithinLimits};
 ghost use Rattle.model_log.specs.{log_device_length};
-ghost use Rattle.model_opening.specs.{IsFormatted, KeepsNoStore};
+ghost use Rattle.model_parts.specs.{IsFormatted, KeepsNoStore};
 ghost use Rattle.model_page.specs.{data_device_length};
 ghost use Rattle.redo_disk.specs.{HasSize};
 ghost use Rattle.redo_open.specs.Devices.{IsSameDevice, WhereBothTell};

@@ -2,7 +2,7 @@
 ghost use Rattle.std.specs.Prelude.{◌≡◌, ◌≢◌, ◌≤◌, ◌<◌, ◌^◌, IfOk, IfErr, IfSome, None};
 ghost use Rattle.model_base.specs.declared.limits.TheConstants.{FIRST_DATA_LSN, MAX_LOG_BLOCKS, MIN_LOG_BLOCKS};
 ghost use Rattle.model_log.specs.{IsAtDataStart, log_device_length};
-ghost use Rattle.model_opening.specs.{IsOpenable, KeepsOpened};
+ghost use Rattle.model_parts.specs.{IsOpenable, KeepsOpened};
 ghost use Rattle.model_store.specs.Reading.{Reading};
 ghost use Rattle.redo_disk.specs.{MakesCalls, MayEndWith};
 ghost use Rattle.redo_open.specs.Devices.{HasSameCheckpoint, IsSameDevice, WhereBothTell};

@@ -2,7 +2,7 @@
 ghost use Rattle.std.specs.Prelude.{◌≡◌, ◌≤◌, ◌<◌, ◌^◌, ◌+◌, ℕ, List, [], length, None, Some, OnOk, slice_get};
 ghost use Rattle.model_base.specs.{IsWithinLimits};
 ghost use Rattle.model_base.specs.declared.limits.TheConstants.{PAGE_SIZE, SLOTS};
-ghost use Rattle.model_datadev.specs.{IsWritable};
+ghost use Rattle.model_parts.specs.{IsWritable};
 ghost use Rattle.model_page.specs.declared.content.Content.{Content};
 ghost use Rattle.redo_apply.specs.{ArePagesOf};
 ghost use Rattle.redo_disk.specs.{EndWith, error_of, MakesCalls};

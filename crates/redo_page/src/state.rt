@@ -1,6 +1,6 @@
 // What the check of a page's bytes finds, and whether they count as a page's place or as a copy of it.
 ghost use Rattle.std.specs.Prelude.{◌≡◌, ◌+◌, ◌≤◌, length};
-ghost use Rattle.model_number.specs.{field};
+ghost use Rattle.model_base.specs.{field};
 ghost use Rattle.model_page.specs.{copy_lsn_by, frame_length, is_blank, is_sound, page_check, place_lsn_by};
 
 use byteorder::{BigEndian, ByteOrder};

@@ -5,7 +5,7 @@ use Rattle.model_base.specs.declared.limits.TheConstants.{START_LSN}
 use Rattle.model_log.specs.{IsAtDataStart}
 use Rattle.model_log.specs.declared.layout.TheConstants.{BLOCK_HEADER}
 use Rattle.model_page.specs.declared.content.Content.{Content}
-use Rattle.model_logdev.specs.{first_marks}
+use Rattle.model_parts.specs.{first_marks}
 use Rattle.redo_apply.specs.{ArePagesOf}
 use Rattle.redo_pageactors.specs.declared.opened.Opened.{Opened}
 

@@ -1,5 +1,5 @@
 // A store behind a run.
-use model_history::{History, Marks};
+use model_report::{History, Marks};
 use redo_disk::Sectors;
 use redo_logdev::LogPart;
 use redo_store::DataPart;

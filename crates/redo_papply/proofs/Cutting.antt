@@ -14,7 +14,7 @@ use Rattle.rayon.specs.Lists.{chunks_from, chunks_of}
 use Rattle.rayon.proofs.ListFacts.{AllZip-append, AllZip-through}
 use Rattle.rayon.proofs.ToStd.{chunks_of-concat}
 use Rattle.model_base.specs.declared.shape.Shape.{Shape}
-use Rattle.model_record.specs.declared.group.Whole.{Whole}
+use Rattle.model_log.specs.declared.group.Whole.{Whole}
 use Rattle.model_page.specs.declared.content.Content.{Content}
 use Rattle.model_store.specs.{replayed}
 use Rattle.redo_apply.specs.{ArePagesOf, AreReplayed}

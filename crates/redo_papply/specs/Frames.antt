@@ -1,7 +1,7 @@
 -- Pages in the hands of a worker.
 use Rattle.std.specs.Prelude.{ℕ, ◌≡◌, ◌+◌, nat_le, if◌then◌else◌, List, length, slice_get, Some}
-use Rattle.model_record.specs.declared.rec.Rec.{Rec}
-use Rattle.model_record.specs.declared.group.Whole.{Whole}
+use Rattle.model_log.specs.declared.rec.Rec.{Rec}
+use Rattle.model_log.specs.declared.group.Whole.{Whole}
 use Rattle.model_page.specs.declared.content.Content.{Content}
 use Rattle.model_store.specs.{page_after, replayed}
 use Rattle.redo_papply.specs.declared.frame.Frame.{Frame}

@@ -12,7 +12,7 @@ ghost use Rattle.redo_papply.specs.Runs.{AreNumbersOf};
 use crate::frame::Frame;
 use crate::merge::{joined, put_frames};
 use crate::run::apply_run;
-use model_record::Whole;
+use model_log::Whole;
 use rayon::prelude::*;
 use redo_apply::Pages;
 use redo_lsn::NoMemory;

@@ -1,10 +1,10 @@
 // A page in the hands of a worker.
 ghost use Rattle.std.specs.Prelude.{◌<◌, ◌∷◌, [], length, IfOk};
-ghost use Rattle.model_record.specs.{page_of};
+ghost use Rattle.model_log.specs.{page_of};
 ghost use Rattle.redo_apply.specs.{WritesWithin};
 ghost use Rattle.redo_papply.specs.Frames.{IsAfterGroup, IsFrameOf};
 
-use model_record::Rec;
+use model_log::Rec;
 use redo_apply::{Pages, put_record};
 use redo_lsn::NoMemory;
 use std::alloc::Global;

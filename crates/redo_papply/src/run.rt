@@ -6,7 +6,7 @@ ghost use Rattle.redo_papply.specs.Frames.{AreAfterGroup, IsFrameOf};
 ghost use Rattle.redo_papply.specs.Runs.{AreNumbersOf};
 
 use crate::frame::Frame;
-use model_record::{Group, Rec, Whole};
+use model_log::{Group, Rec, Whole};
 use redo_apply::{Pages, page_of};
 use redo_lsn::NoMemory;
 use std::alloc::Global;

@@ -3,15 +3,15 @@ use Rattle.std.proofs.Common.{◌≡◌, ◌≢◌, ℕ, ◌-◌, ◌<◌, ◌�
 use Rattle.std.specs.List.{AllByRecursion}
 use Rattle.std.proofs.lemmas.List.{append-nil, take_rest}
 use Rattle.std.proofs.lemmas.List.Concat.{flat_map-append}
-use Rattle.model_record.specs.{group_text, HasText, IsGroup, IsGroupText, IsRecord, record_text, single_text}
+use Rattle.model_log.specs.{group_text, HasText, IsGroup, IsGroupText, IsRecord, record_text, single_text}
 use Rattle.redo_record.specs.Reading.{Begins, IsPartOf, IsNone, Stops}
-use Rattle.model_record.specs.declared.rec.Rec.{Rec}
-use Rattle.model_record.specs.declared.rec.Rec.TheVariants.{Init}
+use Rattle.model_log.specs.declared.rec.Rec.{Rec}
+use Rattle.model_log.specs.declared.rec.Rec.TheVariants.{Init}
 use Rattle.redo_record.specs.declared.stop.Stop.{Stop}
 use Rattle.redo_record.specs.declared.stop.Stop.TheVariants.{Memory, Short, Bad}
 use Rattle.redo_record.proofs.Leaves.{record_part}
 use Rattle.redo_record.proofs.Sequence.{not_nil}
-use Rattle.model_record.proofs.Several.{OneOfBoth, back_nil, texts, continued, at_end, several_spelled, type_small, is_record, record_is, single_is, is_single, record_head, single_head}
+use Rattle.model_log.proofs.Several.{OneOfBoth, back_nil, texts, continued, at_end, several_spelled, type_small, is_record, record_is, single_is, is_single, record_head, single_head}
 
 -- ---- a record alone
 

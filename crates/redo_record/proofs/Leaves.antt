@@ -3,11 +3,11 @@ use Rattle.std.proofs.Common.{◌≡◌, ℕ, ◌+◌, ◌-◌, ◌*◌, ◌/◌
 use Rattle.std.specs.Int.{bytes_high_first}
 use Rattle.std.proofs.lemmas.List.{take_at, length-replicate, take-append-drop, length-take}
 use Rattle.std.proofs.lemmas.List.Elements.{All-append, All-replicate, All-from_get_or, All-take}
-use Rattle.model_number.specs.{BeginsWith, IsFrontOf, spelling32}
-use Rattle.model_record.specs.{IsBody, IsByte, IsLength, IsRecord, IsShort}
+use Rattle.model_base.specs.{BeginsWith, IsFrontOf, spelling32}
+use Rattle.model_log.specs.{IsBody, IsByte, IsLength, IsRecord, IsShort}
 use Rattle.redo_record.specs.Reading.{Begins, IsPartOf, IsNone}
-use Rattle.model_record.specs.declared.rec.Rec.TheVariants.{Init}
-use Rattle.model_record.proofs.Records.{IsNothing}
+use Rattle.model_log.specs.declared.rec.Rec.TheVariants.{Init}
+use Rattle.model_log.proofs.Records.{IsNothing}
 use Rattle.redo_record.proofs.Sequence.{front_cases}
 
 -- no spelling goes on as the bytes do, where none begins them and they are no front of one

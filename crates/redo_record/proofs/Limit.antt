@@ -1,10 +1,10 @@
 -- A group is read off the front of at most 8,192 bytes.
 use Rattle.std.proofs.Common.{◌≡◌, ℕ, ◌<◌, ◌≤◌, min, List, [], ◌++◌, length, take, drop, sym, ap, ◌∙◌, append_assoc, arith}
 use Rattle.std.proofs.lemmas.List.{append-nil, take_all, take-take, take-append-drop}
-use Rattle.model_record.specs.{BeginsWithGroup, group_text, IsFront, IsGroupText}
+use Rattle.model_log.specs.{BeginsWithGroup, group_text, IsFront, IsGroupText}
 use Rattle.redo_record.specs.Reading.{IsPartOf, IsNone}
-use Rattle.model_record.specs.declared.rec.Rec.{Rec}
-use Rattle.model_record.proofs.Several.{OneGroup, back_nil}
+use Rattle.model_log.specs.declared.rec.Rec.{Rec}
+use Rattle.model_log.proofs.Several.{OneGroup, back_nil}
 
 -- what is read is no group and no front of one
 abbrev IsBad : List ℕ → Type 0

@@ -4,7 +4,7 @@ use Rattle.std.specs.Prelude.{IsErrAnd}
 use Rattle.redo_record.specs.declared.stop.Stop.{Stop}
 use Rattle.redo_record.specs.declared.stop.Stop.TheVariants.{Memory, Short, Bad}
 use Rattle.redo_record.specs.Reading.{Begins, Stops, Reads}
-use Rattle.model_record.proofs.Sequence.{OneText, IsThen}
+use Rattle.model_log.proofs.Sequence.{OneText, IsThen}
 
 -- of two fronts of one list, one is a front of the other
 pub front_cases : (a b c d : List ℕ) → a ++ b ≡ c ++ d → ((z : List ℕ) × (c ≡ a ++ z)) ⊎ ((z : List ℕ) × (z ≢ []) × (a ≡ c ++ z))

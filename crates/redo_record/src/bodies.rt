@@ -1,12 +1,12 @@
 // The parts of a record's text. Each reader takes one off the front, and gives the bytes that are left.
 ghost use Rattle.std.specs.Prelude.{Ok};
-ghost use Rattle.model_record.specs.{IsAfterType, IsPlace, IsRecord, IsSpot, IsString, IsWidth};
+ghost use Rattle.model_log.specs.{IsAfterType, IsPlace, IsRecord, IsSpot, IsString, IsWidth};
 ghost use Rattle.redo_record.specs.Reading.{Reads};
 
 use crate::fields::{read_body, read_length, read_number32, read_short, read_value};
 use crate::stop::Stop;
 use crate::types::{INIT, STRING};
-use model_record::{Place, Rec, Spot};
+use model_log::{Place, Rec, Spot};
 use redo_lsn::Bytes;
 use std::alloc::Global;
 

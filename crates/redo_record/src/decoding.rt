@@ -1,13 +1,13 @@
 // Reading the text of a group.
 ghost use Rattle.std.specs.Prelude.{◌≡◌, ◌↔◌, ◌≤◌, ◌<◌, slice_index, IsTrue, IfOk, Ok};
-ghost use Rattle.model_record.specs.{GivesGroup, IsGroupText};
+ghost use Rattle.model_log.specs.{GivesGroup, IsGroupText};
 ghost use Rattle.redo_record.specs.Reading.{Reads};
 
 use crate::bodies::read_record;
 use crate::stop::Stop;
 use crate::types::{END_MARK, SINGLE};
 use model_base::MAX_GROUP;
-use model_record::Group;
+use model_log::Group;
 use redo_lsn::NoMemory;
 use redo_num::Got;
 use std::alloc::Global;

@@ -2,13 +2,13 @@
 ghost use Rattle.std.specs.Prelude.{◌≡◌, ◌+◌, ◌≤◌, ◌<◌, ◌^◌, ◌∷◌, ◌++◌, length, OnOk, IfOk};
 ghost use Rattle.std.specs.Int.{bytes_high_first};
 ghost use Rattle.std.specs.List.{AllByRecursion, flat_map};
-ghost use Rattle.model_number.specs.{spelling32, spelling64};
-ghost use Rattle.model_record.specs.{after_type, group_length, group_text, HasSpelling, HasText, IsGroup, record_text, type_of, value_text};
+ghost use Rattle.model_base.specs.{spelling32, spelling64};
+ghost use Rattle.model_log.specs.{after_type, group_length, group_text, HasSpelling, HasText, IsGroup, record_text, type_of, value_text};
 
 use crate::measuring::Length;
 use crate::types::{END_MARK, SINGLE, type_byte};
 use model_base::MAX_GROUP;
-use model_record::{Group, Rec};
+use model_log::{Group, Rec};
 use redo_lsn::{Bytes, NoMemory};
 use redo_num::{put32, put64};
 use std::alloc::{AllocError, Global};
@@ -25,7 +25,7 @@ pub fn encode(alloc: Global, group: &Group) -> Result<Bytes, NoMemory>
     Ok(Bytes::new(text))
 }
 
-#[tactic(auto, unfolding(model_record::specs::Group::group_text, model_record::specs::Record::single_text))]
+#[tactic(auto, unfolding(model_log::specs::Group::group_text, model_log::specs::Record::single_text))]
 fn append_group(text: &mut Vec<u8>, group: &Group) -> Result<(), AllocError>
     requires { IsGroup group.now }
     ensures { OnOk result (text.new.items ≡ text.old.items ++ group_text group.now) }
@@ -41,7 +41,7 @@ fn append_group(text: &mut Vec<u8>, group: &Group) -> Result<(), AllocError>
     }
 }
 
-#[tactic(auto, unfolding(model_record::specs::Record::record_text))]
+#[tactic(auto, unfolding(model_log::specs::Record::record_text))]
 fn append_several(text: &mut Vec<u8>, recs: &[Rec]) -> Result<(), AllocError>
     requires { AllByRecursion HasText recs.now }
     ensures { OnOk result (text.new.items ≡ text.old.items ++ flat_map record_text recs.now) }

@@ -1,8 +1,8 @@
 // The fields of a record's text. Each reader takes one off the front, and gives the bytes that are left.
 ghost use Rattle.std.specs.Prelude.{◌<◌, length, Ok};
-ghost use Rattle.model_number.specs.{Spells32, Spells64};
+ghost use Rattle.model_base.specs.{Spells32, Spells64};
 ghost use Rattle.redo_record.specs.Reading.{Reads};
-ghost use Rattle.model_record.specs.{IsBody, IsLength, IsShort, IsValue};
+ghost use Rattle.model_log.specs.{IsBody, IsLength, IsShort, IsValue};
 
 use crate::stop::Stop;
 use redo_lsn::Bytes;

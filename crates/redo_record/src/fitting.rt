@@ -1,9 +1,9 @@
 // When a group may be applied to the pages of a store.
 ghost use Rattle.std.specs.Prelude.{◌↔◌, ◌<◌, ◌^◌, IsTrue};
-ghost use Rattle.model_record.specs.{GroupFits, IsPage, IsUserWrite, RecordFits};
+ghost use Rattle.model_log.specs.{GroupFits, IsPage, IsUserWrite, RecordFits};
 
 use model_base::USER_START;
-use model_record::{Group, Rec};
+use model_log::{Group, Rec};
 use redo_lsn::Shape;
 
 /// Bytes at a page's end that are no user bytes.

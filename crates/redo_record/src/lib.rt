@@ -15,5 +15,5 @@ pub use decoding::decode;
 pub use encoding::encode;
 pub use fitting::Fits;
 pub use measuring::Length;
-pub use model_record::{Group, Rec, group_reads_back, one_group};
+pub use model_log::{Group, Rec, group_reads_back, one_group};
 pub use spelled::has_text;

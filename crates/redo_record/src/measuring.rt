@@ -2,10 +2,10 @@
 ghost use Rattle.std.specs.Prelude.{◌≡◌, ◌≤◌, ◌<◌, ◌+◌, ◌^◌, length};
 ghost use Rattle.std.specs.List.{flat_map};
 ghost use Rattle.std.specs.Option.{SomeIff};
-ghost use Rattle.model_number.specs.{spelling32};
-ghost use Rattle.model_record.specs.{group_length, IsGroup, record_text, value_text};
+ghost use Rattle.model_base.specs.{spelling32};
+ghost use Rattle.model_log.specs.{group_length, IsGroup, record_text, value_text};
 
-use model_record::{Group, Rec};
+use model_log::{Group, Rec};
 
 /// How long a group's text is.
 pub trait Length {
@@ -31,7 +31,7 @@ impl Length for Group {
         self.checked_length().unwrap()
     }
 
-    #[tactic(auto, unfolding(model_record::specs::Group::group_text, model_record::specs::Record::single_text, model_record::specs::Record::record_text))]
+    #[tactic(auto, unfolding(model_log::specs::Group::group_text, model_log::specs::Record::single_text, model_log::specs::Record::record_text))]
     fn checked_length(&self) -> Option<u64>
         ensures { SomeIff result (group_length self.now < 2 ^ 64) (group_length self.now) }
     {
@@ -72,7 +72,7 @@ fn with_record(total: u64, rec: &Rec) -> Option<u64>
     total.checked_add(record_length(rec)?)
 }
 
-#[tactic(auto, unfolding(model_record::specs::Record::record_text))]
+#[tactic(auto, unfolding(model_log::specs::Record::record_text))]
 fn record_length(rec: &Rec) -> Option<u64>
     ensures { SomeIff result (length (record_text rec.now) < 2 ^ 64)
         (length (record_text rec.now)) }
@@ -95,7 +95,7 @@ fn record_length(rec: &Rec) -> Option<u64>
     }
 }
 
-#[tactic(auto, unfolding(model_number::specs::Spelling::spelling64))]
+#[tactic(auto, unfolding(model_base::specs::Spelling::spelling64))]
 fn value_length(width: u32, value: u64) -> u64
     ensures exact { result ≡ length (value_text width value) }
     ensures short { result ≤ 9 }
@@ -114,7 +114,7 @@ fn id_length(id: u32) -> u64
     spelling_length(u64::from(id))
 }
 
-#[tactic(auto, unfolding(model_number::specs::Spelling::spelling32))]
+#[tactic(auto, unfolding(model_base::specs::Spelling::spelling32))]
 fn spelling_length(number: u64) -> u64
     ensures exact { result ≡ length (spelling32 number) }
     ensures short { result ≤ 5 }

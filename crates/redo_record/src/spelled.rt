@@ -1,8 +1,8 @@
 // Which groups have a text.
 ghost use Rattle.std.specs.Prelude.{◌↔◌, ◌<◌, ◌^◌, ◌≤◌, All, IsTrue, length};
-ghost use Rattle.model_record.specs.{HasSpelling, HasText, IsByte, IsGroup, IsWidth};
+ghost use Rattle.model_log.specs.{HasSpelling, HasText, IsByte, IsGroup, IsWidth};
 
-use model_record::{Group, Rec};
+use model_log::{Group, Rec};
 
 /// Whether the records are a group whose text is defined: there is one or more, and each number has room in the
 /// format.

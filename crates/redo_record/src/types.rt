@@ -1,8 +1,8 @@
 // The bytes that tell what a record is, and where a group ends.
 ghost use Rattle.std.specs.Prelude.{◌≡◌, ◌<◌};
-ghost use Rattle.model_record.specs.{HasText, type_of};
+ghost use Rattle.model_log.specs.{HasText, type_of};
 
-use model_record::Rec;
+use model_log::Rec;
 
 /// The type byte of a string of bytes: MLOG_WRITE_STRING.
 pub(crate) const STRING: u8 = 30;

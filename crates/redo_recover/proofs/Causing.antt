@@ -3,7 +3,7 @@ use Rattle.std.proofs.Common.{ℕ, List, Option, Some, None}
 use Rattle.std.specs.Prelude.{IfSome}
 use Rattle.model_device.specs.Disk.{Disk}
 use Rattle.model_log.specs.declared.block.BlockView.{BlockView}
-use Rattle.model_record.specs.declared.group.Whole.{Whole}
+use Rattle.model_log.specs.declared.group.Whole.{Whole}
 use Rattle.model_page.specs.declared.content.Content.{Content}
 use Rattle.model_store.specs.{AreReadPages, IsReading, IsScan, Refuses}
 use Rattle.model_store.specs.declared.refusal.Refusal.{Refusal}

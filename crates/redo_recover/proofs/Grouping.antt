@@ -3,11 +3,10 @@ use Rattle.std.proofs.Common.{◌≡◌, ◌≢◌, ℕ, ◌+◌, ◌-◌, ◌<�
 use Rattle.std.specs.List.{AllByRecursion, flat_map}
 use Rattle.std.proofs.lemmas.List.{take-append-drop, take_at, append-nil, length-take-le, take_rest}
 use Rattle.model_base.specs.declared.shape.Shape.{Shape}
-use Rattle.model_number.specs.declared.got.Got.TheVariants.{Value, Bad}
-use Rattle.model_record.specs.declared.rec.Rec.{Rec}
-use Rattle.model_record.specs.declared.group.Whole.{Whole}
-use Rattle.model_record.specs.{BeginsWithGroup, end_mark, GivesGroup, group_length, group_text, GroupFits, groups_of, record_text, single_text, stream_of}
-use Rattle.model_log.specs.{end_of, lsn_of, sn_of, spans_of}
+use Rattle.model_base.specs.declared.got.Got.TheVariants.{Value, Bad}
+use Rattle.model_log.specs.declared.rec.Rec.{Rec}
+use Rattle.model_log.specs.declared.group.Whole.{Whole}
+use Rattle.model_log.specs.{BeginsWithGroup, end_mark, end_of, GivesGroup, group_length, group_text, GroupFits, groups_of, lsn_of, record_text, single_text, sn_of, spans_of, stream_of}
 use Rattle.model_log.proofs.Runs.{run-none, run-push}
 use Rattle.model_store.specs.{AreGroups, IsStorable}
 use Rattle.redo_recover.specs.Groups.{GivesStorable}

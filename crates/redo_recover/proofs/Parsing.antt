@@ -3,8 +3,8 @@ use Rattle.std.proofs.Common.{ℕ, List, [], ◌∷◌, Option, Some, None, subs
 use Rattle.std.specs.List.{All, AllByRecursion}
 use Rattle.std.proofs.lemmas.List.Elements.{All-nil, All-cons}
 use Rattle.model_base.specs.declared.shape.Shape.{Shape}
-use Rattle.model_record.specs.declared.group.Whole.{Whole}
-use Rattle.model_record.specs.{GroupFits, groups_of}
+use Rattle.model_log.specs.declared.group.Whole.{Whole}
+use Rattle.model_log.specs.{GroupFits, groups_of}
 use Rattle.model_store.specs.{IsStorable}
 use Rattle.redo_recover.proofs.Rising.{each-behind}
 use Rattle.redo_recover.specs.Groups.{AreParsed, EndBehindStarts}

@@ -4,10 +4,9 @@ use Rattle.std.specs.Prelude.{nat_le}
 use Rattle.std.specs.List.{AllByRecursion}
 use Rattle.std.proofs.lemmas.Bool.Decides.{nat_tests}
 use Rattle.model_base.specs.declared.shape.Shape.{Shape}
-use Rattle.model_log.specs.{HasItsLength, lsn_of, sn_of}
+use Rattle.model_log.specs.{group_length, groups_of, HasItsLength, lsn_of, sn_of}
 use Rattle.model_page.specs.declared.content.Content.{Content}
-use Rattle.model_record.specs.declared.group.Whole.{Whole}
-use Rattle.model_record.specs.{group_length, groups_of}
+use Rattle.model_log.specs.declared.group.Whole.{Whole}
 use Rattle.model_store.specs.{IsStorable, page_after, replayed, touches, user_after}
 use Rattle.redo_recover.proofs.Grouping.{group_text-some}
 use Rattle.redo_recover.specs.Groups.{EndBehindStarts}

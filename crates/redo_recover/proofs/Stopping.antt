@@ -4,12 +4,11 @@ use Rattle.std.specs.Prelude.{Option}
 use Rattle.std.proofs.lemmas.List.{length_push}
 use Rattle.model_base.specs.declared.limits.TheConstants.{BLOCK_SIZE, LSN_LIMIT}
 use Rattle.model_base.specs.declared.shape.Shape.{Shape}
-use Rattle.model_log.specs.{is_full, log_block}
+use Rattle.model_log.specs.{is_full, log_block, IsStop, cause_at, fit_of}
 use Rattle.model_log.specs.declared.block.BlockView.{BlockView}
-use Rattle.model_stop.specs.{IsStop, cause_at, fit_of}
-use Rattle.model_stop.specs.Stop.{IsUnread}
-use Rattle.model_stop.specs.declared.cause.Cause.{Cause}
-use Rattle.model_stop.specs.declared.cause.Cause.TheVariants.{Partial, Round, End, Misfit}
+use Rattle.model_log.specs.Stop.{IsUnread}
+use Rattle.model_log.specs.declared.cause.Cause.{Cause}
+use Rattle.model_log.specs.declared.cause.Cause.TheVariants.{Partial, Round, End, Misfit}
 use Rattle.model_store.proofs.Places.{place_push}
 use Rattle.model_store.specs.{lsn_at}
 use Rattle.redo_recover.proofs.Scanning.{AreBlocksSoFar, IsTakenAt}

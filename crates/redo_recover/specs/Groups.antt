@@ -3,12 +3,11 @@ use Rattle.std.specs.Prelude.{ℕ, ◌≡◌, ◌≤◌, ◌<◌, ◌+◌, ◌-�
 use Rattle.std.specs.List.{AllByRecursion}
 use Rattle.model_base.specs.declared.limits.TheConstants.{BLOCK_SIZE}
 use Rattle.model_base.specs.declared.shape.Shape.{Shape}
-use Rattle.model_number.specs.declared.got.Got.{Got}
-use Rattle.model_number.specs.declared.got.Got.TheVariants.{Value, Short, Bad}
-use Rattle.model_record.specs.{group_text, IsFront}
-use Rattle.model_record.specs.declared.rec.Rec.{Rec}
-use Rattle.model_record.specs.declared.group.Whole.{Whole}
-use Rattle.model_log.specs.{end_of, IsDataLsn, sn_of, spans_of}
+use Rattle.model_base.specs.declared.got.Got.{Got}
+use Rattle.model_base.specs.declared.got.Got.TheVariants.{Value, Short, Bad}
+use Rattle.model_log.specs.{end_of, group_text, IsDataLsn, IsFront, sn_of, spans_of}
+use Rattle.model_log.specs.declared.rec.Rec.{Rec}
+use Rattle.model_log.specs.declared.group.Whole.{Whole}
 use Rattle.model_log.specs.declared.layout.TheConstants.{BLOCK_HEADER}
 use Rattle.model_store.specs.{AreGroups, HasNoStorable, IsBadRecord, IsStorable, lsn_at}
 use Rattle.redo_recover.specs.declared.fault.RecFault.{RecFault}

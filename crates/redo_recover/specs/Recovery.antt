@@ -1,6 +1,6 @@
 -- What recovery answers of two devices, and what it does to them.
 use Rattle.std.specs.Prelude.{Result, IfOk, IfErr, IfSome}
-use Rattle.model_stop.specs.{IsStop}
+use Rattle.model_log.specs.{IsStop}
 use Rattle.model_store.specs.{IsReading}
 use Rattle.redo_disk.specs.{Call, HasSize}
 use Rattle.redo_disk.specs.Seen.{Seen}

@@ -2,9 +2,8 @@
 ghost use Rattle.std.specs.Prelude.{◌≡◌, ◌≤◌, ◌<◌, ◌+◌, ◌*◌, ◌%◌, ◌^◌, length, IfOk, IfSome, None, nat_lt, if◌then◌else◌};
 ghost use Rattle.model_base.specs.{IsWithinLimits};
 ghost use Rattle.model_base.specs.declared.limits.TheConstants.{MAX_LOG_BLOCKS, START_LSN};
-ghost use Rattle.model_log.specs.{is_full, log_device_length, read_block};
+ghost use Rattle.model_log.specs.{is_full, log_device_length, read_block, IsStop, cause_at};
 ghost use Rattle.model_log.specs.declared.layout.TheConstants.{BLOCK_HEADER};
-ghost use Rattle.model_stop.specs.{IsStop, cause_at};
 ghost use Rattle.model_store.specs.{groups_start};
 ghost use Rattle.redo_disk.specs.{error_of};
 ghost use Rattle.redo_recover.specs.Blocks.{AreBlocksOf, AreFew, HasFirst, HaveFirsts};
@@ -13,8 +12,7 @@ ghost use Rattle.redo_recover.specs.Reads.{IsOnlyRead};
 
 use crate::piece::Piece;
 use model_base::{BLOCK_SIZE, LSN_LIMIT, Shape};
-use model_log::{BlockView, HEADER_BYTES};
-use model_stop::Cause;
+use model_log::{BlockView, Cause, HEADER_BYTES};
 use redo_block::{block_data, read, why};
 use redo_disk::{DevError, Sectors};
 use redo_lsn::offset_of;

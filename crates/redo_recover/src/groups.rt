@@ -10,8 +10,7 @@ ghost use Rattle.redo_recover.specs.Groups.{GivesStorable, EndAt, IsBreakFault, 
 use crate::RecFault;
 use crate::blocks::{Blocks, groups_start};
 use model_base::{BLOCK_SIZE, Shape};
-use model_log::BLOCK_HEADER;
-use model_record::Whole;
+use model_log::{BLOCK_HEADER, Whole};
 use redo_lsn::{NoMemory, lsn_and_sn, lsn_of, sn_of};
 use redo_num::Got;
 use redo_record::{Fits, Group, decode, one_group};

@@ -1,9 +1,7 @@
 // What is recovered of a store.
 use crate::places::Places;
 use model_base::Shape;
-use model_log::BlockView;
-use model_record::Whole;
-use model_stop::Cause;
+use model_log::{BlockView, Cause, Whole};
 use redo_apply::Pages;
 
 /// What is read off the two devices of a store.

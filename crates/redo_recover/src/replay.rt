@@ -2,12 +2,12 @@
 ghost use Rattle.std.specs.Prelude.{◌≤◌, length, All, OnOk, ⊤};
 ghost use Rattle.std.specs.Thread.{IsSync};
 ghost use Rattle.model_base.specs.{IsWithinLimits};
-ghost use Rattle.model_record.specs.{GroupFits};
+ghost use Rattle.model_log.specs.{GroupFits};
 ghost use Rattle.redo_apply.specs.{ArePagesOf, AreReplayed, HaveLsns};
 ghost use Rattle.redo_papply.specs.declared.apply.TheConstants.{MAX_WORKERS};
 
 use model_base::{MAX_PAGES, Shape};
-use model_record::Whole;
+use model_log::Whole;
 use redo_apply::Pages;
 use redo_lsn::NoMemory;
 use redo_papply::apply_all;

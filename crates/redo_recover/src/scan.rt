@@ -2,9 +2,7 @@
 ghost use Rattle.std.specs.Prelude.{ℕ, ◌≡◌, ◌≤◌, ◌<◌, ◌%◌, length, All, IfOk, IfErr};
 ghost use Rattle.model_base.specs.{IsWithinLimits};
 ghost use Rattle.model_base.specs.declared.limits.TheConstants.{BLOCK_SIZE, LSN_LIMIT, START_LSN};
-ghost use Rattle.model_log.specs.{log_device_length};
-ghost use Rattle.model_record.specs.{GroupFits};
-ghost use Rattle.model_stop.specs.{IsStop};
+ghost use Rattle.model_log.specs.{GroupFits, IsStop, log_device_length};
 ghost use Rattle.model_store.specs.{IsScan};
 ghost use Rattle.redo_recover.specs.Devices.{HasLengthCause, OnContent};
 ghost use Rattle.redo_recover.specs.Groups.{EndBehindStarts, IsEndOf, IsScanFault};
@@ -15,9 +13,7 @@ use crate::blocks::{Blocks, read_blocks};
 use crate::errors::log_fault;
 use crate::groups::parse;
 use model_base::Shape;
-use model_log::BlockView;
-use model_record::Whole;
-use model_stop::Cause;
+use model_log::{BlockView, Cause, Whole};
 use redo_disk::Sectors;
 use std::alloc::Global;
 

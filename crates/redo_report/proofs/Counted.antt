@@ -12,10 +12,10 @@ use Rattle.std.proofs.lemmas.Bool.{eq-eqb}
 use Rattle.std.proofs.lemmas.Bool.Decides.{nat_tests}
 use Rattle.std.proofs.lemmas.Cmp.{ranked}
 use Rattle.model_script.specs.declared.script.ScriptLine.{ScriptLine}
-use Rattle.model_history.specs.{entries_of_user, IsLeft, lines_of_user}
-use Rattle.model_history.specs.declared.entry.Entry.{Entry}
-use Rattle.model_history.proofs.Filters.{filter-place}
-use Rattle.model_history.proofs.Groups.{all-at}
+use Rattle.model_report.specs.{entries_of_user, IsLeft, lines_of_user}
+use Rattle.model_report.specs.declared.entry.Entry.{Entry}
+use Rattle.model_report.proofs.Filters.{filter-place}
+use Rattle.model_report.proofs.Groups.{all-at}
 use Rattle.redo_report.specs.Left.{CountsLeft}
 use Rattle.redo_report.proofs.Remaining.{at-same, same-key}
 

@@ -1,9 +1,9 @@
 -- The records of a store that is read, as a script's operations.
 use Rattle.std.proofs.Common.{ℕ, ◌≡◌, List, [], ◌∷◌, map, refl, ap, ◌∙◌}
 use Rattle.model_base.specs.declared.shape.Shape.{Shape}
-use Rattle.model_record.specs.{HasText, RecordFits}
-use Rattle.model_record.specs.declared.rec.Rec.{Rec}
-use Rattle.model_record.specs.declared.rec.Rec.TheVariants as rec
+use Rattle.model_log.specs.{HasText, RecordFits}
+use Rattle.model_log.specs.declared.rec.Rec.{Rec}
+use Rattle.model_log.specs.declared.rec.Rec.TheVariants as rec
 use Rattle.model_report.specs.{item_of_record}
 use Rattle.model_script.specs.{group_of, IsInRange, record_of}
 use Rattle.model_script.specs.declared.item.Item.{Item}

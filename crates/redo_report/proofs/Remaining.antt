@@ -6,8 +6,8 @@ use Rattle.std.specs.BTreeMap.{is_at}
 use Rattle.std.specs.Option.{unwrap_or}
 use Rattle.std.specs.Ordering.{nat_cmp}
 use Rattle.model_script.specs.declared.script.ScriptLine.{ScriptLine}
-use Rattle.model_history.specs.{entries_of_user, lines_of_user}
-use Rattle.model_history.specs.declared.entry.Entry.{Entry}
+use Rattle.model_report.specs.{entries_of_user, lines_of_user}
+use Rattle.model_report.specs.declared.entry.Entry.{Entry}
 
 pub lines-few : (user i : ℕ) (script : List ScriptLine) → i ≤ length script → length (lines_of_user user (take i script)) ≤ i
 lines-few user zero script below = omega arith

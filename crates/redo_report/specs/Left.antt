@@ -5,8 +5,8 @@ use Rattle.std.specs.Option.{unwrap_or}
 use Rattle.std.specs.BTreeMap.{BTreeMap}
 use Rattle.std.specs.BTreeMap as tree
 use Rattle.model_script.specs.declared.script.ScriptLine.{ScriptLine}
-use Rattle.model_history.specs.{entries_of_user, lines_of_user}
-use Rattle.model_history.specs.declared.entry.Entry.{Entry}
+use Rattle.model_report.specs.{entries_of_user, lines_of_user}
+use Rattle.model_report.specs.declared.entry.Entry.{Entry}
 
 -- what the map has for a user, and 0 where it has nothing
 abbrev pub count_of : BTreeMap ℕ ℕ → ℕ → ℕ

@@ -6,9 +6,7 @@ ghost use Rattle.model_base.specs.declared.limits.TheConstants.{BLOCK_SIZE};
 ghost use Rattle.model_report.specs.{block_line, block_lines, cause_word, checkpoint_line, fit_word, listing_text, record_line, stop_lines, store_line, whole_lines};
 
 use model_base::{BLOCK_SIZE, Shape};
-use model_log::BlockView;
-use model_record::{Rec, Whole};
-use model_stop::{Cause, Fit};
+use model_log::{BlockView, Cause, Fit, Rec, Whole};
 use redo_io::Text;
 use redo_lsn::{NoMemory, number_of};
 use redo_script::{push_init, push_number, push_string};

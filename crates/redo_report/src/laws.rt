@@ -1,8 +1,8 @@
 // What holds of the printed texts. A caller learns it by citing a function that does nothing.
 ghost use Rattle.std.specs.Prelude.{◌≡◌, ℕ, map};
 ghost use Rattle.model_base.specs.declared.shape.Shape.{Shape};
-ghost use Rattle.model_record.specs.{HasText, RecordFits};
-ghost use Rattle.model_record.specs.declared.rec.Rec.{Rec};
+ghost use Rattle.model_log.specs.{HasText, RecordFits};
+ghost use Rattle.model_log.specs.declared.rec.Rec.{Rec};
 ghost use Rattle.model_report.specs.{item_of_record, NamesOperation, record_line};
 ghost use Rattle.model_script.specs.{group_of};
 ghost use Rattle.model_script.specs.declared.script.ScriptLine.{ScriptLine};

@@ -1,12 +1,12 @@
 // What is left of a script.
 ghost use Rattle.std.specs.Prelude.{◌≡◌, ℕ, ◌-◌, List, IfOk, OnOk, filter, nat_lt};
-ghost use Rattle.model_history.specs.{IsLeft};
+ghost use Rattle.model_report.specs.{IsLeft};
 ghost use Rattle.model_script.specs.declared.script.ScriptLine.{ScriptLine};
 ghost use Rattle.std.specs.BTreeMap.{IsOrdered};
 ghost use Rattle.std.specs.Ordering.{nat_cmp};
 ghost use Rattle.redo_report.specs.Left.{CountsLeft, CountsLines};
 
-use model_history::{Entry, History};
+use model_report::{Entry, History};
 use model_script::{Script, ScriptLine};
 use redo_lsn::NoMemory;
 use std::alloc::{AllocError, Global};

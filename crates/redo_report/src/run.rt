@@ -7,8 +7,8 @@ ghost use Rattle.redo_report.specs.Read.{read_of};
 
 use crate::pages::push_pages;
 use crate::run_lines::{push_group, push_left, push_marks, push_open};
-use model_history::{Entry, Marks};
 use model_page::Content;
+use model_report::{Entry, Marks};
 use redo_io::Text;
 use redo_lsn::NoMemory;
 use std::alloc::{AllocError, Global};

@@ -3,7 +3,7 @@ ghost use Rattle.std.specs.Prelude.{◌≡◌, ◌++◌, OnOk};
 ghost use Rattle.std.specs.String.{string_bytes};
 ghost use Rattle.model_report.specs.{group_line, left_line, marks_line, open_line, state_word};
 
-use model_history::{Entry, Marks, State};
+use model_report::{Entry, Marks, State};
 use std::alloc::AllocError;
 
 // How a group's commit stands, as one word.

@@ -8,10 +8,10 @@ use Rattle.atomic_table.specs.Table.{Final, Seen as SeenBy}
 use Rattle.atomic_table.specs.declared.shared.Seat.{Seat}
 use Rattle.model_core.specs.{index}
 use Rattle.model_core.specs.declared.words.Word.TheVariants as word
-use Rattle.model_finish.proofs.Finished.{marks_same}
-use Rattle.model_finish.specs.{history_of, marks_in, word_marks}
-use Rattle.model_history.specs.declared.entry.Entry.{Entry}
-use Rattle.model_history.specs.declared.entry.Marks.{Marks}
+use Rattle.model_running.proofs.Finished.{marks_same}
+use Rattle.model_running.specs.{history_of, marks_in, word_marks}
+use Rattle.model_report.specs.declared.entry.Entry.{Entry}
+use Rattle.model_report.specs.declared.entry.Marks.{Marks}
 use Rattle.redo_disk.specs.{Call}
 use Rattle.redo_disk.specs.Seen.{Seen}
 use Rattle.redo_drive.proofs.FailureCode.{small_code}

@@ -6,9 +6,9 @@ use mathlib.Core.Option as maybe
 use Rattle.model_core.specs.{index, SharedWords}
 use Rattle.model_core.specs.Actors as model
 use Rattle.model_core.specs.declared.words.Word.TheVariants as word
-use Rattle.model_finish.proofs.Finished.{marks_same}
-use Rattle.model_finish.specs.{marks_in, word_marks}
-use Rattle.model_history.specs.declared.entry.Marks.{Marks}
+use Rattle.model_running.proofs.Finished.{marks_same}
+use Rattle.model_running.specs.{marks_in, word_marks}
+use Rattle.model_report.specs.declared.entry.Marks.{Marks}
 use Rattle.model_logcore.specs.{HasMetFailure}
 use Rattle.model_running.proofs.Watermarks.{has_watermarks}
 use Rattle.model_running.specs.Watermarks.{HasWatermarks}

@@ -6,8 +6,7 @@ use Rattle.atomic_table.specs.Seated.{TableId}
 use Rattle.atomic_table.specs.declared.shared.Seat.{Seat}
 use Rattle.model_core.specs.{index}
 use Rattle.model_core.specs.declared.words.Word.TheVariants as word
-use Rattle.model_finish.specs.{marks_in}
-use Rattle.model_running.specs.{HaveEnded}
+use Rattle.model_running.specs.{HaveEnded, marks_in}
 use Rattle.model_script.specs.declared.script.ScriptLine.{ScriptLine}
 use Rattle.redo_disk.specs.{Call}
 use Rattle.redo_disk.specs.Seen.{Seen}

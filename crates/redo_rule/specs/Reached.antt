@@ -3,7 +3,7 @@ use Rattle.std.specs.Prelude.{List, ℕ, ◌<◌, ◌≡◌, ◌≤◌}
 use lib.ListN.{get_elem?}
 use mathlib.Core.Option.{some}
 use Rattle.model_core.specs.Actors as model
-use Rattle.model_history.specs.declared.entry.Marks.{Marks}
+use Rattle.model_report.specs.declared.entry.Marks.{Marks}
 use Rattle.model_logcore.specs.{HasMetFailure}
 use Rattle.redo_drive.specs.Views.{view_of}
 use Rattle.redo_drive.specs.declared.actor.Actor.{Actor}

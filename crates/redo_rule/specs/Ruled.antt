@@ -4,7 +4,7 @@ use Rattle.std.specs.Prelude.{Bool, IfSome, List, None, Some, [], false, length,
 use lib.ListN.{get_elem?}
 use mathlib.Core.Option.{some}
 use Rattle.atomic_table.specs.Table.{State}
-use Rattle.model_run.specs.{IsStart}
+use Rattle.model_theorem.specs.{IsStart}
 use Rattle.model_store.specs.Reading.{Reading}
 use Rattle.redo_disk.specs.{Call}
 use Rattle.redo_disk.specs.Seen.{Seen}

@@ -15,7 +15,7 @@ use crate::seats::take_all;
 use crate::shared::{Board, Shared};
 use crate::slots::{data_in, drop_list, log_in};
 use atomic_table::Closed as ClosedTable;
-use model_history::Marks;
+use model_report::Marks;
 use redo_disk::Sectors;
 use redo_drive::{Actor, history_of};
 use redo_logdev::LogPart;

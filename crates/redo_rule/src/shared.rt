@@ -6,7 +6,7 @@ ghost use Rattle.redo_rule.specs.Sharing.{IsNew};
 use crate::law::{About, Law, Ring, Seat, Slot, View};
 use crate::laying::{lay_out, make_board, parts_in};
 use atomic_table::Table;
-use model_history::Entry;
+use model_report::Entry;
 use model_script::Script;
 use redo_disk::Sectors;
 use redo_drive::{Actor, Beginning, Parts, begin_run};

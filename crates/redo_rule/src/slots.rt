@@ -5,7 +5,7 @@ ghost use Rattle.model_base.specs.declared.shape.Shape.{Shape};
 ghost use Rattle.model_core.specs.{DataServed, KeptPage, LogServed, oldest_end};
 ghost use Rattle.redo_drive.specs.DataPartSide as data_part;
 ghost use Rattle.model_core.specs.declared.ops.Op.TheVariants as op;
-ghost use Rattle.model_logdev.specs.{MayBeNext};
+ghost use Rattle.model_parts.specs.{MayBeNext};
 ghost use Rattle.redo_logdev.specs.Part as log_dev;
 ghost use Rattle.redo_drive.specs.{has_failed};
 ghost use Rattle.redo_drive.specs.LogPartSide as log_part;

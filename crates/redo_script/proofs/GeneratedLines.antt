@@ -3,7 +3,7 @@ use Rattle.std.proofs.Common.{ℕ, zero, suc, ◌≡◌, ◌≢◌, ◌==◌, �
 use Rattle.std.specs.Prelude.{if◌then◌else◌}
 use Rattle.std.specs.List.{All, AllByRecursion}
 use Rattle.std.proofs.lemmas.List.Elements.{All-cons, All-nil}
-use Rattle.model_record.specs.{IsByte, IsWidth}
+use Rattle.model_log.specs.{IsByte, IsWidth}
 use Rattle.model_script.specs.{bytes_at, count_at, draw, first_state, generated_lines, generated_text, IsInRange, IsScriptLine, item_at, item_draws, items_at, kind_at, length_at, line_at, lines_at, next_state, offset_at, page_at, script_of, state_after, state_after_line}
 use Rattle.model_script.specs.declared.item.Item.{Item}
 use Rattle.model_script.specs.declared.item.Item.TheVariants.{Num, Text, Init}

@@ -1,7 +1,7 @@
 -- What of some things, judged one after another, is the first that doesn't fit.
 use Rattle.std.proofs.Common.{◌≡◌, ℕ, zero, suc, ◌<◌, ◌+◌, List, [], ◌∷◌, ◌++◌, map, take, length, slice_index_or, Option, Some, None, refl, sym, ap, ◌∙◌, subst, arith}
 use Rattle.std.proofs.lemmas.List.{length-append}
-use Rattle.model_record.specs.{group_length, group_text, stream_of}
+use Rattle.model_log.specs.{group_length, group_text, stream_of}
 use Rattle.model_script.proofs.Fitting.{none-head}
 use Rattle.model_base.specs.declared.shape.Shape.{Shape}
 use Rattle.model_script.specs.{first_misfit, first_misfit_of, group_misfit, group_of, item_misfit, line_misfit, lsn_misfit, script_end, total_misfit, user_misfit}

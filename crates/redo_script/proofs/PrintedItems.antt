@@ -8,7 +8,7 @@ use Rattle.std.proofs.lemmas.Fmt.{decimal_digit}
 use Rattle.std.proofs.lemmas.List.{get_or_past}
 use Rattle.hex.specs.Hex.{IsBytes, encode_lower, lower_digits}
 use Rattle.hex.proofs.HexLemmas.{decode_of-encode_lower, length-encode_with}
-use Rattle.model_record.specs.{IsByte, IsWidth}
+use Rattle.model_log.specs.{IsByte, IsWidth}
 use Rattle.model_script.specs.{hex_bytes, IsInRange, item_of, item_text, item_words, items_of, number_name, width_of, words_of}
 use Rattle.model_script.specs.declared.item.Item.{Item}
 use Rattle.model_script.specs.declared.item.Item.TheVariants.{Num, Text, Init}

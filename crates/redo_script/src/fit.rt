@@ -1,8 +1,7 @@
 // What of a script doesn't fit a store.
 ghost use Rattle.std.specs.Prelude.{◌≡◌, ◌<◌, ◌+◌, ◌^◌, ◌∷◌, [], map, length, None, IfOk, IfErr, OnOk};
 ghost use Rattle.model_base.specs.{IsWithinLimits};
-ghost use Rattle.model_log.specs.{lsn_of, sn_of};
-ghost use Rattle.model_record.specs.{group_length, stream_of};
+ghost use Rattle.model_log.specs.{group_length, lsn_of, sn_of, stream_of};
 ghost use Rattle.model_script.specs.{first_misfit, first_misfit_of, group_of, item_misfit, line_misfit, lsn_misfit, misfit_if, page_misfit, total_misfit, user_misfit, write_misfit};
 ghost use Rattle.redo_script.specs.Judged.{AreUnfitLines, IsUnfitLine, IsUnfitScript};
 

@@ -3,7 +3,7 @@ ghost use Rattle.std.specs.Prelude.{◌≡◌, map, IfOk};
 ghost use Rattle.model_script.specs.{group_of, record_of};
 
 use model_base::Bytes;
-use model_record::{Group, Rec};
+use model_log::{Group, Rec};
 use model_script::{Item, ScriptLine};
 use redo_lsn::NoMemory;
 use std::alloc::{AllocError, Global};

@@ -1,6 +1,6 @@
 // The operations of a script line.
 ghost use Rattle.std.specs.Prelude.{◌≡◌, ◌+◌, ◌^◌, ◌∷◌, [], IfSome, IfOk};
-ghost use Rattle.model_record.specs.{IsWidth};
+ghost use Rattle.model_log.specs.{IsWidth};
 ghost use Rattle.model_script.specs.{hex_bytes, item_of, number_item, text_item, width_of, words_of};
 
 use crate::cut::cut;

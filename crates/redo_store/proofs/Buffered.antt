@@ -5,9 +5,9 @@ use Rattle.model_base.specs.declared.shape.Shape.{Shape}
 use Rattle.model_page.specs.declared.content.Content.{Content}
 use Rattle.model_device.specs.Disk.{Disk}
 use Rattle.model_device.specs.declared.write.Write.{Write}
-use Rattle.model_datadev.specs.{after_both, batch_of, batch_text, FailsBoth, Fresh, IsBatch, IsUpTo, IsWritable, place_writes, slots_write}
-use Rattle.model_datadev.specs.Stored.{Stored}
-use Rattle.model_datadev.proofs.Joined.{batch-from}
+use Rattle.model_parts.specs.{after_both, batch_of, batch_text, FailsBoth, Fresh, IsBatch, IsUpTo, IsWritable, place_writes, slots_write}
+use Rattle.model_parts.specs.Stored.{Stored}
+use Rattle.model_parts.proofs.Joined.{batch-from}
 use Rattle.model_page.specs.{data_device_length}
 use Rattle.redo_disk.proofs.Told.{known-both}
 use Rattle.redo_disk.specs.{Call, HasSize, MakesCalls, put_requests, Serve, write_at}

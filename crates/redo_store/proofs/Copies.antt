@@ -1,8 +1,8 @@
 -- A copy that was read before is put into the place of its page.
 use Rattle.std.proofs.Common.{◌≡◌, ℕ, inr, List, ap, subst, ◌∙◌}
 use Rattle.model_base.specs.declared.shape.Shape.{Shape}
-use Rattle.model_datadev.proofs.Repairs.{HasRepaired, copy-put_done, put-back_failed}
-use Rattle.model_datadev.specs.{IsCopyPut, IsRepairable, KeepsAll, place_at, repair_write}
+use Rattle.model_parts.proofs.Repairs.{HasRepaired, copy-put_done, put-back_failed}
+use Rattle.model_parts.specs.{IsCopyPut, IsRepairable, KeepsAll, place_at, repair_write}
 use Rattle.model_device.specs.{IsPutOrNot, synced, written}
 use Rattle.model_device.specs.Disk.{Disk}
 use Rattle.model_device.specs.declared.write.Write.{Write}

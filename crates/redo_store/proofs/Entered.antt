@@ -2,7 +2,7 @@
 use Rattle.std.proofs.Common.{◌≡◌, ◌≤◌, ◌<◌, IfSome, ℕ, List, length, Option, Some, None, subst, arith}
 use Rattle.model_base.specs.{IsWithinLimits}
 use Rattle.model_base.specs.declared.shape.Shape.{Shape}
-use Rattle.model_datadev.specs.{Fresh, HasNothingPending, IsBefore}
+use Rattle.model_parts.specs.{Fresh, HasNothingPending, IsBefore}
 use Rattle.model_device.specs.Disk.{Disk}
 use Rattle.model_page.specs.{data_device_length}
 use Rattle.model_page.specs.declared.content.Content.{Content}

@@ -1,9 +1,9 @@
 -- A repair: the slots are read, and the copy that counts by what was read is put into its place.
 use Rattle.std.proofs.Common.{◌≡◌, ◌+◌, ◌-◌, ◌*◌, ℕ, inl, inr, List, [], ◌∷◌, length, take, drop, Option, Some, None, Ok, Err, refl, sym, ap, subst, ◌∙◌, arith}
 use Rattle.model_base.specs.declared.shape.Shape.{Shape}
-use Rattle.model_datadev.proofs.Repairs.{HasRepaired, copy-put, copy-put_done, put-back_failed, same-best}
-use Rattle.model_datadev.proofs.Stretches.{stretch-piece}
-use Rattle.model_datadev.specs.{FailsPutBack, IsPutBack, IsRepairable, KeepsAll, place_at, repair_write, SameSlots}
+use Rattle.model_parts.proofs.Repairs.{HasRepaired, copy-put, copy-put_done, put-back_failed, same-best}
+use Rattle.model_parts.proofs.Stretches.{stretch-piece}
+use Rattle.model_parts.specs.{FailsPutBack, IsPutBack, IsRepairable, KeepsAll, place_at, repair_write, SameSlots}
 use Rattle.model_device.specs.{IsPutOrNot, synced, written}
 use Rattle.model_device.specs.Disk.{Disk}
 use Rattle.model_device.specs.declared.write.Write.{Write}

@@ -4,10 +4,10 @@ use Rattle.std.specs.List.{slice_get}
 use Rattle.std.proofs.lemmas.List.{take_at, drop_at, drop-drop}
 use Rattle.model_base.specs.declared.shape.Shape.{Shape}
 use Rattle.model_device.specs.declared.write.Write.{Write}
-use Rattle.model_datadev.specs.{batch_of, batch_text, Fresh, IsFreshPage, new_text, place_at, place_write, place_writes}
-use Rattle.model_datadev.proofs.Batches.{length-new_text}
+use Rattle.model_parts.specs.{batch_of, batch_text, Fresh, IsFreshPage, new_text, place_at, place_write, place_writes}
+use Rattle.model_parts.proofs.Batches.{length-new_text}
 use Rattle.redo_store.specs.Places.{text_writes}
-use Rattle.model_datadev.proofs.Joined.{fresh_of}
+use Rattle.model_parts.proofs.Joined.{fresh_of}
 
 pub writes-at : (shape : Shape) (pairs : List (ℕ × ℕ)) (texts : List ℕ) (i : ℕ) (pair : ℕ × ℕ) → slice_get pairs i ≡ Some pair
     → slice_get (text_writes shape pairs texts) i ≡ Some (record { at = place_at shape pair.0; bytes = take shape.page_size (drop (i * shape.page_size) texts) })

@@ -4,8 +4,8 @@ use Rattle.model_base.specs.{IsWithinLimits}
 use Rattle.model_base.specs.declared.shape.Shape.{Shape}
 use Rattle.model_page.specs.{data_device_length}
 use Rattle.model_page.specs.declared.content.Content.{Content}
-use Rattle.model_datadev.specs.{Fresh, IsUpTo, Keeps}
-use Rattle.model_datadev.specs.Stored.{Stored}
+use Rattle.model_parts.specs.{Fresh, IsUpTo, Keeps}
+use Rattle.model_parts.specs.Stored.{Stored}
 use Rattle.redo_disk.specs.{error_of, HasCause}
 use Rattle.redo_disk.specs.Seen.{Seen}
 use Rattle.redo_disk.specs.declared.error.DevError.{DevError}

@@ -2,7 +2,7 @@
 use Rattle.std.specs.Prelude.{ℕ, List, [], ◌∷◌, take, drop}
 use Rattle.model_base.specs.declared.shape.Shape.{Shape}
 use Rattle.model_device.specs.declared.write.Write.{Write}
-use Rattle.model_datadev.specs.{place_at}
+use Rattle.model_parts.specs.{place_at}
 
 -- the writes of these texts, each of page size, into the places of the pages
 abbrev pub text_writes : Shape → List (ℕ × ℕ) → List ℕ → List Write

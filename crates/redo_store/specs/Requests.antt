@@ -1,7 +1,7 @@
 -- What the calls of a data part ask of its device, and in which order.
 use Rattle.std.specs.Prelude.{ℕ, ◌≡◌, ◌*◌, ◌⊎◌, List, [], ◌∷◌, ◌++◌, length, map, Option, OnOk}
 use Rattle.model_base.specs.declared.shape.Shape.{Shape}
-use Rattle.model_datadev.specs.{Fresh, place_writes, repair_write, slots_write}
+use Rattle.model_parts.specs.{Fresh, place_writes, repair_write, slots_write}
 use Rattle.model_device.specs.declared.write.Write.{Write}
 use Rattle.model_page.specs.{HasNoCopy, IsBestCopy, slot_bytes}
 use Rattle.redo_disk.specs.{Answer, Call, EndWith, put_requests, Reads, Request, Serve, ToSync, ToWrite}

@@ -1,7 +1,7 @@
 // A batch: its pages are sealed in a buffer, and written from there.
 ghost use Rattle.std.specs.Prelude.{◌≡◌, ◌≤◌, ◌*◌, length, OnOk, OnErr};
 ghost use Rattle.model_base.specs.{IsWithinLimits};
-ghost use Rattle.model_datadev.specs.{after_both, batch_of, FailsBoth, IsWritable, place_writes, slots_write};
+ghost use Rattle.model_parts.specs.{after_both, batch_of, FailsBoth, IsWritable, place_writes, slots_write};
 ghost use Rattle.model_device.specs.{IsPutOrNot, synced, written};
 ghost use Rattle.model_page.specs.{data_device_length};
 ghost use Rattle.redo_disk.specs.{error_of, HasCause, MakesCalls, OnTold, put_requests, Serve};

@@ -1,7 +1,7 @@
 // The copies of a page, and its repair: the copy that counts is put into its place.
 ghost use Rattle.std.specs.Prelude.{◌≡◌, ◌≤◌, ◌<◌, ◌*◌, [], ◌∷◌, length, IfOk, IfSome, MatchOption, OnOk, OnErr};
 ghost use Rattle.model_base.specs.{IsWithinLimits};
-ghost use Rattle.model_datadev.specs.{FailsPutBack, IsPutBack};
+ghost use Rattle.model_parts.specs.{FailsPutBack, IsPutBack};
 ghost use Rattle.model_page.specs.{data_device_length, HasNoCopy, IsBestCopy};
 ghost use Rattle.redo_dblwr.specs.{slots_read};
 ghost use Rattle.redo_disk.specs.{error_of, HasCause, MakesCalls, OnTold, Serve};

@@ -1,7 +1,7 @@
 // The data part.
 ghost use Rattle.std.specs.Prelude.{◌≡◌, ◌≤◌, ◌<◌, ◌*◌, ℕ, ◌+◌, List, [], ◌∷◌, length, None, IfOk, MatchResult, MatchOption, IfSome, OnOk, vec_len};
 ghost use Rattle.model_base.specs.{IsWithinLimits};
-ghost use Rattle.model_datadev.specs.{after_batch, batch_of, Fresh, HasNothingPending, IsBefore, IsCopyPut, IsLater, IsOpened, IsRepairable, IsRepaired, IsSteady, IsWritable, KeepsAll, KeepsPages, repair_write, slots_write};
+ghost use Rattle.model_parts.specs.{after_batch, batch_of, Fresh, HasNothingPending, IsBefore, IsCopyPut, IsLater, IsOpened, IsRepairable, IsRepaired, IsSteady, IsWritable, KeepsAll, KeepsPages, repair_write, slots_write};
 ghost use Rattle.model_device.specs.{synced, written};
 ghost use Rattle.model_page.specs.{data_device_length, HasNoCopy, IsBestCopy, place_bytes};
 ghost use Rattle.model_page.specs.declared.content.Content.{Content};

@@ -1,7 +1,7 @@
 // The writes of a batch: its slots, and once they stay there each page's place.
 ghost use Rattle.std.specs.Prelude.{◌≡◌, ◌≤◌, ◌<◌, ◌*◌, ℕ, ◌++◌, length, map, Some, OnOk, OnErr, slice_get};
 ghost use Rattle.model_base.specs.{IsWithinLimits};
-ghost use Rattle.model_datadev.specs.{after_both, ArePutOrNot, FailsBoth, FailsOne, written_all};
+ghost use Rattle.model_parts.specs.{after_both, ArePutOrNot, FailsBoth, FailsOne, written_all};
 ghost use Rattle.model_device.specs.{synced};
 ghost use Rattle.model_page.specs.{data_device_length};
 ghost use Rattle.redo_disk.specs.{error_of, HasCause, MakesCalls, OnTold, put_requests, Serve, ToWrite, write_at};

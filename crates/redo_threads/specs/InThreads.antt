@@ -4,7 +4,7 @@ use lib.ListN.{get_elem?}
 use mathlib.Core.Option.{some}
 use Rattle.model_core.specs.Actors as model
 use Rattle.model_core.specs.States.{FlusherState, UserState, WriterState}
-use Rattle.model_history.specs.Legal.{lines_of_user}
+use Rattle.model_report.specs.Legal.{lines_of_user}
 use Rattle.model_running.specs.Schedule.{HaveEnded}
 use Rattle.model_running.specs.Seating.{ArePageActors}
 use Rattle.model_script.specs.declared.script.ScriptLine.{ScriptLine}

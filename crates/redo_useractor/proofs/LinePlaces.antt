@@ -1,9 +1,8 @@
 -- What a line changes of its pages, by their places in the line.
 use Rattle.std.proofs.Common.{List, [], ap, arith, get_or, length, refl, subst, suc, sym, zero, ℕ, ◌<◌, ◌∙◌, ◌∷◌, ◌≡◌, ◌≤◌}
 use Rattle.std.specs.List.{AllByRecursion}
-use Rattle.model_changes.specs.{cells_of}
-use Rattle.model_core.specs.{CellWrite, change_at, PageChange}
-use Rattle.model_record.specs.declared.rec.Rec.{Rec}
+use Rattle.model_core.specs.{CellWrite, change_at, changed_cells, PageChange}
+use Rattle.model_log.specs.declared.rec.Rec.{Rec}
 use Rattle.redo_apply.specs.{WritesWithin}
 use Rattle.redo_useractor.proofs.Places.{cells_in_is, IsNext, place_is}
 use Rattle.redo_useractor.proofs.Skipped.{is_next}
@@ -11,16 +10,16 @@ use Rattle.redo_useractor.specs.Places.{cells_before, cells_in, changes_on, IsPl
 use Rattle.redo_useractor.specs.Words.{word_cells}
 use Rattle.redo_useractor.specs.Written.{next_word}
 
-change_is : (group : List Rec) (pages : List ℕ) (page d : ℕ) → page < length (changes_on group pages) → (change_at (changes_on group pages) page).cells ≡ cells_of (get_or pages page d) group
+change_is : (group : List Rec) (pages : List ℕ) (page d : ℕ) → page < length (changes_on group pages) → (change_at (changes_on group pages) page).cells ≡ changed_cells (get_or pages page d) group
 change_is group [] page d lt = absurd (omega arith)
 change_is group (x ∷ xs) zero d lt = refl
 change_is group (x ∷ xs) (suc page) d lt = change_is group xs page d (omega arith)
 
 module _ (group recs : List Rec) (pages : List ℕ) (changes : List PageChange) (page number : ℕ) (same : changes_on group pages ≡ changes) (its : recs ≡ group) (lt : page < length changes) (is : number ≡ get_or pages page number)
     (w : AllByRecursion (WritesWithin 4050) group) where
-  cells_here : cells_of number recs ≡ (change_at changes page).cells
+  cells_here : changed_cells number recs ≡ (change_at changes page).cells
   cells_here =
-      ap (cells_of number) its ∙ ap (λ (p : ℕ). cells_of p group) is
+      ap (changed_cells number) its ∙ ap (λ (p : ℕ). changed_cells p group) is
       ∙ sym (change_is group pages page number (subst (λ (cs : List PageChange). page < length cs) (sym same) lt))
       ∙ ap (λ (cs : List PageChange). (change_at cs page).cells) same
 

@@ -2,11 +2,11 @@
 use Rattle.std.proofs.Common.{Bool, List, Some, [], ap, cond, false, get_or, length, sym, true, ℕ, ◌<◌, ◌∙◌, ◌≡◌}
 use Rattle.std.proofs.lemmas.Option.{slice_get-get_or}
 use Rattle.model_base.specs.declared.shape.Shape.{Shape}
-use Rattle.model_changes.specs.{line_of}
-unfoldable use Rattle.model_changes.specs.Changes.{collected}
+use Rattle.model_core.specs.{line_of}
+unfoldable use Rattle.model_core.specs.Changes.{collected}
 use Rattle.model_core.specs.{Line}
-use Rattle.model_record.specs.{group_text}
-use Rattle.model_record.specs.declared.rec.Rec.{Rec}
+use Rattle.model_log.specs.{group_text}
+use Rattle.model_log.specs.declared.rec.Rec.{Rec}
 use Rattle.redo_useractor.proofs.Pages.{changes_are}
 use Rattle.redo_useractor.specs.Lines.{AreUserLines, IsUserLine}
 use Rattle.redo_useractor.specs.Places.{changes_on, page_if_touched}

@@ -3,11 +3,11 @@ use Rattle.std.proofs.Common.{Bool, List, [], add-one, ap, arith, cond, eqb, fal
 use Rattle.std.proofs.lemmas.Bool.{and_cases, and_parts, cond-false, cond-true, eq-eqb, leb-false, leb-true, ltb-false, ltb-true, ne_eqb, or_from, or_left, or_right}
 use Rattle.std.proofs.lemmas.List.{map-append}
 use native.Mathlib.Decide.{dec_le}
-use Rattle.model_changes.specs.{cells_of, change_on, changes_of}
-unfoldable use Rattle.model_changes.specs.Changes.{collected}
+use Rattle.model_core.specs.{changed_cells, change_on, changes_of}
+unfoldable use Rattle.model_core.specs.Changes.{collected}
 use Rattle.model_core.specs.{PageChange}
-use Rattle.model_record.specs.{page_of}
-use Rattle.model_record.specs.declared.rec.Rec.{Rec}
+use Rattle.model_log.specs.{page_of}
+use Rattle.model_log.specs.declared.rec.Rec.{Rec}
 use Rattle.model_store.specs.{touches}
 use Rattle.redo_useractor.proofs.Parts.{collected_none, collected_skip, collected_suc}
 use Rattle.redo_useractor.specs.Places.{changes_on, page_if_touched}
@@ -82,10 +82,10 @@ pub changes_are : (recs : List Rec) (pages : ℕ) → changes_on recs (collected
 changes_are recs zero = ap (changes_on recs) (collected_none (page_if_touched recs)) ∙ sym (collected_none (change_on recs))
 changes_are recs (suc n) =
     ap (changes_on recs) (collected_suc (page_if_touched recs) n)
-    ∙ map-append (λ (p : ℕ). let change : PageChange = record { page = p; cells = cells_of p recs } in change) (collected (page_if_touched recs) n) (page_if_touched recs n)
+    ∙ map-append (λ (p : ℕ). let change : PageChange = record { page = p; cells = changed_cells p recs } in change) (collected (page_if_touched recs) n) (page_if_touched recs n)
     ∙ ap (λ (xs : List PageChange). xs ++ changes_on recs (page_if_touched recs n)) (changes_are recs n) ∙ ap (λ (xs : List PageChange). changes_of n recs ++ xs) (by (touches n recs))
     ∙ sym (collected_suc (change_on recs) n)
   where
-    by : (b : Bool) → changes_on recs (cond b (n ∷ []) []) ≡ cond b (let cs : List PageChange = record { page = n; cells = cells_of n recs } ∷ [] in cs) []
+    by : (b : Bool) → changes_on recs (cond b (n ∷ []) []) ≡ cond b (let cs : List PageChange = record { page = n; cells = changed_cells n recs } ∷ [] in cs) []
     by true = refl
     by false = refl

@@ -2,7 +2,7 @@
 use Rattle.std.proofs.Common.{List, [], ap, append_assoc, arith, length, length-append, refl, subst, suc, sym, zero, ℕ, ◌++◌, ◌+◌, ◌-◌, ◌<◌, ◌∙◌, ◌≡◌, ◌≤◌}
 use Rattle.std.proofs.lemmas.List.{append-nil}
 use native.Mathlib.Decide.{dec_le}
-unfoldable use Rattle.model_changes.specs.Changes.{collected}
+unfoldable use Rattle.model_core.specs.Changes.{collected}
 
 pub collected_none : {A : Type 0} (f : ℕ → List A) → collected f 0 ≡ []
 unfolding collected

@@ -3,13 +3,13 @@ use Rattle.std.proofs.Common.{Bool, List, None, Option, Some, [], ap, arith, con
 use Rattle.std.specs.List.{AllByRecursion}
 use Rattle.std.proofs.Math.Seq.{drop-append_seam, take-append_seam}
 use Rattle.std.proofs.lemmas.Bool.{eq-eqb, eqb-true, le-leb, le-ltb, lt-leb, lt-ltb, ne_eqb}
-use Rattle.model_changes.specs.{after_from, cell_where_same, cells_of}
-unfoldable use Rattle.model_changes.specs.Changes.{collected}
+use Rattle.model_core.specs.{after_from, cell_where_same, changed_cells}
+unfoldable use Rattle.model_core.specs.Changes.{collected}
 use Rattle.std.specs.Prelude.{nat_le}
 use Rattle.model_core.specs.{CellWrite, is_whole, same_word, word_step}
 use Rattle.model_core.specs.declared.steps.UserStep.{UserStep}
 use Rattle.model_core.specs.declared.steps.UserStep.TheVariants as user_step
-use Rattle.model_record.specs.declared.rec.Rec.{Rec}
+use Rattle.model_log.specs.declared.rec.Rec.{Rec}
 use Rattle.redo_apply.specs.{WritesWithin}
 use Rattle.redo_useractor.proofs.Parts.{collected_add, collected_empty, collected_none, collected_same, collected_some, collected_skip, collected_suc}
 use Rattle.redo_useractor.proofs.RecordBytes.{cell_same}
@@ -28,7 +28,7 @@ module _ (p : ℕ) (recs : List Rec) where
       ap (λ (b : Bool). let o : Option ℕ = cond b None (written p recs (38 + j - 38) None) in as_cell (38 + j) o) (le-ltb (38 + j) 38 (omega arith))
       ∙ ap (λ (k : ℕ). as_cell (38 + j) (written p recs k None)) (let e : 38 + j - 38 ≡ j = omega arith in e)
 
-  pub cells_are : AllByRecursion (WritesWithin 4050) recs → cells_of p recs ≡ collected (cell_list p recs) 4088
+  pub cells_are : AllByRecursion (WritesWithin 4050) recs → changed_cells p recs ≡ collected (cell_list p recs) 4088
   cells_are w =
       collected_same (cell_where_same (after_from 0 p recs) (after_from 255 p recs)) (λ (j : ℕ). cell_list p recs (38 + j)) 4050 (λ j h. cell_same p recs j w h ∙ sym (behind_header j))
       ∙ sym (collected_add (cell_list p recs) 38 4050 ∙ ap (λ xs. xs ++ collected (λ (j : ℕ). cell_list p recs (38 + j)) 4050) (collected_empty (cell_list p recs) 38 (λ c h. header_none c h)))
@@ -139,7 +139,7 @@ pub record IsNext (p : ℕ) (recs : List Rec) (q next : ℕ) : Type 0 where
   pub some : next < 511 → (c : ℕ) × (8 * next ≤ c) × (c < 8 * next + 8) × (0 < length (cell_list p recs c))
 
 pub place_is : (p : ℕ) (recs : List Rec) (q next count : ℕ) → AllByRecursion (WritesWithin 4050) recs → IsNext p recs q next → (next < 511 → count ≡ length (word_cells p recs next))
-    → IsPlace (cells_of p recs) next count (cells_before q (cells_of p recs))
+    → IsPlace (changed_cells p recs) next count (cells_before q (changed_cells p recs))
 place_is p recs q next count w is count_is = subst (λ (cells : List CellWrite). IsPlace cells next count (cells_before q cells)) (sym (cells_are p recs w)) (record {
   before = before;
   within = is.within;
@@ -171,7 +171,7 @@ place_is p recs q next count w is count_is = subst (λ (cells : List CellWrite).
         ∙ ap length (sym (collected_skip (cell_list p recs) (8 * q) (8 * next) (let a = is.above in omega arith) is.none))
         ∙ sym (before_is p recs next is.within)
 
-    trial : cells_of p recs ≡ collected (λ (j : ℕ). as_cell (38 + j) (written p recs j None)) 4050
+    trial : changed_cells p recs ≡ collected (λ (j : ℕ). as_cell (38 + j) (written p recs j None)) 4050
     trial = collected_same (cell_where_same (after_from 0 p recs) (after_from 255 p recs)) (λ (j : ℕ). as_cell (38 + j) (written p recs j None)) 4050 (λ j h. cell_same p recs j w h)
 
     few_cells : length (collected (cell_list p recs) 4088) ≤ 4050
@@ -214,11 +214,11 @@ module _ (cells : List CellWrite) (word count number : ℕ) (is : IsPlace cells 
   step_whole not many = sym (goes (in_word not) ∙ ap (λ (b : Bool). let s : UserStep = cond b user_step.StoreFrame user_step.LoadFrame in s) (le-leb 8 count many))
 
 -- the next cells in its word are those that the records write there
-pub cells_in_is : (p : ℕ) (recs : List Rec) (word count number : ℕ) → AllByRecursion (WritesWithin 4050) recs → word < 511 → IsPlace (cells_of p recs) word count number
-    → cells_in (word_at (cells_of p recs) number) number (cells_of p recs) ≡ word_cells p recs word
+pub cells_in_is : (p : ℕ) (recs : List Rec) (word count number : ℕ) → AllByRecursion (WritesWithin 4050) recs → word < 511 → IsPlace (changed_cells p recs) word count number
+    → cells_in (word_at (changed_cells p recs) number) number (changed_cells p recs) ≡ word_cells p recs word
 cells_in_is p recs word count number w lt is =
-    ap (λ (q : ℕ). cells_in q number (cells_of p recs)) (next_in_word (cells_of p recs) word count number is lt).1
-    ∙ ap (λ (n : ℕ). cells_in word n (cells_of p recs)) is.before
+    ap (λ (q : ℕ). cells_in q number (changed_cells p recs)) (next_in_word (changed_cells p recs) word count number is lt).1
+    ∙ ap (λ (n : ℕ). cells_in word n (changed_cells p recs)) is.before
     ∙ subst (λ (cells : List CellWrite). cells_in word (cells_before word cells) cells ≡ word_cells p recs word) (sym (cells_are p recs w))
     (ap (λ (n : ℕ). take n (drop (cells_before word (collected (cell_list p recs) 4088)) (collected (cell_list p recs) 4088))) (same_is p recs word lt) ∙ next_cells p recs word lt)
 

@@ -10,11 +10,10 @@ use Rattle.std.specs.List.{AllByRecursion}
 use Rattle.std.specs.Option.{unwrap_or}
 use native.Mathlib.Decide.{dec_le}
 use Rattle.model_base.specs.{overwritten}
-use Rattle.model_changes.specs.{after_from, cell_where_same}
-use Rattle.model_core.specs.{CellWrite}
-use Rattle.model_record.specs.{page_of}
-use Rattle.model_record.specs.declared.rec.Rec.{Rec}
-use Rattle.model_record.specs.declared.rec.Rec.TheVariants.{Init, Num, Text}
+use Rattle.model_core.specs.{after_from, cell_where_same, CellWrite}
+use Rattle.model_log.specs.{page_of}
+use Rattle.model_log.specs.declared.rec.Rec.{Rec}
+use Rattle.model_log.specs.declared.rec.Rec.TheVariants.{Init, Num, Text}
 use Rattle.model_store.specs.{user_after, user_after_own}
 use Rattle.redo_apply.specs.{WritesWithin}
 use Rattle.redo_useractor.specs.Written.{as_cell, later, own_byte, written}

@@ -5,9 +5,9 @@ use Rattle.std.specs.Int.{byte_at}
 use Rattle.std.specs.Option.{is_some}
 use Rattle.std.proofs.lemmas.Bool.{and_cases, and_from, and_parts, and_right, cases_lt, le-leb, le-ltb, lt-leb, lt-ltb, ltb-false, ltb-true}
 use native.Mathlib.Decide.{dec_le}
-use Rattle.model_record.specs.{page_of}
-use Rattle.model_record.specs.declared.rec.Rec.{Rec}
-use Rattle.model_record.specs.declared.rec.Rec.TheVariants.{Init, Num, Text}
+use Rattle.model_log.specs.{page_of}
+use Rattle.model_log.specs.declared.rec.Rec.{Rec}
+use Rattle.model_log.specs.declared.rec.Rec.TheVariants.{Init, Num, Text}
 use Rattle.redo_apply.specs.{WritesWithin}
 use Rattle.redo_useractor.proofs.Places.{IsNext, header_none}
 use Rattle.redo_useractor.specs.Written.{as_cell, cell_byte, cell_list, cells_end, first_cell, first_word, later, next_word, own_byte, written}

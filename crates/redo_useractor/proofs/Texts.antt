@@ -2,11 +2,11 @@
 use Rattle.std.proofs.Common.{Bool, List, [], arith, length, refl, suc, zero, ℕ, ◌<◌, ◌∷◌, ◌≡◌}
 use Rattle.std.specs.List.{AllByRecursion}
 use Rattle.model_base.specs.declared.shape.Shape.{Shape}
-use Rattle.model_changes.proofs.Collected.{group_has_text}
+use Rattle.model_core.proofs.Collected.{group_has_text}
 use Rattle.model_core.specs.{line_at}
-use Rattle.model_record.specs.{GroupFits, RecordFits}
-use Rattle.model_record.specs.declared.rec.Rec.{Rec}
-use Rattle.model_record.specs.declared.rec.Rec.TheVariants.{Init, Num, Text}
+use Rattle.model_log.specs.{GroupFits, RecordFits}
+use Rattle.model_log.specs.declared.rec.Rec.{Rec}
+use Rattle.model_log.specs.declared.rec.Rec.TheVariants.{Init, Num, Text}
 use Rattle.redo_apply.specs.{WritesWithin}
 use Rattle.redo_useractor.specs.Lines.{AreUserLines, lines_of}
 

@@ -3,9 +3,9 @@ use Rattle.std.proofs.Common.{List, None, Option, Some, [], add-one, ap, arith, 
 use Rattle.std.proofs.lemmas.List.{append-nil}
 use Rattle.std.specs.Option.{is_some}
 use Rattle.std.specs.Prelude.{slice_set}
-unfoldable use Rattle.model_changes.specs.Changes.{collected}
+unfoldable use Rattle.model_core.specs.Changes.{collected}
 use Rattle.model_core.specs.{CellWrite, put_lanes}
-use Rattle.model_record.specs.declared.rec.Rec.{Rec}
+use Rattle.model_log.specs.declared.rec.Rec.{Rec}
 use Rattle.redo_useractor.proofs.Parts.{collected_none, collected_suc}
 use Rattle.redo_useractor.specs.Written.{as_cell, cell_byte, cell_list}
 

@@ -2,10 +2,9 @@
 use Rattle.std.specs.Prelude.{Bool, List, Some, map, slice_get, ℕ, ◌<◌, ◌≡◌, ◌≤◌}
 use Rattle.model_base.specs.declared.limits.TheConstants.{MAX_GROUP}
 use Rattle.model_base.specs.declared.shape.Shape.{Shape}
-use Rattle.model_changes.specs.{line_of}
-use Rattle.model_core.specs.{Line}
-use Rattle.model_record.specs.{group_length, GroupFits, IsGroup}
-use Rattle.model_record.specs.declared.rec.Rec.{Rec}
+use Rattle.model_core.specs.{Line, line_of}
+use Rattle.model_log.specs.{group_length, GroupFits, IsGroup}
+use Rattle.model_log.specs.declared.rec.Rec.{Rec}
 
 -- a mode, as InnoDB numbers it, and a group that fits the store and has a text of at most 8,192 bytes
 pub record IsUserLine (shape : Shape) (line : ℕ × List Rec) : Type 0 where

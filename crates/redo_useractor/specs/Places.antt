@@ -1,10 +1,9 @@
 -- Where a user is among the changed cells of a page: it goes over them word by word.
 use Rattle.std.specs.Prelude.{List, [], cond, drop, get_or, length, map, nat_lt, suc, take, ℕ, ◌+◌, ◌/◌, ◌<◌, ◌∷◌, ◌≡◌, ◌≤◌}
 use Rattle.model_base.specs.declared.limits.TheConstants.{USER_BYTES}
-use Rattle.model_changes.specs.{cells_of}
-use Rattle.model_core.specs.{CellWrite, PageChange, same_word}
+use Rattle.model_core.specs.{CellWrite, changed_cells, PageChange, same_word}
 use Rattle.model_core.specs.declared.limits.TheConstants.{WORD_LANES}
-use Rattle.model_record.specs.declared.rec.Rec.{Rec}
+use Rattle.model_log.specs.declared.rec.Rec.{Rec}
 use Rattle.model_store.specs.{touches}
 use Rattle.redo_useractor.specs.Written.{words_end}
 
@@ -37,4 +36,4 @@ page_if_touched group p = cond (touches p group) (p ∷ []) []
 
 -- what a group changes of these pages
 abbrev pub changes_on : List Rec → List ℕ → List PageChange
-changes_on group pages = map (λ (p : ℕ). let change : PageChange = record { page = p; cells = cells_of p group } in change) pages
+changes_on group pages = map (λ (p : ℕ). let change : PageChange = record { page = p; cells = changed_cells p group } in change) pages

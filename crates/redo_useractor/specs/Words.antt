@@ -1,9 +1,8 @@
 -- The cells of one word of a frame that a group changes.
 use Rattle.std.specs.Prelude.{List, ℕ, ◌*◌, ◌+◌}
-use Rattle.model_changes.specs.{collected}
-use Rattle.model_core.specs.{CellWrite}
+use Rattle.model_core.specs.{CellWrite, collected}
 use Rattle.model_core.specs.declared.limits.TheConstants.{WORD_LANES}
-use Rattle.model_record.specs.declared.rec.Rec.{Rec}
+use Rattle.model_log.specs.declared.rec.Rec.{Rec}
 use Rattle.redo_useractor.specs.Written.{cell_list}
 
 abbrev pub word_cells : ℕ → List Rec → ℕ → List CellWrite

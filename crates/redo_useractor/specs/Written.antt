@@ -4,9 +4,9 @@ use Rattle.std.specs.Int.{byte_at}
 use Rattle.model_base.specs.declared.limits.TheConstants.{USER_BYTES, USER_START}
 use Rattle.model_core.specs.{CellWrite}
 use Rattle.model_core.specs.declared.limits.TheConstants.{WORD_LANES}
-use Rattle.model_record.specs.{page_of}
-use Rattle.model_record.specs.declared.rec.Rec.{Rec}
-use Rattle.model_record.specs.declared.rec.Rec.TheVariants.{Init, Num, Text}
+use Rattle.model_log.specs.{page_of}
+use Rattle.model_log.specs.declared.rec.Rec.{Rec}
+use Rattle.model_log.specs.declared.rec.Rec.TheVariants.{Init, Num, Text}
 
 -- the byte that a record writes at a user byte of its page, if it writes there; of a number the highest byte stands first
 abbrev pub own_byte : Rec → ℕ → Option ℕ

@@ -1,15 +1,15 @@
 // The pages that a group changes.
 ghost use Rattle.std.specs.Prelude.{◌≡◌, IfOk};
-ghost use Rattle.model_changes.specs.{collected};
+ghost use Rattle.model_core.specs.{collected};
 ghost use Rattle.redo_useractor.specs.Places.{page_if_touched};
 
 use crate::written::next_page;
-use model_record::Rec;
+use model_log::Rec;
 use redo_lsn::NoMemory;
 use std::alloc::Global;
 
 /// The pages that the records are on, of so many, ascending.
-#[tactic(auto, using(model_changes::proofs::Collected::collected_none))]
+#[tactic(auto, using(model_core::proofs::Collected::collected_none))]
 pub(crate) fn touched_pages(alloc: Global, pages: u32, recs: &[Rec]) -> Result<Vec<u32>, NoMemory>
     ensures { IfOk result (λ touched. touched.items ≡ collected (page_if_touched recs.now) pages) }
 {

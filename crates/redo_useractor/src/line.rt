@@ -9,7 +9,7 @@ use crate::words::{count_in, with_written};
 use crate::written::{WORDS_END, next_word};
 use model_base::Bytes;
 use model_core::{UserStep, WORD_LANES};
-use model_record::Group;
+use model_log::Group;
 use redo_words::Word;
 use std::marker::Model;
 

@@ -1,8 +1,7 @@
 // A user as a run begins.
 ghost use Rattle.std.specs.Prelude.{◌≡◌, IfOk};
 ghost use Rattle.model_base.specs.{IsWithinLimits};
-ghost use Rattle.model_changes.specs.{line_of};
-ghost use Rattle.model_core.specs.{new_user};
+ghost use Rattle.model_core.specs.{line_of, new_user};
 ghost use Rattle.redo_useractor.specs.Lines.{AreUserLines, IsUserLine, lines_of};
 
 use crate::actor::{Marks, UserActor};
@@ -10,7 +9,7 @@ use crate::changes::touched_pages;
 use crate::line::{Place, UserLine};
 use model_base::Shape;
 use model_core::UserStep;
-use model_record::Group;
+use model_log::Group;
 use redo_lsn::NoMemory;
 use redo_record::encode;
 use std::alloc::Global;

@@ -6,7 +6,7 @@ ghost use Rattle.redo_useractor.specs.Written.{words_end};
 
 use crate::written::cell_byte;
 use model_core::WORD_LANES;
-use model_record::Rec;
+use model_log::Rec;
 
 /// How many cells of a word of this page's frame the records change.
 pub(crate) fn count_in(recs: &[Rec], page: u32, word: usize) -> usize

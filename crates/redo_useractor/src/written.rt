@@ -1,12 +1,12 @@
 // What the records of a group write on a page.
 ghost use Rattle.std.specs.Prelude.{◌≡◌, ◌≤◌, ◌==◌, if◌then◌else◌};
 ghost use Rattle.std.specs.Int.{byte_at};
-ghost use Rattle.model_record.specs.{page_of};
+ghost use Rattle.model_log.specs.{page_of};
 ghost use Rattle.redo_useractor.specs.Written.{cell_byte, cells_end, first_cell, first_page, first_word, later, next_page, next_word, own_byte, words_end, written};
 
 use model_base::{USER_BYTES, USER_START};
 use model_core::WORD_LANES;
-use model_record::Rec;
+use model_log::Rec;
 use redo_apply::page_of;
 
 /// Words of a frame that hold user bytes end here.

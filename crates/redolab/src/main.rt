@@ -3,8 +3,8 @@
 
 ghost use Rattle.std.specs.Prelude.{◌≡◌, [], false, map, replicate, None, Some, IfErr, IfOk};
 ghost use Rattle.std.specs.String.{string_bytes};
-ghost use Rattle.model_command.specs.{asked_of};
-ghost use Rattle.model_command.specs.declared.asked.Asked.{Asked};
+ghost use Rattle.model_script.specs.{asked_of};
+ghost use Rattle.model_script.specs.declared.asked.Asked.{Asked};
 ghost use Rattle.model_device.specs.{settled};
 ghost use Rattle.model_report.specs.declared.fault.Fault.TheVariants.{Memory};
 ghost use Rattle.redo_io.specs.{unused};

@@ -3,7 +3,7 @@ ghost use Rattle.redo_apply.specs.Fits.{ArePagesOf};
 
 use crate::groups::group;
 use model_base::Shape;
-use model_record::Group;
+use model_log::Group;
 use redo_apply::Pages;
 use redo_record::Fits;
 use std::test::Fail;

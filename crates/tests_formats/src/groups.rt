@@ -3,7 +3,7 @@
 //   text SPACE PAGE OFFSET BYTES
 //   init SPACE PAGE
 use crate::table::{bytes, number, number32};
-use model_record::{Group, Rec};
+use model_log::{Group, Rec};
 use redo_lsn::Bytes;
 use std::alloc::Global;
 

@@ -2,7 +2,7 @@
 use crate::groups::group;
 use crate::table::{joined, yes};
 use model_base::MAX_GROUP;
-use model_record::Group;
+use model_log::Group;
 use redo_lsn::Shape;
 use redo_num::Got;
 use redo_record::{Fits, Length, decode, encode, has_text};

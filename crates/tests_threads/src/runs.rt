@@ -1,7 +1,7 @@
 // Runs in threads that end.
 use super::store::{Device, left_by};
-use model_history::Entry;
-use model_history::State::{Flushed, Lost};
+use model_report::Entry;
+use model_report::State::{Flushed, Lost};
 use redo_pageactors::Closed;
 use redo_threads::NoGate;
 use std::process::Abort;
@@ -12,7 +12,7 @@ fn see_one(
     rt: &impl Abort,
     closed: &Closed<Device, Device>,
     code: u32,
-    state: model_history::State,
+    state: model_report::State,
 ) {
     assert_eq!(rt; (closed.code, closed.history.0.len()), (code, 1));
     let found = closed.history.0.get(0).copied();

@@ -1,6 +1,6 @@
 // The next checkpoint.
 ghost use Rattle.std.specs.Prelude.{◌≡◌, None, OnOk, OnErr};
-ghost use Rattle.model_logdev.specs.{after_asked, after_checkpoint, MayBeNext, next_number};
+ghost use Rattle.model_parts.specs.{after_asked, after_checkpoint, MayBeNext, next_number};
 ghost use Rattle.redo_disk.specs.{error_of, MakesCalls, put_requests, Serve};
 ghost use Rattle.redo_logdev.specs.Calls.{checkpoint_write};
 ghost use Rattle.redo_logdev.specs.Part.{Stays, KeepsNumbered};

@@ -1,6 +1,6 @@
 // Making stable what is written.
 ghost use Rattle.std.specs.Prelude.{◌≡◌, [], ◌∷◌, None, OnOk, OnErr};
-ghost use Rattle.model_logdev.specs.{after_synced};
+ghost use Rattle.model_parts.specs.{after_synced};
 ghost use Rattle.redo_disk.specs.{error_of, MakesCalls, Serve, ToSync};
 ghost use Rattle.redo_logdev.specs.Part.{Stays, KeepsHolding};
 

@@ -1,6 +1,6 @@
 // Writing the blocks of a run.
 ghost use Rattle.std.specs.Prelude.{◌≡◌, ◌%◌, ◌^◌, OnOk, OnErr};
-ghost use Rattle.model_logdev.specs.{after_given, after_written};
+ghost use Rattle.model_parts.specs.{after_given, after_written};
 ghost use Rattle.model_log.specs.{block_of, framed};
 ghost use Rattle.redo_disk.specs.{error_of, MakesCalls, Serve};
 ghost use Rattle.redo_logdev.specs.Calls.{round_writes};

@@ -2,8 +2,8 @@
 use super::store::{DATA_CALLS, Device, LOG_CALLS};
 use super::turns::left_by;
 use model_base::{PAGE_SIZE, SLOTS};
-use model_history::Marks;
-use model_history::State::{Flushed, Lost, Written};
+use model_report::Marks;
+use model_report::State::{Flushed, Lost, Written};
 use redo_disk::Sectors;
 use redo_pageactors::Closed;
 use redo_words::Step::{Ended, Idle, Moved};
@@ -171,7 +171,7 @@ fn a_device_fails_at_each_call(rt: HostRuntime) -> Result<(), Fail> {
 fn see_one(
     rt: &impl Abort,
     closed: &Closed<Device, Device>,
-    wanted: (u32, model_history::State),
+    wanted: (u32, model_report::State),
     calls: u64,
 ) {
     assert_eq!(rt; closed.history.0.len(), 1);

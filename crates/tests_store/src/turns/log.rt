@@ -1,6 +1,6 @@
 // Runs up to the log device.
 use super::runs::{Run, marks, outcome_of, see_left};
-use model_history::State::{Lost, Written};
+use model_report::State::{Lost, Written};
 use redo_machine::Turned::{Ended, Idle, Moved};
 use std::test::Fail;
 

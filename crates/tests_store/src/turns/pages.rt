@@ -1,7 +1,7 @@
 // Runs whose pages are written to the data device.
 use super::ring::add_full_line;
 use super::runs::{Run, byte_in_place, marks, outcome_of, see_full, see_left};
-use model_history::State::Flushed;
+use model_report::State::Flushed;
 use redo_machine::Turned::{Ended, Idle, Moved};
 use std::test::Fail;
 

@@ -2,7 +2,7 @@
 ghost use Rattle.std.specs.Prelude.{◌≤◌};
 
 use super::runs::{Run, marks, outcome_of, see_full};
-use model_history::State::Flushed;
+use model_report::State::Flushed;
 use redo_machine::Turned::{Idle, Moved};
 use std::alloc::AllocError;
 use std::test::Fail;

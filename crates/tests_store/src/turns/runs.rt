@@ -3,7 +3,7 @@ ghost use Rattle.redo_drive.specs.Running.{IsOnRun};
 
 use super::store::{machine_on, opened};
 use model_base::{PAGE_SIZE, SLOTS};
-use model_history::{History, Marks, State};
+use model_report::{History, Marks, State};
 use redo_apply::Pages;
 use redo_disk::Sectors;
 use redo_drive::RunEnd;

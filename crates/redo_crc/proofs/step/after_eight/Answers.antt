@@ -1,6 +1,6 @@
 -- The parts of the eight bytes.
 use Rattle.std.proofs.Common.{◌≡◌, ◌/◌, ◌%◌, ◌<◌, ℕ, get_or, ap, ◌∙◌, sym, arith}
-use Rattle.model_number.specs.{register_after}
+use Rattle.model_base.specs.{register_after}
 use Rattle.redo_crc.proofs.TableLemmas.{eight-parts, eight-places}
 use Rattle.redo_crc.proofs.step.after_eight.Goals as goal
 

@@ -1,6 +1,6 @@
 -- What the rest does to the register so far is what all the bytes do to the first one.
 use Rattle.std.proofs.Common.{◌≡◌, length}
-use Rattle.model_number.specs.{register_after}
+use Rattle.model_base.specs.{register_after}
 use Rattle.redo_crc.proofs.step.register_after.Given as goal
 
 abbrev pub invariant-loop-eight : goal.invariant-loop-eight

@@ -1,7 +1,7 @@
 use Rattle.std.proofs.Common.{◌≡◌, take, drop, length}
 use Rattle.std.proofs.lemmas.Result.{on_ok_weaker}
 use Rattle.model_device.specs.Disk.{Disk}
-use Rattle.model_datadev.specs.{SameSlots}
+use Rattle.model_parts.specs.{SameSlots}
 use Rattle.redo_dblwr.proofs.Slots.{front-slots}
 use Rattle.redo_disk.proofs.Told.{known-as}
 use Rattle.redo_dblwr.proofs.copies.read_slots.Goals as goal

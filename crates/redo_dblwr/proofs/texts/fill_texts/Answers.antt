@@ -1,10 +1,10 @@
 use Rattle.std.proofs.Common.{◌≡◌, ◌≤◌, ◌+◌, ◌-◌, ◌*◌, length, take, drop, sym, ap, ◌∙◌, get_or, length-take, length-drop, arith}
 use Rattle.std.proofs.lemmas.Option.{slice_get-get_or}
 use Rattle.std.proofs.lemmas.List.{take_all}
-use Rattle.model_datadev.specs.{batch_of, batch_text}
+use Rattle.model_parts.specs.{batch_of, batch_text}
 use Rattle.redo_dblwr.proofs.SideBySide.{behind-more, texts-more, length-put}
-use Rattle.model_datadev.proofs.Joined.{length-batch_of}
-use Rattle.model_datadev.proofs.Batches.{length-page_text}
+use Rattle.model_parts.proofs.Joined.{length-batch_of}
+use Rattle.model_parts.proofs.Batches.{length-page_text}
 use Rattle.redo_dblwr.proofs.texts.fill_texts.Goals as goal
 
 pub loop-i-preserved : goal.loop-i-preserved

@@ -1,5 +1,5 @@
 use Rattle.std.proofs.Common.{◌≡◌, ◌*◌, length, take, drop}
-use Rattle.model_datadev.specs.{batch_of, batch_text}
+use Rattle.model_parts.specs.{batch_of, batch_text}
 use Rattle.redo_dblwr.proofs.texts.fill_texts.Given as goal
 
 abbrev pub invariant-loop-i : goal.invariant-loop-i

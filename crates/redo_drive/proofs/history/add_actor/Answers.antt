@@ -1,5 +1,5 @@
 use Rattle.std.proofs.Common.{List, ap, arith, length, sym, ◌++◌, ◌∙◌, ◌≡◌}
-use Rattle.model_history.specs.declared.entry.Entry.{Entry}
+use Rattle.model_report.specs.declared.entry.Entry.{Entry}
 use Rattle.redo_drive.proofs.ListGrows.{length_from}
 use Rattle.redo_drive.specs.History.{listed, listed_from}
 use Rattle.redo_drive.specs.Views.{view_of}

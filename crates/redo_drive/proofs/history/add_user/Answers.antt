@@ -1,5 +1,5 @@
 use Rattle.std.proofs.Common.{List, [], ap, arith, drop, vec_capacity, ◌++◌, ◌+◌, ◌∙◌, ◌∷◌, ◌≡◌}
-use Rattle.model_history.specs.declared.entry.Entry.{Entry}
+use Rattle.model_report.specs.declared.entry.Entry.{Entry}
 use Rattle.redo_drive.proofs.ListGrows.{all_groups_added, group_added, has_room}
 use Rattle.redo_drive.specs.History.{listed_from}
 use Rattle.redo_drive.proofs.history.add_user.Goals as goal

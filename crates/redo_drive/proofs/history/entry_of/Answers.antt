@@ -1,6 +1,6 @@
 use Rattle.std.proofs.Common.{ap, arith, length, slice_index, sym, ◌+◌, ◌∙◌, ◌≡◌}
 use Rattle.model_core.specs.{line_at, lsn}
-use Rattle.model_finish.proofs.Places.{lsn_is}
+use Rattle.model_running.proofs.Places.{lsn_is}
 use Rattle.model_log.specs.{lsn_of}
 use Rattle.redo_drive.proofs.history.entry_of.Goals as goal
 

@@ -4,7 +4,7 @@ use Rattle.std.proofs.lemmas.List.{map-append}
 use native.Mathlib.Decide.{dec_le}
 use Rattle.model_core.specs.Actors as actor
 use Rattle.model_core.specs.{Line, new_user, UserState}
-use Rattle.model_record.specs.declared.rec.Rec.{Rec}
+use Rattle.model_log.specs.declared.rec.Rec.{Rec}
 use Rattle.redo_drive.proofs.Seats.{none_first, none_seated, one_seated}
 use Rattle.redo_drive.proofs.UserLines.{are_user_lines, no_program, program_length}
 use Rattle.redo_drive.specs.Setups.{programs_of, user_lines}

@@ -1,4 +1,4 @@
-use Rattle.model_command.specs.declared.asked.Command.TheVariants.{Crash}
+use Rattle.model_script.specs.declared.asked.Command.TheVariants.{Crash}
 use Rattle.redo_lab.proofs.ByDrive.{spends-turns}
 use Rattle.redo_lab.proofs.CrashDone.{crash-played, crash-stopped}
 use Rattle.redo_lab.proofs.Entered.{entries-then}

@@ -1,5 +1,5 @@
 use Rattle.std.proofs.Common.{refl, inl, inr, true}
-use Rattle.model_command.specs.declared.asked.Command.TheVariants.{Gen}
+use Rattle.model_script.specs.declared.asked.Command.TheVariants.{Gen}
 use Rattle.redo_lab.proofs.Entered.{entries-then}
 use Rattle.redo_lab.proofs.GenDone.{seed-cut, seed-played}
 use Rattle.redo_lab.proofs.ByDrive.{spends-turns}

@@ -1,5 +1,5 @@
 use Rattle.std.proofs.Common.{inl, inr}
-use Rattle.model_command.specs.declared.asked.Command.TheVariants.{Run}
+use Rattle.model_script.specs.declared.asked.Command.TheVariants.{Run}
 use Rattle.redo_lab.proofs.ByDrive.{spends-turns}
 use Rattle.redo_lab.proofs.RunDone.{run-played}
 use Rattle.redo_lab.proofs.Running.{RunLaws, ended-early, ended-stopped, no_stops, running-run, uncrashing-run}

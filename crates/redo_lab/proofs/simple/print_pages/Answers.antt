@@ -1,5 +1,5 @@
 use Rattle.std.proofs.Common.{◌≡◌, refl}
-use Rattle.model_command.specs.declared.asked.Command.TheVariants.{Recover}
+use Rattle.model_script.specs.declared.asked.Command.TheVariants.{Recover}
 use Rattle.model_report.specs.{recover_text}
 use Rattle.model_store.specs.{IsReading}
 use Rattle.redo_disk.specs.Seen.{Seen}

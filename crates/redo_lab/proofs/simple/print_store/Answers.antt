@@ -1,6 +1,6 @@
 use Rattle.std.proofs.Common.{refl}
-use Rattle.model_command.specs.declared.asked.Command.TheVariants.{Dump}
-use Rattle.model_stop.specs.{IsStop}
+use Rattle.model_script.specs.declared.asked.Command.TheVariants.{Dump}
+use Rattle.model_log.specs.{IsStop}
 use Rattle.model_store.specs.{IsReading}
 use Rattle.redo_disk.specs.Seen.{Seen}
 use Rattle.redo_recover.specs.Devices.{OnContent}

@@ -1,8 +1,8 @@
 -- The row at the first byte, if there is one.
 use Rattle.std.proofs.Common.{◌≡◌, ◌≤◌, List, [], ◌∷◌, ℕ, length, slice_index, Some, None, arith}
 use Rattle.std.specs.List.{slice_get}
-use Rattle.model_number.specs.{Gives, Spells32}
-use Rattle.model_number.specs.declared.got.Got.TheVariants.{Short}
+use Rattle.model_base.specs.{Gives, Spells32}
+use Rattle.model_base.specs.declared.got.Got.TheVariants.{Short}
 use Rattle.redo_num.proofs.ReadLemmas.{read_empty, read_none, read_one, read_row}
 use Rattle.redo_num.proofs.get.get32.Goals as goal
 

@@ -1,6 +1,6 @@
 -- The high half, and the four bytes behind it.
 use Rattle.std.proofs.Common.{◌≡◌, ◌+◌, ◌-◌, arith}
-use Rattle.model_number.proofs.ByteLemmas.{AreBytes-from_fits}
+use Rattle.model_base.proofs.ByteLemmas.{AreBytes-from_fits}
 use Rattle.redo_num.proofs.HalfLemmas.{low_half_fits, read_both, read_half, read_front, read_bad}
 use Rattle.redo_num.proofs.get.get64.Goals as goal
 

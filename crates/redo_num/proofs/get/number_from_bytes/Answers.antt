@@ -1,6 +1,6 @@
 -- At most eight bytes make a number that fits.
 use Rattle.std.proofs.Common.{arith}
-use Rattle.model_number.proofs.ByteLemmas.{AreBytes-from_fits, number_fits}
+use Rattle.model_base.proofs.ByteLemmas.{AreBytes-from_fits, number_fits}
 use Rattle.redo_num.proofs.get.number_from_bytes.Goals as goal
 
 pub overflow_mul-number : goal.overflow_mul-number

@@ -1,6 +1,6 @@
 -- The ends of what the bytes at hand can become, against the ends of the row.
 use Rattle.std.proofs.Common.{arith, inl, inr}
-use Rattle.model_number.proofs.ByteLemmas.{AreBytes-from_fits}
+use Rattle.model_base.proofs.ByteLemmas.{AreBytes-from_fits}
 use Rattle.redo_num.proofs.ReadLemmas.{following_cut, following_fits, lowest_cut, lowest_fits, text_fits, row_bad, row_short}
 use Rattle.redo_num.proofs.get.read_cut.Goals as goal
 

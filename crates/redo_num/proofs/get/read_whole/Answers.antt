@@ -1,6 +1,6 @@
 -- One text begins with the bytes, and it is compared with those of the row.
 use Rattle.std.proofs.Common.{arith, inl, inr}
-use Rattle.model_number.proofs.ByteLemmas.{AreBytes-from_fits, AreBytes-take}
+use Rattle.model_base.proofs.ByteLemmas.{AreBytes-from_fits, AreBytes-take}
 use Rattle.redo_num.proofs.ReadLemmas.{following_whole, lowest_whole, row_bad, row_value}
 use Rattle.redo_num.proofs.get.read_whole.Goals as goal
 

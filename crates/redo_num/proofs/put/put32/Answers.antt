@@ -2,8 +2,8 @@
 use Rattle.std.proofs.Common.{◌≡◌, ◌+◌, ◌-◌, ℕ, List, take, drop, sym, ap, ◌∙◌, arith}
 use Rattle.std.specs.Int.{bytes_high_first}
 use Rattle.std.proofs.lemmas.List.{take_rest}
-use Rattle.model_number.specs.{spelling32}
-use Rattle.model_number.proofs.SpellingLemmas.{row_fits, word_end, length-in_row}
+use Rattle.model_base.specs.{spelling32}
+use Rattle.model_base.proofs.SpellingLemmas.{row_fits, word_end, length-in_row}
 use Rattle.redo_num.proofs.PutLemmas.{put_mid-overwritten}
 use Rattle.redo_num.proofs.put.put32.Goals as goal
 

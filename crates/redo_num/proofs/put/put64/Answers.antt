@@ -1,8 +1,8 @@
 -- The high half's spelling, and four bytes behind it.
 use Rattle.std.proofs.Common.{◌≡◌, ◌+◌, ◌-◌, ◌^◌, ◌/◌, ◌%◌, length, ◌∙◌, arith, length-append}
 use Rattle.std.specs.Int.{bytes_high_first}
-use Rattle.model_number.specs.{spelling32}
-use Rattle.model_number.proofs.SpellingLemmas.{length-spelling32, spelling64-halves}
+use Rattle.model_base.specs.{spelling32}
+use Rattle.model_base.proofs.SpellingLemmas.{length-spelling32, spelling64-halves}
 use Rattle.redo_num.proofs.PutLemmas.{put_mid-overwritten, overwritten-behind}
 use Rattle.redo_num.proofs.put.put64.Goals as goal
 

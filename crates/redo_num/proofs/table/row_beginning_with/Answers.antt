@@ -1,6 +1,6 @@
 -- The row that the byte's range names.
 use Rattle.std.proofs.Common.{arith, inl, inr}
-use Rattle.model_number.proofs.TableLemmas.{seven_bits_from, fourteen_bits_from, twenty_one_bits_from, twenty_eight_bits_from, whole_from, low_24_bits_from, low_17_bits_from, low_10_bits_from, none_from}
+use Rattle.model_base.proofs.TableLemmas.{seven_bits_from, fourteen_bits_from, twenty_one_bits_from, twenty_eight_bits_from, whole_from, low_24_bits_from, low_17_bits_from, low_10_bits_from, none_from}
 use Rattle.redo_num.proofs.table.row_beginning_with.Goals as goal
 
 pub returns-in-0-to-127 : goal.returns-in-0-to-127

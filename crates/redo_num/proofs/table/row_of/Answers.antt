@@ -1,6 +1,6 @@
 -- The row that the number's range names.
 use Rattle.std.proofs.Common.{arith}
-use Rattle.model_number.proofs.TableLemmas.{row_holds, seven_bits, fourteen_bits, twenty_one_bits, twenty_eight_bits, whole, low_24_bits, low_17_bits, low_10_bits}
+use Rattle.model_base.proofs.TableLemmas.{row_holds, seven_bits, fourteen_bits, twenty_one_bits, twenty_eight_bits, whole, low_24_bits, low_17_bits, low_10_bits}
 use Rattle.redo_num.proofs.table.row_of.Goals as goal
 
 pub returns-in-0-to-127 : goal.returns-in-0-to-127

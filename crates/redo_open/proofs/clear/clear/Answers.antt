@@ -6,7 +6,7 @@ use Rattle.model_device.specs.{FailsWrite, synced, written}
 use Rattle.model_device.specs.Disk.{Disk}
 use Rattle.model_device.specs.declared.write.Write.{Write}
 use Rattle.model_log.specs.{block_of}
-use Rattle.model_logdev.proofs.Places.{sector-place}
+use Rattle.model_parts.proofs.Places.{sector-place}
 use Rattle.redo_disk.specs.{HasCause, write_at}
 use Rattle.redo_open.specs.Clear.{IsPiece, IsClearable, IsClearingTo, ClearsBlocks, HasCleared}
 use Rattle.redo_open.proofs.Clears.{zeros_at, cleared-clears, clearing-begins, clearing-goes_on, clearing-fails, clearing-synced, clears-blocks}

@@ -1,6 +1,6 @@
 -- The steps, one behind the other, on both devices.
 use Rattle.std.proofs.Common.{◌≡◌, ◌+◌, ◌-◌, ◌%◌, ◌∙◌, ℕ, List, Err, refl, ap, arith}
-use Rattle.model_opening.specs.{start_block}
+use Rattle.model_parts.specs.{start_block}
 use Rattle.model_store.specs.{IsOrderly}
 use Rattle.model_store.specs.Reading.{Reading}
 use Rattle.redo_open.specs.Places.{IsReadAs}

@@ -5,7 +5,7 @@ use Rattle.model_device.specs.{IsPutOrNot, synced, written}
 use Rattle.model_device.specs.Disk.{Disk}
 use Rattle.model_device.specs.declared.write.Write.{Write}
 use Rattle.model_log.specs.{checkpoint_text, place_of}
-use Rattle.model_logdev.proofs.Places.{HasBlocks}
+use Rattle.model_parts.proofs.Places.{HasBlocks}
 use Rattle.redo_disk.specs.{write_at}
 use Rattle.redo_open.specs.Mark.{IsSettledLog, MarksLog, HasMarked}
 use Rattle.redo_open.proofs.Marks.{header-place, IsOneSector, failed-marks, written-marks, synced-marked, marked-marks}

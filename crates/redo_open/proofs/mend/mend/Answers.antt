@@ -3,7 +3,7 @@ use Rattle.std.proofs.Common.{◌+◌, ◌∙◌, ℕ, Err, Ok, refl, sym, subst
 use Rattle.std.proofs.lemmas.Result.{err_from_is_err_and}
 use Rattle.std.specs.Prelude.{IfSome}
 use Rattle.model_base.specs.declared.shape.Shape.{Shape}
-use Rattle.model_datadev.specs.{KeepsAll}
+use Rattle.model_parts.specs.{KeepsAll}
 use Rattle.redo_open.specs.Mend.{IsSettledData, IsMended, AreMended, StandFrom}
 use Rattle.redo_open.specs.Store.{MendStep}
 use Rattle.redo_open.proofs.Endings.{mend-behind}

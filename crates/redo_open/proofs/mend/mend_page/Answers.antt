@@ -4,7 +4,7 @@ use Rattle.std.proofs.lemmas.Option.{slice_get_read}
 use Rattle.std.proofs.lemmas.Result.{on_ok_weaker}
 use Rattle.std.specs.Prelude.{IfSome}
 use Rattle.std.specs.List.{slice_get}
-use Rattle.model_datadev.specs.{HasNothingPending, IsRepaired, KeepsAll}
+use Rattle.model_parts.specs.{HasNothingPending, IsRepaired, KeepsAll}
 use Rattle.redo_disk.proofs.Told.{known-as, known-both}
 use Rattle.redo_disk.specs.{OnTold}
 use Rattle.redo_open.proofs.Mends.{mended-repaired, mended-same, settled-keeps}

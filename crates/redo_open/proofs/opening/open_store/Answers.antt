@@ -1,7 +1,7 @@
 -- The store is read and opened.
 use Rattle.std.proofs.Common.{◌≢◌, ◌∙◌, Err, sym, ap, subst, arith}
 use Rattle.std.specs.Prelude.{IfOk, IfErr, IfSome}
-use Rattle.model_opening.specs.{KeepsOpened}
+use Rattle.model_parts.specs.{KeepsOpened}
 use Rattle.model_store.specs.Reading.{Reading}
 use Rattle.redo_disk.proofs.Made.{call_ends, may_end}
 use Rattle.redo_open.specs.Devices.{HasSameCheckpoint, WhereBothTell}

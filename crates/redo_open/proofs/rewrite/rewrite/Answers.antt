@@ -2,7 +2,7 @@
 use Rattle.std.proofs.Common.{◌≡◌, ◌+◌, ◌∙◌, Ok, sym, ap, subst, arith}
 use Rattle.std.proofs.lemmas.Result.{err_from_is_err_and}
 use Rattle.model_base.specs.declared.shape.Shape.{Shape}
-use Rattle.model_datadev.specs.{IsWritable}
+use Rattle.model_parts.specs.{IsWritable}
 use Rattle.redo_open.proofs.Gathers.{gathered-writable}
 use Rattle.redo_open.proofs.GatherSteps.{written-step}
 use Rattle.redo_disk.proofs.Made.{ends_then}

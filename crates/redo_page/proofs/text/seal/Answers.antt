@@ -1,6 +1,6 @@
 use Rattle.std.proofs.Common.{◌≡◌, ◌-◌, ◌++◌, length, take, drop, ◌∙◌, ap, sym, arith, refl}
 use Rattle.std.specs.Int.{bytes_high_first}
-use Rattle.model_number.specs.{crc_of}
+use Rattle.model_base.specs.{crc_of}
 use Rattle.redo_page.proofs.Seals.{page-by-steps, joined-six, head_text}
 use Rattle.redo_page.proofs.text.seal.Goals as goal
 

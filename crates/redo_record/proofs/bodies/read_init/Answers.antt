@@ -1,4 +1,4 @@
-use Rattle.model_record.proofs.Records.{then_init}
+use Rattle.model_log.proofs.Records.{then_init}
 use Rattle.redo_record.proofs.Leaves.{nothing_begins}
 use Rattle.redo_record.proofs.Sequence.{passed_on, both_begin, first_stops}
 use Rattle.redo_record.proofs.bodies.read_init.Goals as goal

@@ -1,5 +1,5 @@
-use Rattle.model_number.proofs.SpellingLemmas.{one_spelling32}
-use Rattle.model_record.proofs.Records.{one_spot, then_num}
+use Rattle.model_base.proofs.SpellingLemmas.{one_spelling32}
+use Rattle.model_log.proofs.Records.{one_spot, then_num}
 use Rattle.redo_record.proofs.Sequence.{passed_on, both_begin, first_stops, second_stops}
 use Rattle.redo_record.proofs.bodies.read_num.Goals as goal
 

@@ -1,5 +1,5 @@
-use Rattle.model_number.proofs.SpellingLemmas.{one_spelling32}
-use Rattle.model_record.proofs.Records.{one32, then_place}
+use Rattle.model_base.proofs.SpellingLemmas.{one_spelling32}
+use Rattle.model_log.proofs.Records.{one32, then_place}
 use Rattle.redo_record.proofs.Sequence.{passed_on, first_stops, second_stops}
 use Rattle.redo_record.proofs.bodies.read_place.Goals as goal
 

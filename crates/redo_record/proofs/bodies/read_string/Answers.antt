@@ -1,4 +1,4 @@
-use Rattle.model_record.proofs.Records.{one_length, then_string}
+use Rattle.model_log.proofs.Records.{one_length, then_string}
 use Rattle.redo_record.proofs.Sequence.{passed_on, first_stops, last_reads}
 use Rattle.redo_record.proofs.bodies.read_string.Goals as goal
 

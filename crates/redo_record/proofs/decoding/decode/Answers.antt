@@ -1,7 +1,7 @@
 use Rattle.std.proofs.Common.{take, refl, subst, arith}
-use Rattle.model_record.specs.{IsGroupText}
+use Rattle.model_log.specs.{IsGroupText}
 use Rattle.redo_record.specs.Reading.{Stops}
-use Rattle.model_record.proofs.Several.{one_group}
+use Rattle.model_log.proofs.Several.{one_group}
 use Rattle.redo_record.proofs.Limit.{front_none, too_long}
 use Rattle.redo_record.proofs.decoding.decode.Goals as goal
 

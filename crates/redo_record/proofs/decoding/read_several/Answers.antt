@@ -1,6 +1,6 @@
 use Rattle.std.proofs.Common.{refl, arith}
 use Rattle.std.proofs.lemmas.Bool.{false≢true}
-use Rattle.model_record.proofs.Several.{one_of_both}
+use Rattle.model_log.proofs.Several.{one_of_both}
 use Rattle.redo_record.proofs.Groups.{several_stop, goes_on, each_push, too_few, behind_end}
 use Rattle.redo_record.proofs.Sequence.{passed_on}
 use Rattle.redo_record.proofs.decoding.read_several.Goals as goal

@@ -1,7 +1,7 @@
 use Rattle.std.proofs.Common.{◌≡◌, ◌++◌, length}
 use Rattle.std.specs.List.{AllByRecursion}
-use Rattle.model_record.specs.{HasText}
-use Rattle.model_record.proofs.Several.{texts}
+use Rattle.model_log.specs.{HasText}
+use Rattle.model_log.proofs.Several.{texts}
 use Rattle.redo_record.proofs.decoding.read_several.Given as goal
 
 abbrev pub invariant-loop-alloc : goal.invariant-loop-alloc

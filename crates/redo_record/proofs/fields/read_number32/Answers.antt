@@ -1,4 +1,4 @@
-use Rattle.model_number.specs.{Spells32}
+use Rattle.model_base.specs.{Spells32}
 use Rattle.redo_record.proofs.Leaves.{spelled_none}
 use Rattle.redo_record.proofs.fields.read_number32.Goals as goal
 

@@ -1,4 +1,4 @@
-use Rattle.model_number.specs.{Spells64}
+use Rattle.model_base.specs.{Spells64}
 use Rattle.redo_record.proofs.Leaves.{spelled_none}
 use Rattle.redo_record.proofs.fields.read_number64.Goals as goal
 

@@ -1,7 +1,7 @@
 use Rattle.std.proofs.Common.{◌≡◌, ℕ, zero, suc, ◌+◌, ◌<◌, ◌≤◌, ◌^◌, List, [], ◌∷◌, length, length-append, get_or, take, arith}
 use Rattle.std.specs.List.{flat_map}
-use Rattle.model_record.specs.{record_text}
-use Rattle.model_record.specs.declared.rec.Rec.{Rec}
+use Rattle.model_log.specs.{record_text}
+use Rattle.model_log.specs.declared.rec.Rec.{Rec}
 use Rattle.redo_record.proofs.measuring.records_length.Goals as goal
 
 -- a front of the records and the next one have no more bytes than all of them

@@ -1,6 +1,6 @@
 use Rattle.std.proofs.Common.{◌≡◌, ◌<◌, ◌^◌, length, take}
 use Rattle.std.specs.List.{flat_map}
-use Rattle.model_record.specs.{record_text}
+use Rattle.model_log.specs.{record_text}
 use Rattle.redo_record.proofs.measuring.records_length.Given as goal
 
 abbrev pub invariant-loop-rec : goal.invariant-loop-rec

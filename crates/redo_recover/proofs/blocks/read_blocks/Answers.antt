@@ -3,8 +3,8 @@ use Rattle.std.proofs.lemmas.List.{length_push}
 use Rattle.std.proofs.lemmas.Result.{err_from_is_err_and}
 use Rattle.model_base.specs.declared.limits.TheConstants.{BLOCK_SIZE}
 use Rattle.model_log.specs.declared.layout.TheConstants.{BLOCK_DATA}
-use Rattle.model_stop.specs.declared.cause.Cause.TheVariants.{Partial, Round}
-use Rattle.model_stop.specs.{IsStop}
+use Rattle.model_log.specs.declared.cause.Cause.TheVariants.{Partial, Round}
+use Rattle.model_log.specs.{IsStop}
 use Rattle.redo_disk.specs.declared.error.DevError.TheVariants.{NoMemory}
 use Rattle.redo_recover.specs.Blocks.{AreBlocksOf}
 use Rattle.redo_recover.specs.Piece.{IsPieceOf}

@@ -1,5 +1,5 @@
 use Rattle.std.proofs.Common.{subst, rules}
-use Rattle.model_record.specs.{GivesGroup}
+use Rattle.model_log.specs.{GivesGroup}
 use Rattle.redo_recover.proofs.Grouping.{unfit-gives_bad, bad-gives_bad}
 use Rattle.redo_recover.proofs.groups.read_storable.Goals as goal
 

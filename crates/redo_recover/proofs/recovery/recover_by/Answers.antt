@@ -1,8 +1,8 @@
 use Rattle.std.proofs.Common.{◌≤◌, List, None, subst, sym}
 use Rattle.std.proofs.lemmas.Result.{err_from_is_err_and}
 use Rattle.std.specs.List.{AllByRecursion}
-use Rattle.model_record.specs.declared.group.Whole.{Whole}
-use Rattle.model_stop.specs.{IsStop}
+use Rattle.model_log.specs.declared.group.Whole.{Whole}
+use Rattle.model_log.specs.{IsStop}
 use Rattle.redo_recover.specs.Reads.{data_error, log_error}
 use Rattle.redo_recover.proofs.Causing.{page-cause, reading-of, scan-cause}
 use Rattle.redo_recover.proofs.Only.{log-own, log-then, only-none, only-own}

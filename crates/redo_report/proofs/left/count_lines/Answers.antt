@@ -1,6 +1,6 @@
 use Rattle.std.proofs.Common.{◌≡◌, ℕ, ◌≤◌, length, take, arith, ap, ◌∙◌}
 use Rattle.std.specs.Option.{unwrap_or}
-use Rattle.model_history.specs.{lines_of_user}
+use Rattle.model_report.specs.{lines_of_user}
 use Rattle.redo_report.proofs.Remaining.{lines-few}
 use Rattle.redo_report.proofs.left.count_lines.Goals as goal
 

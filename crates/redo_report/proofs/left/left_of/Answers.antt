@@ -1,7 +1,7 @@
 -- The counts of the map are what is left.
 use Rattle.std.proofs.Common.{◌≡◌, List, sym, ◌∙◌, subst}
-use Rattle.model_history.specs.{IsLeft}
-use Rattle.model_history.specs.declared.entry.Entry.{Entry}
+use Rattle.model_report.specs.{IsLeft}
+use Rattle.model_report.specs.declared.entry.Entry.{Entry}
 use Rattle.model_script.specs.declared.script.ScriptLine.{ScriptLine}
 use Rattle.redo_report.proofs.Counted.{left-from}
 use Rattle.redo_report.proofs.left.left_of.Goals as goal

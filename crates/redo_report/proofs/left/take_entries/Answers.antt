@@ -3,9 +3,9 @@ use Rattle.std.proofs.Common.{◌≡◌, ◌==◌, ℕ, ◌+◌, Bool, length, t
 use Rattle.std.specs.BTreeMap as tree
 use Rattle.std.specs.Option.{unwrap_or}
 use Rattle.std.specs.Ordering.{nat_cmp}
-use Rattle.model_history.specs.{entries_of_user, lines_of_user}
-use Rattle.model_history.specs.declared.entry.Entry.{Entry}
-use Rattle.model_history.specs.declared.entry.State.TheVariants.{Lost}
+use Rattle.model_report.specs.{entries_of_user, lines_of_user}
+use Rattle.model_report.specs.declared.entry.Entry.{Entry}
+use Rattle.model_report.specs.declared.entry.State.TheVariants.{Lost}
 use Rattle.redo_report.specs.Left.{count_of}
 use Rattle.redo_report.proofs.Remaining.{at-same, entries-more, left-step, same-key}
 use Rattle.redo_report.proofs.left.take_entries.Goals as goal

@@ -1,6 +1,5 @@
 use Rattle.std.proofs.Common.{◌∙◌, ◌+◌, ◌∷◌, [], sym, ap, length, map, subst}
-use Rattle.model_log.specs.{lsn_of, sn_of}
-use Rattle.model_record.specs.{stream_of}
+use Rattle.model_log.specs.{lsn_of, sn_of, stream_of}
 use Rattle.model_script.specs.{first_misfit_of, group_of, line_misfit, lsn_misfit, total_misfit}
 use Rattle.redo_script.specs.Judged.{AreUnfitLines}
 use Rattle.redo_script.proofs.Misfits.{script-end, unfit-lines}

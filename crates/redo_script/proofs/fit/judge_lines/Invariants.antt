@@ -1,5 +1,5 @@
 use Rattle.std.proofs.Common.{◌≡◌, map, take, length, None}
-use Rattle.model_record.specs.{stream_of}
+use Rattle.model_log.specs.{stream_of}
 use Rattle.model_script.specs.{first_misfit_of, group_of, line_misfit}
 use Rattle.redo_script.proofs.fit.judge_lines.Given as goal
 

@@ -1,6 +1,6 @@
 use Rattle.std.proofs.Common.{◌≡◌, ◌+◌, ◌-◌, ◌*◌, ℕ, List, take, drop, Option, subst}
 use Rattle.std.proofs.lemmas.Result.{err_from_is_err_and, on_ok_weaker, on_err_weaker}
-use Rattle.model_datadev.specs.{FailsPutBack, IsPutBack, SameSlots}
+use Rattle.model_parts.specs.{FailsPutBack, IsPutBack, SameSlots}
 use Rattle.model_device.specs.{IsPutOrNot, synced, written}
 use Rattle.model_device.specs.Disk.{Disk}
 use Rattle.redo_disk.proofs.Told.{OnTold-weaker}

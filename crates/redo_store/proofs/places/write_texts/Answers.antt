@@ -8,9 +8,9 @@ use Rattle.model_device.specs.{FailsWrite, written}
 use Rattle.model_device.specs.declared.write.Write.{Write}
 use Rattle.redo_disk.specs.{MakesCalls, Serve, ToWrite, write_at}
 use Rattle.redo_store.specs.Places.{text_writes}
-use Rattle.model_datadev.specs.{FailsOne, written_all}
+use Rattle.model_parts.specs.{FailsOne, written_all}
 use Rattle.redo_disk.proofs.Told.{OnTold-then, on-err, told-as}
-use Rattle.model_datadev.proofs.Written.{written-one_more}
+use Rattle.model_parts.proofs.Written.{written-one_more}
 use Rattle.redo_store.proofs.Asked.{writes-more, writes-cut}
 use Rattle.redo_store.proofs.TextWrites.{write-made, length-text_writes}
 use Rattle.redo_store.proofs.places.write_texts.Goals as goal

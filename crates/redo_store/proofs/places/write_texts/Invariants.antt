@@ -2,7 +2,7 @@ use Rattle.std.proofs.Common.{◌≡◌, ◌≤◌, map, take, None}
 use Rattle.model_device.specs.Disk.{Disk}
 use Rattle.redo_disk.specs.{MakesCalls, OnTold, Serve, ToWrite}
 use Rattle.redo_store.specs.Places.{text_writes}
-use Rattle.model_datadev.specs.{written_all}
+use Rattle.model_parts.specs.{written_all}
 use Rattle.redo_store.proofs.places.write_texts.Given as goal
 
 abbrev pub invariant-loop-i : goal.invariant-loop-i

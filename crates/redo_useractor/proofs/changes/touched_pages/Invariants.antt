@@ -1,5 +1,5 @@
 use Rattle.std.proofs.Common.{true, ◌-◌, ◌<◌, ◌≡◌, ◌≤◌}
-use Rattle.model_changes.specs.{collected}
+use Rattle.model_core.specs.{collected}
 use Rattle.model_store.specs.{touches}
 use Rattle.redo_useractor.specs.Places.{page_if_touched}
 use Rattle.redo_useractor.proofs.changes.touched_pages.Given as goal

@@ -1,6 +1,6 @@
 use Rattle.std.proofs.Common.{[], Bool, Global, List, Vec, ap, cond, sym, ℕ, ◌∙◌, ◌≡◌}
-use Rattle.model_changes.specs.{collected}
-use Rattle.model_record.specs.declared.rec.Rec.{Rec}
+use Rattle.model_core.specs.{collected}
+use Rattle.model_log.specs.declared.rec.Rec.{Rec}
 use Rattle.redo_useractor.proofs.Lines.{line_is}
 use Rattle.redo_useractor.specs.Places.{page_if_touched}
 use Rattle.redo_useractor.proofs.making.line_of.Goals as goal

@@ -1,5 +1,5 @@
 use Rattle.std.proofs.Common.{length, ℕ, ◌*◌, ◌+◌, ◌≡◌, ◌≤◌}
-use Rattle.model_changes.specs.{collected}
+use Rattle.model_core.specs.{collected}
 use Rattle.redo_useractor.specs.Written.{cell_list}
 use Rattle.redo_useractor.proofs.words.count_in.Given as goal
 

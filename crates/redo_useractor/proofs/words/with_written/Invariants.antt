@@ -1,6 +1,5 @@
 use Rattle.std.proofs.Common.{ℕ, ◌*◌, ◌+◌, ◌≡◌}
-use Rattle.model_changes.specs.{collected}
-use Rattle.model_core.specs.{lanes, put_lanes}
+use Rattle.model_core.specs.{collected, lanes, put_lanes}
 use Rattle.redo_useractor.specs.Written.{cell_list}
 use Rattle.redo_useractor.proofs.words.with_written.Given as goal
 

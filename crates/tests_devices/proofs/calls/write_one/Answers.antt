@@ -2,7 +2,7 @@ use Rattle.std.proofs.Common.{List, Some, [], ap, arith, length, subst, suc, sym
 use Rattle.std.specs.List.{slice_get}
 use Rattle.model_base.specs.{default_shape}
 use Rattle.model_base.specs.declared.shape.Shape.{Shape}
-use Rattle.model_datadev.specs.{IsWritable}
+use Rattle.model_parts.specs.{IsWritable}
 use Rattle.tests_devices.proofs.calls.write_one.Goals as goal
 
 abbrev one : ℕ → List (ℕ × ℕ)

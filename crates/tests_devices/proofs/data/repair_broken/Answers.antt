@@ -5,7 +5,7 @@ use Rattle.model_page.specs.{data_device_length, HasNoCopy, IsBestCopy, page_che
 use Rattle.model_page.specs.declared.page.PageState.TheVariants.{Broken}
 use Rattle.model_device.specs.{settled}
 use Rattle.model_device.specs.Disk.{Disk}
-use Rattle.model_datadev.specs.{IsRepairable}
+use Rattle.model_parts.specs.{IsRepairable}
 use Rattle.tests_devices.proofs.data.repair_broken.Goals as goal
 
 repairable : (shape : Shape) (page : ℕ) (told : Option Disk) (out : List ℕ) (best : ℕ × ℕ)

@@ -1,6 +1,6 @@
 use Rattle.std.proofs.Common.{◌≡◌, ◌∙◌, ap, sym, length, Option, IfSome, arith, subst, drop, []}
 use Rattle.std.proofs.lemmas.List.{drop_all}
-use Rattle.model_record.specs.{RecordFits}
+use Rattle.model_log.specs.{RecordFits}
 use Rattle.model_page.specs.declared.content.Content.{Content}
 use Rattle.model_store.specs.{applied}
 use Rattle.redo_apply.specs.Fits.{WritesWithin}

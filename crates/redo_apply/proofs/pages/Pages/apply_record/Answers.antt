@@ -1,6 +1,6 @@
 use Rattle.std.proofs.Common.{◌≡◌, ◌∙◌, ◌<◌, ◌+◌, ◌-◌, ◌*◌, ℕ, ap, ap₂, sym, take, drop, length, vec_len, Option, IfSome, List, arith, subst}
 use Rattle.std.proofs.lemmas.List.{length-take-le, length-drop}
-use Rattle.model_record.specs.{page_of}
+use Rattle.model_log.specs.{page_of}
 use Rattle.model_page.specs.declared.content.Content.{Content}
 use Rattle.redo_apply.specs.Fits.{WritesWithin}
 use Rattle.redo_apply.proofs.Frames.{frame-bound, length-contents}

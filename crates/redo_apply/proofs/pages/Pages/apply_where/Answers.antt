@@ -2,7 +2,7 @@ use Rattle.std.proofs.Common.{◌≡◌, ◌≤◌, ◌<◌, ◌∙◌, ◌+◌,
 use Rattle.std.specs.Prelude.{slice_get}
 use Rattle.std.proofs.lemmas.List.{drop_all}
 use Rattle.std.proofs.lemmas.Option.{slice_get-get_or}
-use Rattle.model_record.specs.{page_of, RecordFits}
+use Rattle.model_log.specs.{page_of, RecordFits}
 use Rattle.model_page.specs.declared.content.Content.{Content}
 use Rattle.redo_apply.specs.Fits.{WritesWithin}
 use Rattle.redo_apply.proofs.Grouped.{item-at, fits-at, page-below, page-of, within-page, same-shape}

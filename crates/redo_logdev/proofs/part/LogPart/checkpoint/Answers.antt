@@ -2,9 +2,9 @@ use Rattle.std.proofs.Common.{◌≡◌, ◌*◌, ◌+◌, ◌∙◌, Some, ap, 
 use Rattle.model_device.specs.Disk.{Disk}
 use Rattle.model_device.specs.{IsPutOrNot, synced, written}
 use Rattle.model_log.specs.{checkpoint_text}
-use Rattle.model_logdev.specs.{after_asked, after_checkpoint, HasNextNumber, MayBeNext, next_number, other_place}
-use Rattle.model_logdev.proofs.Checkpoints.{WritesSector}
-use Rattle.model_logdev.proofs.Places.{HasBlocks}
+use Rattle.model_parts.specs.{after_asked, after_checkpoint, HasNextNumber, MayBeNext, next_number, other_place}
+use Rattle.model_parts.proofs.Checkpoints.{WritesSector}
+use Rattle.model_parts.proofs.Places.{HasBlocks}
 use Rattle.redo_disk.specs.{write_at}
 use Rattle.redo_logdev.specs.Part.{Part, PartHolds, DiskHolds}
 use Rattle.redo_disk.proofs.Told.{told-step}

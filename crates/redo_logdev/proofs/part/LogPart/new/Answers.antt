@@ -1,5 +1,5 @@
 use Rattle.std.proofs.Common.{[], None}
-use Rattle.model_logdev.specs.{first_marks, IsFresh}
+use Rattle.model_parts.specs.{first_marks, IsFresh}
 use Rattle.redo_logdev.specs.Part.{DiskHolds}
 use Rattle.redo_disk.proofs.Told.{known-as}
 use Rattle.redo_logdev.proofs.Parts.{fresh-part}

@@ -1,7 +1,7 @@
 use Rattle.std.proofs.Common.{◌≡◌, [], ◌∷◌, Some, None, ap, subst, sym, ◌∙◌}
 use Rattle.model_device.specs.Disk.{Disk}
 use Rattle.model_device.specs.{synced}
-use Rattle.model_logdev.specs.{after_synced}
+use Rattle.model_parts.specs.{after_synced}
 use Rattle.redo_logdev.specs.Part.{Part, PartHolds, DiskHolds}
 use Rattle.redo_disk.proofs.Told.{told-step}
 use Rattle.redo_logdev.proofs.Parts.{sync-ok}

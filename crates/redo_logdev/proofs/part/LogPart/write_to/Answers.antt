@@ -2,7 +2,7 @@ use Rattle.std.proofs.Common.{◌≡◌, ◌≤◌, ◌<◌, ◌+◌, ◌*◌, �
 use Rattle.std.proofs.lemmas.List.{take_at}
 use Rattle.model_device.specs.Disk.{Disk}
 use Rattle.model_log.specs.{block_of, framed, IsGivenTo}
-use Rattle.model_logdev.specs.{after_given, after_written}
+use Rattle.model_parts.specs.{after_given, after_written}
 use Rattle.redo_logdev.specs.Calls.{written_round, FailsRound}
 use Rattle.redo_logdev.specs.Part.{Part, MayWrite, PartHolds, DiskHolds}
 use Rattle.redo_disk.proofs.Told.{told-step}

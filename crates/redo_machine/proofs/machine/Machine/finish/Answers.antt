@@ -2,9 +2,9 @@
 use Rattle.std.proofs.Common.{List, ap, arith, get_or, length, slice_index, subst, sym, ℕ, ◌<◌, ◌∙◌, ◌≡◌}
 use Rattle.model_core.specs.{index}
 use Rattle.model_core.specs.declared.words.Word.TheVariants as word
-use Rattle.model_finish.proofs.Finished.{marks_same}
-use Rattle.model_finish.specs.{word_marks}
-use Rattle.model_history.specs.declared.entry.Marks.{Marks}
+use Rattle.model_running.proofs.Finished.{marks_same}
+use Rattle.model_running.specs.{word_marks}
+use Rattle.model_report.specs.declared.entry.Marks.{Marks}
 use Rattle.redo_drive.proofs.FailureCode.{small_code}
 use Rattle.redo_drive.proofs.Told.{as_many, have_groups, history_is}
 use Rattle.redo_drive.specs.History.{HasGroups, ListsInOrder, all_listed}

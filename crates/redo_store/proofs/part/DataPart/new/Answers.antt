@@ -1,7 +1,7 @@
 use Rattle.std.proofs.Common.{[], false}
-use Rattle.model_datadev.specs.{IsOpened, IsUpTo}
-use Rattle.model_datadev.specs.Stored.{Stored}
-use Rattle.model_datadev.proofs.Parts.{opened-stored}
+use Rattle.model_parts.specs.{IsOpened, IsUpTo}
+use Rattle.model_parts.specs.Stored.{Stored}
+use Rattle.model_parts.proofs.Parts.{opened-stored}
 use Rattle.redo_disk.proofs.Told.{known-as}
 use Rattle.redo_store.proofs.part.DataPart.new.Goals as goal
 

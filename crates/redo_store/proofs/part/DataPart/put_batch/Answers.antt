@@ -1,10 +1,10 @@
 use Rattle.std.proofs.Common.{◌≡◌, List, [], None, true, is_some, sym, subst, arith}
 use Rattle.model_device.specs.Disk.{Disk}
 use Rattle.model_device.specs.{IsPutOrNot, synced, written}
-use Rattle.model_datadev.specs.{batch_of, Fresh, IsBatch, IsUpTo, IsWritable, slots_write}
-use Rattle.model_datadev.specs.Stored.{Stored}
+use Rattle.model_parts.specs.{batch_of, Fresh, IsBatch, IsUpTo, IsWritable, slots_write}
+use Rattle.model_parts.specs.Stored.{Stored}
 use Rattle.redo_disk.proofs.Told.{told-step}
-use Rattle.model_datadev.proofs.Parts.{tied-put, tied-put_failed}
+use Rattle.model_parts.proofs.Parts.{tied-put, tied-put_failed}
 use Rattle.redo_store.specs.Part.{Part, PartStores}
 use Rattle.redo_store.proofs.Buffered.{fresh-batch, live-stored, back-stored}
 use Rattle.redo_store.proofs.part.DataPart.put_batch.Goals as goal

@@ -1,6 +1,6 @@
 use Rattle.std.proofs.Common.{◌≡◌}
 use Rattle.model_base.specs.declared.shape.Shape.{Shape}
-use Rattle.model_datadev.specs.{IsRepaired, KeepsAll}
+use Rattle.model_parts.specs.{IsRepaired, KeepsAll}
 use Rattle.model_device.specs.{IsPutOrNot, synced, written}
 use Rattle.model_device.specs.Disk.{Disk}
 use Rattle.redo_disk.specs.{write_at}

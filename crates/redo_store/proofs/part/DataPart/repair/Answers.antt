@@ -1,4 +1,4 @@
-use Rattle.model_datadev.specs.{FailsPutBack, IsPutBack, IsRepairable, IsRepaired, KeepsAll}
+use Rattle.model_parts.specs.{FailsPutBack, IsPutBack, IsRepairable, IsRepaired, KeepsAll}
 use Rattle.redo_store.proofs.Entered.{told_ready}
 use Rattle.redo_store.proofs.Repaired.{back-fails, back-keeps}
 use Rattle.redo_store.proofs.part.DataPart.repair.Goals as goal

@@ -1,10 +1,10 @@
 use Rattle.std.proofs.Common.{◌≡◌, List, [], None, is_some, sym, subst, arith}
 use Rattle.model_base.specs.declared.shape.Shape.{Shape}
 use Rattle.model_device.specs.Disk.{Disk}
-use Rattle.model_datadev.specs.{after_batch, after_both, batch_of, FailsBoth, Fresh, IsBatch, IsSteady, IsUpTo, IsWritable, Keeps, KeepsPages, place_writes, slots_write}
-use Rattle.model_datadev.specs.Stored.{Stored}
+use Rattle.model_parts.specs.{after_batch, after_both, batch_of, FailsBoth, Fresh, IsBatch, IsSteady, IsUpTo, IsWritable, Keeps, KeepsPages, place_writes, slots_write}
+use Rattle.model_parts.specs.Stored.{Stored}
 use Rattle.redo_disk.proofs.Told.{told-step}
-use Rattle.model_datadev.proofs.Parts.{tied-write, tied-keeps, tied-failed, before-done, before-keeps, before-failed}
+use Rattle.model_parts.proofs.Parts.{tied-write, tied-keeps, tied-failed, before-done, before-keeps, before-failed}
 use Rattle.redo_store.specs.Part.{Part, PartStores}
 use Rattle.redo_store.proofs.Buffered.{fresh-batch, live-stored, back-stored}
 use Rattle.redo_store.proofs.Entered.{told_batch}

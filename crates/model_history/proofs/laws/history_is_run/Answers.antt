@@ -1,5 +1,0 @@
-use Rattle.model_history.proofs.Groups.{run-from}
-use Rattle.model_history.proofs.laws.history_is_run.Goals as goal
-
-pub returns : goal.returns
-returns c = run-from

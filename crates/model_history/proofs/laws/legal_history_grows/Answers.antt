@@ -1,5 +1,0 @@
-use Rattle.model_history.proofs.Growing.{legal-more}
-use Rattle.model_history.proofs.laws.legal_history_grows.Goals as goal
-
-pub returns : goal.returns
-returns c = legal-more

@@ -1,5 +1,0 @@
-use Rattle.model_history.proofs.Groups.{boundary-from}
-use Rattle.model_history.proofs.laws.mark_is_boundary.Goals as goal
-
-pub returns : goal.returns
-returns c = boundary-from

@@ -1,0 +1,16 @@
+-- Why 512 bytes are a block of an lsn, or aren't.
+use Rattle.std.specs.Prelude.{ℕ, List, if◌then◌else◌}
+use Rattle.model_log.specs.Block.{fits_checksum, fits_number, is_first, is_length, view_of}
+use Rattle.model_log.specs.declared.fit.Fit.{Fit}
+use Rattle.model_log.specs.declared.fit.Fit.TheVariants.{Whole, Number, Length, First, Checksum}
+
+-- the first that doesn't fit: the number, the length, the first offset, the checksum
+abbrev pub fit_of : ℕ → List ℕ → Fit
+fit_of lsn bytes =
+    if fits_number lsn bytes
+    then (if is_length (view_of bytes).length
+    then (if is_first (view_of bytes).length (view_of bytes).first
+    then (if fits_checksum bytes then Whole else Checksum)
+    else First)
+    else Length)
+    else Number

@@ -1,3 +1,0 @@
-pub mod ByteLemmas
-pub mod SpellingLemmas
-pub mod TableLemmas

@@ -1,6 +1,0 @@
--- The law is a lemma.
-use Rattle.model_opening.proofs.Formatted.{formatted-openable}
-use Rattle.model_opening.proofs.laws.formatted_is_openable.Goals as goal
-
-pub returns : goal.returns
-returns c = formatted-openable

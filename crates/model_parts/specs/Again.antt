@@ -1,0 +1,19 @@
+-- A store that is opened again, after a crash in opening.
+use Rattle.std.specs.Prelude.{◌≡◌, ◌<◌, ◌+◌, ◌-◌, ◌^◌}
+use Rattle.model_base.specs.declared.limits.TheConstants.{LSN_LIMIT}
+use Rattle.model_device.specs.Disk.{Disk}
+use Rattle.model_store.specs.Reading.{Reading}
+use Rattle.model_parts.specs.Opened.{IsOpenable, start_block}
+
+-- the checkpoints have room to go on by one more
+pub record HasRoom (opened : Reading) : Type 0 where
+  pub numbers_left : opened.number + 1 < 2 ^ 63
+  pub lsns_left : opened.ckpt < LSN_LIMIT - 2 ^ 30
+  pub start_left : start_block opened < LSN_LIMIT - 2 ^ 30
+
+-- the two devices may be opened, with the pages of before
+pub record OpensAgain (opened : Reading) (log_disk data_disk : Disk) : Type 0 where
+  pub reading : Reading
+  pub openable : IsOpenable reading log_disk data_disk
+  pub shape : reading.shape ≡ opened.shape
+  pub pages : reading.pages ≡ opened.pages

@@ -1,0 +1,49 @@
+-- The marks of a log device, and how each call moves them.
+use Rattle.std.specs.Prelude.{ℕ, ◌≡◌, ◌≤◌, ◌<◌, ◌+◌, ◌-◌, ◌%◌, ◌^◌}
+use Rattle.model_base.specs.declared.limits.TheConstants.{BLOCK_SIZE, LSN_LIMIT}
+use Rattle.model_log.specs.declared.layout.TheConstants.{BLOCK_HEADER}
+use Rattle.model_parts.specs.declared.marks.LogMarks.{LogMarks}
+
+-- those of a part that starts a run there
+abbrev pub first_marks : ℕ → ℕ → LogMarks
+first_marks start number = record {
+  stable = start;
+  written = start;
+  given = start;
+  number = number;
+  ckpt = start - BLOCK_HEADER;
+  asked = start - BLOCK_HEADER;
+}
+
+-- after a mark was given to `write_to`, and once that answered Ok
+abbrev pub after_given : ℕ → LogMarks → LogMarks
+after_given mark marks = record marks { given = mark }
+
+abbrev pub after_written : ℕ → LogMarks → LogMarks
+after_written mark marks = record marks { written = mark; given = mark }
+
+-- after a sync that answered Ok
+abbrev pub after_synced : LogMarks → LogMarks
+after_synced marks = record marks { stable = marks.written }
+
+-- after an lsn was given to `checkpoint`, and once that answered Ok and made the one of this number
+abbrev pub after_asked : ℕ → LogMarks → LogMarks
+after_asked lsn marks = record marks { asked = lsn }
+
+abbrev pub after_checkpoint : ℕ → ℕ → LogMarks → LogMarks
+after_checkpoint number lsn marks = record marks { number = number; ckpt = lsn; asked = lsn }
+
+-- The next checkpoint may stand at this lsn: the start of a block, from the last one asked for up to the stable mark.
+pub record MayBeNext (marks : LogMarks) (lsn : ℕ) : Type 0 where
+  pub aligned : lsn % BLOCK_SIZE ≡ 0
+  pub small : lsn < LSN_LIMIT
+  pub from : marks.asked ≤ lsn
+  pub up_to : lsn ≤ marks.stable
+
+-- the number of the checkpoint behind one, which goes round
+abbrev pub next_number : ℕ → ℕ
+next_number number = (number + 1) % 2 ^ 64
+
+-- it hasn't gone round
+abbrev pub HasNextNumber : LogMarks → Type 0
+HasNextNumber marks = marks.number + 1 < 2 ^ 64

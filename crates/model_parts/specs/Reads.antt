@@ -1,0 +1,49 @@
+-- What is read off a log that holds a run.
+use Rattle.std.specs.Prelude.{ℕ, ◌≡◌, ◌≤◌, ◌<◌, ◌^◌, List, ◌++◌, Some}
+use Rattle.std.specs.List.{AllByRecursion}
+use Rattle.model_base.specs.declared.shape.Shape.{Shape}
+use Rattle.model_base.specs.declared.limits.TheConstants.{LSN_LIMIT}
+use Rattle.model_log.specs.{end_of, groups_of, IsBoundary, newest_checkpoint, spans_of}
+use Rattle.model_log.specs.declared.group.Whole.{Whole}
+use Rattle.model_log.specs.declared.block.BlockView.{BlockView}
+use Rattle.model_store.specs.{HasHead, IsBadRecord, IsScan, IsStorable}
+use Rattle.model_parts.specs.declared.marks.LogMarks.{LogMarks}
+
+-- The scan from the checkpoint on reads the groups up to a boundary between the marks: those in the middle. Those
+-- before them start before the checkpoint.
+pub record ScansTo (shape : Shape) (s : ℕ) (wholes : List Whole) (low high ckpt : ℕ) (image : List ℕ) : Type 0 where
+  pub views : List BlockView
+  pub before : List Whole
+  pub middle : List Whole
+  pub after : List Whole
+  pub mark : ℕ
+  pub parts : wholes ≡ before ++ (middle ++ after)
+  pub scan : IsScan shape image ckpt views middle mark
+  pub boundary : IsBoundary s (spans_of wholes) mark
+  pub ends : end_of s (spans_of (before ++ middle)) ≡ mark
+  pub from : low ≤ mark
+  pub up_to : mark ≤ high
+  pub starts : AllByRecursion (λ (whole : Whole). whole.start < ckpt) before
+  pub from_ckpt : AllByRecursion (λ (whole : Whole). ckpt ≤ whole.start) middle
+  -- so these are the groups that end at or below the mark, and the others end above it
+  pub read_end : AllByRecursion (λ (whole : Whole). whole.end ≤ mark) (before ++ middle)
+  pub other_ends : AllByRecursion (λ (whole : Whole). mark < whole.end) after
+
+-- What is read off an image of a log device that holds the run: a newest checkpoint, and from there on the groups up
+-- to a boundary from the stable mark up to the last one given. The scan isn't refused.
+pub record CrashReads (shape : Shape) (s : ℕ) (wholes : List Whole) (marks : LogMarks) (image : List ℕ) : Type 0 where
+  pub number : ℕ
+  pub ckpt : ℕ
+  pub head : HasHead image shape
+  pub newest : newest_checkpoint shape image ≡ Some (number, ckpt)
+  pub from : marks.ckpt ≤ ckpt
+  pub up_to : ckpt ≤ marks.asked
+  pub scan : ScansTo shape s wholes marks.stable marks.given ckpt image
+  pub not_refused : (lsn : ℕ) → IsBadRecord shape image ckpt lsn → ⊥
+
+-- the groups fit the store, and their lsns are below the limit
+pub record FitsStore (shape : Shape) (wholes : List Whole) (marks : LogMarks) : Type 0 where
+  pub good : AllByRecursion (IsStorable shape) (groups_of wholes)
+  pub small : marks.given ≤ LSN_LIMIT
+  pub some_blocks : 1 ≤ shape.log_blocks
+  pub few_blocks : shape.log_blocks < 2 ^ 30

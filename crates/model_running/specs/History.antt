@@ -1,0 +1,53 @@
+-- The history of a run: each reserved group, and how its commit stands by the marks.
+use Rattle.std.specs.Prelude.{List, [], cond, map, nat_lt, slice_index, ℕ, ◌∷◌, ◌≡◌}
+use Rattle.model_core.specs.{answered, end_of, index, lsn, SharedWords}
+use Rattle.model_report.specs.{state_by}
+use Rattle.model_report.specs.declared.entry.Entry.{Entry}
+use Rattle.model_report.specs.declared.entry.Marks.{Marks}
+use Rattle.model_report.specs.declared.entry.State.{State}
+use Rattle.model_report.specs.declared.entry.State.TheVariants.{Lost}
+use Rattle.model_log.specs.{group_text, Span, span_of}
+use Rattle.model_log.specs.declared.group.Whole.{Whole}
+use Rattle.model_core.specs.declared.words.Word.TheVariants as word
+use Rattle.model_core.specs.Groups as core
+
+-- a commit that isn't answered is lost
+abbrev pub state_of : ℕ → Marks → core.Entry → State
+state_of answered marks e = cond (nat_lt e.k answered) (state_by marks (lsn (end_of e))) Lost
+
+abbrev pub entry_of : (ℕ → ℕ) → Marks → core.Entry → Entry
+entry_of answered marks e = record { user = e.user; k = e.k; start = lsn e.start; end = lsn (end_of e); state = state_of (answered e.user) marks e }
+
+abbrev pub history_of : (ℕ → ℕ) → Marks → List core.Entry → List Entry
+history_of answered marks log = map (entry_of answered marks) log
+
+-- the words' marks
+abbrev pub word_marks : SharedWords → Marks
+word_marks m = record { wtail = m.wtail; write = m.write; flushed = m.flushed; ckpt = m.ckpt }
+
+-- the same in the list of words
+abbrev pub marks_in : List ℕ → Marks
+marks_in ws = record {
+  wtail = slice_index ws (index word.Wtail);
+  write = slice_index ws (index word.Write);
+  flushed = slice_index ws (index word.Flushed);
+  ckpt = slice_index ws (index word.Ckpt);
+}
+
+-- where each group of the log stands, in lsns
+abbrev pub log_span : core.Entry → Span
+log_span e = record { start = lsn e.start; end = lsn (end_of e) }
+
+abbrev pub log_spans : List core.Entry → List Span
+log_spans log = map log_span log
+
+-- the group is this one, with its place
+pub record IsWholeOf (e : core.Entry) (whole : Whole) : Type 0 where
+  pub place : span_of whole ≡ log_span e
+  pub text : group_text whole.group ≡ e.bytes
+
+-- the groups of the log, each with its place
+abbrev pub AreWholesOf : List core.Entry → List Whole → Type 0
+AreWholesOf [] [] = Unit {0}
+AreWholesOf (e ∷ log) (whole ∷ wholes) = IsWholeOf e whole × AreWholesOf log wholes
+AreWholesOf _ _ = ⊥

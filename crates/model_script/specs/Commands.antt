@@ -1,0 +1,112 @@
+-- The six commands. Behind a command's name stand its options, in any order and each at most once, and for `gen` three
+-- numbers. Words that aren't one of these commands ask for nothing.
+use Rattle.std.specs.Prelude.{ℕ, ◌^◌, ◌-◌, ◌&&◌, ◌||◌, nat_le, if◌then◌else◌, Bool, true, not, List, [], ◌∷◌, codes, find, Option, Some, None, option_map, option_and_then, unwrap_or}
+use Rattle.std.specs.List.{list_all, list_any}
+use Rattle.std.specs.Str.{bytes_eq}
+use Rattle.model_base.specs.declared.limits.TheConstants.{DEFAULT_LOG_BLOCKS, DEFAULT_PAGES, DEFAULT_SPACE, MAX_LOG_BLOCKS, MAX_PAGES, MIN_LOG_BLOCKS}
+use Rattle.model_script.specs.declared.misfit.TheConstants.{MAX_USERS}
+use Rattle.model_script.specs.Words.{Said, said_from, spelling}
+use Rattle.model_script.specs.declared.asked.Asked.{Asked}
+use Rattle.model_script.specs.declared.asked.Command.{Command}
+use Rattle.model_script.specs.declared.asked.Command.TheVariants.{Format, Run, Crash, Recover, Dump, Gen}
+use Rattle.model_script.specs.declared.asked.Drive.{Drive}
+use Rattle.model_script.specs.declared.words.Expected.TheVariants.{Any}
+use Rattle.model_script.specs.declared.words.Given.{Given}
+use Rattle.model_script.specs.declared.words.Name.{Name}
+use Rattle.model_script.specs.declared.words.Name.TheVariants as name
+use Rattle.model_script.specs.declared.words.TheConstants.{DEFAULT_TURNS, MAX_GENERATED, MAX_TURNS, MAX_WORKERS}
+
+-- the option has this name
+abbrev pub is_named : Name → Given → Bool
+is_named name given = bytes_eq (spelling given.name) (spelling name)
+
+-- each option at most once
+abbrev pub are_different : List Given → Bool
+are_different [] = true
+are_different (given ∷ others) = not (list_any (is_named given.name) others) && are_different others
+
+-- the option is one of a command's, or `--files`, which every command has
+abbrev pub is_among : List Name → Given → Bool
+is_among names given = is_named name.Files given || list_any (λ name. is_named name given) names
+
+abbrev pub are_among : List Name → List Given → Bool
+are_among names options = list_all (is_among names) options
+
+abbrev pub is_given : Name → List Given → Bool
+is_given name options = list_any (is_named name) options
+
+-- the number of an option, if it is given
+abbrev pub given_number : Name → List Given → Option ℕ
+given_number name options = option_and_then (λ given. given.number) (find (is_named name) options)
+
+-- the number, if it lies within these limits, both included
+abbrev pub number_within : ℕ → ℕ → ℕ → Option ℕ
+number_within least greatest n = if nat_le least n && nat_le n greatest then Some n else None
+
+-- the number of an option within its limits, or what stands for it where the option isn't given
+abbrev pub number_or : ℕ → ℕ → ℕ → Option ℕ → Option ℕ
+number_or least greatest default None = Some default
+number_or least greatest default (Some n) = number_within least greatest n
+
+-- how a script is run: by turns of the seed 0 where nothing else is asked
+abbrev pub drive_of : List Given → Option Drive
+drive_of options =
+    option_map (λ max. record {
+      seed = unwrap_or (given_number name.Turns options) 0;
+      max = max;
+      threads = is_given name.Threads options;
+      log_only = is_given name.LogOnly options;
+    }) (number_or 0 MAX_TURNS DEFAULT_TURNS (given_number name.Max options))
+
+abbrev pub drive_names : List Name
+drive_names = name.Turns ∷ name.Max ∷ name.Threads ∷ name.LogOnly ∷ []
+
+abbrev pub format_of : List Given → Option Command
+format_of options =
+    option_and_then (λ pages. option_and_then (λ space. option_map (λ log_blocks. Format pages space log_blocks)
+    (number_or MIN_LOG_BLOCKS MAX_LOG_BLOCKS DEFAULT_LOG_BLOCKS (given_number name.LogBlocks options)))
+    (number_or 0 (2 ^ 32 - 1) DEFAULT_SPACE (given_number name.Space options)))
+    (number_or 1 MAX_PAGES DEFAULT_PAGES (given_number name.Pages options))
+
+-- how many workers apply the groups of the log: one where nothing else is asked
+abbrev pub workers_of : List Given → Option ℕ
+workers_of options = number_or 1 MAX_WORKERS 1 (given_number name.Workers options)
+
+abbrev pub crash_of : List Given → Option Command
+crash_of options =
+    option_and_then (λ drive. option_map (λ workers. Crash drive (given_number name.StopLog options) (given_number name.StopData options)
+    (unwrap_or (given_number name.Pick options) 0) workers) (workers_of options)) (drive_of options)
+
+-- the seed, the number of users and the number of groups
+abbrev pub gen_of : List Given → List ℕ → Option Command
+gen_of options (seed ∷ users ∷ groups ∷ []) =
+    option_and_then (λ users. option_and_then (λ groups. option_map (λ max. Gen seed users groups (is_given name.Run options) max)
+    (number_or 0 MAX_TURNS DEFAULT_TURNS (given_number name.Max options)))
+    (number_within 0 MAX_GENERATED groups)) (number_within 1 MAX_USERS users)
+gen_of options values = None
+
+-- the command, where its options are among those that it has
+abbrev pub where_allowed : List Name → List Given → Option Command → Option Command
+where_allowed names options command = if are_among names options && are_different options then command else None
+
+-- the command of this name, which has no number by itself
+abbrev pub plain_command : List ℕ → List Given → Option Command
+plain_command text options =
+    if bytes_eq text (codes "format") then where_allowed (name.Pages ∷ name.Space ∷ name.LogBlocks ∷ []) options (format_of options)
+    else (if bytes_eq text (codes "run") then where_allowed drive_names options (option_map Run (drive_of options))
+    else (if bytes_eq text (codes "crash") then where_allowed (name.StopLog ∷ name.StopData ∷ name.Pick ∷ name.Workers ∷ drive_names) options (crash_of options)
+    else (if bytes_eq text (codes "recover") then where_allowed (name.Workers ∷ []) options (option_map Recover (workers_of options))
+    else (if bytes_eq text (codes "dump") then where_allowed (name.Why ∷ []) options (Some (Dump (is_given name.Why options))) else None))))
+
+-- the command of this name with these options and these numbers by themselves
+abbrev pub command_of : List ℕ → List Given → List ℕ → Option Command
+command_of text options values =
+    if bytes_eq text (codes "gen") then where_allowed (name.Run ∷ name.Max ∷ []) options (gen_of options values)
+    else elim values [ [] ↦ plain_command text options | value ∷ others ↦ None ]
+
+-- What the words of a call ask for, without the name of the program.
+unfoldable pub asked_of : List (List ℕ) → Option Asked
+asked_of [] = None
+asked_of (text ∷ texts) =
+    option_and_then (λ (said : Said). option_map (λ command. record { command = command; files = is_given name.Files said.options })
+    (command_of text said.options said.values)) (said_from Any texts)

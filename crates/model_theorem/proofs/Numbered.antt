@@ -1,0 +1,96 @@
+-- The newest checkpoint in whatever a crash leaves of a log device that holds a run.
+use Rattle.std.proofs.Common.{◌≡◌, ℕ, ◌<◌, ◌≤◌, List, Option, Some, None, refl, sym, ap, ◌∙◌, subst, ⊎_elim, arith}
+use Rattle.std.proofs.lemmas.Bool.{cases_lt}
+use Rattle.model_base.specs.declared.shape.Shape.{Shape}
+use Rattle.model_log.specs.declared.group.Whole.{Whole}
+use Rattle.model_device.specs.{IsImage, sector}
+use Rattle.model_device.specs.Disk.{Disk}
+use Rattle.model_device.proofs.MayHold.{holds-sector}
+use Rattle.model_log.specs.{newer, newest_checkpoint, place_of, read_checkpoint}
+use Rattle.model_parts.specs.{LogHolds}
+use Rattle.model_parts.specs.declared.marks.LogMarks.{LogMarks}
+use Rattle.model_parts.proofs.LogImages.{header-below, place-cases, when_less, when_not_less}
+use Rattle.model_theorem.specs.Opening.{HasCheckpointFrom, HeldOlder, IsOpenedBefore}
+use Rattle.model_theorem.specs.Closed.{Held, IsHeld, groups_of_run}
+
+-- this is a checkpoint, and its number isn't below that
+record IsFrom (lowest : ℕ) (found : Option (ℕ × ℕ)) : Type 0 where
+  number : ℕ
+  ckpt : ℕ
+  is : found ≡ Some (number, ckpt)
+  from : lowest ≤ number
+
+-- of two the newer one isn't below either
+from-first : (number ckpt : ℕ) (second : Option (ℕ × ℕ)) → IsFrom number (newer (Some (number, ckpt)) second)
+from-first number ckpt None = record { number = number; ckpt = ckpt; is = refl; from = omega arith }
+from-first number ckpt (Some second) = ⊎_elim
+    (λ less. record {
+      number = second.0;
+      ckpt = second.1;
+      is = when_less number second.0 (Some (number, ckpt)) (Some second) less;
+      from = omega arith;
+    })
+    (λ more. record {
+      number = number;
+      ckpt = ckpt;
+      is = when_not_less number second.0 (Some (number, ckpt)) (Some second) more;
+      from = omega arith;
+    })
+    (cases_lt number second.0)
+
+from-second : (first : Option (ℕ × ℕ)) (number ckpt : ℕ) → IsFrom number (newer first (Some (number, ckpt)))
+from-second None number ckpt = record { number = number; ckpt = ckpt; is = refl; from = omega arith }
+from-second (Some first) number ckpt = ⊎_elim
+    (λ less. record {
+      number = number;
+      ckpt = ckpt;
+      is = when_less first.0 number (Some first) (Some (number, ckpt)) less;
+      from = omega arith;
+    })
+    (λ more. record {
+      number = first.0;
+      ckpt = first.1;
+      is = when_not_less first.0 number (Some first) (Some (number, ckpt)) more;
+      from = more;
+    })
+    (cases_lt first.0 number)
+
+-- so the newest isn't below the one in its own place
+newest-from : (shape : Shape) (number ckpt : ℕ) (image : List ℕ)
+    → read_checkpoint (place_of number) shape (sector (place_of number) image) ≡ Some (number, ckpt) → IsFrom number (newest_checkpoint shape image)
+newest-from shape number ckpt image own =
+    let At : ℕ → Option (ℕ × ℕ) = λ which. read_checkpoint which shape (sector which image) in
+    ⊎_elim
+    (λ even. subst (λ (found : Option (ℕ × ℕ)). IsFrom number (newer found (At 3))) (sym (sym (ap At even.0) ∙ own)) (from-first number ckpt (At 3)))
+    (λ odd. subst (λ (found : Option (ℕ × ℕ)). IsFrom number (newer (At 1) found)) (sym (sym (ap At odd.0) ∙ own)) (from-second (At 1) number ckpt))
+    (place-cases number)
+
+-- WHAT AN IMAGE of a log device that holds a run has
+holds-checkpoint : (shape : Shape) (s : ℕ) (wholes : List Whole) (marks : LogMarks) (disk : Disk) (image : List ℕ)
+    → LogHolds shape s wholes marks disk → IsImage disk image → HasCheckpointFrom shape marks.number image
+holds-checkpoint shape s wholes marks disk image holds is =
+    let place : ℕ = place_of marks.number in
+    let low : place < 4 = (header-below marks.number).0 in
+    let found : IsFrom marks.number (newest_checkpoint shape image) =
+    newest-from shape marks.number marks.ckpt image (holds.checkpoint (sector place image) (holds-sector disk image place is (omega (arith, holds.long)))) in
+    record { number = found.number; ckpt = found.ckpt; newest = found.is; from = found.from }
+
+-- and where both devices hold it
+pub held-number : (held : Held) (log : List ℕ) → IsHeld held → IsImage held.log_disk log
+    → HasCheckpointFrom held.opened.shape held.number log
+held-number held log is image =
+    let found : HasCheckpointFrom held.opened.shape is.log_marks.number log =
+    holds-checkpoint held.opened.shape held.run.start (groups_of_run held) is.log_marks held.log_disk log is.log_holds image in
+    record { number = found.number; ckpt = found.ckpt; newest = found.newest; from = omega (arith, is.number_kept, found.from) }
+
+-- so opening came to its end
+pub held-opened : (held : Held) (armed_from : Disk) → IsHeld held → HeldOlder held.opened.shape held.number armed_from
+    → IsOpenedBefore held.opened.shape armed_from held.log_disk (Some held.run)
+held-opened held armed_from is older = record {
+  number = older.found;
+  ckpt = older.ckpt;
+  found = older.newest;
+  moved = λ image possible.
+      (let has : HasCheckpointFrom held.opened.shape held.number image = held-number held image is possible in
+      record { number = has.number; ckpt = has.ckpt; newest = has.newest; from = omega (arith, older.older, has.from) });
+}

@@ -1,0 +1,101 @@
+-- A store that opening made ready.
+use Rattle.std.proofs.Common.{◌≡◌, ◌≢◌, ℕ, ◌+◌, ◌<◌, ◌≤◌, inl, inr, List, [], Some, slice_get, arith, refl, sym, subst, ⊎_elim}
+use Rattle.std.proofs.lemmas.Bool.{cases_lt}
+use Rattle.model_base.specs.declared.shape.Shape.{Shape}
+use Rattle.model_device.specs.Disk.{Disk}
+use Rattle.model_parts.specs.{first_marks, IsLive, IsRewritten, start_block, start_of}
+use Rattle.model_page.specs.declared.content.Content.{Content}
+use Rattle.model_store.specs.{IsNoNewerCopy}
+use Rattle.model_script.specs.declared.script.ScriptLine.{ScriptLine}
+use Rattle.model_report.specs.{IsLeft}
+use Rattle.model_store.specs.Reading.{Reading}
+use Rattle.model_parts.proofs.LogFresh.{fresh-holds}
+use Rattle.model_parts.proofs.Pages.{stored-image}
+use Rattle.model_parts.proofs.Reread.{IsLogRead, log-read, HasNext, has-next}
+use Rattle.model_store.proofs.Folding.{read-not_ahead}
+use Rattle.model_theorem.specs.Closed.{IsClosed}
+use Rattle.model_theorem.specs.Given.{AreGiven}
+use Rattle.model_theorem.specs.Kept.{copy_of, DataHolds, IsPrefixOf, IsUnwritten}
+use Rattle.model_theorem.specs.Start.{IsStart, opened_as, unplayed}
+use Rattle.model_theorem.proofs.Closing.{end-start}
+
+-- what a run is given
+pub start-given : (reading : Reading) (script : List ScriptLine) (log_disk data_disk : Disk) → IsStart reading script log_disk data_disk
+    → AreGiven script (opened_as reading)
+start-given reading script log_disk data_disk is =
+    let log : IsLogRead is.log_bytes reading = log-read is.log_bytes is.data_bytes reading is.orderly.reads in
+    record {
+      shape = log.limits;
+      count = is.orderly.reads.count;
+      not_ahead = read-not_ahead is.log_bytes is.data_bytes reading is.orderly.reads;
+      fits = is.fits;
+    }
+
+-- the log device
+pub start-live : (reading : Reading) (script : List ScriptLine) (log_disk data_disk : Disk) → IsStart reading script log_disk data_disk
+    → IsLive reading.shape (start_of reading) [] (first_marks (start_of reading) (reading.number + 1)) log_disk
+start-live reading script log_disk data_disk is =
+    let log : IsLogRead is.log_bytes reading = log-read is.log_bytes is.data_bytes reading is.orderly.reads in
+    fresh-holds reading.shape (start_of reading) (reading.number + 1) log_disk log.blocks log.start_aligned (omega (arith, log.started, log.start_low)) is.ready.log
+
+-- the data device
+pub start-unwritten : (reading : Reading) (script : List ScriptLine) (log_disk data_disk : Disk) → IsStart reading script log_disk data_disk
+    → IsUnwritten reading.shape reading.pages data_disk
+start-unwritten reading script log_disk data_disk is = record {
+  long = is.ready.pages.keeps.long;
+  keeps = λ image fair. (let here : IsRewritten reading image = stored-image reading data_disk image is.orderly.reads.count is.ready.pages fair in here.each);
+  copies = λ image fair. (let here : IsRewritten reading image = stored-image reading data_disk image is.orderly.reads.count is.ready.pages fair in here.old_copies);
+}
+
+-- pages that nobody wrote, where the run has no group
+unwritten-holds : (shape : Shape) (opened : List Content) (stable ckpt : ℕ) (disk : Disk) → ((p : ℕ) (page : Content) → slice_get opened p ≡ Some page → page.lsn ≤ stable) → IsUnwritten shape opened disk
+    → DataHolds shape opened [] stable ckpt disk
+unwritten-holds shape opened stable ckpt disk old is = record {
+  long = is.long;
+  keeps = λ image fair p page at.
+      let low : page.lsn ≤ stable = old p page at in
+      record {
+        content = page;
+        kept = is.keeps image fair p page at;
+        is_prefix = record { is_prefix = record { prefix = refl; behind = low }; passed = tt };
+        copies = λ slot lsn slot_below copy.
+            let old_copy : IsNoNewerCopy shape image slot lsn page = is.copies image fair p slot lsn page slot_below at copy in
+            ⊎_elim (λ older. inl older) (λ later.
+            let same : lsn ≡ page.lsn = omega (arith, old_copy.no_newer) in
+            let one : copy_of shape image slot lsn ≡ page = (λ i. record { lsn = same i; user = old_copy.same same i }) in
+            inr (subst (IsPrefixOf page [] stable p) (sym one) (record { prefix = refl; behind = low })))
+            (cases_lt lsn page.lsn);
+      };
+}
+
+-- AN OPENED STORE on which no line was played is a closed run
+pub opened-closed : (failures : ℕ) (reading : Reading) (script : List ScriptLine) (left : List (ℕ × ℕ)) (log_disk data_disk : Disk)
+    → IsStart reading script log_disk data_disk → IsLeft script [] left → (left ≢ [] → 0 < failures)
+    → IsClosed failures (unplayed reading script left log_disk data_disk)
+opened-closed failures reading script left log_disk data_disk is left_is failed =
+    let s : ℕ = start_of reading in
+    let next : HasNext reading = has-next is.log_bytes is.data_bytes reading is.orderly in
+    let live : IsLive reading.shape s [] (first_marks s (reading.number + 1)) log_disk = start-live reading script log_disk data_disk is in
+    let given : AreGiven script (opened_as reading) = start-given reading script log_disk data_disk is in
+    let later : reading.end ≤ s = end-start reading.end in
+    record {
+      holds = record {
+        given = given;
+        is_run = record {
+          start = refl;
+          legal = record { tiled = tt; each = λ i entry at. absurd (cc); in_order = λ user i entry at. absurd (cc); lost_last = λ user i entry at lost. absurd (cc) };
+          wtail = refl;
+          write = refl;
+          flushed = refl;
+          write_within = omega arith;
+        };
+        log_marks = first_marks s (reading.number + 1);
+        marks = record { flushed = omega arith; ckpt = omega arith; small = omega (arith, next.small, next.aligned) };
+        number_kept = omega arith;
+        log_holds = live.holds;
+        data_holds = unwritten-holds reading.shape reading.pages s (start_block reading) data_disk
+            (λ p page at. (let old : page.lsn ≤ reading.end = given.not_ahead p page at in omega arith)) (start-unwritten reading script log_disk data_disk is);
+      };
+      left_is = left_is;
+      loses = record { lost = λ i entry at lost. absurd (cc); left = failed; stopped = λ none. absurd (cc) };
+    }

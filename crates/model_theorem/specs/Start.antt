@@ -1,0 +1,40 @@
+-- The start of a run on a store that opening made ready.
+use Rattle.std.specs.Prelude.{ℕ, ◌+◌, List, []}
+use Rattle.std.specs.List.{AllByRecursion}
+use Rattle.model_device.specs.Disk.{Disk}
+use Rattle.model_store.specs.{IsOrderly}
+use Rattle.model_store.specs.Reading.{Reading}
+use Rattle.model_parts.specs.{IsReady, start_block, start_of}
+use Rattle.model_script.specs.{LineFits}
+use Rattle.model_script.specs.declared.script.ScriptLine.{ScriptLine}
+use Rattle.model_theorem.specs.Values.{Opened}
+use Rattle.model_theorem.specs.Closed.{Closed}
+
+-- a store that was read as this, as it is opened
+abbrev pub opened_as : Reading → Opened
+opened_as reading = record { shape = reading.shape; pages = reading.pages; end = reading.end }
+
+-- The store was in order and read as this before it was opened; now its devices are ready for a run; and each line of the
+-- script fits it.
+pub record IsStart (reading : Reading) (script : List ScriptLine) (log_disk data_disk : Disk) : Type 0 where
+  pub log_bytes : List ℕ
+  pub data_bytes : List ℕ
+  pub orderly : IsOrderly log_bytes data_bytes reading
+  pub ready : IsReady reading log_disk data_disk
+  pub fits : AllByRecursion (LineFits reading.shape) script
+
+-- what a run comes to that plays no line on it
+abbrev pub unplayed : Reading → List ScriptLine → List (ℕ × ℕ) → Disk → Disk → Closed
+unplayed reading script left log_disk data_disk = record {
+  script = script;
+  opened = opened_as reading;
+  number = reading.number + 1;
+  run = record {
+    start = start_of reading;
+    entries = [];
+    marks = record { wtail = start_of reading; write = start_of reading; flushed = start_of reading; ckpt = start_block reading };
+  };
+  left = left;
+  log_disk = log_disk;
+  data_disk = data_disk;
+}
