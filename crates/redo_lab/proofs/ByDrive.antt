@@ -40,12 +40,10 @@ module _ {L D : Type 0} (log_seen : L → Seen) (log_gives : L → Call → L �
 
   -- in threads
   pub tells-threads : (asked : Drive) (log_only : Bool) (opened : Opened (Fused L) (Fused D)) (script : List ScriptLine) (driven : Driven (Fused L) (Fused D))
-      → log_only ≡ asked.log_only → asked.threads ≡ true
-      → RunsInThreads (seen_through log_seen) (CallsThrough log_seen log_gives) (seen_through data_seen) (CallsThrough data_seen data_gives) opened script log_only driven
-      → TellsIn asked.threads asked opened script driven
+      → log_only ≡ asked.log_only → asked.threads ≡ true → RunsInThreads opened script log_only driven → TellsIn asked.threads asked opened script driven
   tells-threads asked log_only opened script driven same is told =
       subst (λ (threads : Bool). TellsIn threads asked opened script driven) (sym is)
-      (subst (λ (log_only : Bool). RunsInThreads (seen_through log_seen) (CallsThrough log_seen log_gives) (seen_through data_seen) (CallsThrough data_seen data_gives) opened script log_only driven) same told)
+      (subst (λ (log_only : Bool). RunsInThreads opened script log_only driven) same told)
 
   -- turns are spent by no drive in threads
   none-spent : (threads : Bool) (asked : Drive) (store : Opened (Fused L) (Fused D)) (script : List ScriptLine) (driven : Driven (Fused L) (Fused D)) (turns user : ℕ)

@@ -45,8 +45,7 @@ abbrev pub TellsOf : {L D : Type 0} → (threads : Bool) → (L → Seen) → (L
     → Drive → Opened L D → List ScriptLine → Driven L D → Type 0
 TellsOf false log_seen log_gives data_seen data_gives drive store script driven =
     RunsByTurns log_seen log_gives data_seen data_gives store script (turns_of drive) driven
-TellsOf true log_seen log_gives data_seen data_gives drive store script driven =
-    RunsInThreads log_seen log_gives data_seen data_gives store script drive.log_only driven
+TellsOf true log_seen log_gives data_seen data_gives drive store script driven = RunsInThreads store script drive.log_only driven
 
 -- the same on devices behind their fuses
 abbrev pub TellsBehind : {L D : Type 0} → (L → Seen) → (L → device.Call → L → Type 0) → (D → Seen) → (D → device.Call → D → Type 0)

@@ -23,19 +23,18 @@ module _ {L D : Type 0} (log_seen : L → Seen) (log_gives : L → Call → L �
       (subst (λ (s : List ScriptLine). Owes log_seen log_gives data_seen data_gives known s (done_with closed)) script_is
       (record { comes_to = owed.comes_to ended; holds = owed.holds; owed = owed.owed ended; owed_synced = owed.owed_synced ended }))
 
+  pub has_cause : CodeHasCause log_seen data_seen closed.code known.log closed.log known.store closed.store
+      → CodeHasCause log_seen data_seen closed.code opened.log closed.log opened.store closed.store
+  has_cause = subst (λ (o : Opened L D). CodeHasCause log_seen data_seen closed.code o.log closed.log o.store closed.store) opened_is
+
   pub runs_in_threads : (alone log_only : Bool) → alone ≡ log_only → (starts : List Actor) → LeavesRun log_seen log_gives data_seen data_gives known lines alone actors closed → HaveRun starts actors closed
-      → CodeHasCause log_seen data_seen closed.code known.log closed.log known.store closed.store
-      → RunsInThreads log_seen log_gives data_seen data_gives opened script log_only (done_with closed)
-  runs_in_threads alone log_only only_is starts left run cause = subst (λ (o : Opened L D). RunsInThreads log_seen log_gives data_seen data_gives o script log_only (done_with closed)) opened_is
-      (record {
-        done = refl;
-        actors = actors;
-        of_script = subst (λ (b : Bool). AreActorsOf script b (views_of actors)) only_is
-            (subst (λ (s : List ScriptLine). AreActorsOf s alone (views_of actors)) script_is (are_of_script log_seen log_gives data_seen data_gives known lines alone actors closed left));
-        ended = run.ended;
-        answered = run.answered;
-        listed = run.listed;
-        cause = cause;
-        log_calls = rw left.log left.log_calls;
-        data_calls = rw left.data_part left.data_calls;
-      })
+      → RunsInThreads opened script log_only (done_with closed)
+  runs_in_threads alone log_only only_is starts left run = record {
+    done = refl;
+    actors = actors;
+    of_script = subst (λ (b : Bool). AreActorsOf script b (views_of actors)) only_is
+        (subst (λ (s : List ScriptLine). AreActorsOf s alone (views_of actors)) script_is (are_of_script log_seen log_gives data_seen data_gives known lines alone actors closed left));
+    ended = run.ended;
+    answered = run.answered;
+    listed = run.listed;
+  }

@@ -8,16 +8,12 @@ use Rattle.model_report.specs.Legal.{lines_of_user}
 use Rattle.model_running.specs.Schedule.{HaveEnded}
 use Rattle.model_running.specs.Seating.{ArePageActors}
 use Rattle.model_script.specs.declared.script.ScriptLine.{ScriptLine}
-use Rattle.redo_disk.specs.{Call}
-use Rattle.redo_disk.specs.Seen.{Seen}
-use Rattle.redo_drive.specs.Calls.{CallsOn}
 use Rattle.redo_drive.specs.History.{ListsInOrder}
 use Rattle.redo_drive.specs.Views.{views_of}
 use Rattle.redo_drive.specs.declared.actor.Actor.{Actor}
 use Rattle.redo_drive.specs.declared.drive.Driven.{Driven}
 use Rattle.redo_drive.specs.declared.drive.RunEnd.TheVariants as run_end
 use Rattle.redo_pageactors.specs.declared.opened.Opened.{Opened}
-use Rattle.redo_rule.specs.Failing.{CodeHasCause}
 use Rattle.redo_threads.specs.Ended.{HaveAnswered}
 
 -- These are the actors of a script, in their order: the users that have lines, by their numbers, each with as many lines as the
@@ -35,16 +31,11 @@ pub record AreActorsOf (script : List ScriptLine) (log_only : Bool) (actors : Li
   pub all : (user : ℕ) → 0 < length (lines_of_user user script) → (i : ℕ) × (u : UserState) × (get_elem? users i ≡ some u) × (u.user ≡ user)
 
 -- THE RUN IN THREADS came to these actors of the script. Each user has ended, and has answered all of its lines where the code
--- tells of no failure. The history lists the groups of these actors. The code has its cause in what both devices met between
--- the opened store and the closed one, and calls led each device from the one to the other.
-pub record RunsInThreads {L D : Type 0} (log_seen : L → Seen) (log_gives : L → Call → L → Type 0) (data_seen : D → Seen) (data_gives : D → Call → D → Type 0)
-    (opened : Opened L D) (script : List ScriptLine) (log_only : Bool) (driven : Driven L D) : Type 0 where
+-- tells of no failure. The history lists the groups of these actors.
+pub record RunsInThreads {L D : Type 0} (opened : Opened L D) (script : List ScriptLine) (log_only : Bool) (driven : Driven L D) : Type 0 where
   pub done : driven.ended ≡ run_end.Done
   pub actors : List Actor
   pub of_script : AreActorsOf script log_only (views_of actors)
   pub ended : HaveEnded (views_of actors)
   pub answered : driven.closed.code ≡ 0 → HaveAnswered (views_of actors)
   pub listed : ListsInOrder driven.closed.marks actors driven.closed.history
-  pub cause : CodeHasCause log_seen data_seen driven.closed.code opened.log driven.closed.log opened.store driven.closed.store
-  pub log_calls : CallsOn log_gives opened.log.dev opened.log.failed driven.closed.log.dev driven.closed.log.failed
-  pub data_calls : CallsOn data_gives opened.store.dev opened.store.failed driven.closed.store.dev driven.closed.store.failed
