@@ -2,21 +2,26 @@
 use crossbeam_utils::Backoff;
 use redo_words::Step;
 use std::sync::Wait;
-use std::thread::Parker;
+use std::thread::{Parker, yield_now};
 use std::time::Duration;
 
-/// How often a thread spins before it sleeps, each time for twice as long.
+/// How often a thread spins before it yields, each time for twice as long.
 const SPINS: u32 = 7;
+
+/// How often it yields before it sleeps.
+const YIELDS: u32 = 32;
 
 /// How long a thread sleeps, in microseconds.
 const NAP: u64 = 50;
 
-/// How a thread waits for another: it spins a little, and then sleeps for some microseconds at a time. It doesn't yield: with
-/// more threads than processors, those that yield keep the one that could go on from its turn.
+/// How a thread waits for another: it spins a little, leaves the processor to others a few times, and then sleeps for some
+/// microseconds at a time. With more threads than processors, those that yield for long keep the one that could go on from its
+/// turn; and those that sleep at once let each commit wait for a sleep.
 #[derive(Drop)]
 pub(crate) struct Pace {
     backoff: Backoff,
-    spins: u32,
+    // how often it has waited since it went on last
+    waits: u32,
     // nobody wakes the thread: it sleeps until its time is over
     parker: Parker,
     // the actor waited last, and checks for a failure before it tries again
@@ -27,7 +32,7 @@ impl Pace {
     pub(crate) fn new() -> Pace {
         Pace {
             backoff: Backoff::new(),
-            spins: 0,
+            waits: 0,
             parker: Parker::new(),
             waited: false,
         }
@@ -35,9 +40,12 @@ impl Pace {
 
     /// Waits a little, and longer from time to time.
     pub(crate) fn wait<R: Wait>(&mut self, rt: &R) {
-        if self.spins < SPINS {
-            self.spins += 1;
+        if self.waits < SPINS {
+            self.waits += 1;
             self.backoff.spin();
+        } else if self.waits < SPINS + YIELDS {
+            self.waits += 1;
+            yield_now();
         } else {
             self.parker.park_timeout(rt, Duration::from_micros(NAP));
         }
@@ -45,7 +53,7 @@ impl Pace {
 
     /// Waits for as short as at first from now on.
     pub(crate) fn reset(&mut self) {
-        self.spins = 0;
+        self.waits = 0;
         self.backoff.reset();
     }
 
