@@ -8,7 +8,7 @@ use std::time::{Duration, Instant};
 
 const SEED: u64 = 7;
 /// So many turns are taken, and the users have more lines than these come to.
-const TURNS: u64 = 20_000_000;
+const TURNS: u64 = 3_000_000;
 /// How often the run is made; the fastest time counts.
 const ROUNDS: u32 = 3;
 
