@@ -89,7 +89,7 @@ is_length-length_of count room = grind (arith, nat_tests)
 length_of-small : (count : ℕ) → count ≤ 496 → length_of count < 2 ^ 16
 length_of-small count room = grind (arith, nat_tests)
 
--- the fields of a block, behind which its checksum stands
+-- the fields of a block, after which its checksum stands
 record Reads (number count first ckpt : ℕ) (bytes : List ℕ) : Type 0 where
   reads_number : field 4 0 bytes ≡ number
   reads_count : field 2 4 bytes ≡ count

@@ -5,7 +5,7 @@ use Rattle.model_base.specs.{padded_to}
 use Rattle.model_log.specs.Lsn.{block_number}
 use Rattle.model_log.specs.Block.{with_checksum, length_of, block_text}
 
--- the fields of a block and its data, one behind the other, make its text
+-- the fields of a block and its data, one after the other, make its text
 pub block_text-from : (lsn : ℕ) (content : List ℕ) (first ckpt : ℕ) (bytes : List ℕ)
     → bytes ≡ bytes_high_first 4 (block_number lsn) ++ bytes_high_first 2 (length_of (length content)) ++ bytes_high_first 2 first ++ bytes_high_first 4 ckpt ++ content
     → with_checksum (padded_to 508 bytes) ≡ block_text lsn content first ckpt

@@ -50,7 +50,7 @@ content-short s stream m b aligned =
     let below : sn_of (min m (b + 512)) ≤ sn_of (b + 512) = sn_of-rises (min m (b + 512)) (b + 512) (omega arith) in
     omega (arith, ap length (content_at-is s stream m b), length-stream_between s stream b (min m (b + 512)))
 
--- a boundary in the block or behind it
+-- a boundary in the block or past it
 pub length_of-behind : (m b : ℕ) → IsDataLsn m → b % 512 ≡ 0 → b + 12 < m → length_of (sn_of (min m (b + 512)) - sn_of b) ≡ length_at m b
 length_of-behind m b place aligned below = grind (arith, nat_tests)
 

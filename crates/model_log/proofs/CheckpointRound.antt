@@ -1,5 +1,5 @@
 -- A checkpoint that was written is read back.
-use Rattle.std.proofs.Common.{◌≡◌, ◌==◌, ◌&&◌, ◌≤◌, ◌<◌, ◌-◌, ◌*◌, ◌%◌, ◌^◌, ℕ, List, [], ◌++◌, length, refl, sym, ap, subst, ◌∙◌, Bool, true, cond, nat_lt, nat_le, Some, None, le-leb, lt-ltb, arith}
+use Rattle.std.proofs.Common.{◌≡◌, ◌==◌, ◌&&◌, ◌≤◌, ◌<◌, ◌-◌, ◌%◌, ◌^◌, ℕ, List, [], ◌++◌, length, refl, sym, ap, subst, ◌∙◌, Bool, true, cond, nat_lt, nat_le, Some, None, le-leb, lt-ltb, arith}
 use Rattle.std.specs.List.{All}
 use Rattle.std.specs.Int.{bytes_high_first}
 use Rattle.std.proofs.Math.Nat.{mod-le}
@@ -7,8 +7,10 @@ use Rattle.std.proofs.lemmas.Bool.{eq-eqb}
 use Rattle.std.proofs.lemmas.List.Elements.{All-append}
 use Rattle.byteorder.specs.Numbers.{big_number-reads_back}
 use Rattle.model_base.specs.declared.shape.Shape.{Shape}
+use Rattle.model_base.specs.declared.limits.TheConstants.{START_LSN}
 use Rattle.model_base.specs.{field, padded_to}
-use Rattle.model_log.specs.Lsn.{block_of, offset_of}
+use Rattle.model_log.specs.Device.{Layout, layout_of, place_in, round_of}
+use Rattle.model_log.specs.Lsn.{block_of}
 use Rattle.model_log.specs.Block.{with_checksum, fits_checksum}
 use Rattle.model_log.specs.Checkpoint.{place_of, checkpoint_text, is_checkpoint, read_checkpoint}
 use Rattle.model_log.proofs.Checksums.{IsByte, bytes-bytes_high_first}
@@ -41,16 +43,16 @@ bytes-fields number lsn offset =
     (All-append IsByte two (bytes_high_first 8 offset)
     (All-append IsByte (bytes_high_first 8 number) (bytes_high_first 8 lsn) (be8 number) (be8 lsn)) (be8 offset)) (be8 65536)
 
-offset_of-small : (lsn log_blocks : ℕ) → lsn < 2 ^ 60 → offset_of lsn log_blocks < 2 ^ 64
-offset_of-small lsn log_blocks small =
-    let round = mod-le (block_of lsn - 8192) (512 * log_blocks) in
+place_in-small : (layout : Layout) (lsn : ℕ) → layout.first < 2 ^ 32 → lsn < 2 ^ 60 → place_in layout lsn < 2 ^ 64
+place_in-small layout lsn near small =
+    let round = mod-le (block_of lsn - START_LSN) (round_of layout) in
     let below : block_of lsn ≤ lsn = omega arith in
     omega arith
 
 -- the tests of a checkpoint, at numbers
-passes : (sound : Bool) (number lsn offset which log_blocks : ℕ) → sound ≡ true → which ≡ place_of number → lsn % 512 ≡ 0 → 8192 ≤ lsn → lsn < 2 ^ 60 → offset ≡ offset_of lsn log_blocks
-    → (sound && place_of number == which && lsn % 512 == 0 && nat_le 8192 lsn && nat_lt lsn (2 ^ 60) && offset == offset_of lsn log_blocks) ≡ true
-passes sound number lsn offset which log_blocks is_sound place aligned low high fits =
+passes : (layout : Layout) (sound : Bool) (number lsn offset which : ℕ) → sound ≡ true → which ≡ place_of number → lsn % 512 ≡ 0 → 8192 ≤ lsn → lsn < 2 ^ 60 → offset ≡ place_in layout lsn
+    → (sound && place_of number == which && lsn % 512 == 0 && nat_le 8192 lsn && nat_lt lsn (2 ^ 60) && offset == place_in layout lsn) ≡ true
+passes layout sound number lsn offset which is_sound place aligned low high fits =
     rw (is_sound, eq-eqb _ _ (sym place), eq-eqb _ _ aligned, le-leb _ _ low, lt-ltb _ _ high, eq-eqb _ _ fits) refl
 
 found_when : (good : Bool) (found wanted : ℕ × ℕ) → good ≡ true → found ≡ wanted → cond good (Some found) None ≡ Some wanted
@@ -64,7 +66,8 @@ pub checkpoint-reads_back : (number lsn : ℕ) (shape : Shape) → number < 2 ^ 
     → read_checkpoint (place_of number) shape (checkpoint_text number lsn shape) ≡ Some (number, lsn)
 unfolding read_checkpoint
 checkpoint-reads_back number lsn shape number_small low high aligned =
-    let offset : ℕ = offset_of lsn shape.log_blocks in
+    let layout : Layout = layout_of shape in
+    let offset : ℕ = place_in layout lsn in
     let fields : List ℕ = checkpoint_fields number lsn offset in
     let long : length fields ≡ 32 = length-fields number lsn offset in
     let bytes : List ℕ = with_checksum (padded_to 508 fields) in
@@ -73,10 +76,10 @@ checkpoint-reads_back number lsn shape number_small low high aligned =
     let number_is : field 8 0 bytes ≡ number = field-padded 8 0 fields (omega arith) (omega arith) ∙ number-fields number lsn offset number_small in
     let lsn_is : field 8 8 bytes ≡ lsn = field-padded 8 8 fields (omega arith) (omega arith) ∙ lsn-fields number lsn offset (omega arith) in
     let offset_is : field 8 16 bytes ≡ offset
-    = field-padded 8 16 fields (omega arith) (omega arith) ∙ offset-fields number lsn offset (offset_of-small lsn shape.log_blocks high) in
+    = field-padded 8 16 fields (omega arith) (omega arith) ∙ offset-fields number lsn offset (place_in-small layout lsn (omega arith) high) in
     ap (read_checkpoint (place_of number) shape) (sym (checkpoint_text-from number lsn shape fields refl))
     ∙ found_when (is_checkpoint (place_of number) shape bytes) (field 8 0 bytes, field 8 8 bytes) (number, lsn)
-    (passes (fits_checksum bytes) (field 8 0 bytes) (field 8 8 bytes) (field 8 16 bytes) (place_of number) shape.log_blocks
+    (passes layout (fits_checksum bytes) (field 8 0 bytes) (field 8 8 bytes) (field 8 16 bytes) (place_of number)
     sound (ap place_of (sym number_is)) (ap (λ n. n % 512) lsn_is ∙ aligned) (subst (λ (n : ℕ). 8192 ≤ n) (sym lsn_is) low) (subst (λ (n : ℕ). n < 2 ^ 60) (sym lsn_is) high)
-    (offset_is ∙ ap (λ n. offset_of n shape.log_blocks) (sym lsn_is)))
+    (offset_is ∙ ap (place_in layout) (sym lsn_is)))
     (same_pair _ _ _ _ number_is lsn_is)

@@ -22,7 +22,7 @@ not-ends_in b span aligned before from below = grind (arith, nat_tests)
 starts-behind : (b : ℕ) (span : Span) → b % 512 ≡ 0 → b ≤ span.start → ends_in b span ≡ false
 starts-behind b span aligned behind = grind (arith, nat_tests)
 
--- none crosses into a block that the run starts behind
+-- none crosses into a block that begins at or before the start of the run
 pub crosses-none : (s : ℕ) (wholes : List Whole) (b : ℕ) → IsDataLsn s → IsRunOf s wholes → b % 512 ≡ 0 → b ≤ s → crossing_end b (spans_of wholes) ≡ None
 crosses-none s [] b place run aligned low = refl
 crosses-none s (whole ∷ wholes) b place run aligned low =
@@ -87,7 +87,7 @@ crossed-here s whole wholes b first rest aligned before inside =
       record { some = facts.1; inside = facts.2; least = subst (λ (m : ℕ). IsLeast s (whole ∷ wholes) b m) (sym facts.3) is },
     )
 
--- it ends behind the block
+-- it ends past the block
 crossed-late : (s : ℕ) (whole : Whole) (wholes : List Whole) (b : ℕ) → First s whole → IsRunOf whole.end wholes → b % 512 ≡ 0 → s < b
     → ends_in b (span_of whole) ≡ false → b ≤ whole.end → Crossed s (whole ∷ wholes) b None
 crossed-late s whole wholes b first rest aligned before passed late =

@@ -9,6 +9,7 @@ pub mod Crossings
 pub mod CutStream
 pub mod HeadRound
 pub mod Heads
+pub mod Places
 pub mod ReadBack
 pub mod Records
 pub mod Runs

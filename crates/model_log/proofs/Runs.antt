@@ -50,7 +50,7 @@ pub spans_of-append : (front back : List Whole) → spans_of (front ++ back) ≡
 spans_of-append [] back = refl
 spans_of-append (whole ∷ front) back = ap (λ (spans : List Span). span_of whole ∷ spans) (spans_of-append front back)
 
--- a run's first group, and the run behind it
+-- a run's first group, and the run after it
 pub run-first : {s : ℕ} {whole : Whole} {wholes : List Whole} → IsRunOf s (whole ∷ wholes)
     → (whole.start ≡ s) × (whole.end ≡ lsn_of (sn_of whole.start + group_length whole.group)) × IsRunOf whole.end wholes
 run-first run = (run.tiled.0, run.lengths.0, record { tiled = run.tiled.1; lengths = run.lengths.1 })

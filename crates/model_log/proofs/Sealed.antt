@@ -1,4 +1,4 @@
--- What is read off bytes with their checksum behind them.
+-- What is read off bytes with their checksum after them.
 use Rattle.std.proofs.Common.{◌≡◌, ◌≤◌, ◌+◌, ◌-◌, ℕ, List, [], ◌++◌, length, take, drop, replicate, length-append, sym, ap, ◌∙◌, true, take_at, drop_at, length-drop, arith}
 use Rattle.std.specs.List.{All}
 use Rattle.std.specs.Int.{bytes_high_first}

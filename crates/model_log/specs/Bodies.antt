@@ -28,7 +28,7 @@ pub record IsValue (width : ℕ) (text : List ℕ) (value : ℕ) : Type 0 where
   pub has_spelling : HasSpelling width value
   pub spelled : text ≡ value_text width value
 
--- a string behind its length
+-- a string after its length
 pub record IsString (text string : List ℕ) : Type 0 where
   pub some : 1 ≤ length string
   pub short : length string < 2 ^ 16

@@ -31,7 +31,7 @@ crossing_end b [] = None
 crossing_end b (span ∷ spans) = if ends_in b span then Some span.end else crossing_end b spans
 
 -- Where the first piece of the block at b starts, as an offset in it: at the first data byte in the run's first
--- block; behind the piece that crosses into it; and else nowhere, which is 0.
+-- block; after the piece that crosses into it; and else nowhere, which is 0.
 unfoldable pub first_at : ℕ → List Span → ℕ → ℕ
 first_at s spans b =
     if b == block_of s then BLOCK_HEADER else elim (crossing_end b spans) [ None ↦ 0 | Some end ↦ end - b ]

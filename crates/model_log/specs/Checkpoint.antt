@@ -4,7 +4,7 @@ use Rattle.std.specs.Prelude.{ℕ, ◌%◌, ◌==◌, ◌&&◌, nat_le, nat_lt, 
 use Rattle.std.specs.Int.{bytes_high_first}
 use Rattle.model_base.specs.declared.shape.Shape.{Shape}
 use Rattle.model_base.specs.declared.limits.TheConstants.{BLOCK_SIZE, START_LSN, LSN_LIMIT}
-use Rattle.model_log.specs.Lsn.{offset_of}
+use Rattle.model_log.specs.Device.{header_block, layout_of, place_in}
 use Rattle.model_base.specs.{field, padded_to}
 use Rattle.model_log.specs.Block.{with_checksum, fits_checksum}
 use Rattle.model_log.specs.declared.layout.TheConstants.{BLOCK_DATA_END, RING_SIZE}
@@ -17,16 +17,27 @@ place_of number = if number % 2 == 0 then 1 else 3
 unfoldable pub checkpoint_text : ℕ → ℕ → Shape → List ℕ
 checkpoint_text number lsn shape =
     with_checksum (padded_to BLOCK_DATA_END (bytes_high_first 8 number ++ bytes_high_first 8 lsn
-    ++ bytes_high_first 8 (offset_of lsn shape.log_blocks) ++ bytes_high_first 8 RING_SIZE))
+    ++ bytes_high_first 8 (place_in (layout_of shape) lsn) ++ bytes_high_first 8 RING_SIZE))
 
 -- the fields of 512 bytes fit those of a checkpoint in header block `which`; the buffer's size isn't read
 abbrev pub is_checkpoint : ℕ → Shape → List ℕ → Bool
 is_checkpoint which shape bytes =
     fits_checksum bytes && place_of (field 8 0 bytes) == which
     && field 8 8 bytes % BLOCK_SIZE == 0 && nat_le START_LSN (field 8 8 bytes) && nat_lt (field 8 8 bytes) LSN_LIMIT
-    && field 8 16 bytes == offset_of (field 8 8 bytes) shape.log_blocks
+    && field 8 16 bytes == place_in (layout_of shape) (field 8 8 bytes)
 
 -- the number and the lsn of the checkpoint in header block `which`; nothing where it doesn't pass
 unfoldable pub read_checkpoint : ℕ → Shape → List ℕ → Option (ℕ × ℕ)
 read_checkpoint which shape bytes =
     if is_checkpoint which shape bytes then Some (field 8 0 bytes, field 8 8 bytes) else None
+
+-- of two checkpoints the one with the greater number
+abbrev pub newer : Option (ℕ × ℕ) → Option (ℕ × ℕ) → Option (ℕ × ℕ)
+newer None second = second
+newer (Some first) None = Some first
+newer (Some first) (Some second) = if nat_lt first.0 second.0 then Some second else Some first
+
+-- the number and the lsn of the newest checkpoint that passes
+abbrev pub newest_checkpoint : Shape → List ℕ → Option (ℕ × ℕ)
+newest_checkpoint shape image =
+    newer (read_checkpoint 1 shape (header_block 1 image)) (read_checkpoint 3 shape (header_block 3 image))

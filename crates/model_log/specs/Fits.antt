@@ -6,7 +6,7 @@ use Rattle.model_base.specs.declared.limits.TheConstants.{USER_START}
 use Rattle.model_log.specs.declared.rec.Rec.{Rec}
 use Rattle.model_log.specs.declared.rec.Rec.TheVariants.{Num, Text, Init}
 
--- where a page's user bytes end: the checksum and the low half of the lsn stand behind
+-- where a page's user bytes end: after them stand the checksum and the low half of the lsn
 abbrev pub user_end : Shape → ℕ
 user_end shape = shape.page_size - 8
 

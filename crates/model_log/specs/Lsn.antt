@@ -1,8 +1,8 @@
 -- Two ways to count the bytes of the log. An sn counts the bytes of groups alone. An lsn counts the bytes of the log
 -- blocks with their headers and trailers: InnoDB's log_translate_sn_to_lsn and log_translate_lsn_to_sn.
 use Rattle.std.specs.Prelude.{ℕ, ◌+◌, ◌-◌, ◌*◌, ◌/◌, ◌%◌, ◌^◌, ◌==◌, ◌≡◌, ◌≤◌, ◌<◌, nat_lt, if◌then◌else◌}
-use Rattle.model_base.specs.declared.limits.TheConstants.{BLOCK_SIZE, START_LSN}
-use Rattle.model_log.specs.declared.layout.TheConstants.{BLOCK_HEADER, BLOCK_DATA, BLOCK_DATA_END, HEADER_BYTES}
+use Rattle.model_base.specs.declared.limits.TheConstants.{BLOCK_SIZE}
+use Rattle.model_log.specs.declared.layout.TheConstants.{BLOCK_HEADER, BLOCK_DATA, BLOCK_DATA_END}
 
 -- the lsn of the byte that so many bytes of groups precede
 abbrev pub lsn_of : ℕ → ℕ
@@ -26,19 +26,19 @@ IsDataLsn lsn = (BLOCK_HEADER ≤ lsn % BLOCK_SIZE) × (lsn % BLOCK_SIZE < BLOCK
 abbrev pub block_of : ℕ → ℕ
 block_of lsn = lsn / BLOCK_SIZE * BLOCK_SIZE
 
+-- the lsn of the i-th block from the checkpoint's on
+abbrev pub lsn_at : ℕ → ℕ → ℕ
+lsn_at ckpt i = ckpt + BLOCK_SIZE * i
+
 -- the number of the block of an lsn: LOG_BLOCK_HDR_NO without the flush bit
 abbrev pub block_number : ℕ → ℕ
 block_number lsn = lsn / BLOCK_SIZE % 2 ^ 30 + 1
-
--- where on a device of so many log blocks the block of an lsn stands, in bytes: the log goes round
-abbrev pub offset_of : ℕ → ℕ → ℕ
-offset_of lsn log_blocks = HEADER_BYTES + (block_of lsn - START_LSN) % (BLOCK_SIZE * log_blocks)
 
 -- the lsn stands at the first data byte of a block
 abbrev pub IsAtDataStart : ℕ → Type 0
 IsAtDataStart lsn = lsn % BLOCK_SIZE ≡ BLOCK_HEADER
 
--- where a run starts behind a log that ends there: at the end itself, where it stands at the first data byte of a
+-- where a run starts after a log that ends there: at the end itself, where it stands at the first data byte of a
 -- block, else at that of the next block
 abbrev pub start_after : ℕ → ℕ
 start_after end =

@@ -1,4 +1,4 @@
--- A run of pieces of the log, one behind the other without a gap: groups that were read or written, or the entries of a
+-- A run of pieces of the log, one after the other without a gap: groups that were read or written, or the entries of a
 -- history. A boundary is the run's start or the end of one of its pieces.
 use Rattle.std.specs.Prelude.{ℕ, ◌≡◌, ◌+◌, ◌⊎◌, List, [], ◌∷◌, map}
 use Rattle.std.specs.List.{AllByRecursion}
@@ -33,7 +33,7 @@ span_of whole = record { start = whole.start; end = whole.end }
 abbrev pub spans_of : List Whole → List Span
 spans_of wholes = map span_of wholes
 
--- the group ends so many bytes of the stream behind its start as its text has
+-- the group ends as many bytes of the stream after its start as its text has
 abbrev pub HasItsLength : Whole → Type 0
 HasItsLength whole = whole.end ≡ lsn_of (sn_of whole.start + group_length whole.group)
 

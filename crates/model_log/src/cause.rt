@@ -1,7 +1,7 @@
 // Why no further block is read.
 use crate::Fit;
 
-/// Why no block is read behind the ones that are.
+/// Why no block is read after the ones that are.
 #[derive(Clone, Copy, Debug, PartialEq, Eq)]
 pub enum Cause {
     /// The last of them isn't full.

@@ -9,20 +9,21 @@ use Rattle.model_device.specs.Disk.{Disk}
 use Rattle.model_device.specs.declared.write.Write.{Write}
 use Rattle.model_device.proofs.Images.{sector-after_write}
 use Rattle.model_device.proofs.Overwritten.{length-overwritten, part-overwritten_inside}
-use Rattle.model_log.specs.{checkpoint_text, log_block, log_device_length, offset_of, place_of, read_checkpoint, read_head}
+use Rattle.model_log.specs.{checkpoint_text, Layout, layout_of, log_block, log_device_length, place_in, place_of, read_checkpoint, read_head, sector_of}
 use Rattle.model_log.specs.declared.head.Head.TheVariants.{Good}
 use Rattle.model_log.proofs.CheckpointRound.{checkpoint-reads_back}
 use Rattle.model_parts.specs.declared.marks.LogMarks.{LogMarks}
 use Rattle.model_parts.specs.Marks.{MayBeNext, HasNextNumber, after_synced, after_checkpoint, after_asked}
-use Rattle.model_parts.specs.Held.{sector_of, IsLogBlock, HoldsBlocks, AreInOrder, other_place, IsBeside, LogHolds, IsWritten, IsLive}
-use Rattle.model_parts.proofs.Places.{HasBlocks, sector-place, place-from}
+use Rattle.model_parts.specs.Held.{IsLogBlock, AreInOrder, other_place, IsBeside, LogHolds, IsWritten, IsLive}
+use Rattle.model_log.proofs.Places.{HasBlocks, sector-place, place-from}
 use Rattle.model_parts.proofs.Windows.{wider, round-on}
-use Rattle.model_parts.proofs.LogImages.{sector-log_block, blocks-on, place-cases, header-below, beside-kept}
+use Rattle.model_parts.proofs.LogImages.{beside-kept, blocks-on, header-below, HoldsBlocks, place-cases, sector-log_block}
+use Rattle.model_log.specs.declared.layout.TheConstants.{HEADER_BYTES}
 
 -- A SYNC.
 
-in_order-synced : (shape : Shape) (s : ℕ) (wholes : List Whole) (marks : LogMarks) → AreInOrder shape s wholes marks → AreInOrder shape s wholes (after_synced marks)
-in_order-synced shape s wholes marks order = record {
+in_order-synced : (layout : Layout) (s : ℕ) (wholes : List Whole) (marks : LogMarks) → AreInOrder layout s wholes marks → AreInOrder layout s wholes (after_synced marks)
+in_order-synced layout s wholes marks order = record {
   starts = order.starts;
   run = order.run;
   stable = order.written;
@@ -39,7 +40,7 @@ in_order-synced shape s wholes marks order = record {
 }
 
 -- a device with no write since a good sync holds what reads give
-settled-holds : (shape : Shape) (s : ℕ) (wholes : List Whole) (marks : LogMarks) (reads : List ℕ) → log_device_length shape ≤ length reads → read_head (sector 0 reads) ≡ Good shape → AreInOrder shape s wholes marks
+settled-holds : (shape : Shape) (s : ℕ) (wholes : List Whole) (marks : LogMarks) (reads : List ℕ) → log_device_length shape ≤ length reads → read_head (sector 0 reads) ≡ Good shape → AreInOrder (layout_of shape) s wholes marks
     → HoldsBlocks shape s wholes marks.stable marks.given marks.ckpt reads
     → read_checkpoint (place_of marks.number) shape (sector (place_of marks.number) reads) ≡ Some (marks.number, marks.ckpt)
     → IsBeside marks (read_checkpoint (other_place marks.number) shape (sector (other_place marks.number) reads))
@@ -55,13 +56,13 @@ settled-holds shape s wholes marks reads long head order blocks checkpoint besid
   beside = λ bytes is. ⊎_elim (λ same. subst (λ (x : List ℕ). IsBeside marks (read_checkpoint (other_place marks.number) shape x)) (sym same) beside) (λ none. absurd none) is;
 }
 
-pub synced-holds : (shape : Shape) (s : ℕ) (wholes : List Whole) (marks : LogMarks) (disk : Disk) → AreInOrder shape s wholes marks
+pub synced-holds : (shape : Shape) (s : ℕ) (wholes : List Whole) (marks : LogMarks) (disk : Disk) → AreInOrder (layout_of shape) s wholes marks
     → IsWritten shape s wholes marks disk → IsLive shape s wholes (after_synced marks) (synced disk)
 synced-holds shape s wholes marks disk order is =
     let beside : IsBeside (after_synced marks) (read_checkpoint (other_place marks.number) shape (sector (other_place marks.number) disk.reads)) =
     beside-kept marks (after_synced marks) refl refl (omega arith) (read_checkpoint (other_place marks.number) shape (sector (other_place marks.number) disk.reads)) is.beside in
     record {
-      holds = settled-holds shape s wholes (after_synced marks) disk.reads is.long is.head (in_order-synced shape s wholes marks order)
+      holds = settled-holds shape s wholes (after_synced marks) disk.reads is.long is.head (in_order-synced (layout_of shape) s wholes marks order)
           (λ b in_round. wider s wholes marks.written marks.written marks.written marks.given b (log_block shape b disk.reads) (omega arith) order.written_given (is.blocks b in_round))
           is.checkpoint beside;
       is_written = record { long = is.long; head = is.head; all_given = is.all_given; blocks = is.blocks; checkpoint = is.checkpoint; beside = beside };
@@ -98,9 +99,9 @@ next-read shape marks lsn started next small =
     ap (λ k. read_checkpoint k shape (checkpoint_text (marks.number + 1) lsn shape)) (sym (next-place marks.number))
     ∙ checkpoint-reads_back (marks.number + 1) lsn shape small started next.small next.aligned
 
-in_order-asked : (shape : Shape) (s : ℕ) (wholes : List Whole) (marks : LogMarks) (lsn : ℕ) → AreInOrder shape s wholes marks → MayBeNext marks lsn
-    → AreInOrder shape s wholes (after_asked lsn marks)
-in_order-asked shape s wholes marks lsn order next = record {
+in_order-asked : (layout : Layout) (s : ℕ) (wholes : List Whole) (marks : LogMarks) (lsn : ℕ) → AreInOrder layout s wholes marks → MayBeNext marks lsn
+    → AreInOrder layout s wholes (after_asked lsn marks)
+in_order-asked layout s wholes marks lsn order next = record {
   starts = order.starts;
   run = order.run;
   stable = order.stable;
@@ -121,7 +122,7 @@ pub checkpoint-holds : (shape : Shape) (s : ℕ) (wholes : List Whole) (marks : 
     → LogHolds shape s wholes marks old → MayBeNext marks lsn → HasNextNumber marks → WritesSector (other_place marks.number) (checkpoint_text (marks.number + 1) lsn shape) write
     → Adds write old new → LogHolds shape s wholes (after_asked lsn marks) new
 checkpoint-holds shape s wholes marks old new lsn write holds next small writes adds =
-    let order : AreInOrder shape s wholes marks = holds.order in
+    let order : AreInOrder (layout_of shape) s wholes marks = holds.order in
     let behind : marks.ckpt ≤ lsn = omega (arith, order.ckpt_asked, next.from) in
     let k : ℕ = other_place marks.number in
     let text : List ℕ = checkpoint_text (marks.number + 1) lsn shape in
@@ -130,13 +131,13 @@ checkpoint-holds shape s wholes marks old new lsn write holds next small writes 
       long = omega (arith, holds.long, adds.same_length);
       head = λ bytes is. ⊎_elim (λ before. holds.head bytes before)
           (λ here. let same : 0 ≡ k = only-sector k 0 text write writes here.0 in absurd (omega (arith, limits.3))) (adds.each 0 bytes is);
-      order = in_order-asked shape s wholes marks lsn order next;
+      order = in_order-asked (layout_of shape) s wholes marks lsn order next;
       blocks = λ b in_round bytes is. ⊎_elim (λ before. holds.blocks b in_round bytes before)
           (λ here.
-          let same : sector_of shape b ≡ k = only-sector k (sector_of shape b) text write writes here.0 in
-          let place : 512 * sector_of shape b ≡ offset_of b shape.log_blocks = sector-place shape b in_round.aligned in
-          let low : 2048 ≤ offset_of b shape.log_blocks = place-from shape b in
-          absurd (omega (arith, limits.1))) (adds.each (sector_of shape b) bytes is);
+          let same : sector_of (layout_of shape) b ≡ k = only-sector k (sector_of (layout_of shape) b) text write writes here.0 in
+          let place : 512 * sector_of (layout_of shape) b ≡ place_in (layout_of shape) b = sector-place (layout_of shape) b in
+          let low : HEADER_BYTES ≤ place_in (layout_of shape) b = place-from (layout_of shape) b in
+          absurd (omega (arith, limits.1))) (adds.each (sector_of (layout_of shape) b) bytes is);
       checkpoint = λ bytes is. ⊎_elim (λ before. holds.checkpoint bytes before)
           (λ here. absurd (places-differ marks.number (only-sector k (place_of marks.number) text write writes here.0)))
           (adds.each (place_of marks.number) bytes is);
@@ -148,9 +149,9 @@ checkpoint-holds shape s wholes marks old new lsn write holds next small writes 
           (adds.each k bytes is);
     }
 
-in_order-checkpoint : (shape : Shape) (s : ℕ) (wholes : List Whole) (marks : LogMarks) (lsn : ℕ) → AreInOrder shape s wholes marks → MayBeNext marks lsn
-    → AreInOrder shape s wholes (after_checkpoint (marks.number + 1) lsn marks)
-in_order-checkpoint shape s wholes marks lsn order next = record {
+in_order-checkpoint : (layout : Layout) (s : ℕ) (wholes : List Whole) (marks : LogMarks) (lsn : ℕ) → AreInOrder layout s wholes marks → MayBeNext marks lsn
+    → AreInOrder layout s wholes (after_checkpoint (marks.number + 1) lsn marks)
+in_order-checkpoint layout s wholes marks lsn order next = record {
   starts = order.starts;
   run = order.run;
   stable = order.stable;
@@ -167,8 +168,8 @@ in_order-checkpoint shape s wholes marks lsn order next = record {
 }
 
 -- after its write and its sync, both good
-pub checkpointed-holds : (shape : Shape) (s : ℕ) (wholes : List Whole) (marks : LogMarks) (disk : Disk) (lsn : ℕ) (write : Write) → HasBlocks shape
-    → AreInOrder shape s wholes marks → IsWritten shape s wholes marks disk → MayBeNext marks lsn → HasNextNumber marks
+pub checkpointed-holds : (shape : Shape) (s : ℕ) (wholes : List Whole) (marks : LogMarks) (disk : Disk) (lsn : ℕ) (write : Write) → HasBlocks (layout_of shape)
+    → AreInOrder (layout_of shape) s wholes marks → IsWritten shape s wholes marks disk → MayBeNext marks lsn → HasNextNumber marks
     → WritesSector (other_place marks.number) (checkpoint_text (marks.number + 1) lsn shape) write
     → IsLive shape s wholes (after_checkpoint (marks.number + 1) lsn marks) (synced (written disk write))
 checkpointed-holds shape s wholes marks disk lsn write blocks order is next small writes =
@@ -200,17 +201,17 @@ checkpointed-holds shape s wholes marks disk lsn write blocks order is next smal
     let beside : IsBeside (after_checkpoint (marks.number + 1) lsn marks) (read_checkpoint (other_place (marks.number + 1)) shape (sector (other_place (marks.number + 1)) reads)) =
     subst (λ (found : Option (ℕ × ℕ)). IsBeside (after_checkpoint (marks.number + 1) lsn marks) found) (sym older) (inl (omega arith)) in
     let same_blocks : HoldsBlocks shape s wholes marks.written marks.written marks.ckpt reads = λ b in_round.
-    let place : 512 * sector_of shape b ≡ offset_of b shape.log_blocks = sector-place shape b in_round.aligned in
-    let low : 2048 ≤ offset_of b shape.log_blocks = place-from shape b in
+    let place : 512 * sector_of (layout_of shape) b ≡ place_in (layout_of shape) b = sector-place (layout_of shape) b in
+    let low : HEADER_BYTES ≤ place_in (layout_of shape) b = place-from (layout_of shape) b in
     let same : log_block shape b reads ≡ log_block shape b disk.reads =
-    sym (sector-log_block shape b reads in_round.aligned) ∙ kept (sector_of shape b) (λ same. omega (arith, limits.1)) ∙ sector-log_block shape b disk.reads in_round.aligned in
+    sym (sector-log_block shape b reads in_round.aligned) ∙ kept (sector_of (layout_of shape) b) (λ same. omega (arith, limits.1)) ∙ sector-log_block shape b disk.reads in_round.aligned in
     subst (λ (x : List ℕ). IsLogBlock s wholes marks.written marks.written b x) (sym same) (is.blocks b in_round) in
     let moved : HoldsBlocks shape s wholes marks.written marks.written lsn reads =
     blocks-on shape s wholes marks.written marks.written marks.ckpt lsn reads blocks order.ckpt_started
-    (λ b aligned below within in_round. inr (round-on shape s wholes marks.written marks.written b (log_block shape b reads) blocks aligned below within (same_blocks b in_round)))
+    (λ b aligned below within in_round. inr (round-on (layout_of shape) s wholes marks.written marks.written b (log_block shape b reads) blocks below within (same_blocks b in_round)))
     behind order.ckpt_aligned next.aligned (omega (arith, next.up_to, order.stable_written)) (omega (arith, order.written_given, order.room)) same_blocks in
     record {
-      holds = settled-holds shape s wholes (after_checkpoint (marks.number + 1) lsn marks) reads same_long head (in_order-checkpoint shape s wholes marks lsn order next)
+      holds = settled-holds shape s wholes (after_checkpoint (marks.number + 1) lsn marks) reads same_long head (in_order-checkpoint (layout_of shape) s wholes marks lsn order next)
           (λ b in_round. wider s wholes marks.written marks.written marks.stable marks.given b (log_block shape b reads) order.stable_written order.written_given (moved b in_round))
           checkpoint beside;
       is_written = record { long = same_long; head = head; all_given = is.all_given; blocks = moved; checkpoint = checkpoint; beside = beside };

@@ -1,8 +1,7 @@
 -- What is read of a store that was just formatted.
-use Rattle.std.proofs.Common.{◌≡◌, ◌≤◌, ◌<◌, ◌+◌, ◌-◌, ◌*◌, ◌%◌, ◌&&◌, ◌==◌, ◌++◌, ℕ, zero, suc, inl, inr, Bool, true, false, cond, List, [], length, take, drop, replicate, Option, Some, None, refl, sym, ap, ◌∙◌, ⊎_elim, arith, lit≤, lit<}
+use Rattle.std.proofs.Common.{◌≡◌, ◌≤◌, ◌<◌, ◌+◌, ◌-◌, ◌*◌, ◌%◌, ◌&&◌, ◌==◌, ◌++◌, ℕ, zero, suc, inl, inr, Bool, true, false, cond, List, [], length, take, drop, replicate, Some, None, refl, sym, ap, ◌∙◌, ⊎_elim, arith, lit≤, lit<}
 use Rattle.std.proofs.Math.Seq.{take-add}
 use Rattle.std.specs.List.{slice_get}
-use Rattle.std.specs.Option.{option_map}
 use Rattle.std.specs.Prelude.{nat_le, nat_lt}
 use Rattle.std.proofs.lemmas.List.{drop-take, take-take, length-replicate, replicate-append-replicate}
 use Rattle.model_base.specs.{after_bit, after_byte, after_eight_bits, crc_of, field, IsWithinLimits, register_after}
@@ -13,19 +12,21 @@ use Rattle.model_parts.proofs.Zeros.{zeros-opened}
 use Rattle.model_parts.proofs.Stretches.{stretch-piece}
 use Rattle.model_device.specs.{sector, settled}
 use Rattle.model_device.specs.Disk.{Disk}
-use Rattle.model_log.specs.{fits_checksum, header_block, log_block, newer, newest_checkpoint, offset_of, place_of, read_block, read_checkpoint, read_head}
-use Rattle.model_log.specs.declared.block.BlockView.{BlockView}
+use Rattle.model_log.specs.{fits_checksum, header_block, layout_of, newer, newest_checkpoint, place_in, place_of, read_block, read_checkpoint, read_head}
 use Rattle.model_log.specs.declared.head.Head.TheVariants.{Unformatted}
 use Rattle.model_log.proofs.HeadRound.{head-reads_back}
 use Rattle.model_log.proofs.CheckpointRound.{checkpoint-reads_back}
 use Rattle.model_page.specs.{blank_page, copy_lsn, copy_lsn_by, data_device_length, IsInPlace, page_check, place_lsn_by, stretch_at, user_part}
 use Rattle.model_page.specs.declared.content.Content.{Content}
-use Rattle.model_store.specs.{HasDevices, IsOrderly, IsReading, IsReadPage, Refuses, Taken, taken_from, view_at}
+use Rattle.model_store.specs.{HasDevices, IsOrderly, IsReading, IsReadPage, Refuses, taken}
+use Rattle.model_store.proofs.Sources.{empty-scan}
+use Rattle.model_store.proofs.Taking.{taken-none}
 use Rattle.model_store.specs.declared.refusal.Refusal.TheVariants.{NotFormatted}
 use Rattle.model_parts.specs.Cleared.{zero_block}
 use Rattle.model_parts.specs.Formatted.{IsFormattedLog, IsFormattedData, IsFormatted, formatted_store}
 use Rattle.model_parts.specs.Opened.{IsOpenable}
 use Rattle.model_parts.proofs.Unread.{zeros-unread}
+use Rattle.model_log.specs.declared.layout.TheConstants.{HEADER_BYTES}
 
 -- A HEADER OF ZEROS is none.
 
@@ -33,10 +34,10 @@ zero-head : read_head zero_block ≡ Unformatted
 unfolding read_head crc_of register_after after_byte after_eight_bits after_bit
 zero-head = refl
 
-pub zeros-refused : (log_bytes data_bytes : List ℕ) → 2048 ≤ length log_bytes → sector 0 log_bytes ≡ zero_block → Refuses log_bytes data_bytes NotFormatted
+pub zeros-refused : (log_bytes data_bytes : List ℕ) → HEADER_BYTES ≤ length log_bytes → sector 0 log_bytes ≡ zero_block → Refuses log_bytes data_bytes NotFormatted
 zeros-refused log_bytes data_bytes long zeros = (long, ap read_head zeros ∙ zero-head)
 
--- THE LOG: its newest checkpoint is the first, and no block is read behind it.
+-- THE LOG: its newest checkpoint is the first, and no block is read from it on.
 
 both-false : (a : Bool) → (a && false) ≡ false
 both-false true = refl
@@ -54,7 +55,7 @@ zero-checkpoint shape =
     ap (λ t. cond t (Some (field 8 0 zero_block, field 8 8 zero_block)) None)
     (none-and (fits_checksum zero_block) (place_of (field 8 0 zero_block) == 3) (field 8 8 zero_block % BLOCK_SIZE == 0)
     (nat_le START_LSN (field 8 8 zero_block)) (nat_lt (field 8 8 zero_block) 1152921504606846976)
-    (field 8 16 zero_block == offset_of (field 8 8 zero_block) shape.log_blocks) zero-place)
+    (field 8 16 zero_block == place_in (layout_of shape) (field 8 8 zero_block)) zero-place)
 
 first-checkpoint : (shape : Shape) (log : List ℕ) → IsWithinLimits shape → IsFormattedLog shape log → newest_checkpoint shape log ≡ Some (0, START_LSN)
 first-checkpoint shape log limits is =
@@ -64,13 +65,8 @@ first-checkpoint shape log limits is =
     ap (read_checkpoint 3 shape) (is.headers 3 (lit≤ tt) (lit< tt)) ∙ zero-checkpoint shape in
     ap (λ first. newer first (read_checkpoint 3 shape (header_block 3 log))) even ∙ ap (newer (Some (0, START_LSN))) odd
 
-view-taken : (bytes : List ℕ) (found : Option BlockView) → option_map (λ (block : Taken). block.view) (taken_from bytes found) ≡ found
-view-taken bytes None = refl
-view-taken bytes (Some view) = refl
-
-none-taken : (shape : Shape) (log : List ℕ) → IsFormattedLog shape log → view_at shape log START_LSN ≡ None
-none-taken shape log is =
-    view-taken (log_block shape START_LSN log) (read_block START_LSN (log_block shape START_LSN log)) ∙ ap (read_block START_LSN) (is.blocks START_LSN refl) ∙ zeros-unread START_LSN
+none-taken : (shape : Shape) (log : List ℕ) → IsFormattedLog shape log → taken shape log START_LSN ≡ None
+none-taken shape log is = taken-none shape log START_LSN (ap (read_block START_LSN) (is.blocks START_LSN refl) ∙ zeros-unread START_LSN)
 
 -- THE PAGES are blank.
 
@@ -157,15 +153,7 @@ formatted-read shape log_bytes data_bytes limits log pages = record {
   scan = record {
     devices = formatted-devices shape log_bytes data_bytes limits log pages;
     checkpoint = first-checkpoint shape log_bytes limits log;
-    scan = record {
-      blocks = record {
-        few = omega arith;
-        each = λ i view at. absurd cc;
-        full = λ i view below at. absurd cc;
-        last = inr (inr (none-taken shape log_bytes log));
-      };
-      groups = (refl, refl);
-    };
+    scan = empty-scan shape (layout_of shape).blocks (taken shape log_bytes) START_LSN (none-taken shape log_bytes log);
   };
   count = length-replicate shape.pages (blank_page shape);
   each = λ p page at. formatted-page shape data_bytes p page limits pages at;

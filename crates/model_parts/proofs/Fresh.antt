@@ -12,7 +12,9 @@ use Rattle.model_parts.specs.Opened.{IsAtRest, ReadsOpened, start_of, start_bloc
 use Rattle.model_parts.specs.Rewritten.{IsRewriting, IsRewritten}
 use Rattle.model_parts.proofs.Again.{settled-rests}
 use Rattle.model_parts.proofs.Next.{cleared-clearing}
-use Rattle.model_parts.proofs.Reread.{IsLogRead, log-read, header-places, log-unread, unread-kept, marked-newest, marked-reads, rewriting-reads}
+use Rattle.model_parts.proofs.LogImages.{header-below}
+use Rattle.model_parts.proofs.Reread.{IsLogRead, log-read, log-unread, unread-kept, marked-newest, marked-reads, rewriting-reads}
+use Rattle.model_log.specs.declared.layout.TheConstants.{HEADER_BLOCKS}
 
 -- what is rewritten is being rewritten
 pub rewritten-rewriting : (opened : Reading) (old new : List ℕ) → IsRewritten opened new → IsRewriting opened old new
@@ -27,7 +29,7 @@ same-or a b = ⊎_elim (λ less. inr (λ same. absurd (omega arith)))
     (λ not_less. ⊎_elim (λ more. inr (λ same. absurd (omega arith))) (λ not_more. inl (omega arith)) (cases_lt b a)) (cases_lt a b)
 
 -- a header block that isn't the checkpoint's, and that one where it is as it was
-either-header : (opened : Reading) (old_log new_log : List ℕ) (which : ℕ) → which < 4
+either-header : (opened : Reading) (old_log new_log : List ℕ) (which : ℕ) → which < HEADER_BLOCKS
     → IsMarking opened.shape (opened.number + 1) (start_block opened) old_log new_log
     → header_block (place_of (opened.number + 1)) new_log ≡ header_block (place_of (opened.number + 1)) old_log
     → header_block which new_log ≡ header_block which old_log
@@ -65,10 +67,10 @@ pub marked-fresh : (opened : Reading) (log_bytes data_bytes old_log new_log : Li
     → IsFresh opened.shape (start_of opened) (opened.number + 1) (settled new_log)
 marked-fresh opened log_bytes data_bytes old_log new_log orderly headers cleared marked =
     let log : IsLogRead log_bytes opened = log-read log_bytes data_bytes opened orderly.reads in
-    let place = header-places (opened.number + 1) in
+    let place = header-below (opened.number + 1) in
     let rests : IsAtRest (settled new_log) = settled-rests new_log in
     let unread : IsUnread opened.shape (start_block opened) old_log = log-unread opened log_bytes data_bytes old_log orderly.reads cleared in
-    let head : header_block 0 new_log ≡ header_block 0 log_bytes = marked.headers 0 (omega arith) (λ same. absurd (omega (arith, place.0))) ∙ headers 0 (omega arith) in
+    let head : header_block 0 new_log ≡ header_block 0 log_bytes = marked.headers 0 (omega arith) (λ same. absurd (omega (arith, place.2))) ∙ headers 0 (omega arith) in
     record {
       long = omega (arith, marked.same_length, cleared.same_length, log.long);
       head = ap read_head head ∙ orderly.reads.scan.devices.head.head;

@@ -5,7 +5,7 @@ pub mod Checkpoints
 pub mod Clearing
 pub mod DataCrashes
 pub mod DataImages
-pub mod Ending
+pub mod Dropping
 pub mod Formatted
 pub mod Fresh
 pub mod Joined
@@ -20,11 +20,9 @@ pub mod Next
 pub mod Orderly
 pub mod Pages
 pub mod Parts
-pub mod Places
 pub mod Repairs
 pub mod Replay
 pub mod Reread
-pub mod Rows
 pub mod Scans
 pub mod Splits
 pub mod Stretches

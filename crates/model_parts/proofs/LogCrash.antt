@@ -1,6 +1,7 @@
 -- What a crash of a log device leaves to be read, and that a longer run and a fresh part hold.
-use Rattle.std.proofs.Common.{ℕ, inl, inr, List, ◌++◌, subst, ⊎_elim, arith}
-use Rattle.model_log.specs.{groups_of, IsAtDataStart, IsByte, IsFront, IsRunOf, stream_of}
+use Rattle.std.proofs.Common.{◌≤◌, ℕ, inl, inr, List, ◌++◌, ⊎_elim, arith}
+use Rattle.model_log.specs.{groups_of, IsAtDataStart, IsByte, IsRunOf, Layout, layout_of, log_block, stream_of}
+use Rattle.model_base.specs.declared.limits.TheConstants.{LSN_LIMIT}
 use Rattle.std.specs.List.{All}
 use Rattle.model_base.specs.declared.shape.Shape.{Shape}
 use Rattle.model_log.specs.declared.group.Whole.{Whole}
@@ -8,30 +9,36 @@ use Rattle.model_device.specs.{IsImage}
 use Rattle.model_device.specs.Disk.{Disk}
 use Rattle.model_log.proofs.Runs.{boundary-longer}
 use Rattle.model_log.proofs.BoundaryRound.{block-longer}
-use Rattle.model_log.specs.declared.block.BlockView.{BlockView}
-use Rattle.model_store.specs.{AreGroupsOf, data_from, groups_start, IsBadRecord, IsScan}
-use Rattle.model_store.proofs.OneScan.{OneGroup, same_blocks, same_groups, front-no_storable}
+use Rattle.model_store.specs.{Source, taken}
+use Rattle.model_store.proofs.OneScan.{OneGroup}
+use Rattle.model_store.proofs.OneAnswer.{scan-not_bad}
+use Rattle.model_store.proofs.Taking.{taken-below, taken-none}
 use Rattle.model_parts.specs.declared.marks.LogMarks.{LogMarks}
 use Rattle.model_parts.specs.Held.{AreInOrder, IsLogBlock, LogHolds, IsWritten}
 use Rattle.model_parts.specs.Reads.{ScansTo, CrashReads, FitsStore}
 use Rattle.model_parts.proofs.Bytes.{stream-bytes}
 use Rattle.model_parts.proofs.LogImages.{ImageHolds, image-holds}
-use Rattle.model_parts.proofs.LogRows.{IsBounded}
+use Rattle.model_parts.proofs.LogRows.{IsBounded, IsTaken}
 use Rattle.model_parts.proofs.Scans.{scans-to}
-use Rattle.model_parts.proofs.Places.{HasBlocks}
+use Rattle.model_log.proofs.Places.{HasBlocks}
 
--- a log isn't both scanned and refused
-scan-not_bad : OneGroup → (shape : Shape) (image : List ℕ) (ckpt : ℕ) (views : List BlockView) (wholes : List Whole) (end lsn : ℕ)
-    → IsScan shape image ckpt views wholes end → IsBadRecord shape image ckpt lsn → ⊥
-scan-not_bad one shape image ckpt views wholes end lsn scan bad =
-    let same = same_blocks shape image ckpt views bad.views scan.blocks bad.blocks in
-    let groups = subst (λ xs. AreGroupsOf shape image ckpt xs (groups_start ckpt xs) wholes end) same scan.groups in
-    let from = subst (λ o. AreGroupsOf shape image ckpt bad.views o wholes end) bad.starts groups in
-    let parts = same_groups one shape (data_from shape image ckpt bad.views bad.start) bad.start wholes bad.wholes from.0 bad.rest
-    from.1 bad.groups (front-no_storable one shape from.0 from.2) bad.no_storable in
-    bad.no_rest (subst (λ rest. IsFront rest) parts.1 from.2)
+-- the scan of a log device takes what stands there
+log-taken : (shape : Shape) (s : ℕ) (wholes : List Whole) (low high b : ℕ) (image : List ℕ) → high ≤ LSN_LIMIT
+    → IsLogBlock s wholes low high b (log_block shape b image) → IsTaken s wholes low high b (taken shape image b)
+log-taken shape s wholes low high b image small is =
+    ⊎_elim (λ block. inl (record {
+      mark = block.mark;
+      boundary = block.boundary;
+      from = block.from;
+      up_to = block.up_to;
+      some = block.some;
+      bytes = log_block shape b image;
+      block = block.block;
+      is = taken-below shape image b (omega (arith, block.some, block.up_to));
+    }))
+    (λ none. inr (record { none_below = none.none_below; none = taken-none shape image b none.unread })) is
 
-pub has-blocks : (shape : Shape) (wholes : List Whole) (marks : LogMarks) → FitsStore shape wholes marks → HasBlocks shape
+pub has-blocks : (shape : Shape) (wholes : List Whole) (marks : LogMarks) → FitsStore shape wholes marks → HasBlocks (layout_of shape)
 has-blocks shape wholes marks fits = record { some = fits.some_blocks; few = omega (arith, fits.few_blocks) }
 
 -- THE CRASH LEMMA
@@ -39,7 +46,7 @@ pub crash-reads : OneGroup → (shape : Shape) (s : ℕ) (wholes : List Whole) (
     → LogHolds shape s wholes marks disk → IsImage disk image → CrashReads shape s wholes marks image
 crash-reads one shape s wholes marks disk image fits holds is =
     let bytes : All IsByte (stream_of (groups_of wholes)) = stream-bytes shape wholes fits.good in
-    let order : AreInOrder shape s wholes marks = holds.order in
+    let order : AreInOrder (layout_of shape) s wholes marks = holds.order in
     let kept : ImageHolds shape s wholes marks image = image-holds shape s wholes marks disk image (has-blocks shape wholes marks fits) holds is in
     let run : IsBounded shape s wholes marks.stable marks.given = record {
       starts = order.starts;
@@ -51,8 +58,12 @@ crash-reads one shape s wholes marks disk image fits holds is =
       low_high = omega (arith, order.stable_written, order.written_given);
       small = fits.small;
     } in
-    let scan : ScansTo shape s wholes marks.stable marks.given kept.ckpt image =
-    scans-to shape s wholes marks.stable marks.given kept.ckpt image run kept.aligned (omega (arith, order.ckpt_from, kept.from)) (omega (arith, kept.up_to, order.asked_stable)) (omega (arith, order.room, kept.from)) kept.blocks in
+    let most : ℕ = (layout_of shape).blocks in
+    let source : Source = taken shape image in
+    let scan : ScansTo shape most s wholes marks.stable marks.given kept.ckpt source =
+    scans-to shape most s wholes marks.stable marks.given kept.ckpt source run kept.aligned (omega (arith, order.ckpt_from, kept.from)) (omega (arith, kept.up_to, order.asked_stable)) (omega (arith, order.room, kept.from))
+    (λ b aligned from below. log-taken shape s wholes marks.stable marks.given b image fits.small
+    (kept.blocks b (record { aligned = aligned; from = from; below = below }))) in
     record {
       head = kept.head;
       number = kept.number;
@@ -61,7 +72,7 @@ crash-reads one shape s wholes marks disk image fits holds is =
       from = kept.from;
       up_to = kept.up_to;
       scan = scan;
-      not_refused = λ lsn bad. scan-not_bad one shape image kept.ckpt scan.views scan.middle scan.mark lsn scan.scan bad;
+      not_refused = λ lsn bad. scan-not_bad one shape most source kept.ckpt scan.views scan.middle scan.mark lsn scan.scan bad;
     }
 
 -- a longer run's blocks stand in the places of the old ones
@@ -77,9 +88,9 @@ log_block-longer s wholes more low high b bytes start run is =
       block = block-longer s wholes more block.mark b bytes start run block.boundary block.block;
     })) (λ none. inr none) is
 
-in_order-more : (shape : Shape) (s : ℕ) (wholes more : List Whole) (marks : LogMarks) → IsRunOf s (wholes ++ more) → AreInOrder shape s wholes marks
-    → AreInOrder shape s (wholes ++ more) marks
-in_order-more shape s wholes more marks run order = record {
+in_order-more : (layout : Layout) (s : ℕ) (wholes more : List Whole) (marks : LogMarks) → IsRunOf s (wholes ++ more) → AreInOrder layout s wholes marks
+    → AreInOrder layout s (wholes ++ more) marks
+in_order-more layout s wholes more marks run order = record {
   starts = order.starts;
   run = run;
   stable = boundary-longer s wholes more marks.stable order.stable;
@@ -101,13 +112,13 @@ pub longer-holds : (shape : Shape) (s : ℕ) (wholes more : List Whole) (marks :
 longer-holds shape s wholes more marks disk run holds = record {
   long = holds.long;
   head = holds.head;
-  order = in_order-more shape s wholes more marks run holds.order;
+  order = in_order-more (layout_of shape) s wholes more marks run holds.order;
   blocks = λ b in_round bytes is. log_block-longer s wholes more marks.stable marks.given b bytes holds.order.starts run (holds.blocks b in_round bytes is);
   checkpoint = holds.checkpoint;
   beside = holds.beside;
 }
 
-pub longer-written : (shape : Shape) (s : ℕ) (wholes more : List Whole) (marks : LogMarks) (disk : Disk) → IsRunOf s (wholes ++ more) → AreInOrder shape s wholes marks
+pub longer-written : (shape : Shape) (s : ℕ) (wholes more : List Whole) (marks : LogMarks) (disk : Disk) → IsRunOf s (wholes ++ more) → AreInOrder (layout_of shape) s wholes marks
     → IsWritten shape s wholes marks disk → IsWritten shape s (wholes ++ more) marks disk
 longer-written shape s wholes more marks disk run order is = record {
   long = is.long;

@@ -7,16 +7,17 @@ use Rattle.model_base.specs.declared.shape.Shape.{Shape}
 use Rattle.model_base.specs.{field}
 use Rattle.model_device.specs.{sector}
 use Rattle.model_device.specs.Disk.{Disk}
-use Rattle.model_log.specs.{fits_checksum, is_checkpoint, log_device_length, newer, offset_of, place_of, read_checkpoint, read_head}
+use Rattle.model_log.specs.{fits_checksum, is_checkpoint, layout_of, log_device_length, newer, place_in, place_of, read_checkpoint, read_head, sector_of}
 use Rattle.model_parts.specs.LogFresh.{IsFresh}
 use Rattle.model_device.specs.MayHold.{MayHold}
 use Rattle.model_parts.specs.declared.marks.LogMarks.{LogMarks}
 use Rattle.model_parts.specs.Marks.{first_marks}
-use Rattle.model_parts.specs.Held.{sector_of, IsLogBlock, HoldsBlocks, other_place, IsBeside, IsLive}
+use Rattle.model_parts.specs.Held.{IsLogBlock, other_place, IsBeside, IsLive}
 use Rattle.model_log.proofs.Runs.{run-none}
 use Rattle.model_device.proofs.MayHold.{one-sector}
-use Rattle.model_parts.proofs.LogImages.{place-cases, sector-log_block, when_less, when_not_less}
-use Rattle.model_parts.proofs.Places.{HasBlocks, sector-place, place-within}
+use Rattle.model_parts.proofs.LogImages.{header-below, HoldsBlocks, sector-log_block, when_less, when_not_less}
+use Rattle.model_log.proofs.Places.{HasBlocks, sector-place, place-within}
+use Rattle.model_log.specs.declared.layout.TheConstants.{HEADER_BLOCKS}
 
 -- THE NEWEST CHECKPOINT.
 
@@ -38,7 +39,7 @@ read-place k shape bytes found is =
     let here = found-place (is_checkpoint k shape bytes) (field 8 0 bytes) (field 8 8 bytes) found is in
     let test : (place_of (field 8 0 bytes) == k) ≡ true =
     and-second (fits_checksum bytes) (place_of (field 8 0 bytes) == k) (field 8 8 bytes % 512 == 0) (nat_le 8192 (field 8 8 bytes)) (nat_lt (field 8 8 bytes) 1152921504606846976)
-    (field 8 16 bytes == offset_of (field 8 8 bytes) shape.log_blocks) here.0 in
+    (field 8 16 bytes == place_in (layout_of shape) (field 8 8 bytes)) here.0 in
     ap place_of (sym here.1) ∙ eq-from (place_of (field 8 0 bytes)) k test
 
 -- the newest one, and the other one
@@ -109,7 +110,7 @@ beside-older marks (Some other) older = inl (older other refl)
 
 -- THE START.
 
-pub fresh-holds : (shape : Shape) (start number : ℕ) (disk : Disk) → HasBlocks shape → start % 512 ≡ 12 → 8204 ≤ start
+pub fresh-holds : (shape : Shape) (start number : ℕ) (disk : Disk) → HasBlocks (layout_of shape) → start % 512 ≡ 12 → 8204 ≤ start
     → IsFresh shape start number disk
     → IsLive shape start [] (first_marks start number) disk
 fresh-holds shape start number disk blocks place low fresh =
@@ -121,11 +122,11 @@ fresh-holds shape start number disk blocks place low fresh =
     beside-older marks (read_checkpoint (other_place number) shape (sector (other_place number) disk.reads)) stands.older in
     let here : HoldsBlocks shape start [] start start (start - 12) disk.reads = λ b in_round.
     inr (record { none_below = omega (arith, in_round.from); unread = fresh.unread b in_round }) in
-    let header : (k : ℕ) (bytes : List ℕ) → k < 4 → MayHold disk k bytes → bytes ≡ sector k disk.reads = λ k bytes below may.
+    let header : (k : ℕ) (bytes : List ℕ) → k < HEADER_BLOCKS → MayHold disk k bytes → bytes ≡ sector k disk.reads = λ k bytes below may.
     one-sector disk k bytes fresh.one_image fresh.reads (omega arith) may in
-    let own_below : place_of number < 4 = ⊎_elim (λ e. omega (arith, e.0)) (λ o. omega (arith, o.0)) (place-cases number) in
-    let other_below : other_place number < 4 = ⊎_elim (λ e. omega (arith, e.1)) (λ o. omega (arith, o.1)) (place-cases number) in
-    let size : 1 ≤ shape.log_blocks = blocks.some in
+    let own_below : place_of number < HEADER_BLOCKS = (header-below number).0 in
+    let other_below : other_place number < HEADER_BLOCKS = (header-below number).1 in
+    let size : 1 ≤ (layout_of shape).blocks = blocks.some in
     record {
       holds = record {
         long = base_long;
@@ -146,9 +147,9 @@ fresh-holds shape start number disk blocks place low fresh =
           room = omega arith;
         };
         blocks = λ b in_round bytes may. (
-            let within : offset_of b shape.log_blocks + 512 ≤ 2048 + 512 * shape.log_blocks = place-within shape b blocks in_round.aligned in
-            let at : 512 * sector_of shape b ≡ offset_of b shape.log_blocks = sector-place shape b in_round.aligned in
-            let same : bytes ≡ sector (sector_of shape b) disk.reads = one-sector disk (sector_of shape b) bytes fresh.one_image fresh.reads (omega arith) may in
+            let within : place_in (layout_of shape) b + 512 ≤ log_device_length shape = place-within (layout_of shape) b blocks in
+            let at : 512 * sector_of (layout_of shape) b ≡ place_in (layout_of shape) b = sector-place (layout_of shape) b in
+            let same : bytes ≡ sector (sector_of (layout_of shape) b) disk.reads = one-sector disk (sector_of (layout_of shape) b) bytes fresh.one_image fresh.reads (omega arith) may in
             subst (λ (x : List ℕ). IsLogBlock start [] start start b x) (sym (same ∙ sector-log_block shape b disk.reads in_round.aligned)) (here b in_round));
         checkpoint = λ bytes may. ap (read_checkpoint (place_of number) shape) (header (place_of number) bytes own_below may) ∙ stands.own;
         beside = λ bytes may. subst (λ (x : List ℕ). IsBeside marks (read_checkpoint (other_place number) shape x)) (sym (header (other_place number) bytes other_below may)) beside;

@@ -7,18 +7,24 @@ use Rattle.model_base.specs.declared.shape.Shape.{Shape}
 use Rattle.model_log.specs.declared.group.Whole.{Whole}
 use Rattle.model_device.specs.{IsImage, sector}
 use Rattle.model_device.specs.Disk.{Disk}
-use Rattle.model_log.specs.{log_block, log_device_length, newer, newest_checkpoint, offset_of, place_of, read_checkpoint}
+use Rattle.model_log.specs.{IsInRound, layout_of, log_block, log_device_length, newer, newest_checkpoint, place_in, place_of, read_checkpoint, round_of, sector_of}
 use Rattle.model_device.specs.MayHold.{MayHold}
 use Rattle.model_device.proofs.MayHold.{holds-sector}
 use Rattle.model_parts.specs.declared.marks.LogMarks.{LogMarks}
-use Rattle.model_parts.specs.Held.{sector_of, IsInRound, IsLogBlock, HoldsBlocks, AreInOrder, other_place, IsBeside, LogHolds}
+use Rattle.model_parts.specs.Held.{IsLogBlock, AreInOrder, other_place, IsBeside, LogHolds}
 use Rattle.model_store.specs.{HasHead}
-use Rattle.model_parts.proofs.Places.{HasBlocks, sector-place, place-within, place-round}
+use Rattle.model_log.proofs.Places.{HasBlocks, sector-place, place-within, place-round}
 use Rattle.model_parts.proofs.Windows.{round-on}
+use Rattle.model_log.specs.declared.layout.TheConstants.{HEADER_BLOCKS}
 
-pub sector-log_block : (shape : Shape) (b : ℕ) (image : List ℕ) → b % 512 ≡ 0 → sector (sector_of shape b) image ≡ log_block shape b image
+-- each place of the image has what it may have
+abbrev pub HoldsBlocks : Shape → ℕ → List Whole → ℕ → ℕ → ℕ → List ℕ → Type 0
+HoldsBlocks shape s wholes low high ckpt image =
+    (b : ℕ) → IsInRound (layout_of shape) ckpt b → IsLogBlock s wholes low high b (log_block shape b image)
+
+pub sector-log_block : (shape : Shape) (b : ℕ) (image : List ℕ) → b % 512 ≡ 0 → sector (sector_of (layout_of shape) b) image ≡ log_block shape b image
 unfolding log_block
-sector-log_block shape b image aligned = ap (λ n. take 512 (drop n image)) (sector-place shape b aligned)
+sector-log_block shape b image aligned = ap (λ n. take 512 (drop n image)) (sector-place (layout_of shape) b)
 
 -- the newer of the two checkpoints, where one is the last good one
 record IsNewest (marks : LogMarks) (found : Option (ℕ × ℕ)) : Type 0 where
@@ -38,7 +44,7 @@ when_less a b first second less = let test : nat_lt a b ≡ true = grind (arith,
 pub when_not_less : (a b : ℕ) (first second : Option (ℕ × ℕ)) → b ≤ a → cond (nat_lt a b) second first ≡ first
 when_not_less a b first second less = let test : nat_lt a b ≡ false = grind (arith, nat_tests) in ap (λ t. cond t second first) test
 
--- the last good one in front
+-- the newest of two, where the last good one stands first
 newest-front : (marks : LogMarks) (other : Option (ℕ × ℕ)) → marks.ckpt % 512 ≡ 0 → marks.ckpt ≤ marks.asked → IsBeside marks other → IsNewest marks (newer (Some (marks.number, marks.ckpt)) other)
 newest-front marks None aligned stable beside = newest-own marks (newer (Some (marks.number, marks.ckpt)) None) refl aligned stable
 newest-front marks (Some other) aligned stable beside =
@@ -52,7 +58,7 @@ newest-front marks (Some other) aligned stable beside =
       up_to = next.up_to;
     }) beside
 
--- and behind
+-- the newest of two, where the last good one stands second
 newest-back : (marks : LogMarks) (other : Option (ℕ × ℕ)) → marks.ckpt % 512 ≡ 0 → marks.ckpt ≤ marks.asked → IsBeside marks other → IsNewest marks (newer other (Some (marks.number, marks.ckpt)))
 newest-back marks None aligned stable beside = newest-own marks (newer None (Some (marks.number, marks.ckpt))) refl aligned stable
 newest-back marks (Some other) aligned stable beside =
@@ -71,7 +77,7 @@ place-cases number =
     ⊎_elim (λ even. inl (ap (λ t. cond t 1 3) even, ap (λ t. 4 - cond t 1 3) even))
     (λ odd. inr (ap (λ t. cond t 1 3) odd, ap (λ t. 4 - cond t 1 3) odd)) (cases_Bool (number % 2 == 0))
 
-pub header-below : (number : ℕ) → (place_of number < 4) × (other_place number < 4) × (1 ≤ place_of number) × (1 ≤ other_place number)
+pub header-below : (number : ℕ) → (place_of number < HEADER_BLOCKS) × (other_place number < HEADER_BLOCKS) × (1 ≤ place_of number) × (1 ≤ other_place number)
 header-below number = ⊎_elim (λ e. (omega (arith, e.0), omega (arith, e.1), omega (arith, e.0), omega (arith, e.1))) (λ o. (omega (arith, o.0), omega (arith, o.1), omega (arith, o.0), omega (arith, o.1))) (place-cases number)
 
 newest-of : (shape : Shape) (marks : LogMarks) (image : List ℕ) → marks.ckpt % 512 ≡ 0 → marks.ckpt ≤ marks.asked
@@ -90,23 +96,23 @@ newest-of shape marks image aligned stable own beside =
     subst (λ (found : Option (ℕ × ℕ)). IsNewest marks (newer (At 1) found)) (sym second) (newest-back marks (At 1) aligned stable first)) (place-cases marks.number)
 
 -- the blocks of a later checkpoint's round, which the lower mark has reached
-pub blocks-on : (shape : Shape) (s : ℕ) (wholes : List Whole) (low high ckpt next : ℕ) (image : List ℕ) → HasBlocks shape → 8192 ≤ ckpt
-    → ((b : ℕ) → b % 512 ≡ 0 → b + 12 < low → low ≤ b + 512 * shape.log_blocks + 12 → IsInRound shape ckpt b → IsLogBlock s wholes low high (b + 512 * shape.log_blocks) (log_block shape b image))
-    → ckpt ≤ next → ckpt % 512 ≡ 0 → next % 512 ≡ 0 → next ≤ low → low ≤ ckpt + 512 * shape.log_blocks
+pub blocks-on : (shape : Shape) (s : ℕ) (wholes : List Whole) (low high ckpt next : ℕ) (image : List ℕ) → HasBlocks (layout_of shape) → 8192 ≤ ckpt
+    → ((b : ℕ) → b % 512 ≡ 0 → b + 12 < low → low ≤ b + round_of (layout_of shape) + 12 → IsInRound (layout_of shape) ckpt b → IsLogBlock s wholes low high (b + round_of (layout_of shape)) (log_block shape b image))
+    → ckpt ≤ next → ckpt % 512 ≡ 0 → next % 512 ≡ 0 → next ≤ low → low ≤ ckpt + round_of (layout_of shape)
     → HoldsBlocks shape s wholes low high ckpt image → HoldsBlocks shape s wholes low high next image
 unfolding log_block
 blocks-on shape s wholes low high ckpt next image blocks started turned later aligned next_aligned below room holds b in_round =
-    let n : ℕ = 512 * shape.log_blocks in
+    let n : ℕ = round_of (layout_of shape) in
     ⊎_elim (λ same. holds b (record { aligned = in_round.aligned; from = omega (arith, in_round.from); below = same }))
     (λ behind.
     let old : ℕ = b - n in
     let is : old + n ≡ b = omega arith in
-    let old_in : IsInRound shape ckpt old = record { aligned = omega (arith, in_round.aligned); from = omega arith; below = omega (arith, in_round.below) } in
-    let place : offset_of (old + n) shape.log_blocks ≡ offset_of old shape.log_blocks = place-round shape old blocks old_in.aligned (omega arith) in
+    let old_in : IsInRound (layout_of shape) ckpt old = record { aligned = omega (arith, in_round.aligned); from = omega arith; below = omega (arith, in_round.below) } in
+    let place : place_in (layout_of shape) (old + n) ≡ place_in (layout_of shape) old = place-round (layout_of shape) old blocks old_in.aligned (omega arith) in
     let there : IsLogBlock s wholes low high (old + n) (log_block shape old image) =
     turned old old_in.aligned (omega (arith, in_round.below, in_round.aligned, old_in.aligned)) (omega arith) old_in in
     subst (λ (c : ℕ). IsLogBlock s wholes low high c (log_block shape c image)) is
-    (subst (λ (n : ℕ). IsLogBlock s wholes low high (old + 512 * shape.log_blocks) (take 512 (drop n image))) (sym place) there))
+    (subst (λ (n : ℕ). IsLogBlock s wholes low high (old + round_of (layout_of shape)) (take 512 (drop n image))) (sym place) there))
     (cases_lt b (ckpt + n))
 
 -- what stands beside the newest good checkpoint is told by that one and the last one asked for
@@ -135,23 +141,23 @@ pub record ImageHolds (shape : Shape) (s : ℕ) (wholes : List Whole) (marks : L
 
 -- WHAT THE DEVICE KEEPS: each image has a newest checkpoint between the last good one and the stable mark, and holds
 -- the blocks from there on.
-pub image-holds : (shape : Shape) (s : ℕ) (wholes : List Whole) (marks : LogMarks) (disk : Disk) (image : List ℕ) → HasBlocks shape
+pub image-holds : (shape : Shape) (s : ℕ) (wholes : List Whole) (marks : LogMarks) (disk : Disk) (image : List ℕ) → HasBlocks (layout_of shape)
     → LogHolds shape s wholes marks disk → IsImage disk image → ImageHolds shape s wholes marks image
 image-holds shape s wholes marks disk image blocks holds is =
     let long : log_device_length shape ≤ length disk.base = holds.long in
-    let order : AreInOrder shape s wholes marks = holds.order in
-    let header : (k : ℕ) → k < 4 → MayHold disk k (sector k image) = λ k below. holds-sector disk image k is (omega arith) in
-    let own_below : place_of marks.number < 4 = ⊎_elim (λ e. omega (arith, e.0)) (λ o. omega (arith, o.0)) (place-cases marks.number) in
-    let other_below : other_place marks.number < 4 = ⊎_elim (λ e. omega (arith, e.1)) (λ o. omega (arith, o.1)) (place-cases marks.number) in
+    let order : AreInOrder (layout_of shape) s wholes marks = holds.order in
+    let header : (k : ℕ) → k < HEADER_BLOCKS → MayHold disk k (sector k image) = λ k below. holds-sector disk image k is (omega arith) in
+    let own_below : place_of marks.number < HEADER_BLOCKS = (header-below marks.number).0 in
+    let other_below : other_place marks.number < HEADER_BLOCKS = (header-below marks.number).1 in
     let newest : IsNewest marks (newest_checkpoint shape image) =
     newest-of shape marks image order.ckpt_aligned order.ckpt_asked
     (holds.checkpoint (sector (place_of marks.number) image) (header (place_of marks.number) own_below))
     (holds.beside (sector (other_place marks.number) image) (header (other_place marks.number) other_below)) in
     let here : HoldsBlocks shape s wholes marks.stable marks.given marks.ckpt image = λ b in_round.
-    let within : offset_of b shape.log_blocks + 512 ≤ 2048 + 512 * shape.log_blocks = place-within shape b blocks in_round.aligned in
-    let place : 512 * sector_of shape b ≡ offset_of b shape.log_blocks = sector-place shape b in_round.aligned in
+    let within : place_in (layout_of shape) b + 512 ≤ log_device_length shape = place-within (layout_of shape) b blocks in
+    let place : 512 * sector_of (layout_of shape) b ≡ place_in (layout_of shape) b = sector-place (layout_of shape) b in
     subst (λ (bytes : List ℕ). IsLogBlock s wholes marks.stable marks.given b bytes) (sector-log_block shape b image in_round.aligned)
-    (holds.blocks b in_round (sector (sector_of shape b) image) (holds-sector disk image (sector_of shape b) is (omega arith))) in
+    (holds.blocks b in_round (sector (sector_of (layout_of shape) b) image) (holds-sector disk image (sector_of (layout_of shape) b) is (omega arith))) in
     record {
       head = record { long = omega (arith, is.same_length); head = holds.head (sector 0 image) (header 0 (omega arith)) };
       number = newest.number;
@@ -161,6 +167,6 @@ image-holds shape s wholes marks disk image blocks holds is =
       from = newest.from;
       up_to = newest.up_to;
       blocks = blocks-on shape s wholes marks.stable marks.given marks.ckpt newest.ckpt image blocks order.ckpt_started
-          (λ b aligned below within in_round. inr (round-on shape s wholes marks.stable marks.given b (log_block shape b image) blocks aligned below within (here b in_round)))
+          (λ b aligned below within in_round. inr (round-on (layout_of shape) s wholes marks.stable marks.given b (log_block shape b image) blocks below within (here b in_round)))
           newest.from order.ckpt_aligned newest.aligned (omega (arith, newest.up_to, order.asked_stable)) (omega (arith, order.stable_written, order.written_given, order.room)) here;
     }

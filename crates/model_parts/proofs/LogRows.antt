@@ -1,9 +1,8 @@
--- The blocks that are read off an image from a block on.
-use Rattle.std.proofs.Common.{◌≡◌, ◌≤◌, ◌<◌, ◌+◌, ◌-◌, ◌*◌, ◌%◌, ◌==◌, ◌⊎◌, ℕ, zero, suc, inl, inr, min, Bool, true, false, cond, List, [], ◌∷◌, ◌++◌, length, take, drop, Option, Some, None, refl, sym, ap, subst, ◌∙◌, ⊎_elim, arith}
+-- The blocks that are read of a source from a block on.
+use Rattle.std.proofs.Common.{◌≡◌, ◌≤◌, ◌<◌, ◌+◌, ◌-◌, ◌*◌, ◌%◌, ◌==◌, ◌⊎◌, ℕ, zero, suc, inl, inr, min, true, false, cond, List, [], ◌∷◌, ◌++◌, length, take, drop, Option, Some, None, refl, sym, ap, subst, ◌∙◌, ⊎_elim, arith}
 use Rattle.std.specs.List.{slice_get, All, AllByRecursion}
 use Rattle.model_base.specs.declared.limits.TheConstants.{LSN_LIMIT}
-use Rattle.model_log.specs.{block_of, data_of, groups_of, is_full, IsAtDataStart, IsBoundary, IsByte, IsDataLsn, IsRunOf, length_at, log_block, read_block, sn_of, spans_of, stream_between, stream_of}
-use Rattle.std.specs.Prelude.{nat_lt}
+use Rattle.model_log.specs.{block_of, data_of, groups_of, is_full, IsAtDataStart, IsBoundary, IsBoundaryBlock, IsByte, IsDataLsn, IsRunOf, length_at, lsn_at, read_block, sn_of, spans_of, stream_between, stream_of}
 use Rattle.std.proofs.lemmas.List.{append-nil, drop-drop}
 use Rattle.std.proofs.lemmas.Bool.{cases_lt}
 use Rattle.std.proofs.lemmas.Bool.Decides.{nat_tests}
@@ -14,9 +13,9 @@ use Rattle.model_log.proofs.BoundaryLengths.{sn_of-rises, sn_of-start, sn_of-hea
 use Rattle.model_log.proofs.Runs.{boundary-reached, data-start}
 use Rattle.model_log.proofs.Crossings.{IsLeast, IsEmptyOf, TellsFirst, first-tells}
 use Rattle.model_log.proofs.BoundaryRound.{ReadsAs, reads-as}
-use Rattle.model_store.specs.{bytes_of, data_at, groups_start, IsStorable, joined, lsn_at, Taken, taken, taken_from, view_at}
+use Rattle.model_store.specs.{bytes_of, groups_start, IsStorable, joined, Source, Taken, taken_from, view_at}
 use Rattle.std.specs.Option.{option_map}
-use Rattle.model_parts.specs.Held.{IsBlockBetween, IsNoBlock, IsLogBlock}
+use Rattle.model_store.proofs.Sources.{data_at, view-none}
 
 -- a run whose groups fit the store, two of its boundaries in order, and the later one within the limit of all lsns
 pub record IsBounded (shape : Shape) (s : ℕ) (wholes : List Whole) (low high : ℕ) : Type 0 where
@@ -29,11 +28,30 @@ pub record IsBounded (shape : Shape) (s : ℕ) (wholes : List Whole) (low high :
   pub low_high : low ≤ high
   pub small : high ≤ LSN_LIMIT
 
+-- The scan takes at b the block for a boundary between the marks, which holds a byte below it.
+pub record IsTakenBetween (s : ℕ) (wholes : List Whole) (low high b : ℕ) (found : Option Taken) : Type 0 where
+  pub mark : ℕ
+  pub boundary : IsBoundary s (spans_of wholes) mark
+  pub from : low ≤ mark
+  pub up_to : mark ≤ high
+  pub some : b + 12 < mark
+  pub bytes : List ℕ
+  pub block : IsBoundaryBlock s wholes mark b bytes
+  pub is : found ≡ taken_from bytes (read_block b bytes)
+
+-- It takes none, and none is missed.
+pub record IsNoneTaken (low b : ℕ) (found : Option Taken) : Type 0 where
+  pub none_below : low ≤ b + 12
+  pub none : found ≡ None
+
+abbrev pub IsTaken : ℕ → List Whole → ℕ → ℕ → ℕ → Option Taken → Type 0
+IsTaken s wholes low high b found = IsTakenBetween s wholes low high b found ⊎ IsNoneTaken low b found
+
 -- why the row ends
-abbrev pub EndsRow : Shape → List ℕ → ℕ → List BlockView → Type 0
-EndsRow shape image b views =
+abbrev pub EndsRow : Source → ℕ → List BlockView → Type 0
+EndsRow source b views =
     ((view : BlockView) × (i : ℕ) × (suc i ≡ length views) × (slice_get views i ≡ Some view) × (is_full view ≡ false))
-    ⊎ (view_at shape image (lsn_at b (length views)) ≡ None)
+    ⊎ (view_at source (lsn_at b (length views)) ≡ None)
 
 -- where the groups of the row start: at the first boundary from its first block on; or there is none before its end
 abbrev pub StartsRow : ℕ → List Whole → ℕ → ℕ → ℕ → Option ℕ → Type 0
@@ -42,14 +60,14 @@ StartsRow s wholes b end count None =
 StartsRow s wholes b end count (Some start) = IsLeast s wholes b start × (start ≤ end)
 
 -- The blocks that are read from b on, and where their data ends.
-pub record Row (shape : Shape) (s : ℕ) (wholes : List Whole) (low high : ℕ) (image : List ℕ) (fuel b : ℕ) : Type 0 where
+pub record Row (s : ℕ) (wholes : List Whole) (low high : ℕ) (source : Source) (fuel b : ℕ) : Type 0 where
   pub views : List BlockView
   pub end : ℕ
   pub few : length views ≤ fuel
-  pub each : (i : ℕ) (view : BlockView) → slice_get views i ≡ Some view → view_at shape image (lsn_at b i) ≡ Some view
+  pub each : (i : ℕ) (view : BlockView) → slice_get views i ≡ Some view → view_at source (lsn_at b i) ≡ Some view
   pub full : (i : ℕ) (view : BlockView) → suc i < length views → slice_get views i ≡ Some view → is_full view ≡ true
-  pub last : EndsRow shape image b views
-  pub content : joined shape image b views ≡ stream_between s (stream_of (groups_of wholes)) b end
+  pub last : EndsRow source b views
+  pub content : joined source b views ≡ stream_between s (stream_of (groups_of wholes)) b end
   pub place : IsDataLsn end
   pub from : b + 12 ≤ end
   pub low_end : low ≤ end
@@ -92,24 +110,11 @@ none-between s stream b aligned =
     ap (λ n. take n (drop (sn_of b - sn_of s) stream)) (sym count)
 
 -- what the scan takes at the lsn, where a block is read there and where none is
-view-read : (shape : Shape) (image : List ℕ) (b : ℕ) (view : BlockView) → b < 1152921504606846976 → read_block b (log_block shape b image) ≡ Some view
-    → (view_at shape image b ≡ Some view) × (data_at shape image b ≡ data_of view (log_block shape b image))
-view-read shape image b view small read =
-    let bytes : List ℕ = log_block shape b image in
-    let test : nat_lt b 1152921504606846976 ≡ true = grind (arith, nat_tests) in
-    let is : taken shape image b ≡ Some (record { view = view; bytes = data_of view bytes })
-    = ap (λ t. cond t (taken_from bytes (read_block b bytes)) None) test ∙ ap (taken_from bytes) read in
+view-read : (source : Source) (b : ℕ) (view : BlockView) (bytes : List ℕ) → source b ≡ taken_from bytes (read_block b bytes) → read_block b bytes ≡ Some view
+    → (view_at source b ≡ Some view) × (data_at source b ≡ data_of view bytes)
+view-read source b view bytes taken read =
+    let is : source b ≡ Some (record { view = view; bytes = data_of view bytes }) = taken ∙ ap (taken_from bytes) read in
     (ap (option_map (λ (block : Taken). block.view)) is, ap bytes_of is)
-
-either-none : (t : Bool) (found : Option Taken) → found ≡ None → cond t found None ≡ None
-either-none true found none = none
-either-none false found none = refl
-
-view-none : (shape : Shape) (image : List ℕ) (b : ℕ) → read_block b (log_block shape b image) ≡ None → view_at shape image b ≡ None
-view-none shape image b read =
-    let bytes : List ℕ = log_block shape b image in
-    ap (option_map (λ (block : Taken). block.view))
-    (either-none (nat_lt b 1152921504606846976) (taken_from bytes (read_block b bytes)) (ap (taken_from bytes) read))
 
 length-full : (m b : ℕ) → b + 524 ≤ m → (length_at m b == 512) ≡ true
 length-full m b full = grind (arith, nat_tests)
@@ -136,9 +141,9 @@ one-place view other zero is = (refl, cc)
 one-place view other (suc i) is = absurd (no-place i other is)
 
 -- no block is read at all
-row-none : (shape : Shape) (s : ℕ) (wholes : List Whole) (low high : ℕ) (image : List ℕ) (fuel b : ℕ) → b % 512 ≡ 0 → b + 12 ≤ high
-    → IsBounded shape s wholes low high → IsNoBlock low b (log_block shape b image) → Row shape s wholes low high image fuel b
-row-none shape s wholes low high image fuel b aligned within run none =
+row-none : (shape : Shape) (s : ℕ) (wholes : List Whole) (low high : ℕ) (source : Source) (fuel b : ℕ) → b % 512 ≡ 0 → b + 12 ≤ high
+    → IsBounded shape s wholes low high → IsNoneTaken low b (source b) → Row s wholes low high source fuel b
+row-none shape s wholes low high source fuel b aligned within run none =
     let same : lsn_at b 0 ≡ b = omega arith in
     record {
       views = [];
@@ -146,7 +151,7 @@ row-none shape s wholes low high image fuel b aligned within run none =
       few = omega arith;
       each = λ i view is. absurd (no-place i view is);
       full = λ i view below is. absurd (omega arith);
-      last = inr (ap (view_at shape image) same ∙ view-none shape image b none.unread);
+      last = inr (ap (view_at source) same ∙ view-none source b none.none);
       content = none-between s (stream_of (groups_of wholes)) b aligned;
       place = (omega arith, omega arith);
       from = omega arith;
@@ -156,18 +161,18 @@ row-none shape s wholes low high image fuel b aligned within run none =
     }
 
 -- the block at b is read, and isn't full
-row-part : (shape : Shape) (s : ℕ) (wholes : List Whole) (low high : ℕ) (image : List ℕ) (fuel b : ℕ) → b % 512 ≡ 0 → block_of s ≤ b → 1 ≤ fuel
-    → IsBounded shape s wholes low high → (block : IsBlockBetween s wholes low high b (log_block shape b image)) → block.mark < b + 524
-    → Row shape s wholes low high image fuel b
-row-part shape s wholes low high image fuel b aligned from some run block short =
+row-part : (shape : Shape) (s : ℕ) (wholes : List Whole) (low high : ℕ) (source : Source) (fuel b : ℕ) → b % 512 ≡ 0 → block_of s ≤ b → 1 ≤ fuel
+    → IsBounded shape s wholes low high → (block : IsTakenBetween s wholes low high b (source b)) → block.mark < b + 524
+    → Row s wholes low high source fuel b
+row-part shape s wholes low high source fuel b aligned from some run block short =
     let m : ℕ = block.mark in
-    let bytes : List ℕ = log_block shape b image in
+    let bytes : List ℕ = block.bytes in
     let reads : ReadsAs s wholes m b bytes = reads-as s wholes m b bytes run.starts run.run run.bytes block.boundary block.some block.block in
     let after = boundary-reached s wholes m (data-start s run.starts) run.run block.boundary in
     let inside : m < b + 508 = within-block m b after.place aligned block.some short in
     let low_m : min m (b + 512) ≡ m = omega arith in
-    let taken_is = view-read shape image b reads.view (omega (arith, block.some, block.up_to, run.small)) reads.read in
-    let read : view_at shape image b ≡ Some reads.view = taken_is.0 in
+    let taken_is = view-read source b reads.view bytes block.is reads.read in
+    let read : view_at source b ≡ Some reads.view = taken_is.0 in
     let part : is_full reads.view ≡ false = ap (λ (n : ℕ). n == 512) reads.length_is ∙ length-part m b block.some inside in
     let tells : TellsFirst s wholes b reads.view.first = subst (λ (f : ℕ). TellsFirst s wholes b f) (sym reads.first_is) (first-tells s wholes b run.starts run.run aligned from) in
     record {
@@ -177,10 +182,10 @@ row-part shape s wholes low high image fuel b aligned from some run block short 
       each = λ i view is. (
           let here = one-place reads.view view i is in
           let same : lsn_at b i ≡ b = omega (arith, here.0) in
-          ap (view_at shape image) same ∙ read ∙ ap (λ (v : BlockView). Some v) (sym here.1));
+          ap (view_at source) same ∙ read ∙ ap (λ (v : BlockView). Some v) (sym here.1));
       full = λ i view below is. absurd (omega arith);
       last = inl (reads.view, 0, refl, refl, part);
-      content = append-nil (data_at shape image b) ∙ taken_is.1 ∙ reads.content ∙ content_at-is s (stream_of (groups_of wholes)) m b ∙ ap (λ n. stream_between s (stream_of (groups_of wholes)) b n) low_m;
+      content = append-nil (data_at source b) ∙ taken_is.1 ∙ reads.content ∙ content_at-is s (stream_of (groups_of wholes)) m b ∙ ap (λ n. stream_between s (stream_of (groups_of wholes)) b n) low_m;
       place = after.place;
       from = omega (arith, block.some);
       low_end = block.from;
@@ -191,7 +196,7 @@ row-part shape s wholes low high image fuel b aligned from some run block short 
           subst (λ (o : Option ℕ). StartsRow s wholes b m 1 o) (sym (first-some reads.view.first (b + reads.view.first) None starts.some)) (starts.least, least)) tells;
     }
 
--- the row goes on behind a full block
+-- the row goes on after a full block
 starts-more : (s : ℕ) (wholes : List Whole) (b end count : ℕ) (found : Option ℕ) → IsEmptyOf s wholes b
     → StartsRow s wholes (b + 512) end count found → StartsRow s wholes b end (suc count) found
 starts-more s wholes b end count None empty (at, none) = (omega arith, λ n is from. none n is (empty.none n is from))
@@ -204,13 +209,13 @@ starts-more s wholes b end count (Some start) empty (least, low) = (
   low,
 )
 
-each-more : (shape : Shape) (image : List ℕ) (b : ℕ) (first : BlockView) (views : List BlockView) → view_at shape image b ≡ Some first
-    → ((i : ℕ) (view : BlockView) → slice_get views i ≡ Some view → view_at shape image (lsn_at (b + 512) i) ≡ Some view)
-    → (i : ℕ) (view : BlockView) → slice_get (first ∷ views) i ≡ Some view → view_at shape image (lsn_at b i) ≡ Some view
-each-more shape image b first views read each zero view is =
-    let same : lsn_at b 0 ≡ b = omega arith in ap (view_at shape image) same ∙ read ∙ is
-each-more shape image b first views read each (suc i) view is =
-    let same : lsn_at b (suc i) ≡ lsn_at (b + 512) i = omega arith in ap (view_at shape image) same ∙ each i view is
+each-more : (source : Source) (b : ℕ) (first : BlockView) (views : List BlockView) → view_at source b ≡ Some first
+    → ((i : ℕ) (view : BlockView) → slice_get views i ≡ Some view → view_at source (lsn_at (b + 512) i) ≡ Some view)
+    → (i : ℕ) (view : BlockView) → slice_get (first ∷ views) i ≡ Some view → view_at source (lsn_at b i) ≡ Some view
+each-more source b first views read each zero view is =
+    let same : lsn_at b 0 ≡ b = omega arith in ap (view_at source) same ∙ read ∙ is
+each-more source b first views read each (suc i) view is =
+    let same : lsn_at b (suc i) ≡ lsn_at (b + 512) i = omega arith in ap (view_at source) same ∙ each i view is
 
 full-more : (first : BlockView) (views : List BlockView) → is_full first ≡ true
     → ((i : ℕ) (view : BlockView) → suc i < length views → slice_get views i ≡ Some view → is_full view ≡ true)
@@ -218,23 +223,23 @@ full-more : (first : BlockView) (views : List BlockView) → is_full first ≡ t
 full-more first views is each zero view below at = let same : first ≡ view = cc in ap is_full (sym same) ∙ is
 full-more first views is each (suc i) view below at = each i view (omega arith) at
 
-ends-more : (shape : Shape) (image : List ℕ) (b : ℕ) (first : BlockView) (views : List BlockView) → EndsRow shape image (b + 512) views → EndsRow shape image b (first ∷ views)
-ends-more shape image b first views ends =
+ends-more : (source : Source) (b : ℕ) (first : BlockView) (views : List BlockView) → EndsRow source (b + 512) views → EndsRow source b (first ∷ views)
+ends-more source b first views ends =
     elim ends [
       | inl (view, i, at, is, part) ↦ inl (view, suc i, ap suc at, is, part)
-      | inr none ↦ (let same : lsn_at b (length (first ∷ views)) ≡ lsn_at (b + 512) (length views) = omega arith in inr (ap (view_at shape image) same ∙ none))
+      | inr none ↦ (let same : lsn_at b (length (first ∷ views)) ≡ lsn_at (b + 512) (length views) = omega arith in inr (ap (view_at source) same ∙ none))
     ]
 
-row-full : (shape : Shape) (s : ℕ) (wholes : List Whole) (low high : ℕ) (image : List ℕ) (fuel b : ℕ) → b % 512 ≡ 0 → block_of s ≤ b
-    → IsBounded shape s wholes low high → (block : IsBlockBetween s wholes low high b (log_block shape b image)) → b + 524 ≤ block.mark
-    → Row shape s wholes low high image fuel (b + 512) → Row shape s wholes low high image (suc fuel) b
-row-full shape s wholes low high image fuel b aligned from run block long rest =
+row-full : (shape : Shape) (s : ℕ) (wholes : List Whole) (low high : ℕ) (source : Source) (fuel b : ℕ) → b % 512 ≡ 0 → block_of s ≤ b
+    → IsBounded shape s wholes low high → (block : IsTakenBetween s wholes low high b (source b)) → b + 524 ≤ block.mark
+    → Row s wholes low high source fuel (b + 512) → Row s wholes low high source (suc fuel) b
+row-full shape s wholes low high source fuel b aligned from run block long rest =
     let m : ℕ = block.mark in
-    let bytes : List ℕ = log_block shape b image in
+    let bytes : List ℕ = block.bytes in
     let reads : ReadsAs s wholes m b bytes = reads-as s wholes m b bytes run.starts run.run run.bytes block.boundary block.some block.block in
     let high_m : min m (b + 512) ≡ b + 512 = omega arith in
-    let taken_is = view-read shape image b reads.view (omega (arith, block.some, block.up_to, run.small)) reads.read in
-    let read : view_at shape image b ≡ Some reads.view = taken_is.0 in
+    let taken_is = view-read source b reads.view bytes block.is reads.read in
+    let read : view_at source b ≡ Some reads.view = taken_is.0 in
     let whole : is_full reads.view ≡ true = ap (λ (n : ℕ). n == 512) reads.length_is ∙ length-full m b long in
     let tells : TellsFirst s wholes b reads.view.first = subst (λ (f : ℕ). TellsFirst s wholes b f) (sym reads.first_is) (first-tells s wholes b run.starts run.run aligned from) in
     let others : Option ℕ = groups_start (b + 512) rest.views in
@@ -242,10 +247,10 @@ row-full shape s wholes low high image fuel b aligned from run block long rest =
       views = reads.view ∷ rest.views;
       end = rest.end;
       few = omega (arith, rest.few);
-      each = each-more shape image b reads.view rest.views read rest.each;
+      each = each-more source b reads.view rest.views read rest.each;
       full = full-more reads.view rest.views whole rest.full;
-      last = ends-more shape image b reads.view rest.views rest.last;
-      content = ap (λ (bytes : List ℕ). bytes ++ joined shape image (b + 512) rest.views) (taken_is.1 ∙ reads.content ∙ content_at-is s (stream_of (groups_of wholes)) m b ∙ ap (λ n. stream_between s (stream_of (groups_of wholes)) b n) high_m)
+      last = ends-more source b reads.view rest.views rest.last;
+      content = ap (λ (bytes : List ℕ). bytes ++ joined source (b + 512) rest.views) (taken_is.1 ∙ reads.content ∙ content_at-is s (stream_of (groups_of wholes)) m b ∙ ap (λ n. stream_between s (stream_of (groups_of wholes)) b n) high_m)
           ∙ ap (λ (more : List ℕ). stream_between s (stream_of (groups_of wholes)) b (b + 512) ++ more) rest.content
           ∙ pieces-join s (stream_of (groups_of wholes)) b (b + 512) rest.end (sn_of-start s b run.starts from) (sn_of-rises b (b + 512) (omega arith)) (sn_of-rises (b + 512) rest.end (omega (arith, rest.from)));
       place = rest.place;
@@ -260,16 +265,16 @@ row-full shape s wholes low high image fuel b aligned from run block long rest =
           (starts.least, omega (arith, starts.inside, rest.from))) tells;
     }
 
-pub row-from : (shape : Shape) (s : ℕ) (wholes : List Whole) (low high : ℕ) (image : List ℕ) (fuel b : ℕ) → b % 512 ≡ 0 → block_of s ≤ b
+pub row-from : (shape : Shape) (s : ℕ) (wholes : List Whole) (low high : ℕ) (source : Source) (fuel b : ℕ) → b % 512 ≡ 0 → block_of s ≤ b
     → b + 12 ≤ high → high ≤ b + 512 * fuel → IsBounded shape s wholes low high
-    → ((c : ℕ) → c % 512 ≡ 0 → b ≤ c → c < b + 512 * fuel → IsLogBlock s wholes low high c (log_block shape c image))
-    → Row shape s wholes low high image fuel b
-row-from shape s wholes low high image zero b aligned from within room run each = absurd (omega arith)
-row-from shape s wholes low high image (suc fuel) b aligned from within room run each =
-    ⊎_elim (λ block. ⊎_elim (λ short. row-part shape s wholes low high image (suc fuel) b aligned from (omega arith) run block short)
-    (λ long. row-full shape s wholes low high image fuel b aligned from run block long
-    (row-from shape s wholes low high image fuel (b + 512) (omega arith) (omega arith) (omega (arith, block.up_to)) (omega arith) run
+    → ((c : ℕ) → c % 512 ≡ 0 → b ≤ c → c < b + 512 * fuel → IsTaken s wholes low high c (source c))
+    → Row s wholes low high source fuel b
+row-from shape s wholes low high source zero b aligned from within room run each = absurd (omega arith)
+row-from shape s wholes low high source (suc fuel) b aligned from within room run each =
+    ⊎_elim (λ block. ⊎_elim (λ short. row-part shape s wholes low high source (suc fuel) b aligned from (omega arith) run block short)
+    (λ long. row-full shape s wholes low high source fuel b aligned from run block long
+    (row-from shape s wholes low high source fuel (b + 512) (omega arith) (omega arith) (omega (arith, block.up_to)) (omega arith) run
     (λ c aligned from below. each c aligned (omega arith) (omega arith))))
     (cases_lt block.mark (b + 524)))
-    (λ none. row-none shape s wholes low high image (suc fuel) b aligned within run none)
+    (λ none. row-none shape s wholes low high source (suc fuel) b aligned within run none)
     (each b aligned (omega arith) (omega arith))

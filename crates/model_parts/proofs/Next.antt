@@ -1,22 +1,22 @@
 -- The next checkpoint: from there on nothing is read, and of the two checkpoints it is the newest.
-use Rattle.std.proofs.Common.{◌≡◌, ◌≢◌, ◌≤◌, ◌<◌, ◌+◌, ◌-◌, ◌*◌, ◌/◌, ◌%◌, ◌^◌, ℕ, inr, List, [], length, take, drop, Option, Some, None, refl, sym, ap, subst, ◌∙◌, ⊎_elim, arith}
+use Rattle.std.proofs.Common.{◌≡◌, ◌≢◌, ◌≤◌, ◌<◌, ◌+◌, ◌-◌, ◌/◌, ◌%◌, ◌^◌, ℕ, inr, List, [], length, take, drop, Option, Some, None, refl, sym, ap, subst, ◌∙◌, ⊎_elim, arith}
 use Rattle.std.proofs.lemmas.Bool.{cases_lt}
 use Rattle.model_base.specs.declared.shape.Shape.{Shape}
 use Rattle.model_log.specs.declared.group.Whole.{Whole}
-use Rattle.model_log.specs.{block_of, checkpoint_text, header_block, log_block, newer, newest_checkpoint, offset_of, place_of, read_block, read_checkpoint, start_after}
+use Rattle.model_log.specs.{block_of, checkpoint_text, header_block, layout_of, log_block, log_device_length, lsn_at, newer, newest_checkpoint, place_in, place_of, read_block, read_checkpoint, round_of, start_after}
 use Rattle.model_log.specs.declared.block.BlockView.{BlockView}
 use Rattle.model_log.proofs.CheckpointRound.{checkpoint-reads_back}
-use Rattle.model_store.specs.{IsScan, lsn_at, view_at}
+use Rattle.model_store.specs.{IsScan, taken, view_at}
 use Rattle.model_store.proofs.Places.{has_place}
-use Rattle.model_store.proofs.Taking.{view_at-some}
-use Rattle.model_parts.proofs.Places.{HasBlocks, place-round}
+use Rattle.model_store.proofs.Taking.{log-sound, taken-none, view_at-some}
+use Rattle.model_log.proofs.Places.{HasBlocks, place-round}
 use Rattle.model_parts.proofs.LogImages.{place-cases, when_less, when_not_less}
 use Rattle.model_parts.specs.Cleared.{IsKept, IsOutside, IsCleared, IsClearing}
 use Rattle.model_parts.specs.Next.{IsUnread}
 use Rattle.model_parts.proofs.Unread.{zeros-unread, round-unread}
-use Rattle.model_parts.proofs.Rows.{view-none}
+use Rattle.model_store.proofs.Sources.{empty-scan, ends-within}
 use Rattle.model_store.proofs.Ending.{StartsBehind, starts-behind, EndsWithin, start-within}
-use Rattle.model_parts.proofs.Ending.{ends-within}
+use Rattle.model_log.specs.declared.layout.TheConstants.{HEADER_BLOCKS}
 
 -- a log that is cleared is one that is being cleared
 pub cleared-clearing : (shape : Shape) (ckpt start : ℕ) (old new : List ℕ) → IsCleared shape ckpt start old new → IsClearing shape ckpt start old new
@@ -24,19 +24,19 @@ cleared-clearing shape ckpt start old new cleared =
     record { same_length = cleared.same_length; kept = cleared.kept; outside = λ b is. inr (cleared.outside b is) }
 
 -- NOTHING IS READ FROM THE START ON, once the other blocks are cleared away.
-pub cleared-unread : (shape : Shape) (ckpt : ℕ) (views : List BlockView) (wholes : List Whole) (end : ℕ) (old new : List ℕ) → HasBlocks shape
-    → ckpt % 512 ≡ 0 → 8192 ≤ ckpt → IsScan shape old ckpt views wholes end → IsCleared shape ckpt (start_after end) old new
+pub cleared-unread : (shape : Shape) (ckpt : ℕ) (views : List BlockView) (wholes : List Whole) (end : ℕ) (old new : List ℕ) → HasBlocks (layout_of shape)
+    → log_device_length shape ≤ length old → ckpt % 512 ≡ 0 → 8192 ≤ ckpt → IsScan shape (layout_of shape).blocks (taken shape old) ckpt views wholes end → IsCleared shape ckpt (start_after end) old new
     → IsUnread shape (start_after end - 12) new
 unfolding log_block
-cleared-unread shape ckpt views wholes end old new blocks aligned started scan cleared b in_round =
+cleared-unread shape ckpt views wholes end old new blocks long aligned started scan cleared b in_round =
     let s : ℕ = start_after end in
-    let n : ℕ = 512 * shape.log_blocks in
-    let ends : EndsWithin ckpt end views = ends-within shape old ckpt views _ wholes end aligned scan.blocks.each refl scan.groups in
+    let n : ℕ = round_of (layout_of shape) in
+    let ends : EndsWithin ckpt end views = ends-within shape (taken shape old) ckpt views _ wholes end (log-sound shape old blocks long) aligned scan.blocks.each refl scan.groups in
     let start : StartsBehind end = starts-behind end ends.place in
     let start_place : s % 512 ≡ 12 = start.aligned in
     let most : s ≤ lsn_at ckpt (length views) + 12 = start-within ckpt end views aligned ends in
     let low : ckpt + 12 ≤ s = omega (arith, ends.from, start.behind) in
-    let few : length views ≤ shape.log_blocks = scan.blocks.few in
+    let few : length views ≤ (layout_of shape).blocks = scan.blocks.few in
     let floor : block_of s ≡ s - 12 = omega arith in
     let from : s - 12 ≤ b = in_round.from in
     let below : b < s - 12 + n = in_round.below in
@@ -52,32 +52,24 @@ cleared-unread shape ckpt views wholes end old new blocks aligned started scan c
     let i : ℕ = (old_b - ckpt) / 512 in
     let i_is : lsn_at ckpt i ≡ old_b = omega arith in
     let view = has_place views i (omega arith) in
-    let read = view_at-some shape old old_b view.0 (sym (ap (view_at shape old) i_is) ∙ scan.blocks.each i view.0 view.1) in
+    let read = view_at-some shape old old_b view.0 (sym (ap (view_at (taken shape old)) i_is) ∙ scan.blocks.each i view.0 view.1) in
     let kept : IsKept shape ckpt s old_b = record { in_round = record { aligned = old_aligned; from = omega arith; below = omega arith }; before = omega arith } in
     let same : log_block shape old_b new ≡ log_block shape old_b old = cleared.kept old_b kept in
-    let place : offset_of (old_b + n) shape.log_blocks ≡ offset_of old_b shape.log_blocks = place-round shape old_b blocks old_aligned (omega arith) in
+    let place : place_in (layout_of shape) (old_b + n) ≡ place_in (layout_of shape) old_b = place-round (layout_of shape) old_b blocks old_aligned (omega arith) in
     let none : read_block (old_b + n) (log_block shape old_b new) ≡ None =
-    round-unread shape old_b (log_block shape old_b new) view.0 blocks old_aligned (ap (read_block old_b) same ∙ read.1) in
+    round-unread (layout_of shape) old_b (log_block shape old_b new) view.0 blocks (ap (read_block old_b) same ∙ read.1) in
     let there : read_block (old_b + n) (log_block shape (old_b + n) new) ≡ None =
     ap (λ at. read_block (old_b + n) (take 512 (drop at new))) place ∙ none in
     subst (λ (c : ℕ). read_block c (log_block shape c new) ≡ None) is there)
     (cases_lt b (ckpt + n))
 
 -- so the scan from there finds nothing
-pub empty-scan : (shape : Shape) (lsn : ℕ) (image : List ℕ) → HasBlocks shape → lsn % 512 ≡ 0 → IsUnread shape lsn image → IsScan shape image lsn [] [] (lsn + 12)
-empty-scan shape lsn image blocks aligned unread =
-    let some : 1 ≤ shape.log_blocks = blocks.some in
-    let here : read_block lsn (log_block shape lsn image) ≡ None = unread lsn (record { aligned = aligned; from = omega arith; below = omega arith }) in
-    let first : lsn_at lsn 0 ≡ lsn = omega arith in
-    record {
-      blocks = record {
-        few = omega arith;
-        each = λ i view at. absurd cc;
-        full = λ i view more at. absurd cc;
-        last = inr (inr (ap (view_at shape image) first ∙ view-none shape image lsn here));
-      };
-      groups = (refl, omega arith);
-    }
+pub unread-scan : (shape : Shape) (lsn : ℕ) (image : List ℕ) → HasBlocks (layout_of shape) → lsn % 512 ≡ 0 → IsUnread shape lsn image
+    → IsScan shape (layout_of shape).blocks (taken shape image) lsn [] [] (lsn + 12)
+unread-scan shape lsn image blocks aligned unread =
+    let some : 1 ≤ (layout_of shape).blocks = blocks.some in
+    empty-scan shape (layout_of shape).blocks (taken shape image) lsn
+    (taken-none shape image lsn (unread lsn (record { aligned = aligned; from = omega arith; below = omega arith })))
 
 -- THE NEWEST OF TWO.
 
@@ -95,7 +87,7 @@ newer-back (Some x) y number ckpt is =
     (λ not_less. let same : x ≡ (number, ckpt) = (let e : Some x ≡ Some (number, ckpt) = sym (when_not_less x.0 y.0 (Some x) (Some y) not_less) ∙ is in cc) in omega (arith, ap (λ (pair : ℕ × ℕ). pair.0) same))
     (cases_lt x.0 y.0)
 
--- the next one in front of what may stand beside it, and behind
+-- the next one is the newest, be it the first of the two or the second
 next-front : (next : ℕ × ℕ) (first second : Option (ℕ × ℕ)) (number ckpt : ℕ) → newer first second ≡ Some (number, ckpt) → number < next.0 → newer (Some next) second ≡ Some next
 next-front next first None number ckpt is later = refl
 next-front next first (Some y) number ckpt is later =
@@ -111,7 +103,7 @@ next-back next (Some x) second number ckpt is later =
 -- the header block of the next checkpoint holds it, and the other one what it held
 pub next-newest : (shape : Shape) (number ckpt lsn : ℕ) (old new : List ℕ) → newest_checkpoint shape old ≡ Some (number, ckpt)
     → number + 1 < 2 ^ 64 → 8192 ≤ lsn → lsn < 2 ^ 60 → lsn % 512 ≡ 0
-    → ((which : ℕ) → which < 4 → which ≢ place_of (number + 1) → header_block which new ≡ header_block which old)
+    → ((which : ℕ) → which < HEADER_BLOCKS → which ≢ place_of (number + 1) → header_block which new ≡ header_block which old)
     → header_block (place_of (number + 1)) new ≡ checkpoint_text (number + 1) lsn shape
     → newest_checkpoint shape new ≡ Some (number + 1, lsn)
 next-newest shape number ckpt lsn old new newest small started below aligned headers marks =

@@ -4,32 +4,34 @@ use Rattle.std.specs.List.{slice_get}
 use Rattle.model_base.specs.declared.shape.Shape.{Shape}
 use Rattle.model_base.specs.{IsWithinLimits}
 use Rattle.model_log.specs.declared.group.Whole.{Whole}
-use Rattle.model_log.specs.{header_block, log_block, log_device_length, newer, newest_checkpoint, place_of, read_block, read_checkpoint, read_head}
+use Rattle.model_log.specs.{header_block, layout_of, log_block, log_device_length, newer, newest_checkpoint, read_block, read_checkpoint, read_head, round_of}
 use Rattle.model_log.specs.declared.block.BlockView.{BlockView}
 use Rattle.model_page.specs.{IsKept}
 use Rattle.model_page.specs.declared.content.Content.{Content}
-use Rattle.model_store.specs.{AreGroupsOf, groups_start, HasHead, IsOrderly, IsReading, IsReadPage, IsScan, replayed}
+use Rattle.model_store.specs.{AreGroupsOf, groups_start, HasHead, IsOrderly, IsReading, IsReadPage, IsScan, replayed, Source, taken}
 use Rattle.model_store.specs.Reading.{Reading}
 use Rattle.model_store.proofs.Folding.{read-not_ahead}
 use Rattle.model_store.proofs.Heads.{good-limits, checkpoint-bounds}
 use Rattle.model_page.proofs.Kept.{same_kept}
-use Rattle.model_parts.proofs.LogImages.{place-cases}
-use Rattle.model_parts.proofs.Places.{HasBlocks}
+use Rattle.model_parts.proofs.LogImages.{header-below}
+use Rattle.model_log.proofs.Places.{HasBlocks}
 use Rattle.model_parts.specs.Cleared.{IsClearing, IsCleared, HasSameHeaders}
 use Rattle.model_parts.specs.Next.{IsUnread, IsMarked}
 use Rattle.model_parts.specs.Opened.{start_of, start_block, ReadsOpened}
 use Rattle.model_parts.specs.Rewritten.{KeepsEither, IsRewriting, IsRewritten}
-use Rattle.model_parts.proofs.Clearing.{Rescans, cleared-scan}
+use Rattle.model_parts.proofs.Clearing.{clearing-drops}
+use Rattle.model_parts.proofs.Dropping.{Rescans, cleared-scan}
 use Rattle.model_store.proofs.Ending.{IsGroupsStart, StartsBehind, starts-behind, EndsWithin, start-within}
-use Rattle.model_parts.proofs.Ending.{groups-start, ends-within, AreTaken}
-use Rattle.model_parts.proofs.Next.{cleared-unread, empty-scan, next-newest}
+use Rattle.model_store.proofs.Sources.{AreTaken, ends-within, groups-start, IsSoundSource}
+use Rattle.model_store.proofs.Taking.{log-sound}
+use Rattle.model_parts.proofs.Next.{cleared-unread, next-newest, unread-scan}
 use Rattle.model_parts.proofs.Replay.{replay-again}
 
 -- WHAT A READING SAYS OF ITS LOG.
 
 pub record IsLogRead (log_bytes : List ℕ) (opened : Reading) : Type 0 where
   pub limits : IsWithinLimits opened.shape
-  pub blocks : HasBlocks opened.shape
+  pub blocks : HasBlocks (layout_of opened.shape)
   pub long : log_device_length opened.shape ≤ length log_bytes
   pub aligned : opened.ckpt % 512 ≡ 0
   pub started : 8192 ≤ opened.ckpt
@@ -38,19 +40,21 @@ pub record IsLogRead (log_bytes : List ℕ) (opened : Reading) : Type 0 where
   pub start_aligned : start_of opened % 512 ≡ 12
   pub behind : opened.end ≤ start_of opened
   pub start_low : opened.ckpt + 12 ≤ start_of opened
-  pub start_high : start_of opened ≤ opened.ckpt + 512 * opened.shape.log_blocks + 12
+  pub start_high : start_of opened ≤ opened.ckpt + round_of (layout_of opened.shape) + 12
 
 pub log-read : (log_bytes data_bytes : List ℕ) (opened : Reading) → IsReading log_bytes data_bytes opened → IsLogRead log_bytes opened
 log-read log_bytes data_bytes opened reads =
     let limits : IsWithinLimits opened.shape = good-limits (header_block 0 log_bytes) opened.shape reads.scan.devices.head.head in
+    let blocks : HasBlocks (layout_of opened.shape) = record { some = omega (arith, limits.many_blocks); few = omega (arith, limits.few_blocks) } in
     let bounds = checkpoint-bounds opened.shape log_bytes opened.number opened.ckpt reads.scan.checkpoint in
     let ends : EndsWithin opened.ckpt opened.end opened.views =
-    ends-within opened.shape log_bytes opened.ckpt opened.views (groups_start opened.ckpt opened.views) opened.wholes opened.end bounds.0 reads.scan.scan.blocks.each refl reads.scan.scan.groups in
+    ends-within opened.shape (taken opened.shape log_bytes) opened.ckpt opened.views (groups_start opened.ckpt opened.views) opened.wholes opened.end
+    (log-sound opened.shape log_bytes blocks reads.scan.devices.log_long) bounds.0 reads.scan.scan.blocks.each refl reads.scan.scan.groups in
     let start : StartsBehind opened.end = starts-behind opened.end ends.place in
     let most : start_of opened ≤ opened.ckpt + 512 * length opened.views + 12 = start-within opened.ckpt opened.end opened.views bounds.0 ends in
     record {
       limits = limits;
-      blocks = record { some = omega (arith, limits.many_blocks); few = omega (arith, limits.few_blocks) };
+      blocks = blocks;
       long = reads.scan.devices.log_long;
       aligned = bounds.0;
       started = bounds.1;
@@ -65,13 +69,13 @@ log-read log_bytes data_bytes opened reads =
 -- THE LOG AS IT WAS, THE PAGES AS THEY WERE OR AS THEY ARE READ.
 
 -- a page as it is read is read again as itself
-read-again : (shape : Shape) (image : List ℕ) (ckpt p q : ℕ) (views : List BlockView) (start : Option ℕ) (wholes : List Whole) (end : ℕ) (kept page : Content) → ckpt % 512 ≡ 0
-    → AreTaken shape image ckpt views → groups_start ckpt views ≡ start → AreGroupsOf shape image ckpt views start wholes end
+read-again : (shape : Shape) (source : Source) (ckpt p q : ℕ) (views : List BlockView) (start : Option ℕ) (wholes : List Whole) (end : ℕ) (kept page : Content) → IsSoundSource source → ckpt % 512 ≡ 0
+    → AreTaken source ckpt views → groups_start ckpt views ≡ start → AreGroupsOf shape source ckpt views start wholes end
     → kept.lsn ≡ q → page ≡ replayed p q wholes kept → replayed p page.lsn wholes page ≡ page
-read-again shape image ckpt p q views None wholes end kept page aligned taken found (none, at) lsn is =
+read-again shape source ckpt p q views None wholes end kept page sound aligned each found (none, at) lsn is =
     subst (λ (ws : List Whole). replayed p page.lsn ws page ≡ page) (sym none) refl
-read-again shape image ckpt p q views (Some start) wholes end kept page aligned taken found (rest, groups, front, at) lsn is =
-    let starts : IsGroupsStart ckpt start views = groups-start shape image ckpt start views aligned taken found in
+read-again shape source ckpt p q views (Some start) wholes end kept page sound aligned each found (rest, groups, front, at) lsn is =
+    let starts : IsGroupsStart ckpt start views = groups-start source ckpt start views sound aligned each found in
     replay-again shape p q start wholes kept page starts.place groups.run groups.each (inl lsn) is
 
 page-rewriting : (log_bytes old new : List ℕ) (opened : Reading) (p : ℕ) (page : Content) → IsReading log_bytes old opened → slice_get opened.pages p ≡ Some page
@@ -88,9 +92,10 @@ page-rewriting log_bytes old new opened p page reads at keeps =
       replay = subst (λ (c : Content). page ≡ replayed p c.lsn opened.wholes c) same read.replay;
     })
     (λ is.
-    let bounds = checkpoint-bounds opened.shape log_bytes opened.number opened.ckpt reads.scan.checkpoint in
+    let log : IsLogRead log_bytes opened = log-read log_bytes old opened reads in
     let again : replayed p page.lsn opened.wholes page ≡ page =
-    read-again opened.shape log_bytes opened.ckpt p read.kept.lsn opened.views (groups_start opened.ckpt opened.views) opened.wholes opened.end read.kept page bounds.0 reads.scan.scan.blocks.each refl reads.scan.scan.groups refl read.replay in
+    read-again opened.shape (taken opened.shape log_bytes) opened.ckpt p read.kept.lsn opened.views (groups_start opened.ckpt opened.views) opened.wholes opened.end read.kept page
+    (log-sound opened.shape log_bytes log.blocks log.long) log.aligned reads.scan.scan.blocks.each refl reads.scan.scan.groups refl read.replay in
     record {
       kept = page;
       is_kept = subst (λ (c : Content). IsKept opened.shape new p c) is keeps.is_kept;
@@ -106,8 +111,10 @@ pub rewriting-reads : (opened : Reading) (log_bytes data_bytes new_log new_data 
     → ReadsOpened opened new_log new_data
 rewriting-reads opened log_bytes data_bytes new_log new_data reads headers clearing rewriting =
     let log : IsLogRead log_bytes opened = log-read log_bytes data_bytes opened reads in
-    let scan : Rescans opened.shape opened.ckpt opened.wholes opened.end new_log =
-    cleared-scan opened.shape opened.ckpt opened.views opened.wholes opened.end log_bytes new_log log.blocks log.aligned log.long reads.scan.scan clearing in
+    let scan : Rescans opened.shape (layout_of opened.shape).blocks opened.ckpt opened.wholes opened.end (taken opened.shape new_log) =
+    cleared-scan opened.shape (layout_of opened.shape).blocks opened.ckpt opened.views opened.wholes opened.end (taken opened.shape log_bytes) (taken opened.shape new_log)
+    (log-sound opened.shape log_bytes log.blocks log.long) log.aligned reads.scan.scan
+    (clearing-drops opened.shape (length opened.views) opened.ckpt (start_of opened) log_bytes new_log log.aligned clearing) in
     let newest : newest_checkpoint opened.shape new_log ≡ Some (opened.number, opened.ckpt) =
     ap (λ (bytes : List ℕ). newer (read_checkpoint 1 opened.shape bytes) (read_checkpoint 3 opened.shape (header_block 3 new_log))) (headers 1 (omega arith))
     ∙ ap (λ (bytes : List ℕ). newer (read_checkpoint 1 opened.shape (header_block 1 log_bytes)) (read_checkpoint 3 opened.shape bytes)) (headers 3 (omega arith))
@@ -133,7 +140,7 @@ rewriting-reads opened log_bytes data_bytes new_log new_data reads headers clear
       log = inl (record { number = refl; ckpt = refl; wholes = refl; end = refl });
     }
 
--- THE NEXT CHECKPOINT, BEHIND WHICH NOTHING IS READ, AND THE PAGES AS THEY ARE READ.
+-- THE NEXT CHECKPOINT, FROM WHICH ON NOTHING IS READ, AND THE PAGES AS THEY ARE READ.
 
 pub next-reads : (opened : Reading) (log_bytes data_bytes new_log new_data : List ℕ) → IsReading log_bytes data_bytes opened
     → length new_log ≡ length log_bytes → header_block 0 new_log ≡ header_block 0 log_bytes
@@ -143,8 +150,8 @@ next-reads opened log_bytes data_bytes new_log new_data reads same_length head n
     let log : IsLogRead log_bytes opened = log-read log_bytes data_bytes opened reads in
     let block_aligned : start_block opened % 512 ≡ 0 = omega (arith, log.start_aligned) in
     let at : start_block opened + 12 ≡ start_of opened = omega (arith, log.start_low) in
-    let scan : IsScan opened.shape new_log (start_block opened) [] [] (start_of opened) =
-    subst (λ (end : ℕ). IsScan opened.shape new_log (start_block opened) [] [] end) at (empty-scan opened.shape (start_block opened) new_log log.blocks block_aligned unread) in
+    let scan : IsScan opened.shape (layout_of opened.shape).blocks (taken opened.shape new_log) (start_block opened) [] [] (start_of opened) =
+    subst (λ (end : ℕ). IsScan opened.shape (layout_of opened.shape).blocks (taken opened.shape new_log) (start_block opened) [] [] end) at (unread-scan opened.shape (start_block opened) new_log log.blocks block_aligned unread) in
     record {
       reading = record opened { number = opened.number + 1; ckpt = start_block opened; views = []; wholes = []; end = start_of opened };
       is_read = record {
@@ -177,7 +184,7 @@ pub log-unread : (opened : Reading) (log_bytes data_bytes new_log : List ℕ) �
     → IsCleared opened.shape opened.ckpt (start_of opened) log_bytes new_log → IsUnread opened.shape (start_block opened) new_log
 log-unread opened log_bytes data_bytes new_log reads cleared =
     let log : IsLogRead log_bytes opened = log-read log_bytes data_bytes opened reads in
-    cleared-unread opened.shape opened.ckpt opened.views opened.wholes opened.end log_bytes new_log log.blocks log.aligned log.started reads.scan.scan cleared
+    cleared-unread opened.shape opened.ckpt opened.views opened.wholes opened.end log_bytes new_log log.blocks log.long log.aligned log.started reads.scan.scan cleared
 
 -- the next checkpoint has a number and an lsn within the limits
 pub record HasNext (opened : Reading) : Type 0 where
@@ -195,9 +202,6 @@ has-next log_bytes data_bytes opened orderly =
       started = omega (arith, log.start_low, log.started);
       small = omega (arith, log.start_high, log.limits.few_blocks, orderly.lsns_left);
     }
-
-pub header-places : (number : ℕ) → (1 ≤ place_of number) × (place_of number < 4)
-header-places number = ⊎_elim (λ e. (omega (arith, e.0), omega (arith, e.0))) (λ o. (omega (arith, o.0), omega (arith, o.0))) (place-cases number)
 
 -- blocks that are the same are read alike
 pub unread-kept : (shape : Shape) (lsn : ℕ) (old new : List ℕ) → ((b : ℕ) → b % 512 ≡ 0 → log_block shape b new ≡ log_block shape b old)
@@ -222,8 +226,8 @@ pub marked-reads : (opened : Reading) (log_bytes data_bytes old_log new_log new_
     → IsMarked opened.shape (opened.number + 1) (start_block opened) old_log new_log
     → length old_log ≡ length log_bytes → IsRewritten opened new_data → ReadsOpened opened new_log new_data
 marked-reads opened log_bytes data_bytes old_log new_log new_data orderly headers unread marked long rewritten =
-    let place = header-places (opened.number + 1) in
-    let head : header_block 0 new_log ≡ header_block 0 old_log = marked.headers 0 (omega arith) (λ same. absurd (omega (arith, place.0))) in
+    let place = header-below (opened.number + 1) in
+    let head : header_block 0 new_log ≡ header_block 0 old_log = marked.headers 0 (omega arith) (λ same. absurd (omega (arith, place.2))) in
     next-reads opened log_bytes data_bytes new_log new_data orderly.reads (marked.same_length ∙ long)
     (head ∙ headers 0 (omega arith))
     (marked-newest opened log_bytes data_bytes old_log new_log orderly headers marked)

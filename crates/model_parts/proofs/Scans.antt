@@ -1,4 +1,4 @@
--- What is scanned off an image that holds the blocks of a run: its groups up to one boundary between two marks.
+-- What is scanned of a source that gives the blocks of a run: its groups up to one boundary between two marks.
 use Rattle.std.proofs.Common.{◌≡◌, ◌≤◌, ◌<◌, ◌+◌, ◌-◌, ◌*◌, ◌%◌, ℕ, inr, List, [], ◌∷◌, ◌++◌, length, take, drop, Option, Some, None, refl, sym, ap, subst, ◌∙◌, ⊎_elim, append_assoc, arith}
 use Rattle.std.specs.List.{AllByRecursion}
 use Rattle.std.proofs.lemmas.List.{drop-drop, drop-take}
@@ -10,11 +10,10 @@ use Rattle.model_log.specs.declared.block.BlockView.{BlockView}
 use Rattle.model_log.proofs.BoundaryLengths.{sn_of-rises, sn_of-start}
 use Rattle.model_log.proofs.Runs.{boundary-reached, boundary-back, spans_of-append, end_of-append, run-front, run-back, data-start}
 use Rattle.model_log.proofs.Crossings.{IsLeast}
-use Rattle.model_store.specs.{AreGroupsOf, data_from, groups_start, IsStorable, joined}
-use Rattle.model_parts.specs.Held.{HoldsBlocks}
+use Rattle.model_store.specs.{AreGroupsOf, data_from, groups_start, IsStorable, joined, Source}
 use Rattle.model_parts.specs.Reads.{ScansTo}
 use Rattle.model_parts.proofs.Splits.{Splits, split-at, Cuts, cut-at, end-reached, all-below-end, all-behind, all-from}
-use Rattle.model_parts.proofs.LogRows.{IsBounded, Row, StartsRow, row-from}
+use Rattle.model_parts.proofs.LogRows.{IsBounded, IsTaken, Row, StartsRow, row-from}
 
 drop-front : (p q : List ℕ) → drop (length p) (p ++ q) ≡ q
 drop-front [] q = refl
@@ -65,13 +64,13 @@ good-after shape wholes before after parts good =
     good-drop shape before after (subst (λ (groups : List Whole). AllByRecursion (IsStorable shape) (groups_of groups)) parts good)
 
 -- the groups that are found in the row's bytes
-record Found (shape : Shape) (s : ℕ) (wholes : List Whole) (low high ckpt : ℕ) (image : List ℕ) (views : List BlockView) (found : Option ℕ) : Type 0 where
+record Found (shape : Shape) (s : ℕ) (wholes : List Whole) (low high ckpt : ℕ) (source : Source) (views : List BlockView) (found : Option ℕ) : Type 0 where
   before : List Whole
   middle : List Whole
   after : List Whole
   mark : ℕ
   parts : wholes ≡ before ++ (middle ++ after)
-  groups : AreGroupsOf shape image ckpt views found middle mark
+  groups : AreGroupsOf shape source ckpt views found middle mark
   boundary : IsBoundary s (spans_of wholes) mark
   ends : end_of s (spans_of (before ++ middle)) ≡ mark
   from : low ≤ mark
@@ -80,9 +79,9 @@ record Found (shape : Shape) (s : ℕ) (wholes : List Whole) (low high ckpt : �
   from_ckpt : AllByRecursion (λ (whole : Whole). ckpt ≤ whole.start) middle
 
 -- no group starts in the row: the log ends at the lower mark
-found-none : (shape : Shape) (s : ℕ) (wholes : List Whole) (low high ckpt end : ℕ) (image : List ℕ) (views : List BlockView) → IsBounded shape s wholes low high
-    → ckpt ≤ low → low ≤ end → StartsRow s wholes ckpt end (length views) None → Found shape s wholes low high ckpt image views None
-found-none shape s wholes low high ckpt end image views run from reaches starts =
+found-none : (shape : Shape) (s : ℕ) (wholes : List Whole) (low high ckpt end : ℕ) (source : Source) (views : List BlockView) → IsBounded shape s wholes low high
+    → ckpt ≤ low → low ≤ end → StartsRow s wholes ckpt end (length views) None → Found shape s wholes low high ckpt source views None
+found-none shape s wholes low high ckpt end source views run from reaches starts =
     let split : Splits s wholes low = split-at shape s wholes low (data-start s run.starts) run.run run.good run.low_is in
     let late : end ≤ low = starts.1 low run.low_is from in
     record {
@@ -100,17 +99,17 @@ found-none shape s wholes low high ckpt end image views run from reaches starts 
       from_ckpt = tt;
     }
 
-found-some : (shape : Shape) (s : ℕ) (wholes : List Whole) (low high ckpt end start : ℕ) (image : List ℕ) (views : List BlockView) → IsBounded shape s wholes low high
-    → block_of s ≤ ckpt → low ≤ end → end ≤ high → IsDataLsn end → joined shape image ckpt views ≡ stream_between s (stream_of (groups_of wholes)) ckpt end
-    → IsLeast s wholes ckpt start → start ≤ end → Found shape s wholes low high ckpt image views (Some start)
-found-some shape s wholes low high ckpt end start image views run from reaches within place bytes least before_end =
+found-some : (shape : Shape) (s : ℕ) (wholes : List Whole) (low high ckpt end start : ℕ) (source : Source) (views : List BlockView) → IsBounded shape s wholes low high
+    → block_of s ≤ ckpt → low ≤ end → end ≤ high → IsDataLsn end → joined source ckpt views ≡ stream_between s (stream_of (groups_of wholes)) ckpt end
+    → IsLeast s wholes ckpt start → start ≤ end → Found shape s wholes low high ckpt source views (Some start)
+found-some shape s wholes low high ckpt end start source views run from reaches within place bytes least before_end =
     let first : IsDataLsn s = data-start s run.starts in
     let split : Splits s wholes start = split-at shape s wholes start first run.run run.good least.boundary in
     let after_start = boundary-reached s wholes start first run.run least.boundary in
     let cut : Cuts shape start split.after end = cut-at shape start split.after end after_start.place place before_end split.run (good-after shape wholes split.before split.after split.parts run.good) in
     let mark : ℕ = end_of start (spans_of cut.middle) in
     let after_mark = boundary-reached start split.after mark after_start.place split.run cut.boundary in
-    let piece : data_from shape image ckpt views start ≡ stream_of (groups_of cut.middle) ++ cut.rest =
+    let piece : data_from source ckpt views start ≡ stream_of (groups_of cut.middle) ++ cut.rest =
     ap (drop (sn_of start - sn_of ckpt)) bytes
     ∙ piece-from s wholes ckpt start end (sn_of-start s ckpt run.starts from) (sn_of-rises ckpt start least.from) (sn_of-rises start end before_end) split
     ∙ cut.bytes in
@@ -136,27 +135,26 @@ found-some shape s wholes low high ckpt end start image views run from reaches w
       from_ckpt = all-from ckpt start cut.middle after_start.place cut.run least.from;
     }
 
-found : (shape : Shape) (s : ℕ) (wholes : List Whole) (low high ckpt : ℕ) (image : List ℕ) (fuel : ℕ) → IsBounded shape s wholes low high
-    → block_of s ≤ ckpt → ckpt ≤ low → (row : Row shape s wholes low high image fuel ckpt) → (start : Option ℕ)
-    → StartsRow s wholes ckpt row.end (length row.views) start → Found shape s wholes low high ckpt image row.views start
-found shape s wholes low high ckpt image fuel run from before row None starts =
-    found-none shape s wholes low high ckpt row.end image row.views run before row.low_end starts
-found shape s wholes low high ckpt image fuel run from before row (Some start) starts =
-    found-some shape s wholes low high ckpt row.end start image row.views run from row.low_end row.end_high row.place row.content starts.0 starts.1
+found : (shape : Shape) (s : ℕ) (wholes : List Whole) (low high ckpt : ℕ) (source : Source) (fuel : ℕ) → IsBounded shape s wholes low high
+    → block_of s ≤ ckpt → ckpt ≤ low → (row : Row s wholes low high source fuel ckpt) → (start : Option ℕ)
+    → StartsRow s wholes ckpt row.end (length row.views) start → Found shape s wholes low high ckpt source row.views start
+found shape s wholes low high ckpt source fuel run from before row None starts =
+    found-none shape s wholes low high ckpt row.end source row.views run before row.low_end starts
+found shape s wholes low high ckpt source fuel run from before row (Some start) starts =
+    found-some shape s wholes low high ckpt row.end start source row.views run from row.low_end row.end_high row.place row.content starts.0 starts.1
 
--- THE READING THEOREM: from an image whose places from the checkpoint on hold what they may, exactly the groups up to
--- one boundary between the marks are scanned.
-pub scans-to : (shape : Shape) (s : ℕ) (wholes : List Whole) (low high ckpt : ℕ) (image : List ℕ) → IsBounded shape s wholes low high
-    → ckpt % 512 ≡ 0 → block_of s ≤ ckpt → ckpt ≤ low → high ≤ ckpt + 512 * shape.log_blocks
-    → HoldsBlocks shape s wholes low high ckpt image → ScansTo shape s wholes low high ckpt image
-scans-to shape s wholes low high ckpt image run aligned from before room holds =
+-- THE READING THEOREM: of a source that gives from the checkpoint on what it may, exactly the groups up to one boundary
+-- between the marks are scanned.
+pub scans-to : (shape : Shape) (most s : ℕ) (wholes : List Whole) (low high ckpt : ℕ) (source : Source) → IsBounded shape s wholes low high
+    → ckpt % 512 ≡ 0 → block_of s ≤ ckpt → ckpt ≤ low → high ≤ ckpt + 512 * most
+    → ((b : ℕ) → b % 512 ≡ 0 → ckpt ≤ b → b < ckpt + 512 * most → IsTaken s wholes low high b (source b)) → ScansTo shape most s wholes low high ckpt source
+scans-to shape most s wholes low high ckpt source run aligned from before room holds =
     let after = boundary-reached s wholes low (data-start s run.starts) run.run run.low_is in
     let within : ckpt + 12 ≤ high = omega (arith, after.place, run.low_high) in
-    let row : Row shape s wholes low high image shape.log_blocks ckpt =
-    row-from shape s wholes low high image shape.log_blocks ckpt aligned from within room run
-    (λ c c_aligned c_from c_below. holds c (record { aligned = c_aligned; from = c_from; below = c_below })) in
-    let groups : Found shape s wholes low high ckpt image row.views (groups_start ckpt row.views) =
-    found shape s wholes low high ckpt image shape.log_blocks run from before row (groups_start ckpt row.views) row.starts in
+    let row : Row s wholes low high source most ckpt =
+    row-from shape s wholes low high source most ckpt aligned from within room run holds in
+    let groups : Found shape s wholes low high ckpt source row.views (groups_start ckpt row.views) =
+    found shape s wholes low high ckpt source most run from before row (groups_start ckpt row.views) row.starts in
     let parts : wholes ≡ (groups.before ++ groups.middle) ++ groups.after = groups.parts ∙ sym (append_assoc groups.before groups.middle groups.after) in
     let both : IsRunOf s (groups.before ++ groups.middle ++ groups.after) = subst (λ (all : List Whole). IsRunOf s all) parts run.run in
     let front : IsRunOf s (groups.before ++ groups.middle) = run-front s (groups.before ++ groups.middle) groups.after both in

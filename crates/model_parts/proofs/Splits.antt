@@ -1,4 +1,4 @@
--- The groups of a run before and behind one of its boundaries, and those that end within a piece of its stream.
+-- The groups of a run before and after one of its boundaries, and those that end within a piece of its stream.
 use Rattle.std.proofs.Common.{◌≡◌, ◌≤◌, ◌<◌, ◌+◌, ◌-◌, ℕ, suc, inl, inr, List, [], ◌∷◌, ◌++◌, length, take, drop, refl, sym, ap, subst, ◌∙◌, ⊎_elim, append_assoc, length-append, length-take, length-drop, arith}
 use Rattle.std.specs.List.{AllByRecursion}
 use Rattle.std.proofs.lemmas.List.{take-append-drop, take_all, take-append-le, append-nil}
@@ -17,7 +17,7 @@ use Rattle.model_log.proofs.BoundaryLengths.{sn_of-rises}
 pub good-some : (shape : Shape) (group : List Rec) → IsStorable shape group → 1 ≤ group_length group
 good-some shape group good = group_text-some group good.has_text.some
 
--- so the run's first group ends behind its start
+-- so the run's first group ends after its start
 pub first-ends : (shape : Shape) (s : ℕ) (whole : Whole) → IsDataLsn s → First s whole → IsStorable shape whole.group → s < whole.end
 first-ends shape s whole place first good =
     let some : 1 ≤ group_length whole.group = good-some shape whole.group good in
@@ -84,7 +84,7 @@ split-at shape s (whole ∷ wholes) m place run good is =
       );
     }) is
 
--- The groups that end within the piece of the stream up to the lsn e, which is a byte's place; behind them stands less
+-- The groups that end within the piece of the stream up to the lsn e, which is a byte's place; after them stands less
 -- than a whole one.
 pub record Cuts (shape : Shape) (s : ℕ) (wholes : List Whole) (e : ℕ) : Type 0 where
   pub middle : List Whole

@@ -1,11 +1,10 @@
 -- Blocks that aren't read at an lsn: those of zeros, and those that are read one round of the log before.
-use Rattle.std.proofs.Common.{◌≡◌, ◌≢◌, ◌&&◌, ◌≤◌, ◌<◌, ◌+◌, ◌*◌, ◌%◌, ◌^◌, ℕ, Bool, true, false, cond, List, Some, None, refl, sym, ap, ◌∙◌, arith}
+use Rattle.std.proofs.Common.{◌≡◌, ◌≢◌, ◌&&◌, ◌≤◌, ◌<◌, ◌+◌, ◌%◌, ◌^◌, ℕ, Bool, true, false, cond, List, Some, None, refl, sym, ap, ◌∙◌, arith}
 use Rattle.std.proofs.lemmas.Bool.Decides.{nat_tests}
-use Rattle.model_base.specs.declared.shape.Shape.{Shape}
 use Rattle.model_base.specs.{field}
-use Rattle.model_log.specs.{block_number, fits_checksum, fits_number, is_block_at, is_first, is_length, read_block, view_of}
+use Rattle.model_log.specs.{block_number, fits_checksum, fits_number, is_block_at, is_first, is_length, Layout, read_block, round_of, view_of}
 use Rattle.model_log.specs.declared.block.BlockView.{BlockView}
-use Rattle.model_parts.proofs.Places.{HasBlocks}
+use Rattle.model_log.proofs.Places.{HasBlocks}
 use Rattle.model_parts.specs.Cleared.{zero_block}
 
 and-none : (a b c d : Bool) → a ≡ false → (a && b && c && d) ≡ false
@@ -41,11 +40,13 @@ pub zeros-unread : (lsn : ℕ) → read_block lsn zero_block ≡ None
 zeros-unread lsn = other-number lsn zero_block (λ is. (let same : 0 ≡ block_number lsn = is in absurd (omega arith)))
 
 -- in the next round of the log a block has another number
-pub round-unread : (shape : Shape) (b : ℕ) (bytes : List ℕ) (view : BlockView) → HasBlocks shape → b % 512 ≡ 0
-    → read_block b bytes ≡ Some view → read_block (b + 512 * shape.log_blocks) bytes ≡ None
-round-unread shape b bytes view blocks aligned is =
-    let own : field 4 0 bytes % 2 ^ 31 ≡ block_number b = own-number b bytes view is in
-    let some : 1 ≤ shape.log_blocks = blocks.some in
-    let few : shape.log_blocks < 1073741824 = blocks.few in
-    let apart : block_number b ≢ block_number (b + 512 * shape.log_blocks) = λ same. omega arith in
-    other-number (b + 512 * shape.log_blocks) bytes (λ there. apart (sym own ∙ there))
+pub next-round : (layout : Layout) (b : ℕ) (bytes : List ℕ) → HasBlocks layout → field 4 0 bytes % 2 ^ 31 ≡ block_number b → read_block (b + round_of layout) bytes ≡ None
+next-round layout b bytes blocks own =
+    let some : 1 ≤ layout.blocks = blocks.some in
+    let few : layout.blocks < 1073741824 = blocks.few in
+    let apart : block_number b ≢ block_number (b + round_of layout) = λ same. omega arith in
+    other-number (b + round_of layout) bytes (λ there. apart (sym own ∙ there))
+
+pub round-unread : (layout : Layout) (b : ℕ) (bytes : List ℕ) (view : BlockView) → HasBlocks layout
+    → read_block b bytes ≡ Some view → read_block (b + round_of layout) bytes ≡ None
+round-unread layout b bytes view blocks is = next-round layout b bytes blocks (own-number b bytes view is)

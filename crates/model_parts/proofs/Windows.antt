@@ -1,27 +1,15 @@
 -- The blocks of a later round of the log, and of a longer run.
-use Rattle.std.proofs.Common.{◌≡◌, ◌≢◌, ◌&&◌, ◌≤◌, ◌<◌, ◌+◌, ◌*◌, ◌%◌, ◌^◌, ℕ, inl, inr, Bool, true, false, cond, List, [], ◌++◌, length, Some, None, refl, sym, ap, ◌∙◌, ⊎_elim, length-append, arith}
-use Rattle.std.proofs.lemmas.Bool.Decides.{nat_tests}
-use Rattle.model_base.specs.declared.shape.Shape.{Shape}
+use Rattle.std.proofs.Common.{◌≡◌, ◌≤◌, ◌<◌, ◌+◌, ◌%◌, ◌^◌, ℕ, inl, inr, List, [], ◌++◌, length, None, ap, ◌∙◌, ⊎_elim, length-append, arith}
 use Rattle.std.specs.Int.{bytes_high_first}
 use Rattle.byteorder.specs.Numbers.{big_number-reads_back}
 use Rattle.model_base.specs.{field}
 use Rattle.model_log.proofs.Sealed.{field-padded}
 use Rattle.model_log.specs.declared.group.Whole.{Whole}
-use Rattle.model_log.specs.{block_number, block_text, content_at, first_at, fits_checksum, fits_number, groups_of, is_block_at, is_first, is_length, IsBoundaryBlock, length_of, read_block, spans_of, stream_of, view_of}
+use Rattle.model_log.specs.{block_number, block_text, content_at, first_at, groups_of, IsBoundaryBlock, Layout, length_of, read_block, round_of, spans_of, stream_of}
 use Rattle.model_parts.specs.Held.{IsNoBlock, IsLogBlock}
 use Rattle.model_log.proofs.BoundaryLengths.{content-short}
-use Rattle.model_parts.proofs.Places.{HasBlocks}
-
-and-none : (a b c d : Bool) → a ≡ false → (a && b && c && d) ≡ false
-and-none true b c d is = absurd cc
-and-none false b c d is = refl
-
-other-number : (lsn : ℕ) (bytes : List ℕ) → field 4 0 bytes % 2 ^ 31 ≢ block_number lsn → read_block lsn bytes ≡ None
-unfolding read_block is_block_at
-other-number lsn bytes other =
-    let fits : fits_number lsn bytes ≡ false = grind (arith, nat_tests) in
-    ap (λ t. cond t (Some (view_of bytes)) None)
-    (and-none (fits_number lsn bytes) (is_length (view_of bytes).length) (is_first (view_of bytes).length (view_of bytes).first) (fits_checksum bytes) fits)
+use Rattle.model_log.proofs.Places.{HasBlocks}
+use Rattle.model_parts.proofs.Unread.{next-round}
 
 -- a block has its own number
 number-of_block : (lsn : ℕ) (content : List ℕ) (first ckpt : ℕ) → length content ≤ 496 → field 4 0 (block_text lsn content first ckpt) ≡ block_number lsn
@@ -32,21 +20,18 @@ number-of_block lsn content first ckpt room =
     field-padded 4 0 (head ++ content) (omega arith) (omega arith) ∙ big_number-reads_back 4 (block_number lsn) [] (omega arith)
 
 -- so it isn't read one round of the log on
-round-unread : (shape : Shape) (s : ℕ) (wholes : List Whole) (m b : ℕ) (bytes : List ℕ) → HasBlocks shape → b % 512 ≡ 0 → IsBoundaryBlock s wholes m b bytes
-    → read_block (b + 512 * shape.log_blocks) bytes ≡ None
-round-unread shape s wholes m b bytes blocks aligned block =
+round-unread : (layout : Layout) (s : ℕ) (wholes : List Whole) (m b : ℕ) (bytes : List ℕ) → HasBlocks layout → IsBoundaryBlock s wholes m b bytes
+    → read_block (b + round_of layout) bytes ≡ None
+round-unread layout s wholes m b bytes blocks block =
     let here : field 4 0 bytes ≡ block_number b = ap (field 4 0) block.block ∙ number-of_block b (content_at s (stream_of (groups_of wholes)) m b) (first_at s (spans_of wholes) b) block.ckpt (content-short s (stream_of (groups_of wholes)) m b block.aligned) in
-    let some : 1 ≤ shape.log_blocks = blocks.some in
-    let few : shape.log_blocks < 1073741824 = blocks.few in
-    let apart : block_number b ≢ block_number (b + 512 * shape.log_blocks) = λ same. omega arith in
     let whole : block_number b % 2 ^ 31 ≡ block_number b = omega arith in
-    other-number (b + 512 * shape.log_blocks) bytes (λ there. apart (sym whole ∙ ap (λ n. n % 2 ^ 31) (sym here) ∙ there))
+    next-round layout b bytes blocks (ap (λ n. n % 2 ^ 31) here ∙ whole)
 
 -- the place of a block below the lower mark, for the block one round on: nothing is read
-pub round-on : (shape : Shape) (s : ℕ) (wholes : List Whole) (low high b : ℕ) (bytes : List ℕ) → HasBlocks shape → b % 512 ≡ 0 → b + 12 < low → low ≤ b + 512 * shape.log_blocks + 12
-    → IsLogBlock s wholes low high b bytes → IsNoBlock low (b + 512 * shape.log_blocks) bytes
-round-on shape s wholes low high b bytes blocks aligned below within is =
-    ⊎_elim (λ block. record { none_below = within; unread = round-unread shape s wholes block.mark b bytes blocks aligned block.block })
+pub round-on : (layout : Layout) (s : ℕ) (wholes : List Whole) (low high b : ℕ) (bytes : List ℕ) → HasBlocks layout → b + 12 < low → low ≤ b + round_of layout + 12
+    → IsLogBlock s wholes low high b bytes → IsNoBlock low (b + round_of layout) bytes
+round-on layout s wholes low high b bytes blocks below within is =
+    ⊎_elim (λ block. record { none_below = within; unread = round-unread layout s wholes block.mark b bytes blocks block.block })
     (λ none. absurd (omega (arith, none.none_below))) is
 
 -- between marks that lie less far apart stands what may stand between marks that lie farther apart

@@ -3,17 +3,17 @@
 use Rattle.std.specs.Prelude.{ℕ, ◌≡◌, ◌≤◌, ◌<◌, ◌⊎◌, List, length, replicate}
 use Rattle.model_base.specs.declared.shape.Shape.{Shape}
 use Rattle.model_base.specs.declared.limits.TheConstants.{BLOCK_SIZE}
-use Rattle.model_log.specs.{block_of, header_block, log_block}
-use Rattle.model_parts.specs.Held.{IsInRound}
+use Rattle.model_log.specs.{block_of, header_block, IsInRound, layout_of, log_block}
+use Rattle.model_log.specs.declared.layout.TheConstants.{HEADER_BLOCKS}
 
 -- the kept range: from the checkpoint's block to the block before that of the lsn at which the run will start
 pub record IsKept (shape : Shape) (ckpt start b : ℕ) : Type 0 where
-  pub in_round : IsInRound shape ckpt b
+  pub in_round : IsInRound (layout_of shape) ckpt b
   pub before : b < block_of start
 
 -- the other log blocks
 pub record IsOutside (shape : Shape) (ckpt start b : ℕ) : Type 0 where
-  pub in_round : IsInRound shape ckpt b
+  pub in_round : IsInRound (layout_of shape) ckpt b
   pub from : block_of start ≤ b
 
 -- a block of zeros
@@ -34,6 +34,6 @@ pub record IsCleared (shape : Shape) (ckpt start : ℕ) (old new : List ℕ) : T
   pub kept : (b : ℕ) → IsKept shape ckpt start b → log_block shape b new ≡ log_block shape b old
   pub outside : (b : ℕ) → IsOutside shape ckpt start b → log_block shape b new ≡ zero_block
 
--- the four header blocks are as they were
+-- the header blocks are as they were
 abbrev pub HasSameHeaders : List ℕ → List ℕ → Type 0
-HasSameHeaders old new = (which : ℕ) → which < 4 → header_block which new ≡ header_block which old
+HasSameHeaders old new = (which : ℕ) → which < HEADER_BLOCKS → header_block which new ≡ header_block which old

@@ -5,7 +5,7 @@ use Rattle.model_base.specs.declared.limits.TheConstants.{BLOCK_SIZE, START_LSN}
 use Rattle.model_device.specs.{IsImage, sector}
 use Rattle.model_device.specs.Disk.{Disk}
 use Rattle.model_log.specs.{checkpoint_text, head_text, header_block, log_block, log_device_length}
-use Rattle.model_log.specs.declared.layout.TheConstants.{BLOCK_HEADER}
+use Rattle.model_log.specs.declared.layout.TheConstants.{BLOCK_HEADER, HEADER_BLOCKS}
 use Rattle.model_page.specs.{blank_pages, data_device_length}
 use Rattle.model_store.specs.{IsOrderly, Refuses}
 use Rattle.model_store.specs.Reading.{Reading}
@@ -18,7 +18,7 @@ pub record IsFormattedLog (shape : Shape) (bytes : List ℕ) : Type 0 where
   pub long : log_device_length shape ≤ length bytes
   pub head : header_block 0 bytes ≡ head_text shape
   pub checkpoint : header_block 1 bytes ≡ checkpoint_text 0 START_LSN shape
-  pub headers : (which : ℕ) → 2 ≤ which → which < 4 → header_block which bytes ≡ zero_block
+  pub headers : (which : ℕ) → 2 ≤ which → which < HEADER_BLOCKS → header_block which bytes ≡ zero_block
   pub blocks : (b : ℕ) → b % BLOCK_SIZE ≡ 0 → log_block shape b bytes ≡ zero_block
 
 -- those of the data device: zeros
@@ -26,7 +26,7 @@ pub record IsFormattedData (shape : Shape) (bytes : List ℕ) : Type 0 where
   pub long : data_device_length shape ≤ length bytes
   pub zeros : (k : ℕ) → BLOCK_SIZE * k < data_device_length shape → sector k bytes ≡ zero_block
 
--- what is read of both: an empty log behind the first checkpoint, and blank pages
+-- what is read of both: an empty log from the first checkpoint on, and blank pages
 abbrev pub formatted_store : Shape → Reading
 formatted_store shape = record {
   shape = shape;

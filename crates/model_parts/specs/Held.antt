@@ -1,23 +1,15 @@
 -- What a log device holds of a run of groups, in whatever a crash may leave of it.
-use Rattle.std.specs.Prelude.{ℕ, ◌≡◌, ◌≤◌, ◌<◌, ◌+◌, ◌-◌, ◌*◌, ◌/◌, ◌%◌, ◌⊎◌, List, length, Option, Some, None}
+use Rattle.std.specs.Prelude.{ℕ, ◌≡◌, ◌≤◌, ◌<◌, ◌+◌, ◌-◌, ◌%◌, ◌⊎◌, List, length, Option, Some, None}
 use Rattle.model_base.specs.declared.shape.Shape.{Shape}
 use Rattle.model_base.specs.declared.limits.TheConstants.{BLOCK_SIZE, START_LSN}
 use Rattle.model_log.specs.declared.group.Whole.{Whole}
 use Rattle.model_device.specs.{sector}
 use Rattle.model_device.specs.Disk.{Disk}
-use Rattle.model_log.specs.{block_of, IsAtDataStart, IsBoundary, IsBoundaryBlock, IsRunOf, log_block, log_device_length, offset_of, place_of, read_block, read_checkpoint, read_head, spans_of}
+use Rattle.model_log.specs.{block_of, IsAtDataStart, IsBoundary, IsBoundaryBlock, IsInRound, IsRunOf, Layout, layout_of, log_block, log_device_length, place_of, read_block, read_checkpoint, read_head, round_of, sector_of, spans_of}
 use Rattle.model_log.specs.declared.head.Head.TheVariants.{Good}
 use Rattle.model_log.specs.declared.layout.TheConstants.{BLOCK_HEADER}
 use Rattle.model_device.specs.MayHold.{MayHold}
 use Rattle.model_parts.specs.declared.marks.LogMarks.{LogMarks}
-
--- the sector in which the block of the lsn stands
-abbrev pub sector_of : Shape → ℕ → ℕ
-sector_of shape b = offset_of b shape.log_blocks / BLOCK_SIZE
-
--- so many bytes of lsns a log goes round
-abbrev pub round_of : Shape → ℕ
-round_of shape = BLOCK_SIZE * shape.log_blocks
 
 -- The block at b for a boundary from the one mark to the other. It holds a byte below that boundary.
 pub record IsBlockBetween (s : ℕ) (wholes : List Whole) (low high b : ℕ) (bytes : List ℕ) : Type 0 where
@@ -38,20 +30,9 @@ pub record IsNoBlock (low b : ℕ) (bytes : List ℕ) : Type 0 where
 abbrev pub IsLogBlock : ℕ → List Whole → ℕ → ℕ → ℕ → List ℕ → Type 0
 IsLogBlock s wholes low high b bytes = IsBlockBetween s wholes low high b bytes ⊎ IsNoBlock low b bytes
 
--- the lsn of a block that stands on the device for the checkpoint at this lsn: up to one round of the log behind it
-pub record IsInRound (shape : Shape) (ckpt b : ℕ) : Type 0 where
-  pub aligned : b % BLOCK_SIZE ≡ 0
-  pub from : ckpt ≤ b
-  pub below : b < ckpt + round_of shape
-
--- each place of the image has what it may have
-abbrev pub HoldsBlocks : Shape → ℕ → List Whole → ℕ → ℕ → ℕ → List ℕ → Type 0
-HoldsBlocks shape s wholes low high ckpt image =
-    (b : ℕ) → IsInRound shape ckpt b → IsLogBlock s wholes low high b (log_block shape b image)
-
 -- A run starts at s with these groups, the marks are boundaries of it and in order, and the last one is at most a round
 -- of the log past the checkpoint.
-pub record AreInOrder (shape : Shape) (s : ℕ) (wholes : List Whole) (marks : LogMarks) : Type 0 where
+pub record AreInOrder (layout : Layout) (s : ℕ) (wholes : List Whole) (marks : LogMarks) : Type 0 where
   pub starts : IsAtDataStart s
   pub run : IsRunOf s wholes
   pub stable : IsBoundary s (spans_of wholes) marks.stable
@@ -64,7 +45,7 @@ pub record AreInOrder (shape : Shape) (s : ℕ) (wholes : List Whole) (marks : L
   pub ckpt_from : block_of s ≤ marks.ckpt
   pub ckpt_asked : marks.ckpt ≤ marks.asked
   pub asked_stable : marks.asked ≤ marks.stable
-  pub room : marks.given ≤ marks.ckpt + round_of shape
+  pub room : marks.given ≤ marks.ckpt + round_of layout
 
 -- the other of the two header blocks for checkpoints
 abbrev pub other_place : ℕ → ℕ
@@ -83,14 +64,14 @@ abbrev pub IsBeside : LogMarks → Option (ℕ × ℕ) → Type 0
 IsBeside marks None = Unit {0}
 IsBeside marks (Some other) = (other.0 < marks.number) ⊎ IsAskedFor marks other.0 other.1
 
--- The log device of a run. Whatever a crash leaves of it has the file header, the newest checkpoint at or behind the
+-- The log device of a run. Whatever a crash leaves of it has the file header, the newest checkpoint at or past the
 -- last good one and at most at the last one asked for, and from there on the blocks of the run below a boundary between
 -- the stable mark and the last one given.
 pub record LogHolds (shape : Shape) (s : ℕ) (wholes : List Whole) (marks : LogMarks) (disk : Disk) : Type 0 where
   pub long : log_device_length shape ≤ length disk.base
   pub head : (bytes : List ℕ) → MayHold disk 0 bytes → read_head bytes ≡ Good shape
-  pub order : AreInOrder shape s wholes marks
-  pub blocks : (b : ℕ) → IsInRound shape marks.ckpt b → (bytes : List ℕ) → MayHold disk (sector_of shape b) bytes
+  pub order : AreInOrder (layout_of shape) s wholes marks
+  pub blocks : (b : ℕ) → IsInRound (layout_of shape) marks.ckpt b → (bytes : List ℕ) → MayHold disk (sector_of (layout_of shape) b) bytes
       → IsLogBlock s wholes marks.stable marks.given b bytes
   pub checkpoint : (bytes : List ℕ) → MayHold disk (place_of marks.number) bytes
       → read_checkpoint (place_of marks.number) shape bytes ≡ Some (marks.number, marks.ckpt)
@@ -103,7 +84,8 @@ pub record IsWritten (shape : Shape) (s : ℕ) (wholes : List Whole) (marks : Lo
   pub long : log_device_length shape ≤ length disk.reads
   pub head : read_head (sector 0 disk.reads) ≡ Good shape
   pub all_given : marks.given ≡ marks.written
-  pub blocks : HoldsBlocks shape s wholes marks.written marks.written marks.ckpt disk.reads
+  pub blocks : (b : ℕ) → IsInRound (layout_of shape) marks.ckpt b
+      → IsLogBlock s wholes marks.written marks.written b (log_block shape b disk.reads)
   pub checkpoint : read_checkpoint (place_of marks.number) shape (sector (place_of marks.number) disk.reads)
       ≡ Some (marks.number, marks.ckpt)
   pub beside : IsBeside marks (read_checkpoint (other_place marks.number) shape (sector (other_place marks.number) disk.reads))

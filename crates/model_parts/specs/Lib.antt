@@ -18,7 +18,7 @@ pub mod Written
 pub use Rattle.model_parts.specs.Batch.{Fresh, IsBatch, IsFreshPage, IsNew, IsWritable, after_batch, batch_of, batch_text, new_text, place_at, place_write, place_writes, slots_write}
 pub use Rattle.model_parts.specs.Cleared.{HasSameHeaders, IsCleared, IsClearing, IsKept, IsOutside, zero_block}
 pub use Rattle.model_parts.specs.Formatted.{IsFormatted, IsFormattedData, IsFormattedLog, KeepsNoStore, formatted_store}
-pub use Rattle.model_parts.specs.Held.{AreInOrder, IsInRound, IsLive, IsWritten, LogHolds, other_place, round_of, sector_of}
+pub use Rattle.model_parts.specs.Held.{AreInOrder, IsLive, IsWritten, LogHolds, other_place}
 pub use Rattle.model_parts.specs.LogFresh.{IsFresh}
 pub use Rattle.model_parts.specs.Marks.{HasNextNumber, MayBeNext, after_asked, after_checkpoint, after_given, after_synced, after_written, first_marks, next_number}
 pub use Rattle.model_parts.specs.Mended.{AreHeld, AreRepaired}

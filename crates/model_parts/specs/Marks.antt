@@ -40,7 +40,7 @@ pub record MayBeNext (marks : LogMarks) (lsn : ℕ) : Type 0 where
   pub from : marks.asked ≤ lsn
   pub up_to : lsn ≤ marks.stable
 
--- the number of the checkpoint behind one, which goes round
+-- the number of the checkpoint after the one of this number, which goes round
 abbrev pub next_number : ℕ → ℕ
 next_number number = (number + 1) % 2 ^ 64
 

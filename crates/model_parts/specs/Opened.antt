@@ -18,7 +18,7 @@ pub record IsOpenable (opened : Reading) (log_disk data_disk : Disk) : Type 0 wh
   pub data_rests : IsAtRest data_disk
   pub orderly : IsOrderly log_disk.reads data_disk.reads opened
 
--- where the run starts behind the opened log, and the checkpoint before it
+-- where the run starts after the opened log, and the checkpoint before it
 abbrev pub start_of : Reading → ℕ
 start_of opened = start_after opened.end
 
@@ -32,7 +32,7 @@ pub record IsSameLog (opened reading : Reading) : Type 0 where
   pub wholes : reading.wholes ≡ opened.wholes
   pub end : reading.end ≡ opened.end
 
--- The log is read from the next checkpoint, which stands where the run starts, and there is no group behind it.
+-- The log is read from the next checkpoint, which stands where the run starts, and there is no group from there on.
 pub record IsNextLog (opened reading : Reading) : Type 0 where
   pub number : reading.number ≡ opened.number + 1
   pub ckpt : reading.ckpt ≡ start_block opened

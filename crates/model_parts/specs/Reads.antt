@@ -3,22 +3,22 @@ use Rattle.std.specs.Prelude.{ℕ, ◌≡◌, ◌≤◌, ◌<◌, ◌^◌, List,
 use Rattle.std.specs.List.{AllByRecursion}
 use Rattle.model_base.specs.declared.shape.Shape.{Shape}
 use Rattle.model_base.specs.declared.limits.TheConstants.{LSN_LIMIT}
-use Rattle.model_log.specs.{end_of, groups_of, IsBoundary, newest_checkpoint, spans_of}
+use Rattle.model_log.specs.{end_of, groups_of, IsBoundary, layout_of, newest_checkpoint, spans_of}
 use Rattle.model_log.specs.declared.group.Whole.{Whole}
 use Rattle.model_log.specs.declared.block.BlockView.{BlockView}
-use Rattle.model_store.specs.{HasHead, IsBadRecord, IsScan, IsStorable}
+use Rattle.model_store.specs.{HasHead, IsBadRecord, IsScan, IsStorable, Source, taken}
 use Rattle.model_parts.specs.declared.marks.LogMarks.{LogMarks}
 
--- The scan from the checkpoint on reads the groups up to a boundary between the marks: those in the middle. Those
--- before them start before the checkpoint.
-pub record ScansTo (shape : Shape) (s : ℕ) (wholes : List Whole) (low high ckpt : ℕ) (image : List ℕ) : Type 0 where
+-- The scan of a source from the checkpoint on reads the groups up to a boundary between the marks: those in the middle.
+-- Those before them start before the checkpoint.
+pub record ScansTo (shape : Shape) (most s : ℕ) (wholes : List Whole) (low high ckpt : ℕ) (source : Source) : Type 0 where
   pub views : List BlockView
   pub before : List Whole
   pub middle : List Whole
   pub after : List Whole
   pub mark : ℕ
   pub parts : wholes ≡ before ++ (middle ++ after)
-  pub scan : IsScan shape image ckpt views middle mark
+  pub scan : IsScan shape most source ckpt views middle mark
   pub boundary : IsBoundary s (spans_of wholes) mark
   pub ends : end_of s (spans_of (before ++ middle)) ≡ mark
   pub from : low ≤ mark
@@ -38,12 +38,12 @@ pub record CrashReads (shape : Shape) (s : ℕ) (wholes : List Whole) (marks : L
   pub newest : newest_checkpoint shape image ≡ Some (number, ckpt)
   pub from : marks.ckpt ≤ ckpt
   pub up_to : ckpt ≤ marks.asked
-  pub scan : ScansTo shape s wholes marks.stable marks.given ckpt image
-  pub not_refused : (lsn : ℕ) → IsBadRecord shape image ckpt lsn → ⊥
+  pub scan : ScansTo shape (layout_of shape).blocks s wholes marks.stable marks.given ckpt (taken shape image)
+  pub not_refused : (lsn : ℕ) → IsBadRecord shape (layout_of shape).blocks (taken shape image) ckpt lsn → ⊥
 
 -- the groups fit the store, and their lsns are below the limit
 pub record FitsStore (shape : Shape) (wholes : List Whole) (marks : LogMarks) : Type 0 where
   pub good : AllByRecursion (IsStorable shape) (groups_of wholes)
   pub small : marks.given ≤ LSN_LIMIT
-  pub some_blocks : 1 ≤ shape.log_blocks
-  pub few_blocks : shape.log_blocks < 2 ^ 30
+  pub some_blocks : 1 ≤ (layout_of shape).blocks
+  pub few_blocks : (layout_of shape).blocks < 2 ^ 30

@@ -4,13 +4,13 @@ use Rattle.std.specs.List.{slice_get}
 use Rattle.std.proofs.lemmas.Bool.{cases_Bool, cases_lt}
 use Rattle.std.proofs.lemmas.Bool.Decides.{nat_tests}
 use Rattle.model_log.specs.declared.group.Whole.{Whole}
-use Rattle.model_log.specs.{block_of, end_of, fits_checksum, fits_number, group_text, groups_of, is_block_at, is_first, is_length, IsDataLsn, IsRunOf, read_block, sn_of, spans_of, start_after, stream_of, view_of}
+use Rattle.model_log.specs.{block_of, end_of, fits_checksum, fits_number, group_text, groups_of, is_block_at, is_first, is_length, IsDataLsn, IsRunOf, lsn_at, read_block, sn_of, spans_of, start_after, stream_of, view_of}
 use Rattle.model_log.specs.declared.block.BlockView.{BlockView}
 use Rattle.model_log.proofs.Runs.{First, first-of, run-first, boundary-end, IsReached, boundary-reached, stream-none, stream-first, lsn-before}
 use Rattle.model_log.proofs.BoundaryLengths.{sn_of-block, sn_of-header}
-use Rattle.model_store.specs.Scan.{lsn_at, groups_start}
+use Rattle.model_store.specs.Scan.{groups_start}
 
--- THE START BEHIND AN END.
+-- THE START AFTER AN END.
 
 pub record StartsBehind (end : ℕ) : Type 0 where
   pub aligned : start_after end % 512 ≡ 12
@@ -63,7 +63,7 @@ first-from len first test some =
     let high : first ≤ 507 = grind (arith, nat_tests) in
     (low, high)
 
--- behind the block's header, and before its checksum
+-- a block's first offset is past its header, and before its checksum
 pub first-place : (lsn : ℕ) (bytes : List ℕ) (view : BlockView) → read_block lsn bytes ≡ Some view → view.first ≢ 0 → (12 ≤ view.first) × (view.first ≤ 507)
 unfolding read_block is_block_at
 first-place lsn bytes view is some =
@@ -112,7 +112,7 @@ within-list (y ∷ xs) (suc i) x at = let later : i < length xs = within-list xs
 sn_of-place : (b first : ℕ) → b % 512 ≡ 0 → 12 ≤ first → first ≤ 507 → sn_of (b + first) ≡ sn_of b + (first - 12)
 sn_of-place b first aligned low high = grind (arith, nat_tests)
 
--- each first offset is behind a block's header and before its checksum
+-- each first offset is past a block's header and before its checksum
 abbrev pub AreFirstsIn : List BlockView → Type 0
 AreFirstsIn views = (i : ℕ) (view : BlockView) → slice_get views i ≡ Some view → view.first ≢ 0 → (12 ≤ view.first) × (view.first ≤ 507)
 
@@ -145,7 +145,7 @@ pub record EndsWithin (ckpt end : ℕ) (views : List BlockView) : Type 0 where
   pub from : ckpt + 12 ≤ end
   pub up_to : end ≤ lsn_at ckpt (length views) + 12
 
--- where no group starts, at the first data byte of the block behind those that were read
+-- where no group starts, at the first data byte of the block after those that were read
 pub ends-behind : (ckpt end : ℕ) (views : List BlockView) → ckpt % 512 ≡ 0 → end ≡ lsn_at ckpt (length views) + 12 → EndsWithin ckpt end views
 ends-behind ckpt end views aligned is = record { place = (omega arith, omega arith); from = omega arith; up_to = omega arith }
 
@@ -174,7 +174,7 @@ ends-among ckpt start end views bytes wholes rest aligned starts short bytes_are
       up_to = lsn-before end (last + 12) place last_place most;
     }
 
--- so the start behind it stands in that block at the most
+-- so the start after it stands in that block at the most
 pub start-within : (ckpt end : ℕ) (views : List BlockView) → ckpt % 512 ≡ 0 → EndsWithin ckpt end views → start_after end ≤ lsn_at ckpt (length views) + 12
 start-within ckpt end views aligned ends =
     let start : StartsBehind end = starts-behind end ends.place in

@@ -12,7 +12,7 @@ use Rattle.model_log.specs.declared.block.BlockView.{BlockView}
 use Rattle.model_page.specs.declared.content.Content.{Content}
 use Rattle.model_store.specs.Apply.{page_after, pages_after_from, applied, folded, page_folded, touches, user_after}
 use Rattle.model_store.specs.Reading.{Reading, IsReading, IsReadPage, replayed}
-use Rattle.model_store.specs.Scan.{AreGroupsOf, groups_start}
+use Rattle.model_store.specs.Scan.{AreGroupsOf, groups_start, Source, taken}
 
 pub length-pages_after_from : (p : ℕ) (recs : List Rec) (end : ℕ) (xs : List Content) → length (pages_after_from p recs end xs) ≡ length xs
 length-pages_after_from p recs end [] = refl
@@ -89,11 +89,11 @@ replayed-below p q end (whole ∷ wholes) page below low =
     let fine : next.lsn ≤ end = ⊎_elim (λ own. omega (arith, below.0)) (λ old. omega arith) (step-lsn p whole page (nat_le q whole.start)) in
     replayed-below p q end wholes next below.1 fine
 
-groups-below : (shape : Shape) (image : List ℕ) (ckpt : ℕ) (views : List BlockView) (start : Option ℕ) (wholes : List Whole) (end : ℕ)
-    → AreGroupsOf shape image ckpt views start wholes end → AllByRecursion (λ (whole : Whole). whole.end ≤ end) wholes
-groups-below shape image ckpt views None wholes end (none, at) =
+groups-below : (shape : Shape) (source : Source) (ckpt : ℕ) (views : List BlockView) (start : Option ℕ) (wholes : List Whole) (end : ℕ)
+    → AreGroupsOf shape source ckpt views start wholes end → AllByRecursion (λ (whole : Whole). whole.end ≤ end) wholes
+groups-below shape source ckpt views None wholes end (none, at) =
     subst (AllByRecursion (λ (whole : Whole). whole.end ≤ end)) (sym none) tt
-groups-below shape image ckpt views (Some start) wholes end (rest, groups, front, at) =
+groups-below shape source ckpt views (Some start) wholes end (rest, groups, front, at) =
     subst (λ n. AllByRecursion (λ (whole : Whole). whole.end ≤ n) wholes) (sym at) (ends-below start wholes groups.run)
 
 -- no page that is read is ahead of the log's end
@@ -101,6 +101,6 @@ pub read-not_ahead : (log data_bytes : List ℕ) (reading : Reading) → IsReadi
     → (p : ℕ) (page : Content) → slice_get reading.pages p ≡ Some page → page.lsn ≤ reading.end
 read-not_ahead log data_bytes reading reads p page at =
     let read : IsReadPage reading.shape data_bytes reading.wholes reading.end p page = reads.each p page at in
-    let below = groups-below reading.shape log reading.ckpt reading.views (groups_start reading.ckpt reading.views) reading.wholes reading.end reads.scan.scan.groups in
+    let below = groups-below reading.shape (taken reading.shape log) reading.ckpt reading.views (groups_start reading.ckpt reading.views) reading.wholes reading.end reads.scan.scan.groups in
     let kept = replayed-below p read.kept.lsn reading.end reading.wholes read.kept below read.not_ahead in
     omega (arith, ap (λ (c : Content). c.lsn) read.replay)

@@ -4,7 +4,7 @@ use Rattle.std.proofs.lemmas.Bool.Decides.{nat_tests}
 use Rattle.model_base.specs.declared.shape.Shape.{Shape}
 use Rattle.model_base.specs.{field, is_within_limits, IsWithinLimits}
 use Rattle.model_base.proofs.ShapeLimits.{is_within_limits_facts}
-use Rattle.model_log.specs.{fits_checksum, header_block, is_checkpoint, newer, newest_checkpoint, offset_of, place_of, read_checkpoint, read_head, shape_of}
+use Rattle.model_log.specs.{fits_checksum, header_block, is_checkpoint, layout_of, newer, newest_checkpoint, place_in, place_of, read_checkpoint, read_head, shape_of}
 use Rattle.model_log.specs.declared.head.Head.TheVariants.{Good, OtherFormat, Unformatted}
 
 -- what is good passed every test
@@ -40,7 +40,7 @@ read_checkpoint-bounds which shape bytes found e =
     let parts = tested (is_checkpoint which shape bytes) (field 8 0 bytes, field 8 8 bytes) found e in
     subst (λ (pair : ℕ × ℕ). (pair.1 % 512 ≡ 0) × (8192 ≤ pair.1) × (pair.1 < 2 ^ 60)) parts.1
     (checkpoint_parts (fits_checksum bytes) (eqb (place_of (field 8 0 bytes)) which) (field 8 8 bytes)
-    (eqb (field 8 16 bytes) (offset_of (field 8 8 bytes) shape.log_blocks)) parts.0)
+    (eqb (field 8 16 bytes) (place_in (layout_of shape) (field 8 8 bytes))) parts.0)
 
 one_of_newer : (a b : Option (ℕ × ℕ)) (x : ℕ × ℕ) → newer a b ≡ Some x → (a ≡ Some x) ⊎ (b ≡ Some x)
 one_of_newer None b x e = inr e

@@ -7,3 +7,4 @@ pub mod OneScan
 pub mod OneReading
 pub mod OneAnswer
 pub mod Ending
+pub mod Sources

@@ -2,7 +2,7 @@
 use Rattle.std.proofs.Common.{◌≡◌, ℕ, ◌<◌, ◌≤◌, ◌⊎◌, inl, inr, List, length, Option, Some, None, arith, refl, sym, ap, ap₂, subst, ◌∙◌}
 use Rattle.model_base.specs.declared.shape.Shape.{Shape}
 use Rattle.model_log.specs.declared.group.Whole.{Whole}
-use Rattle.model_log.specs.{end_of, header_block, IsFront, log_device_length, newest_checkpoint, read_head, spans_of}
+use Rattle.model_log.specs.{end_of, header_block, IsFront, layout_of, log_device_length, newest_checkpoint, read_head, spans_of}
 use Rattle.model_log.specs.declared.block.BlockView.{BlockView}
 use Rattle.model_log.specs.declared.head.Head.{Head}
 use Rattle.model_log.specs.declared.head.Head.TheVariants.{Good, OtherFormat, Unformatted}
@@ -11,7 +11,7 @@ use Rattle.model_page.specs.declared.content.Content.{Content}
 use Rattle.model_page.specs.{data_device_length, IsLost}
 use Rattle.model_store.specs.declared.refusal.Refusal.{Refusal}
 use Rattle.model_store.specs.declared.refusal.Refusal.TheVariants.{SmallLog, NotFormatted, BadFormat, SmallData, NoCheckpoint, BadRecord, PageLost, PageAhead}
-use Rattle.model_store.specs.Scan.{IsScan, IsBadRecord, AreGroups, AreGroupsOf, groups_start, data_from}
+use Rattle.model_store.specs.Scan.{IsScan, IsBadRecord, AreGroups, AreGroupsOf, groups_start, data_from, Source, taken}
 use Rattle.model_store.specs.Reading.{Reading, IsReading, Refuses, HasScan, HasHead, HasDevices, IsScanned, IsKeptAt, AreKeptBelow, AreNotAheadBelow}
 use Rattle.model_store.proofs.Places.{has_place, same_some}
 use Rattle.model_store.proofs.OneScan.{OneGroup, same_scan, same_blocks, same_groups, front-no_storable}
@@ -32,8 +32,9 @@ LostAnswer data_bytes shape end o =
 -- before that the log
 abbrev ScanAnswer : List ℕ → List ℕ → Shape → ℕ → Option Refusal → Type 0
 ScanAnswer log data_bytes shape ckpt o =
-    ((lsn : ℕ) × IsBadRecord shape log ckpt lsn × (o ≡ Some (BadRecord lsn)))
-    ⊎ ((views : List BlockView) × (wholes : List Whole) × (end : ℕ) × IsScan shape log ckpt views wholes end × LostAnswer data_bytes shape end o)
+    ((lsn : ℕ) × IsBadRecord shape (layout_of shape).blocks (taken shape log) ckpt lsn × (o ≡ Some (BadRecord lsn)))
+    ⊎ ((views : List BlockView) × (wholes : List Whole) × (end : ℕ)
+    × IsScan shape (layout_of shape).blocks (taken shape log) ckpt views wholes end × LostAnswer data_bytes shape end o)
 
 abbrev CheckpointAnswer : List ℕ → List ℕ → Shape → Option (ℕ × ℕ) → Option Refusal → Type 0
 CheckpointAnswer log data_bytes shape None o = o ≡ Some NoCheckpoint
@@ -90,34 +91,34 @@ same_lost data_bytes shape end o q (inr (kept, rest)) (inl (p, in_p, lost, below
 same_lost data_bytes shape end o q (inr (kept, rest)) (inr (held, more)) = same_ahead data_bytes shape end o q rest more
 
 -- a log isn't both scanned and refused
-pub scan-not_bad : OneGroup → (shape : Shape) (image : List ℕ) (ckpt : ℕ) (views : List BlockView) (wholes : List Whole) (end lsn : ℕ)
-    → IsScan shape image ckpt views wholes end → IsBadRecord shape image ckpt lsn → ⊥
-scan-not_bad one shape image ckpt views wholes end lsn scan bad =
-    let same = same_blocks shape image ckpt views bad.views scan.blocks bad.blocks in
-    let groups = subst (λ xs. AreGroupsOf shape image ckpt xs (groups_start ckpt xs) wholes end) same scan.groups in
-    let from = subst (λ o. AreGroupsOf shape image ckpt bad.views o wholes end) bad.starts groups in
-    let parts = same_groups one shape (data_from shape image ckpt bad.views bad.start) bad.start wholes bad.wholes from.0 bad.rest
+pub scan-not_bad : OneGroup → (shape : Shape) (most : ℕ) (source : Source) (ckpt : ℕ) (views : List BlockView) (wholes : List Whole) (end lsn : ℕ)
+    → IsScan shape most source ckpt views wholes end → IsBadRecord shape most source ckpt lsn → ⊥
+scan-not_bad one shape most source ckpt views wholes end lsn scan bad =
+    let same = same_blocks most source ckpt views bad.views scan.blocks bad.blocks in
+    let groups = subst (λ xs. AreGroupsOf shape source ckpt xs (groups_start ckpt xs) wholes end) same scan.groups in
+    let from = subst (λ o. AreGroupsOf shape source ckpt bad.views o wholes end) bad.starts groups in
+    let parts = same_groups one shape (data_from source ckpt bad.views bad.start) bad.start wholes bad.wholes from.0 bad.rest
     from.1 bad.groups (front-no_storable one shape from.0 from.2) bad.no_storable in
     bad.no_rest (subst (λ rest. IsFront rest) parts.1 from.2)
 
-same_bad : OneGroup → (shape : Shape) (image : List ℕ) (ckpt m n : ℕ) → IsBadRecord shape image ckpt m → IsBadRecord shape image ckpt n → m ≡ n
-same_bad one shape image ckpt m n a b =
-    let views = same_blocks shape image ckpt a.views b.views a.blocks b.blocks in
+same_bad : OneGroup → (shape : Shape) (most : ℕ) (source : Source) (ckpt m n : ℕ) → IsBadRecord shape most source ckpt m → IsBadRecord shape most source ckpt n → m ≡ n
+same_bad one shape most source ckpt m n a b =
+    let views = same_blocks most source ckpt a.views b.views a.blocks b.blocks in
     let start = same_some (groups_start ckpt a.views) a.start b.start a.starts (ap (groups_start ckpt) views ∙ b.starts) in
-    let moved = subst (λ xs. AreGroups shape (data_from shape image ckpt xs b.start) b.start b.wholes b.rest) (sym views) b.groups in
-    let groups = subst (λ from. AreGroups shape (data_from shape image ckpt a.views from) from b.wholes b.rest) (sym start) moved in
-    let same = same_groups one shape (data_from shape image ckpt a.views a.start) a.start a.wholes b.wholes a.rest b.rest a.groups groups a.no_storable b.no_storable in
+    let moved = subst (λ xs. AreGroups shape (data_from source ckpt xs b.start) b.start b.wholes b.rest) (sym views) b.groups in
+    let groups = subst (λ from. AreGroups shape (data_from source ckpt a.views from) from b.wholes b.rest) (sym start) moved in
+    let same = same_groups one shape (data_from source ckpt a.views a.start) a.start a.wholes b.wholes a.rest b.rest a.groups groups a.no_storable b.no_storable in
     a.at ∙ ap₂ end_of start (ap spans_of same.0) ∙ sym b.at
 
 same_scanned : OneGroup → (log data_bytes : List ℕ) (shape : Shape) (ckpt : ℕ) (o q : Option Refusal) → ScanAnswer log data_bytes shape ckpt o → ScanAnswer log data_bytes shape ckpt q → o ≡ q
 same_scanned one log data_bytes shape ckpt o q (inl (m, bad, is)) (inl (n, wrong, at)) =
-    is ∙ ap (λ l. Some (BadRecord l)) (same_bad one shape log ckpt m n bad wrong) ∙ sym at
+    is ∙ ap (λ l. Some (BadRecord l)) (same_bad one shape (layout_of shape).blocks (taken shape log) ckpt m n bad wrong) ∙ sym at
 same_scanned one log data_bytes shape ckpt o q (inl (m, bad, is)) (inr (views, wholes, end, scan, rest)) =
-    absurd (scan-not_bad one shape log ckpt views wholes end m scan bad)
+    absurd (scan-not_bad one shape (layout_of shape).blocks (taken shape log) ckpt views wholes end m scan bad)
 same_scanned one log data_bytes shape ckpt o q (inr (views, wholes, end, scan, rest)) (inl (m, bad, is)) =
-    absurd (scan-not_bad one shape log ckpt views wholes end m scan bad)
+    absurd (scan-not_bad one shape (layout_of shape).blocks (taken shape log) ckpt views wholes end m scan bad)
 same_scanned one log data_bytes shape ckpt o q (inr (views, wholes, end, scan, rest)) (inr (blocks, others, stop, other, more)) =
-    let same = same_scan one shape log ckpt views blocks wholes others end stop scan other in
+    let same = same_scan one shape (layout_of shape).blocks (taken shape log) ckpt views blocks wholes others end stop scan other in
     same_lost data_bytes shape end o q rest (subst (λ e. LostAnswer data_bytes shape e q) (sym same.2) more)
 
 same_from : OneGroup → (log data_bytes : List ℕ) (shape : Shape) (newest : Option (ℕ × ℕ)) (o q : Option Refusal)

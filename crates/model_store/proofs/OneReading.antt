@@ -3,9 +3,9 @@ use Rattle.std.proofs.Common.{◌≡◌, ℕ, List, sym, ap, subst, ◌∙◌}
 use Rattle.model_base.specs.declared.shape.Shape.{Shape}
 use Rattle.model_log.specs.declared.group.Whole.{Whole}
 use Rattle.model_log.specs.declared.block.BlockView.{BlockView}
-use Rattle.model_log.specs.{newest_checkpoint}
+use Rattle.model_log.specs.{layout_of, newest_checkpoint}
 use Rattle.model_page.specs.declared.content.Content.{Content}
-use Rattle.model_store.specs.Scan.{IsScan}
+use Rattle.model_store.specs.Scan.{IsScan, taken}
 use Rattle.model_store.specs.Reading.{Reading, IsReading, HasScan, HasHead, IsReadPage, replayed}
 use Rattle.model_store.specs.Reading.{AreReadPages}
 use Rattle.model_store.proofs.Places.{same_places, same_some}
@@ -44,8 +44,8 @@ same_found one log data_bytes a b x y =
     let newest = same_some (newest_checkpoint a.shape log) (a.number, a.ckpt) (b.number, b.ckpt) x.checkpoint again.checkpoint in
     let number : a.number ≡ b.number = ap (λ pair. pair.0) newest in
     let ckpt : a.ckpt ≡ b.ckpt = ap (λ pair. pair.1) newest in
-    let scan = subst (λ from. IsScan a.shape log from b.views b.wholes b.end) (sym ckpt) again.scan in
-    let same = same_scan one a.shape log a.ckpt a.views b.views a.wholes b.wholes a.end b.end x.scan scan in
+    let scan = subst (λ from. IsScan a.shape (layout_of a.shape).blocks (taken a.shape log) from b.views b.wholes b.end) (sym ckpt) again.scan in
+    let same = same_scan one a.shape (layout_of a.shape).blocks (taken a.shape log) a.ckpt a.views b.views a.wholes b.wholes a.end b.end x.scan scan in
     λ i. record { shape = shape i; number = number i; ckpt = ckpt i; views = same.0 i; wholes = same.1 i; end = same.2 i }
 
 -- what a reading found

@@ -8,16 +8,16 @@ use Rattle.model_log.specs.declared.group.Whole.{Whole}
 use Rattle.model_log.specs.{end_of, group_length, group_text, groups_of, is_full, IsFront, IsGroup, IsRunOf, IsUnfinished, lsn_of, sn_of, spans_of, stream_of}
 use Rattle.model_log.specs.declared.block.BlockView.{BlockView}
 use Rattle.model_log.proofs.Runs.{run-first}
-use Rattle.model_store.specs.Scan.{AreBlocks, IsStorable, AreGroups, AreGroupsOf, IsScan, HasNoStorable, groups_start, data_from}
+use Rattle.model_store.specs.Scan.{AreBlocks, IsStorable, AreGroups, AreGroupsOf, IsScan, HasNoStorable, Source, groups_start, data_from}
 use Rattle.model_store.proofs.Places.{has_place, same_places}
 
 -- where blocks end, no longer row of blocks goes on
-no_longer : (shape : Shape) (image : List ℕ) (ckpt : ℕ) (xs ys : List BlockView)
-    → AreBlocks shape image ckpt xs → AreBlocks shape image ckpt ys → length xs < length ys → ⊥
-no_longer shape image ckpt xs ys p q h =
+no_longer : (most : ℕ) (source : Source) (ckpt : ℕ) (xs ys : List BlockView)
+    → AreBlocks most source ckpt xs → AreBlocks most source ckpt ys → length xs < length ys → ⊥
+no_longer most source ckpt xs ys p q h =
     let next = has_place ys (length xs) h in
     elim p.last [
-      | inl all ↦ (let few : length ys ≤ shape.log_blocks = q.few in omega arith)
+      | inl all ↦ (let few : length ys ≤ most = q.few in omega arith)
       | inr (inl (view, i, at, is, part)) ↦
           (let within : i < length ys = omega arith in
           let there = has_place ys i within in
@@ -29,11 +29,11 @@ no_longer shape image ckpt xs ys p q h =
     ]
 
 -- the blocks that are read are determined
-pub same_blocks : (shape : Shape) (image : List ℕ) (ckpt : ℕ) (xs ys : List BlockView)
-    → AreBlocks shape image ckpt xs → AreBlocks shape image ckpt ys → xs ≡ ys
-same_blocks shape image ckpt xs ys p q =
-    let up : length xs < length ys → ⊥ = no_longer shape image ckpt xs ys p q in
-    let down : length ys < length xs → ⊥ = no_longer shape image ckpt ys xs q p in
+pub same_blocks : (most : ℕ) (source : Source) (ckpt : ℕ) (xs ys : List BlockView)
+    → AreBlocks most source ckpt xs → AreBlocks most source ckpt ys → xs ≡ ys
+same_blocks most source ckpt xs ys p q =
+    let up : length xs < length ys → ⊥ = no_longer most source ckpt xs ys p q in
+    let down : length ys < length xs → ⊥ = no_longer most source ckpt ys xs q p in
     same_places xs ys (omega (arith, up, down)) (λ i x y a b. let first = p.each i x a in let second = q.each i y b in cc)
 
 -- no group's text is the front of another's
@@ -87,19 +87,19 @@ same_groups one shape bytes start ws vs rest tail a b p q =
     same_wholes one shape start ws vs rest tail (sym a.bytes_are ∙ b.bytes_are) a.run b.run a.each b.each p q
 
 -- the groups of blocks that were read are determined, and so is where the log ends
-pub same_groups_of : OneGroup → (shape : Shape) (image : List ℕ) (ckpt : ℕ) (views : List BlockView) (start : Option ℕ) (ws vs : List Whole) (m n : ℕ)
-    → AreGroupsOf shape image ckpt views start ws m → AreGroupsOf shape image ckpt views start vs n → (ws ≡ vs) × (m ≡ n)
-same_groups_of one shape image ckpt views None ws vs m n a b = (a.0 ∙ sym b.0, a.1 ∙ sym b.1)
-same_groups_of one shape image ckpt views (Some start) ws vs m n (rest, a, front, m_is) (tail, b, back, n_is) =
-    let same = same_groups one shape (data_from shape image ckpt views start) start ws vs rest tail a b
+pub same_groups_of : OneGroup → (shape : Shape) (source : Source) (ckpt : ℕ) (views : List BlockView) (start : Option ℕ) (ws vs : List Whole) (m n : ℕ)
+    → AreGroupsOf shape source ckpt views start ws m → AreGroupsOf shape source ckpt views start vs n → (ws ≡ vs) × (m ≡ n)
+same_groups_of one shape source ckpt views None ws vs m n a b = (a.0 ∙ sym b.0, a.1 ∙ sym b.1)
+same_groups_of one shape source ckpt views (Some start) ws vs m n (rest, a, front, m_is) (tail, b, back, n_is) =
+    let same = same_groups one shape (data_from source ckpt views start) start ws vs rest tail a b
     (front-no_storable one shape rest front) (front-no_storable one shape tail back) in
     (same.0, m_is ∙ ap (λ (groups : List Whole). end_of start (spans_of groups)) same.0 ∙ sym n_is)
 
--- the scan of a log image is determined
-pub same_scan : OneGroup → (shape : Shape) (image : List ℕ) (ckpt : ℕ) (views blocks : List BlockView) (ws vs : List Whole) (m n : ℕ)
-    → IsScan shape image ckpt views ws m → IsScan shape image ckpt blocks vs n → (views ≡ blocks) × (ws ≡ vs) × (m ≡ n)
-same_scan one shape image ckpt views blocks ws vs m n a b =
-    let same = same_blocks shape image ckpt views blocks a.blocks b.blocks in
-    let groups = subst (λ xs. AreGroupsOf shape image ckpt xs (groups_start ckpt xs) vs n) (sym same) b.groups in
-    let found = same_groups_of one shape image ckpt views (groups_start ckpt views) ws vs m n a.groups groups in
+-- the scan of a source is determined
+pub same_scan : OneGroup → (shape : Shape) (most : ℕ) (source : Source) (ckpt : ℕ) (views blocks : List BlockView) (ws vs : List Whole) (m n : ℕ)
+    → IsScan shape most source ckpt views ws m → IsScan shape most source ckpt blocks vs n → (views ≡ blocks) × (ws ≡ vs) × (m ≡ n)
+same_scan one shape most source ckpt views blocks ws vs m n a b =
+    let same = same_blocks most source ckpt views blocks a.blocks b.blocks in
+    let groups = subst (λ xs. AreGroupsOf shape source ckpt xs (groups_start ckpt xs) vs n) (sym same) b.groups in
+    let found = same_groups_of one shape source ckpt views (groups_start ckpt views) ws vs m n a.groups groups in
     (same, found.0, found.1)

@@ -3,7 +3,6 @@ use Rattle.std.specs.Prelude.{ℕ, ◌+◌, ◌-◌, ◌==◌, nat_le, if◌then
 use Rattle.std.specs.List.{list_any}
 use Rattle.std.specs.Int.{bytes_high_first}
 use Rattle.model_base.specs.{overwritten}
-use Rattle.model_base.specs.declared.shape.Shape.{Shape}
 use Rattle.model_base.specs.declared.limits.TheConstants.{USER_START}
 use Rattle.model_log.specs.{page_of}
 use Rattle.model_log.specs.declared.rec.Rec.{Rec}

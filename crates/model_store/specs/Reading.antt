@@ -4,14 +4,14 @@ use Rattle.std.specs.Prelude.{ℕ, ◌≡◌, ◌≤◌, ◌<◌, ◌^◌, ◌-�
 use Rattle.model_base.specs.declared.shape.Shape.{Shape}
 use Rattle.model_base.specs.declared.limits.TheConstants.{LSN_LIMIT}
 use Rattle.model_log.specs.declared.group.Whole.{Whole}
-use Rattle.model_log.specs.{header_block, log_device_length, newest_checkpoint, read_head}
+use Rattle.model_log.specs.{header_block, layout_of, log_device_length, newest_checkpoint, read_head}
 use Rattle.model_log.specs.declared.head.Head.TheVariants.{Good, OtherFormat, Unformatted}
 use Rattle.model_log.specs.declared.layout.TheConstants.{HEADER_BYTES}
 use Rattle.model_log.specs.declared.block.BlockView.{BlockView}
 use Rattle.model_page.specs.{copy_lsn, data_device_length, IsKept, IsLost, slot_bytes, user_part}
 use Rattle.model_page.specs.declared.content.Content.{Content}
 use Rattle.model_store.specs.Apply.{page_after}
-use Rattle.model_store.specs.Scan.{IsScan, IsBadRecord}
+use Rattle.model_store.specs.Scan.{IsScan, IsBadRecord, taken}
 use Rattle.model_store.specs.declared.refusal.Refusal.{Refusal}
 use Rattle.model_store.specs.declared.refusal.Refusal.TheVariants.{SmallLog, NotFormatted, BadFormat, SmallData, NoCheckpoint, BadRecord, PageLost, PageAhead}
 
@@ -48,7 +48,7 @@ pub record HasDevices (log data_bytes : List ℕ) (shape : Shape) : Type 0 where
 pub record HasScan (log data_bytes : List ℕ) (shape : Shape) (number ckpt : ℕ) (views : List BlockView) (wholes : List Whole) (end : ℕ) : Type 0 where
   pub devices : HasDevices log data_bytes shape
   pub checkpoint : newest_checkpoint shape log ≡ Some (number, ckpt)
-  pub scan : IsScan shape log ckpt views wholes end
+  pub scan : IsScan shape (layout_of shape).blocks (taken shape log) ckpt views wholes end
 
 -- Page p as it is read: the kept page, which isn't ahead of the log's end, with each scanned group applied that
 -- starts at or above its lsn.
@@ -108,7 +108,7 @@ Refuses log data_bytes NoCheckpoint =
     (shape : Shape) × HasDevices log data_bytes shape × (newest_checkpoint shape log ≡ None)
 Refuses log data_bytes (BadRecord lsn) =
     (shape : Shape) × (number : ℕ) × (ckpt : ℕ) × HasDevices log data_bytes shape
-    × (newest_checkpoint shape log ≡ Some (number, ckpt)) × IsBadRecord shape log ckpt lsn
+    × (newest_checkpoint shape log ≡ Some (number, ckpt)) × IsBadRecord shape (layout_of shape).blocks (taken shape log) ckpt lsn
 Refuses log data_bytes (PageLost p) =
     (shape : Shape) × (end : ℕ) × IsScanned log data_bytes shape end
     × (p < shape.pages) × IsLost shape data_bytes p × AreKeptBelow shape data_bytes p

@@ -1,10 +1,10 @@
--- What is read off the log from a checkpoint on: the blocks, then the groups in them, then where they end.
-use Rattle.std.specs.Prelude.{ℕ, suc, ◌≡◌, ◌≢◌, ◌≤◌, ◌<◌, ◌+◌, ◌-◌, ◌*◌, ◌==◌, ◌⊎◌, nat_lt, if◌then◌else◌, true, false, List, [], ◌∷◌, ◌++◌, length, drop, slice_get, Option, Some, None}
+-- What is read off the log from a checkpoint on, wherever its blocks are taken: the blocks, the groups, and the end.
+use Rattle.std.specs.Prelude.{ℕ, suc, ◌≡◌, ◌≢◌, ◌≤◌, ◌<◌, ◌+◌, ◌-◌, ◌==◌, ◌⊎◌, nat_lt, if◌then◌else◌, true, false, List, [], ◌∷◌, ◌++◌, length, drop, slice_get, Option, Some, None}
 use Rattle.std.specs.List.{AllByRecursion}
 use Rattle.std.specs.Option.{option_map}
 use Rattle.model_base.specs.declared.shape.Shape.{Shape}
 use Rattle.model_base.specs.declared.limits.TheConstants.{BLOCK_SIZE, LSN_LIMIT, MAX_GROUP}
-use Rattle.model_log.specs.{data_of, end_of, group_length, group_text, GroupFits, groups_of, is_full, IsFront, IsGroup, IsRunOf, log_block, read_block, sn_of, spans_of, stream_of}
+use Rattle.model_log.specs.{data_of, end_of, group_length, group_text, GroupFits, groups_of, is_full, IsFront, IsGroup, IsRunOf, log_block, lsn_at, read_block, sn_of, spans_of, stream_of}
 use Rattle.model_log.specs.declared.rec.Rec.{Rec}
 use Rattle.model_log.specs.declared.group.Whole.{Whole}
 use Rattle.model_log.specs.declared.layout.TheConstants.{BLOCK_HEADER}
@@ -20,49 +20,43 @@ abbrev pub taken_from : List ℕ → Option BlockView → Option Taken
 taken_from bytes None = None
 taken_from bytes (Some view) = Some (record { view = view; bytes = data_of view bytes })
 
--- The block that the scan takes at the lsn: the one that stands in its place on the log device, if it fits there. None
--- is taken at the lsn limit or above.
-abbrev pub taken : Shape → List ℕ → ℕ → Option Taken
+-- what the scan takes at each lsn: a block, or none
+abbrev pub Source : Type 0
+Source = ℕ → Option Taken
+
+-- The scan of a log device takes the block in its place there, if it fits, and none at the lsn limit or above.
+abbrev pub taken : Shape → List ℕ → Source
 taken shape image lsn =
     if nat_lt lsn LSN_LIMIT then taken_from (log_block shape lsn image) (read_block lsn (log_block shape lsn image)) else None
 
 -- what the block says of itself that is taken at the lsn
-abbrev pub view_at : Shape → List ℕ → ℕ → Option BlockView
-view_at shape image lsn = option_map (λ (block : Taken). block.view) (taken shape image lsn)
+abbrev pub view_at : Source → ℕ → Option BlockView
+view_at source lsn = option_map (λ (block : Taken). block.view) (source lsn)
 
 -- the data of a block that is taken; where none is, there is none
 abbrev pub bytes_of : Option Taken → List ℕ
 bytes_of None = []
 bytes_of (Some block) = block.bytes
 
--- the data of the block that is taken at the lsn
-abbrev pub data_at : Shape → List ℕ → ℕ → List ℕ
-data_at shape image lsn = bytes_of (taken shape image lsn)
-
--- the lsn of the i-th block from the checkpoint's on
-abbrev pub lsn_at : ℕ → ℕ → ℕ
-lsn_at ckpt i = ckpt + BLOCK_SIZE * i
-
--- why no block is read behind these: there is no other place in the log, the last of them isn't full, or the next
--- doesn't fit
-abbrev pub IsLastOf : Shape → List ℕ → ℕ → List BlockView → Type 0
-IsLastOf shape image ckpt views =
-    (length views ≡ shape.log_blocks)
+-- why no block is read past these: the log has no other place, the last of them isn't full, or no next one is taken
+abbrev pub IsLastOf : ℕ → Source → ℕ → List BlockView → Type 0
+IsLastOf most source ckpt views =
+    (length views ≡ most)
     ⊎ ((view : BlockView) × (i : ℕ) × (suc i ≡ length views) × (slice_get views i ≡ Some view) × (is_full view ≡ false))
-    ⊎ (view_at shape image (lsn_at ckpt (length views)) ≡ None)
+    ⊎ (view_at source (lsn_at ckpt (length views)) ≡ None)
 
--- The blocks that are read: from the checkpoint's on, whose lsn goes up by 512, while they fit, up to and including
+-- The blocks that are read: from the checkpoint's on, whose lsn goes up by 512, while one is taken, up to and including
 -- the first that isn't full, at most as many as the log has.
-pub record AreBlocks (shape : Shape) (image : List ℕ) (ckpt : ℕ) (views : List BlockView) : Type 0 where
-  pub few : length views ≤ shape.log_blocks
-  pub each : (i : ℕ) (view : BlockView) → slice_get views i ≡ Some view → view_at shape image (lsn_at ckpt i) ≡ Some view
+pub record AreBlocks (most : ℕ) (source : Source) (ckpt : ℕ) (views : List BlockView) : Type 0 where
+  pub few : length views ≤ most
+  pub each : (i : ℕ) (view : BlockView) → slice_get views i ≡ Some view → view_at source (lsn_at ckpt i) ≡ Some view
   pub full : (i : ℕ) (view : BlockView) → suc i < length views → slice_get views i ≡ Some view → is_full view ≡ true
-  pub last : IsLastOf shape image ckpt views
+  pub last : IsLastOf most source ckpt views
 
 -- the data of as many blocks as there are views, joined; the first of them is at the lsn
-abbrev pub joined : Shape → List ℕ → ℕ → List BlockView → List ℕ
-joined shape image lsn [] = []
-joined shape image lsn (view ∷ views) = data_at shape image lsn ++ joined shape image (lsn + BLOCK_SIZE) views
+abbrev pub joined : Source → ℕ → List BlockView → List ℕ
+joined source lsn [] = []
+joined source lsn (view ∷ views) = bytes_of (source lsn) ++ joined source (lsn + BLOCK_SIZE) views
 
 -- where the groups start that are read: at the first offset that isn't 0, in the first block that has one
 abbrev pub groups_start : ℕ → List BlockView → Option ℕ
@@ -70,8 +64,8 @@ groups_start lsn [] = None
 groups_start lsn (view ∷ views) = if view.first == 0 then groups_start (lsn + BLOCK_SIZE) views else Some (lsn + view.first)
 
 -- the bytes of the blocks' data from that lsn on
-abbrev pub data_from : Shape → List ℕ → ℕ → List BlockView → ℕ → List ℕ
-data_from shape image ckpt views start = drop (sn_of start - sn_of ckpt) (joined shape image ckpt views)
+abbrev pub data_from : Source → ℕ → List BlockView → ℕ → List ℕ
+data_from source ckpt views start = drop (sn_of start - sn_of ckpt) (joined source ckpt views)
 
 -- a group with a text of at most 8,192 bytes that fits the store
 pub record IsStorable (shape : Shape) (group : List Rec) : Type 0 where
@@ -89,31 +83,31 @@ pub record AreGroups (shape : Shape) (bytes : List ℕ) (start : ℕ) (wholes : 
 abbrev pub HasNoStorable : Shape → List ℕ → Type 0
 HasNoStorable shape bytes = (group : List Rec) (more : List ℕ) → IsStorable shape group → bytes ≢ group_text group ++ more
 
--- The groups of the log and its end, for the blocks that were read. Behind the last group stands less than a whole
--- one, or nothing. Where no block has a first offset nothing is
--- parsed, and the log ends at the first data byte of the block behind the last one.
-abbrev pub AreGroupsOf : Shape → List ℕ → ℕ → List BlockView → Option ℕ → List Whole → ℕ → Type 0
-AreGroupsOf shape image ckpt views None wholes end =
+-- The groups of the log and its end, for the blocks that were read. Past the last group stands less than a whole one,
+-- or nothing. Where no block has a first offset nothing is parsed, and the log ends at the first data byte of the block
+-- after the last one.
+abbrev pub AreGroupsOf : Shape → Source → ℕ → List BlockView → Option ℕ → List Whole → ℕ → Type 0
+AreGroupsOf shape source ckpt views None wholes end =
     (wholes ≡ []) × (end ≡ lsn_at ckpt (length views) + BLOCK_HEADER)
-AreGroupsOf shape image ckpt views (Some start) wholes end =
-    (rest : List ℕ) × AreGroups shape (data_from shape image ckpt views start) start wholes rest
+AreGroupsOf shape source ckpt views (Some start) wholes end =
+    (rest : List ℕ) × AreGroups shape (data_from source ckpt views start) start wholes rest
     × IsFront rest × (end ≡ end_of start (spans_of wholes))
 
--- The scan of a log image from the checkpoint at the lsn `ckpt` on: the blocks, the whole groups, and the end.
-pub record IsScan (shape : Shape) (image : List ℕ) (ckpt : ℕ) (views : List BlockView) (wholes : List Whole) (end : ℕ) : Type 0 where
-  pub blocks : AreBlocks shape image ckpt views
-  pub groups : AreGroupsOf shape image ckpt views (groups_start ckpt views) wholes end
+-- The scan of a source from the checkpoint at the lsn `ckpt` on: the blocks, the whole groups, and the end.
+pub record IsScan (shape : Shape) (most : ℕ) (source : Source) (ckpt : ℕ) (views : List BlockView) (wholes : List Whole) (end : ℕ) : Type 0 where
+  pub blocks : AreBlocks most source ckpt views
+  pub groups : AreGroupsOf shape source ckpt views (groups_start ckpt views) wholes end
 
--- The scan is refused for what stands at the lsn: behind groups that fit comes no group that does, nor less than a
+-- The scan is refused for what stands at the lsn: after groups that fit comes no group that does, nor less than a
 -- whole one.
-pub record IsBadRecord (shape : Shape) (image : List ℕ) (ckpt lsn : ℕ) : Type 0 where
+pub record IsBadRecord (shape : Shape) (most : ℕ) (source : Source) (ckpt lsn : ℕ) : Type 0 where
   pub views : List BlockView
-  pub blocks : AreBlocks shape image ckpt views
+  pub blocks : AreBlocks most source ckpt views
   pub start : ℕ
   pub starts : groups_start ckpt views ≡ Some start
   pub wholes : List Whole
   pub rest : List ℕ
-  pub groups : AreGroups shape (data_from shape image ckpt views start) start wholes rest
+  pub groups : AreGroups shape (data_from source ckpt views start) start wholes rest
   pub no_storable : HasNoStorable shape rest
   pub no_rest : IsFront rest → ⊥
   pub at : lsn ≡ end_of start (spans_of wholes)

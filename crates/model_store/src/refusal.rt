@@ -1,7 +1,7 @@
 // Why a store isn't read.
 
 /// Why the bytes of two devices are no store that can be read, in the order in which it is judged. That the log device
-/// is too short for the layout that its header names is judged behind the header.
+/// is too short for the layout that its header names is judged after the header.
 #[derive(Clone, Copy, Debug, PartialEq, Eq)]
 pub enum Refusal {
     /// The log device is shorter than this many bytes.

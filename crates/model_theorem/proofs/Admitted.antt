@@ -26,18 +26,19 @@ use Rattle.model_theorem.specs.Values.{Opened}
 use Rattle.model_theorem.specs.Opening.{IsOpeningDone}
 use Rattle.model_theorem.proofs.Refused.{base-image}
 use Rattle.model_theorem.specs.Examples.{AreOfBlocks, MovedCheckpoint, new_store, ReadsAsOpened, lost_run, line_of_value, two_lines, text_of_two, text_of_one, empty_account, empty_call, lost_account, lost_call, stopped_account, stopped_call}
+use Rattle.model_log.specs.declared.layout.TheConstants.{HEADER_BLOCKS, HEADER_BYTES}
 
 -- WHAT STANDS IN THE HEADER while only log blocks are written
-unwritten : (writes : List Write) (k : ℕ) (bytes : List ℕ) → k < 4 → AreOfBlocks writes → IsWrittenBy writes k bytes → ⊥
+unwritten : (writes : List Write) (k : ℕ) (bytes : List ℕ) → k < HEADER_BLOCKS → AreOfBlocks writes → IsWrittenBy writes k bytes → ⊥
 unwritten [] k bytes low are is = is
 unwritten (write ∷ writes) k bytes low are is =
     ⊎_elim (λ here. absurd (omega (arith, here.0.from, are.0))) (λ there. unwritten writes k bytes low are.1 there) is
 
-same-sector : (disk : Disk) (image : List ℕ) (k : ℕ) → k < 4 → 2048 ≤ length disk.base → AreOfBlocks disk.writes → IsImage disk image → sector k image ≡ sector k disk.base
+same-sector : (disk : Disk) (image : List ℕ) (k : ℕ) → k < 4 → HEADER_BYTES ≤ length disk.base → AreOfBlocks disk.writes → IsImage disk image → sector k image ≡ sector k disk.base
 same-sector disk image k low long are is =
     ⊎_elim (λ same. same) (λ written. absurd (unwritten disk.writes k (sector k image) low are written)) (is.each k (omega arith))
 
-same-newest : (shape : Shape) (disk : Disk) (image : List ℕ) → 2048 ≤ length disk.base → AreOfBlocks disk.writes → IsImage disk image
+same-newest : (shape : Shape) (disk : Disk) (image : List ℕ) → HEADER_BYTES ≤ length disk.base → AreOfBlocks disk.writes → IsImage disk image
     → newest_checkpoint shape image ≡ newest_checkpoint shape disk.base
 same-newest shape disk image long are is =
     let even = same-sector disk image 1 (omega arith) long are is in

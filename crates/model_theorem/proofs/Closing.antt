@@ -6,12 +6,12 @@ use Rattle.std.proofs.lemmas.Bool.Decides.{nat_tests}
 use Rattle.model_base.specs.declared.shape.Shape.{Shape}
 use Rattle.model_base.specs.{IsWithinLimits}
 use Rattle.model_log.specs.declared.group.Whole.{Whole}
-use Rattle.model_log.specs.{groups_of, IsAtDataStart, IsRunOf, start_after}
+use Rattle.model_log.specs.{groups_of, IsAtDataStart, IsRunOf, layout_of, start_after}
 use Rattle.model_device.specs.{IsImage}
 use Rattle.model_device.specs.Disk.{Disk}
 use Rattle.model_log.specs.declared.block.BlockView.{BlockView}
 use Rattle.model_page.specs.declared.content.Content.{Content}
-use Rattle.model_store.specs.{folded, HasScan, IsFair, IsNoNewerCopy, IsReadPage, IsStorable, page_folded}
+use Rattle.model_store.specs.{folded, HasScan, IsFair, IsNoNewerCopy, IsReadPage, IsStorable, page_folded, taken}
 use Rattle.model_store.specs.Reading.{Reading}
 use Rattle.model_page.specs.{copy_lsn}
 use Rattle.model_theorem.proofs.Cuts.{IsCut, kept-page, copies-old}
@@ -90,7 +90,7 @@ is-read law held log store is image fair =
     let good : AllByRecursion (IsStorable shape) (groups_of wholes) = groups-good held is in
     let fits : FitsStore shape wholes marks = record { good = good; small = fit.small; some_blocks = some-blocks shape given.shape; few_blocks = few-blocks shape given.shape } in
     let reads : CrashReads shape run.start wholes marks log = law shape run.start wholes marks held.log_disk log fits holds image in
-    let scan : ScansTo shape run.start wholes marks.stable marks.given reads.ckpt log = reads.scan in
+    let scan : ScansTo shape (layout_of shape).blocks run.start wholes marks.stable marks.given reads.ckpt (taken shape log) = reads.scan in
     let below : reads.ckpt ≤ marks.asked = reads.up_to in
     let start : IsAtDataStart run.start = holds.order.starts in
     let cut : IsCut shape run.start scan.before scan.middle scan.after reads.ckpt scan.mark = record {

@@ -14,7 +14,7 @@ use Rattle.model_theorem.specs.Kept.{HasPassed, IsKeptPrefix, KeepsPrefix}
 use Rattle.model_theorem.proofs.Pages.{IsBetween, folded-append, upto-append, upto-none, upto-passed, upto-replayed}
 use Rattle.model_theorem.proofs.Between.{IsOutside, all-above, all-parts, good-parts, outside-from, between-from, upto-lsn}
 
--- A run cut by a scan: what starts before the checkpoint, what is read, what ends behind the mark.
+-- A run cut by a scan: what starts before the checkpoint, what is read, what ends past the mark.
 pub record IsCut (shape : Shape) (s : ℕ) (before middle after : List Whole) (ckpt mark : ℕ) : Type 0 where
   pub place : IsDataLsn s
   pub run : IsRunOf s (before ++ (middle ++ after))

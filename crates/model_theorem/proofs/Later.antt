@@ -25,7 +25,7 @@ passed-more p x q [] [] starts passed = tt
 passed-more p x q [] (whole ∷ more) starts passed = (λ found below. absurd (omega (arith, starts.0)), passed-more p x q [] more starts.1 tt)
 passed-more p x q (whole ∷ wholes) more starts passed = (passed.0, passed-more p x q wholes more starts passed.1)
 
--- groups behind the run change no prefix of it
+-- groups after the run change no prefix of it
 prefix_of-more : (shape : Shape) (page : Content) (s : ℕ) (wholes more : List Whole) (stable p : ℕ) (content : Content) → IsDataLsn s → IsRunOf s (wholes ++ more)
     → AllByRecursion (IsStorable shape) (groups_of (wholes ++ more)) → stable ≤ end_of s (spans_of wholes)
     → IsPrefixOf page wholes stable p content → IsPrefixOf page (wholes ++ more) stable p content

@@ -12,6 +12,7 @@ use Rattle.model_parts.specs.declared.marks.LogMarks.{LogMarks}
 use Rattle.model_parts.proofs.LogImages.{header-below, place-cases, when_less, when_not_less}
 use Rattle.model_theorem.specs.Opening.{HasCheckpointFrom, HeldOlder, IsOpenedBefore}
 use Rattle.model_theorem.specs.Closed.{Held, IsHeld, groups_of_run}
+use Rattle.model_log.specs.declared.layout.TheConstants.{HEADER_BLOCKS}
 
 -- this is a checkpoint, and its number isn't below that
 record IsFrom (lowest : ℕ) (found : Option (ℕ × ℕ)) : Type 0 where
@@ -70,7 +71,7 @@ holds-checkpoint : (shape : Shape) (s : ℕ) (wholes : List Whole) (marks : LogM
     → LogHolds shape s wholes marks disk → IsImage disk image → HasCheckpointFrom shape marks.number image
 holds-checkpoint shape s wholes marks disk image holds is =
     let place : ℕ = place_of marks.number in
-    let low : place < 4 = (header-below marks.number).0 in
+    let low : place < HEADER_BLOCKS = (header-below marks.number).0 in
     let found : IsFrom marks.number (newest_checkpoint shape image) =
     newest-from shape marks.number marks.ckpt image (holds.checkpoint (sector place image) (holds-sector disk image place is (omega (arith, holds.long)))) in
     record { number = found.number; ckpt = found.ckpt; newest = found.is; from = found.from }

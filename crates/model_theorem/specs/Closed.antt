@@ -8,7 +8,7 @@ use Rattle.model_script.specs.declared.script.ScriptLine.{ScriptLine}
 use Rattle.model_report.specs.{IsLeft, wholes_of}
 use Rattle.model_report.specs.declared.entry.Marks.{Marks}
 use Rattle.model_theorem.specs.Run.{IsRun, LosesOnlyByFailure}
-use Rattle.model_theorem.specs.Values.{Opened, Ran, RunResult}
+use Rattle.model_theorem.specs.Values.{Opened, Ran}
 use Rattle.model_parts.specs.{LogHolds}
 use Rattle.model_parts.specs.declared.marks.LogMarks.{LogMarks}
 use Rattle.model_theorem.specs.Given.{AreGiven}
@@ -40,16 +40,6 @@ held_of closed = record {
   opened = closed.opened;
   number = closed.number;
   run = closed.run;
-  log_disk = closed.log_disk;
-  data_disk = closed.data_disk;
-}
-
-abbrev pub result_of : Closed → RunResult
-result_of closed = record {
-  script = closed.script;
-  opened = closed.opened;
-  run = Some closed.run;
-  left = closed.left;
   log_disk = closed.log_disk;
   data_disk = closed.data_disk;
 }

@@ -39,7 +39,7 @@ pub record HasGap (account : Account) : Type 0 where
   pub both : run.entries ≡ first ∷ second ∷ []
   pub gap : second.start ≢ first.end
 
--- the run starts elsewhere than behind the opened log
+-- the run starts elsewhere than after the opened log
 pub record StartsElsewhere (opened : Opened) (account : Account) : Type 0 where
   pub run : Ran
   pub ran : account.run ≡ Some run
@@ -112,7 +112,7 @@ pub record MovedCheckpoint (found : List ℕ) (opened : Opened) (reading : Readi
   pub in_use : IsUnused found → ⊥
   pub older : HeldOlder opened.shape reading.number (settled found)
 
--- the writes are of log blocks, behind the header and the checkpoints
+-- the writes are of log blocks, past the header and the checkpoints
 abbrev pub AreOfBlocks : List Write → Type 0
 AreOfBlocks writes = AllByRecursion (λ (write : Write). HEADER_BYTES ≤ write.at) writes
 

@@ -11,7 +11,7 @@ pub mod Script
 pub mod Start
 pub mod Stored
 pub mod Values
-pub use Rattle.model_theorem.specs.Closed.{Held, IsClosed, IsHeld, held_of, result_of}
+pub use Rattle.model_theorem.specs.Closed.{Held, IsClosed, IsHeld, held_of}
 pub use Rattle.model_theorem.specs.Crash.{AreAnyStops, AreArmedFirst, CrashSafe, HasPassedAll, IsCrashed, IsEveryScript, IsPrinted, IsReadFromDevices, IsStoppedAsAsked, failures_of}
 pub use Rattle.model_theorem.specs.Crashed.{IsCrashOf, before_crash}
 pub use Rattle.model_theorem.specs.Given.{AreGiven}

@@ -1,5 +1,5 @@
 -- Whether opening came to its end, as the log device tells it. Opening ends by making a checkpoint durable, whose number is
--- the next after that of the store that was found; a run begins only behind that.
+-- the next after that of the store that was found; a run begins only after that.
 use Rattle.std.specs.Prelude.{ℕ, ◌≡◌, ◌≤◌, ◌<◌, ◌+◌, List, Option, Some, None}
 use Rattle.model_base.specs.{default_shape}
 use Rattle.model_base.specs.declared.shape.Shape.{Shape}

@@ -12,7 +12,7 @@ use Rattle.model_theorem.specs.Opening.{AreUnopened, IsOpenedBefore}
 use Rattle.model_theorem.specs.Script.{IsWholeScript, FitsOpened}
 use Rattle.model_theorem.specs.Values.{Opened, Ran, RunAccount, RunCall, RunResult, entries_of}
 
--- THE RUN: a legal history of the script, from the start behind the opened log, with marks between its groups.
+-- THE RUN: a legal history of the script, from the start after the opened log, with marks between its groups.
 pub record IsRun (script : List ScriptLine) (opened : Opened) (run : Ran) : Type 0 where
   pub start : run.start ≡ start_after opened.end
   pub legal : IsLegal script opened.shape.space run.start run.marks run.entries

@@ -103,7 +103,7 @@ pub record Ran : Type 0 where
   pub entries : List Entry
   pub marks : Marks
 
--- What a command leaves behind its run: the script, the store that was opened, the run if opening wasn't stopped, for each
+-- What a command leaves after its run: the script, the store that was opened, the run if opening wasn't stopped, for each
 -- user that has lines without an entry how many, and what both devices mean.
 pub record RunResult : Type 0 where
   pub script : List ScriptLine

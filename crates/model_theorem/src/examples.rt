@@ -20,7 +20,7 @@ pub fn gap_is_refused()
         CrashSafe crash opened account → HasGap account → ⊥ }
 {}
 
-/// A run that doesn't start behind the opened log is refused.
+/// A run that doesn't start after the opened log is refused.
 pub fn other_start_is_refused()
     ensures { (crash : Crash) (opened : Opened) (account : Account) →
         CrashSafe crash opened account → StartsElsewhere opened account → ⊥ }
@@ -63,7 +63,7 @@ pub fn stop_for_nothing_is_refused()
         CrashSafe crash opened account → StopsForNothing crash account → ⊥ }
 {}
 
-/// Arming the fuses behind the opening of a new store is refused.
+/// Arming the fuses after the opening of a new store is refused.
 pub fn late_arming_is_refused()
     ensures { (crash : Crash) (opened : Opened) (account : Account) →
         CrashSafe crash opened account → ArmsLate crash → ⊥ }

@@ -1,4 +1,4 @@
-// What holds of each run that its devices hold, and of each closed one.
+// What holds of each run that its devices hold.
 ghost use Rattle.std.specs.Prelude.{◌≡◌, ◌≢◌, ◌≤◌, ◌<◌, ◌+◌, ◌++◌, [], ℕ, List, Option, Some};
 ghost use Rattle.std.specs.List.{AllByRecursion};
 ghost use Rattle.model_base.specs.declared.shape.Shape.{Shape};
@@ -14,7 +14,7 @@ ghost use Rattle.model_theorem.specs.Crash.{CrashSafe, failures_of};
 ghost use Rattle.model_theorem.specs.Opening.{HasCheckpointFrom, HeldOlder, IsOpenedBefore};
 ghost use Rattle.model_theorem.specs.Run.{IsPrefixRead, ReadsPrefix, RunSafe};
 ghost use Rattle.model_theorem.specs.Values.{Account, Crash, Opened};
-ghost use Rattle.model_theorem.specs.Closed.{Closed, Held, IsClosed, IsHeld, result_of};
+ghost use Rattle.model_theorem.specs.Closed.{Held, IsClosed, IsHeld};
 ghost use Rattle.model_theorem.specs.Crashed.{IsCrashOf, before_crash};
 ghost use Rattle.model_report.specs.{IsLeft};
 ghost use Rattle.model_script.specs.declared.script.ScriptLine.{ScriptLine};
@@ -46,13 +46,6 @@ pub fn held_run_reads()
     one_answer();
 }
 
-/// A closed run is safe.
-pub fn closed_run_is_safe()
-    ensures { (failures : ℕ) (closed : Closed) → IsClosed failures closed → RunSafe failures (result_of closed) }
-{
-    held_run_reads();
-}
-
 /// Whatever a crash leaves of a log device that holds a run has a newest checkpoint, which isn't older than the one that
 /// opening made. So, where the device held an older one when its fuse was armed, it tells that opening came to its end.
 pub fn held_run_is_opened()
@@ -71,19 +64,6 @@ pub fn crash_of_safe_run()
         → RunSafe (failures_of crash) (before_crash crash opened account) → CrashSafe crash opened account }
 {
     one_reading();
-}
-
-/// So it holds of a call whose run is closed, where the log device held an older checkpoint than the run's when its fuse was
-/// armed.
-pub fn crash_of_closed_run()
-    ensures { (crash : Crash) (opened : Opened) (account : Account) (closed : Closed) → IsCrashOf crash opened account
-        → IsClosed (failures_of crash) closed → result_of closed ≡ before_crash crash opened account
-        → HeldOlder opened.shape closed.number crash.log_device.armed_from
-        → CrashSafe crash opened account }
-{
-    held_run_is_opened();
-    closed_run_is_safe();
-    crash_of_safe_run();
 }
 
 /// A store that opening made ready may be given to a run: its log device holds the run of no group, and its data device

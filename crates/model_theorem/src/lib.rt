@@ -2,8 +2,7 @@
 //! them in. Beside these definitions stand laws that say which values the promise admits and which it refuses.
 //!
 //! Below it stands what every drive owes of its run. However far the run came, both devices hold it (`IsHeld`): whatever a
-//! crash leaves of them is read as a prefix of it. A drive that came to its end shows `IsClosed`, and so the crash theorem
-//! holds.
+//! crash leaves of them is read as a prefix of it (`held_run_reads`). So its run is safe, and the crash theorem holds of it.
 #![tactic(auto)]
 
 mod examples;
@@ -16,6 +15,6 @@ pub use examples::{
     stop_behind_opening_is_refused, stop_for_nothing_is_refused, stopped_opening_is_admitted,
 };
 pub use laws::{
-    closed_run_is_safe, crash_of_closed_run, crash_of_safe_run, held_run_is_opened, held_run_reads,
-    longer_data, opened_store_is_closed, stored_pages_hold, whole_page_is_prefix,
+    crash_of_safe_run, held_run_is_opened, held_run_reads, longer_data, opened_store_is_closed,
+    stored_pages_hold, whole_page_is_prefix,
 };

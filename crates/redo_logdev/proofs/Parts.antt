@@ -5,9 +5,9 @@ use Rattle.model_base.specs.declared.shape.Shape.{Shape}
 use Rattle.model_log.specs.declared.group.Whole.{Whole}
 use Rattle.model_device.specs.Disk.{Disk}
 use Rattle.model_device.specs.{FailsWrite, synced, written}
-use Rattle.model_log.specs.{block_of, checkpoint_text, framed, IsGivenTo, place_of, sn_of}
+use Rattle.model_log.specs.{block_of, checkpoint_text, framed, IsGivenTo, layout_of, place_of, sn_of}
 use Rattle.redo_disk.specs.{write_at}
-use Rattle.model_parts.proofs.Places.{HasBlocks}
+use Rattle.model_log.proofs.Places.{HasBlocks}
 use Rattle.redo_disk.specs.declared.error.DevError.{DevError}
 use Rattle.model_parts.specs.{after_asked, after_checkpoint, after_given, after_synced, after_written, first_marks, HasNextNumber, IsFresh, LogHolds, MayBeNext, next_number, other_place}
 use Rattle.model_parts.specs.declared.marks.LogMarks.{LogMarks}
@@ -111,7 +111,7 @@ checkpoint-pending shape s wholes marks failed error lsn at block a b next small
     record { holds = subst (λ (disk : Disk). LogHolds shape s wholes (after_asked lsn marks) disk) (sym is) holds; live = λ same. absurd cc }
 
 -- both are
-pub checkpoint-made : (shape : Shape) (s : ℕ) (wholes : List Whole) (marks : LogMarks) (failed : Option DevError) (lsn at : ℕ) (block : List ℕ) (a b : Disk) → HasBlocks shape
+pub checkpoint-made : (shape : Shape) (s : ℕ) (wholes : List Whole) (marks : LogMarks) (failed : Option DevError) (lsn at : ℕ) (block : List ℕ) (a b : Disk) → HasBlocks (layout_of shape)
     → failed ≡ None → MayBeNext marks lsn → HasNextNumber marks → WritesSector (other_place marks.number) (checkpoint_text (marks.number + 1) lsn shape) (write_at at block)
     → DiskHolds shape s wholes marks failed a → b ≡ synced (written a (write_at at block)) → DiskHolds shape s wholes (after_checkpoint (next_number marks.number) lsn marks) failed b
 checkpoint-made shape s wholes marks failed lsn at block a b blocks live next small writes before is =

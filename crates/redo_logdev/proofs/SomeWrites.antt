@@ -1,7 +1,7 @@
 -- The write of bytes, if there are any.
 use Rattle.std.proofs.Common.{ℕ, ◌≡◌, ◌≤◌, List, [], ◌∷◌, length, Option, None, subst, arith}
 use Rattle.model_base.specs.declared.shape.Shape.{Shape}
-use Rattle.model_log.specs.{offset_of}
+use Rattle.model_log.specs.{layout_of, place_in}
 use Rattle.model_log.specs.declared.layout.TheConstants.{HEADER_BYTES}
 use Rattle.redo_disk.specs.declared.error.DevError.{DevError}
 use Rattle.redo_disk.specs.{Answer, Call, error_of, MakesCall, MakesCalls, Serve, write_at, Writes}
@@ -15,7 +15,7 @@ some_served at (byte ∷ bytes) some given = call_serves given
 
 -- the bytes up to the log's end, and what is left at its start
 pub round_served : {D : Type 0} {gives : D → Call → D → Type 0} {old middle new : D} {error : Option DevError} (shape : Shape) (b at : ℕ) (bytes front back : List ℕ)
-    → at ≡ offset_of b shape.log_blocks → front ≡ front_of shape b bytes → back ≡ back_of shape b bytes
+    → at ≡ place_in (layout_of shape) b → front ≡ front_of shape b bytes → back ≡ back_of shape b bytes
     → MakesCalls gives old middle (Serve (some_write at front) None) → MakesCalls gives middle new (Serve (some_write HEADER_BYTES back) error)
     → MakesCalls gives old new (Serve (round_writes shape b bytes) error)
 round_served {gives = gives} {old = old} {middle = middle} {new = new} {error = error} shape b at bytes front back at_is front_is back_is first then =

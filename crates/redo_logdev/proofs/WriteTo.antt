@@ -8,14 +8,14 @@ use Rattle.model_log.specs.declared.group.Whole.{Whole}
 use Rattle.model_device.specs.{Adds, Covers, FailsWrite}
 use Rattle.model_device.specs.Disk.{Disk}
 use Rattle.model_device.specs.declared.write.Write.{Write}
-use Rattle.model_log.specs.{block_of, framed, IsAtDataStart, IsBoundaryBlock, IsDataLsn, IsGivenTo, offset_of, place_of, sn_of}
+use Rattle.model_log.specs.{block_of, framed, IsAtDataStart, IsBoundaryBlock, IsDataLsn, IsGivenTo, layout_of, log_device_length, place_in, place_of, ring_start, round_of, sector_of, sn_of}
 use Rattle.model_log.proofs.Runs.{lsn-before}
 use Rattle.model_log.proofs.BoundaryLengths.{sn_of-block, sn_of-header}
 use Rattle.model_log.proofs.CutStream.{length-framed, given-framed, some-below}
-use Rattle.model_parts.specs.{after_given, after_written, AreInOrder, IsLive, IsWritten, LogHolds, other_place, round_of, sector_of}
+use Rattle.model_parts.specs.{after_given, after_written, AreInOrder, IsLive, IsWritten, LogHolds, other_place}
 use Rattle.model_parts.specs.declared.marks.LogMarks.{LogMarks}
 use Rattle.model_device.proofs.MayHold.{adds-failed}
-use Rattle.model_parts.proofs.Places.{place-within, sector-place}
+use Rattle.model_log.proofs.Places.{place-within, sector-place}
 use Rattle.model_parts.proofs.Writing.{WritesBlocks, IsWriting, writing-begin, writing-adds, writing-more, writing-end}
 use Rattle.redo_block.specs.{AreFirsts}
 use Rattle.redo_disk.specs.{write_at}
@@ -52,8 +52,8 @@ ends-below from mark count aligned few some =
 cut-writes : (shape : Shape) (s : ℕ) (wholes : List Whole) (mark least from ckpt k c : ℕ) (bytes firsts : List ℕ) (write : Write)
     → IsAtDataStart s → block_of s ≤ from → from % 512 ≡ 0 → least ≤ from → ckpt < 2 ^ 32
     → AreFirsts bytes firsts → length bytes ≡ sn_of mark - sn_of from → IsGivenTo s wholes from mark bytes firsts
-    → k + c ≤ length firsts → from + 512 * (k + c) ≤ least + round_of shape → write.at ≡ offset_of (from + 512 * k) shape.log_blocks
-    → write.at + 512 * c ≤ 2048 + round_of shape → write.bytes ≡ take (512 * c) (drop (512 * k) (framed bytes from firsts ckpt))
+    → k + c ≤ length firsts → from + 512 * (k + c) ≤ least + round_of (layout_of shape) → write.at ≡ place_in (layout_of shape) (from + 512 * k)
+    → write.at + 512 * c ≤ log_device_length shape → write.bytes ≡ take (512 * c) (drop (512 * k) (framed bytes from firsts ckpt))
     → WritesBlocks shape s wholes mark least (from + 512 * k) c write
 cut-writes shape s wholes mark least from ckpt k c bytes firsts write start low aligned behind ckpt_small fit count given few within_round place within_log text =
     let all : List ℕ = framed bytes from firsts ckpt in
@@ -87,15 +87,15 @@ cut-writes shape s wholes mark least from ckpt k c bytes firsts write start low 
     }
 
 -- the log's end is followed by its start
-place-wrap : (shape : Shape) (b c : ℕ) → b % 512 ≡ 0 → 8192 ≤ b → 1 ≤ shape.log_blocks → offset_of b shape.log_blocks + 512 * c ≡ 2048 + 512 * shape.log_blocks
-    → offset_of (b + 512 * c) shape.log_blocks ≡ 2048
+place-wrap : (shape : Shape) (b c : ℕ) → b % 512 ≡ 0 → 8192 ≤ b → 1 ≤ (layout_of shape).blocks → place_in (layout_of shape) b + 512 * c ≡ log_device_length shape
+    → place_in (layout_of shape) (b + 512 * c) ≡ ring_start (layout_of shape)
 place-wrap shape b c aligned started some at_end =
-    let n : ℕ = 512 * shape.log_blocks in
+    let n : ℕ = round_of (layout_of shape) in
     let x : ℕ = block_of b - 8192 in
     let parts : x / n * n + x % n ≡ x = div-add-mod' x n in
     let next : block_of (b + 512 * c) - 8192 ≡ (x / n + 1) * n + 0 = omega arith in
     let rest : ((x / n + 1) * n + 0) % n ≡ 0 = mod-mul-add (x / n + 1) n 0 (omega arith) in
-    ap (λ m. 2048 + m % n) next ∙ ap (λ m. 2048 + m) rest
+    ap (λ m. ring_start (layout_of shape) + m % n) next ∙ ap (λ m. ring_start (layout_of shape) + m) rest
 
 -- a write of no bytes changes nothing
 empty-adds : (shape : Shape) (s : ℕ) (wholes : List Whole) (marks : LogMarks) (write : Write) (old new : Disk) → length write.bytes ≡ 0 → Adds write old new
@@ -129,11 +129,11 @@ writing-fails shape s wholes marks mark p count at bytes old new long writes is 
 
 -- what is known of what `write_to` writes
 pub record IsCut (shape : Shape) (marks : LogMarks) (mark ckpt : ℕ) (bytes firsts : List ℕ) : Type 0 where
-  pub some_blocks : 1 ≤ shape.log_blocks
-  pub few_blocks : shape.log_blocks < 1073741824
+  pub some_blocks : 1 ≤ (layout_of shape).blocks
+  pub few_blocks : (layout_of shape).blocks < 1073741824
   pub place : IsDataLsn mark
   pub later : marks.written ≤ mark
-  pub room : mark ≤ marks.ckpt + round_of shape
+  pub room : mark ≤ marks.ckpt + round_of (layout_of shape)
   pub ckpt_small : ckpt < 2 ^ 32
   pub count : length bytes ≡ sn_of mark - sn_of (block_of marks.written)
   pub fit : AreFirsts bytes firsts
@@ -144,33 +144,33 @@ record Cuts (shape : Shape) (s : ℕ) (wholes : List Whole) (marks : LogMarks) (
   second : ℕ
   front_long : length (front_of shape from all) ≡ 512 * first
   back_long : length (back_of shape from all) ≡ 512 * second
-  front_writes : 1 ≤ first → WritesBlocks shape s wholes mark marks.ckpt from first (write_at (offset_of from shape.log_blocks) (front_of shape from all))
-  back_writes : 1 ≤ second → WritesBlocks shape s wholes mark marks.ckpt (from + 512 * first) second (write_at 2048 (back_of shape from all))
+  front_writes : 1 ≤ first → WritesBlocks shape s wholes mark marks.ckpt from first (write_at (place_in (layout_of shape) from) (front_of shape from all))
+  back_writes : 1 ≤ second → WritesBlocks shape s wholes mark marks.ckpt (from + 512 * first) second (write_at (ring_start (layout_of shape)) (back_of shape from all))
   reached : mark ≤ from + 512 * first + 512 * second + 12
 
-cuts-of : (shape : Shape) (s : ℕ) (wholes : List Whole) (marks : LogMarks) (mark ckpt : ℕ) (bytes firsts : List ℕ) → AreInOrder shape s wholes marks
+cuts-of : (shape : Shape) (s : ℕ) (wholes : List Whole) (marks : LogMarks) (mark ckpt : ℕ) (bytes firsts : List ℕ) → AreInOrder (layout_of shape) s wholes marks
     → IsCut shape marks mark ckpt bytes firsts → IsGivenTo s wholes (block_of marks.written) mark bytes firsts
     → Cuts shape s wholes marks mark (block_of marks.written) (framed bytes (block_of marks.written) firsts ckpt)
 cuts-of shape s wholes marks mark ckpt bytes firsts order cut given =
     let from : ℕ = block_of marks.written in
-    let at : ℕ = offset_of from shape.log_blocks in
+    let at : ℕ = place_in (layout_of shape) from in
     let m : ℕ = length firsts in
     let all : List ℕ = framed bytes from firsts ckpt in
-    let end : ℕ = 2048 + 512 * shape.log_blocks in
+    let end : ℕ = log_device_length shape in
     let aligned : from % 512 ≡ 0 = omega arith in
     let started : 8192 ≤ from = omega (arith, order.ckpt_started, order.ckpt_asked, order.asked_stable, order.stable_written) in
     let behind : marks.ckpt ≤ from = omega (arith, order.ckpt_aligned, order.ckpt_asked, order.asked_stable, order.stable_written) in
     let low : block_of s ≤ from = omega (arith, order.ckpt_from) in
     let counts = count-firsts bytes firsts cut.fit in
     let long : length all ≡ 512 * m = length-framed bytes firsts from ckpt in
-    let here : 512 * sector_of shape from ≡ at = sector-place shape from aligned in
-    let at_low : at + 512 ≤ end = place-within shape from (record { some = cut.some_blocks; few = cut.few_blocks }) aligned in
+    let here : 512 * sector_of (layout_of shape) from ≡ at = sector-place (layout_of shape) from in
+    let at_low : at + 512 ≤ end = place-within (layout_of shape) from (record { some = cut.some_blocks; few = cut.few_blocks }) in
     let rest : ℕ = (end - at) / 512 in
     let rest_is : end - at ≡ 512 * rest = omega arith in
     let first : ℕ = min m rest in
     let second : ℕ = m - first in
     let split : min (length all) (end - at) ≡ 512 * first = omega arith in
-    let within : from + 512 * m ≤ marks.ckpt + round_of shape =
+    let within : from + 512 * m ≤ marks.ckpt + round_of (layout_of shape) =
     ⊎_elim (λ none. omega (arith, cut.later, cut.room))
     (λ some. let ends : from + 512 * m < mark + 500 = ends-below from mark m aligned (omega (arith, counts.0, cut.count)) some in
     omega (arith, cut.place, cut.room, order.ckpt_aligned)) (cases_lt m 1) in
@@ -186,12 +186,12 @@ cuts-of shape s wholes marks mark ckpt bytes firsts order cut given =
           let zero_on : from + 512 * 0 ≡ from = omega arith in
           subst (λ (p : ℕ). WritesBlocks shape s wholes mark marks.ckpt p first (write_at at (front_of shape from all))) zero_on
           (cut-writes shape s wholes mark marks.ckpt from ckpt 0 first bytes firsts (write_at at (front_of shape from all)) order.starts low aligned behind cut.ckpt_small cut.fit cut.count given
-          (omega arith) (omega arith) (ap (λ b. offset_of b shape.log_blocks) (sym zero_on)) (omega arith) front_text));
+          (omega arith) (omega arith) (ap (λ b. place_in (layout_of shape) b) (sym zero_on)) (omega arith) front_text));
       back_writes = λ some. (
           let wraps : at + 512 * first ≡ end = omega arith in
-          let place : offset_of (from + 512 * first) shape.log_blocks ≡ 2048 = place-wrap shape from first aligned started cut.some_blocks wraps in
+          let place : place_in (layout_of shape) (from + 512 * first) ≡ ring_start (layout_of shape) = place-wrap shape from first aligned started cut.some_blocks wraps in
           let rest_all : length (drop (512 * first) all) ≤ 512 * second = omega (arith, length-drop (512 * first) all) in
-          cut-writes shape s wholes mark marks.ckpt from ckpt first second bytes firsts (write_at 2048 (back_of shape from all)) order.starts low aligned behind cut.ckpt_small cut.fit cut.count given
+          cut-writes shape s wholes mark marks.ckpt from ckpt first second bytes firsts (write_at (ring_start (layout_of shape)) (back_of shape from all)) order.starts low aligned behind cut.ckpt_small cut.fit cut.count given
           (omega arith) (omega arith) (sym place) (omega arith)
           (ap (λ n. drop n all) split ∙ sym (take_all (512 * second) (drop (512 * first) all) rest_all)));
       reached = (
@@ -208,17 +208,17 @@ pub write_to-ok : (shape : Shape) (s : ℕ) (wholes : List Whole) (marks : LogMa
 write_to-ok shape s wholes marks mark ckpt bytes firsts old new cut given holds is same =
     let from : ℕ = block_of marks.written in
     let all : List ℕ = framed bytes from firsts ckpt in
-    let at : ℕ = offset_of from shape.log_blocks in
+    let at : ℕ = place_in (layout_of shape) from in
     let front : List ℕ = front_of shape from all in
     let back : List ℕ = back_of shape from all in
     let cuts : Cuts shape s wholes marks mark from all = cuts-of shape s wholes marks mark ckpt bytes firsts holds.order cut given in
     let begun : IsWriting shape s wholes marks mark from old = writing-begin shape s wholes marks old mark holds is given.boundary cut.later cut.room in
     let half : IsWriting shape s wholes marks mark (from + 512 * cuts.first) (written_if at front old) =
     writing-if shape s wholes marks mark from cuts.first at front old cuts.front_long cuts.front_writes begun in
-    let whole : IsWriting shape s wholes marks mark (from + 512 * cuts.first + 512 * cuts.second) (written_if 2048 back (written_if at front old)) =
-    writing-if shape s wholes marks mark (from + 512 * cuts.first) cuts.second 2048 back (written_if at front old) cuts.back_long cuts.back_writes half in
+    let whole : IsWriting shape s wholes marks mark (from + 512 * cuts.first + 512 * cuts.second) (written_if (ring_start (layout_of shape)) back (written_if at front old)) =
+    writing-if shape s wholes marks mark (from + 512 * cuts.first) cuts.second (ring_start (layout_of shape)) back (written_if at front old) cuts.back_long cuts.back_writes half in
     subst (λ (disk : Disk). IsLive shape s wholes (after_written mark marks) disk) (sym same)
-    (writing-end shape s wholes marks mark (from + 512 * cuts.first + 512 * cuts.second) (written_if 2048 back (written_if at front old)) cuts.reached whole)
+    (writing-end shape s wholes marks mark (from + 512 * cuts.first + 512 * cuts.second) (written_if (ring_start (layout_of shape)) back (written_if at front old)) cuts.reached whole)
 
 pub write_to-err : (shape : Shape) (s : ℕ) (wholes : List Whole) (marks : LogMarks) (mark ckpt : ℕ) (bytes firsts : List ℕ) (old new : Disk)
     → IsCut shape marks mark ckpt bytes firsts → IsGivenTo s wholes (block_of marks.written) mark bytes firsts
@@ -228,7 +228,7 @@ pub write_to-err : (shape : Shape) (s : ℕ) (wholes : List Whole) (marks : LogM
 write_to-err shape s wholes marks mark ckpt bytes firsts old new cut given holds is fails =
     let from : ℕ = block_of marks.written in
     let all : List ℕ = framed bytes from firsts ckpt in
-    let at : ℕ = offset_of from shape.log_blocks in
+    let at : ℕ = place_in (layout_of shape) from in
     let front : List ℕ = front_of shape from all in
     let back : List ℕ = back_of shape from all in
     let cuts : Cuts shape s wholes marks mark from all = cuts-of shape s wholes marks mark ckpt bytes firsts holds.order cut given in
@@ -236,4 +236,4 @@ write_to-err shape s wholes marks mark ckpt bytes firsts old new cut given holds
     let half : IsWriting shape s wholes marks mark (from + 512 * cuts.first) (written_if at front old) =
     writing-if shape s wholes marks mark from cuts.first at front old cuts.front_long cuts.front_writes begun in
     ⊎_elim (λ here. writing-fails shape s wholes marks mark from cuts.first at front old new cuts.front_long cuts.front_writes begun here)
-    (λ there. writing-fails shape s wholes marks mark (from + 512 * cuts.first) cuts.second 2048 back (written_if at front old) new cuts.back_long cuts.back_writes half there) fails
+    (λ there. writing-fails shape s wholes marks mark (from + 512 * cuts.first) cuts.second (ring_start (layout_of shape)) back (written_if at front old) new cuts.back_long cuts.back_writes half there) fails

@@ -4,8 +4,7 @@ use Rattle.model_base.specs.declared.shape.Shape.{Shape}
 use Rattle.model_device.specs.Disk.{Disk}
 use Rattle.model_device.specs.{FailsWrite, written}
 use Rattle.model_device.specs.declared.write.Write.{Write}
-use Rattle.model_log.specs.{checkpoint_text, log_device_length, offset_of, place_of}
-use Rattle.model_log.specs.declared.layout.TheConstants.{HEADER_BYTES}
+use Rattle.model_log.specs.{checkpoint_text, layout_of, log_device_length, place_in, place_of, ring_start}
 use Rattle.model_base.specs.declared.limits.TheConstants.{BLOCK_SIZE}
 use Rattle.redo_disk.specs.{Request, ToWrite, write_at}
 
@@ -16,7 +15,7 @@ written_if at (byte ∷ bytes) disk = written disk (write_at at (byte ∷ bytes)
 
 -- how many bytes of the log there are from the block's place on, up to the log's end
 abbrev pub rest_of_round : Shape → ℕ → ℕ
-rest_of_round shape b = log_device_length shape - offset_of b shape.log_blocks
+rest_of_round shape b = log_device_length shape - place_in (layout_of shape) b
 
 -- of bytes for the log from the block's place on, those up to the log's end, and the others
 abbrev pub front_of : Shape → ℕ → List ℕ → List ℕ
@@ -28,13 +27,15 @@ back_of shape b bytes = drop (min (length bytes) (rest_of_round shape b)) bytes
 -- The bytes are written from the block's place on: up to the log's end, and what is left at the log's start.
 abbrev pub written_round : Shape → ℕ → List ℕ → Disk → Disk
 written_round shape b bytes old =
-    written_if HEADER_BYTES (back_of shape b bytes) (written_if (offset_of b shape.log_blocks) (front_of shape b bytes) old)
+    written_if (ring_start (layout_of shape)) (back_of shape b bytes)
+    (written_if (place_in (layout_of shape) b) (front_of shape b bytes) old)
 
 -- one of these two writes failed
 abbrev pub FailsRound : Shape → ℕ → List ℕ → Disk → Disk → Type 0
 FailsRound shape b bytes old new =
-    FailsWrite (write_at (offset_of b shape.log_blocks) (front_of shape b bytes)) old new
-    ⊎ FailsWrite (write_at HEADER_BYTES (back_of shape b bytes)) (written_if (offset_of b shape.log_blocks) (front_of shape b bytes) old) new
+    FailsWrite (write_at (place_in (layout_of shape) b) (front_of shape b bytes)) old new
+    ⊎ FailsWrite (write_at (ring_start (layout_of shape)) (back_of shape b bytes))
+    (written_if (place_in (layout_of shape) b) (front_of shape b bytes) old) new
 
 -- the write of the checkpoint of this number at this lsn
 abbrev pub checkpoint_write : Shape → ℕ → ℕ → Write
@@ -48,4 +49,5 @@ some_write at (byte ∷ bytes) = ToWrite (write_at at (byte ∷ bytes)) ∷ []
 -- the writes of bytes from the block's place on: one up to the log's end, and one at the log's start if bytes are left
 abbrev pub round_writes : Shape → ℕ → List ℕ → List Request
 round_writes shape b bytes =
-    some_write (offset_of b shape.log_blocks) (front_of shape b bytes) ++ some_write HEADER_BYTES (back_of shape b bytes)
+    some_write (place_in (layout_of shape) b) (front_of shape b bytes)
+    ++ some_write (ring_start (layout_of shape)) (back_of shape b bytes)

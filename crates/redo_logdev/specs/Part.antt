@@ -4,9 +4,9 @@ use Rattle.model_base.specs.declared.shape.Shape.{Shape}
 use Rattle.model_base.specs.declared.limits.TheConstants.{BLOCK_SIZE, START_LSN, MIN_LOG_BLOCKS, MAX_LOG_BLOCKS}
 use Rattle.model_log.specs.declared.group.Whole.{Whole}
 use Rattle.model_device.specs.Disk.{Disk}
-use Rattle.model_log.specs.{block_of, IsDataLsn, IsGivenTo, log_device_length, sn_of}
+use Rattle.model_log.specs.{block_of, IsDataLsn, IsGivenTo, layout_of, log_device_length, round_of, sn_of}
 use Rattle.model_log.specs.declared.layout.TheConstants.{RING_SIZE}
-use Rattle.model_parts.specs.{HasNextNumber, IsWritten, LogHolds, round_of}
+use Rattle.model_parts.specs.{HasNextNumber, IsWritten, LogHolds}
 use Rattle.model_parts.specs.declared.marks.LogMarks.{LogMarks}
 use Rattle.redo_block.specs.{AreFirsts}
 use Rattle.redo_disk.specs.{error_of, HasCause}
@@ -33,7 +33,7 @@ pub record IsSound (size : ℕ) (shape : Shape) (marks : LogMarks) (room_for : �
   pub ckpt_asked : marks.ckpt ≤ marks.asked
   pub asked_stable : marks.asked ≤ marks.stable
   pub stable_written : marks.stable ≤ marks.written
-  pub room : marks.written ≤ marks.ckpt + round_of shape
+  pub room : marks.written ≤ marks.ckpt + round_of (layout_of shape)
   pub small : marks.written < 2 ^ 61
 
 -- what the device of a part holds of a run: more as long as no call has failed
@@ -61,7 +61,7 @@ pub record MayWrite {L : Type 0} (part : Part L) (mark : ℕ) (bytes firsts : Li
   pub place : IsDataLsn mark
   pub later : part.marks.written ≤ mark
   pub near : mark < block_of part.marks.written + RING_SIZE
-  pub room : mark ≤ part.marks.ckpt + round_of part.shape
+  pub room : mark ≤ part.marks.ckpt + round_of (layout_of part.shape)
   pub small : mark < 2 ^ 61
   pub count : length bytes ≡ sn_of mark - sn_of (block_of part.marks.written)
   pub fit : AreFirsts bytes firsts

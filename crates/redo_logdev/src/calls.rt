@@ -2,15 +2,14 @@
 ghost use Rattle.std.specs.Prelude.{◌≡◌, ◌≤◌, ◌<◌, ◌%◌, ◌^◌, length, OnOk, OnErr};
 ghost use Rattle.model_base.specs.declared.limits.TheConstants.{BLOCK_SIZE, START_LSN, MIN_LOG_BLOCKS, MAX_LOG_BLOCKS};
 ghost use Rattle.model_device.specs.{FailsWrite};
-ghost use Rattle.model_log.specs.{log_device_length};
-ghost use Rattle.model_parts.specs.{round_of};
+ghost use Rattle.model_log.specs.{layout_of, log_device_length, round_of};
 ghost use Rattle.redo_disk.specs.{error_of, HasCause, IsRange, MakesCalls, OnTold, Serve, write_at};
 ghost use Rattle.redo_logdev.specs.Calls.{written_if, written_round, FailsRound, round_writes, some_write};
 
 use model_base::{BLOCK_SIZE, Shape};
 use model_log::HEADER_BYTES;
 use redo_disk::{DevError, Sectors};
-use redo_lsn::offset_of;
+use redo_lsn::{log_device_length, offset_of};
 
 /// Writes bytes, if there are any.
 fn write_some<L: Sectors>(device: &mut L, at: u64, bytes: &[u8]) -> Result<(), DevError>
@@ -43,7 +42,7 @@ pub fn write_round<L: Sectors>(
     requires few_blocks { shape.now.log_blocks ≤ MAX_LOG_BLOCKS }
     requires long { log_device_length shape.now ≤ (L.seen device.old).size }
     requires whole { length bytes.now % BLOCK_SIZE ≡ 0 }
-    requires room { length bytes.now ≤ round_of shape.now }
+    requires room { length bytes.now ≤ round_of (layout_of shape.now) }
     ensures ok { OnOk result (OnTold (L.seen device.old).tells (L.seen device.new).tells
         (λ old new. new ≡ written_round shape.now from bytes.now old)) }
     ensures err { OnErr result (OnTold (L.seen device.old).tells (L.seen device.new).tells
@@ -53,8 +52,8 @@ pub fn write_round<L: Sectors>(
     ensures cause { HasCause (L.seen device.old).faults (L.seen device.new).faults result }
 {
     let at = offset_of(from, shape.log_blocks);
-    let end = HEADER_BYTES + BLOCK_SIZE * u64::from(shape.log_blocks);
-    let (front, back) = bytes.split_at(bytes.len().min((end - at) as usize));
+    let rest = log_device_length(shape) - at;
+    let (front, back) = bytes.split_at(bytes.len().min(rest as usize));
     write_some(device, at, front)?;
     write_some(device, HEADER_BYTES, back)
 }

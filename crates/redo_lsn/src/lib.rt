@@ -2,10 +2,12 @@
 //! the types that the crates of the log share.
 #![tactic(auto)]
 
+mod layout;
 mod limits;
 mod lsn;
 mod memory;
 
+pub use layout::{log_device_length, round_of};
 pub use limits::Limits;
 pub use lsn::{block_of, is_data_lsn, lsn_of, number_of, offset_of, sn_of, start_after};
 pub use memory::NoMemory;

@@ -35,7 +35,7 @@ pub fn block_of(lsn: u64) -> u64
     lsn / BLOCK_SIZE * BLOCK_SIZE
 }
 
-/// Where a run starts behind a log that ends there: at the end itself, where it stands at the first data byte of a
+/// Where a run starts after a log that ends there: at the end itself, where it stands at the first data byte of a
 /// block, else at that of the next block.
 pub fn start_after(end: u64) -> u64
     requires { end < 2 ^ 61 }

@@ -61,7 +61,7 @@ started_data {gives = gives} {old = old} log store recovered start (Err error) (
     subst (λ (f : RecFault). MakesCalls gives old error.2 (MayEndWith (data_error f))) (sym none)
     (subst (λ dev. MakesCalls gives old dev (MayEndWith (Some device.NoMemory))) (sym data_is) (out_of_memory made))
 
--- calls, and others behind them that may run out of memory
+-- calls, and others after them that may run out of memory
 pub may_end_then : {D : Type 0} {gives : D → Call → D → Type 0} {old middle new : D} {error : Option DevError}
     → MakesCalls gives old middle (MayEndWith None) → MakesCalls gives middle new (MayEndWith error) → MakesCalls gives old new (MayEndWith error)
 may_end_then {error = error} = joined_calls (MayEndWith-append error)

@@ -9,16 +9,17 @@ use Rattle.model_device.specs.declared.write.Write.{Write}
 use Rattle.model_device.proofs.Images.{sector-after_write, settled_images}
 use Rattle.model_device.proofs.MayHold.{adds-written, adds-failed}
 use Rattle.model_device.proofs.Overwritten.{length-overwritten, part-overwritten_inside}
-use Rattle.model_log.specs.{head_text, log_device_length, offset_of}
-use Rattle.model_parts.specs.{sector_of, zero_block}
+use Rattle.model_log.specs.{head_text, layout_of, log_device_length, place_in, sector_of}
+use Rattle.model_parts.specs.{zero_block}
 use Rattle.model_parts.proofs.LogImages.{sector-log_block}
-use Rattle.model_parts.proofs.Places.{HasBlocks, sector-place, place-within, place-from}
+use Rattle.model_log.proofs.Places.{HasBlocks, sector-place, place-within, place-from}
 use Rattle.model_page.specs.{data_device_length}
 use Rattle.redo_disk.specs.{HasSize}
 use Rattle.redo_open.specs.Blank.{LosesHead, IsHeadless, HasNoHead, HasNoBlocks, MayHaveHead, HasHeadNow, HasBlankPages}
 use Rattle.redo_open.specs.Erase.{IsIn, Erases, HasErased}
 use Rattle.redo_open.specs.Mark.{IsSettledLog}
 use Rattle.redo_open.proofs.Marks.{IsOneSector, covers-one, writes-text}
+use Rattle.model_log.specs.declared.layout.TheConstants.{HEADER_BYTES}
 
 -- WITHOUT A HEADER.
 
@@ -55,7 +56,7 @@ settled-may old k bytes same holds =
     let there : MayHold (settled old.base) k bytes = subst (λ (d : Disk). MayHold d k bytes) same holds in
     ⊎_elim (λ here. here) (λ none. absurd none) there
 
-pub erases-headless : (size from end : ℕ) (old new : Disk) → 2048 ≤ size → 512 ≤ from → HasNoHead old → Erases size from end old new → IsHeadless new
+pub erases-headless : (size from end : ℕ) (old new : Disk) → HEADER_BYTES ≤ size → 512 ≤ from → HasNoHead old → Erases size from end old new → IsHeadless new
 erases-headless size from end old new room behind no_head is = record {
   long = omega (arith, is.sized.base);
   head = λ image image_is.
@@ -63,7 +64,7 @@ erases-headless size from end old new room behind no_head is = record {
       (λ zeros. zeros.1) (is.each 0 (sector 0 image) (image_is.each 0 (omega (arith, is.sized.base))));
 }
 
-pub synced-headless : (size from end : ℕ) (old mid : Disk) → 2048 ≤ size → 512 ≤ from → HasNoHead old → HasErased size from end old mid → IsHeadless (synced mid)
+pub synced-headless : (size from end : ℕ) (old mid : Disk) → HEADER_BYTES ≤ size → 512 ≤ from → HasNoHead old → HasErased size from end old mid → IsHeadless (synced mid)
 synced-headless size from end old mid room behind no_head is = record {
   long = omega (arith, is.erases.sized.reads);
   head = λ image image_is. ap (sector 0) ((settled_images mid.reads).1 image image_is) ∙ kept-head size from end old mid behind no_head is;
@@ -73,7 +74,7 @@ synced-headless size from end old mid room behind no_head is = record {
     kept-head size from end old mid behind no_head is =
         is.others 0 (λ inside. omega (arith, inside.low)) ∙ ap (λ (d : Disk). sector 0 d.reads) no_head.nothing_pending ∙ no_head.head
 
-pub no_head-headless : (size : ℕ) (disk : Disk) → 2048 ≤ size → HasSize size disk → HasNoHead disk → IsHeadless disk
+pub no_head-headless : (size : ℕ) (disk : Disk) → HEADER_BYTES ≤ size → HasSize size disk → HasNoHead disk → IsHeadless disk
 no_head-headless size disk room sized is = record {
   long = omega (arith, sized.base);
   head = λ image image_is.
@@ -85,7 +86,7 @@ no_head-headless size disk room sized is = record {
 pub synced-no_blocks : (shape : Shape) (size end : ℕ) (old mid : Disk) → IsWithinLimits shape → end ≡ log_device_length shape → end ≤ size → HasNoHead old
     → HasErased size 1024 end old mid → HasSize size (synced mid) × HasNoBlocks shape (synced mid)
 synced-no_blocks shape size end old mid limits end_is room no_head is =
-    let blocks : HasBlocks shape = record { some = omega (arith, limits.many_blocks); few = omega (arith, limits.few_blocks) } in (
+    let blocks : HasBlocks (layout_of shape) = record { some = omega (arith, limits.many_blocks); few = omega (arith, limits.few_blocks) } in (
       record { base = is.erases.sized.reads; reads = is.erases.sized.reads },
       record {
         no_head = record {
@@ -94,10 +95,10 @@ synced-no_blocks shape size end old mid limits end_is room no_head is =
         };
         headers = λ which low high. is.zeros which (record { low = omega arith; high = omega (arith, end_is, limits.many_blocks) });
         blocks = λ b aligned. (
-            let place : 512 * sector_of shape b ≡ offset_of b shape.log_blocks = sector-place shape b aligned in
-            let within : offset_of b shape.log_blocks + 512 ≤ 2048 + 512 * shape.log_blocks = place-within shape b blocks aligned in
-            let low : 2048 ≤ offset_of b shape.log_blocks = place-from shape b in
-            sym (sector-log_block shape b mid.reads aligned) ∙ is.zeros (sector_of shape b) (record { low = omega arith; high = omega (arith, end_is) }));
+            let place : 512 * sector_of (layout_of shape) b ≡ place_in (layout_of shape) b = sector-place (layout_of shape) b in
+            let within : place_in (layout_of shape) b + 512 ≤ log_device_length shape = place-within (layout_of shape) b blocks in
+            let low : HEADER_BYTES ≤ place_in (layout_of shape) b = place-from (layout_of shape) b in
+            sym (sector-log_block shape b mid.reads aligned) ∙ is.zeros (sector_of (layout_of shape) b) (record { low = omega arith; high = omega (arith, end_is) }));
       },
     )
 

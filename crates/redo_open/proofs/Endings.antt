@@ -35,7 +35,7 @@ pub record Stays {D : Type 0} (seen : D → Seen) (old new : Part D) : Type 0 wh
   pub size : (seen new.dev).size ≡ (seen old.dev).size
   pub later : (seen old.dev).faults ≤ (seen new.dev).faults
 
--- of a page behind others that were mended it failed
+-- mending failed at a page after others that were mended
 pub mend-behind : {D : Type 0} (seen : D → Seen) (shape : Shape) (count page all : ℕ) (old mid new : Part D) (error : DevError)
     → OnTold (seen old.dev).tells (seen mid.dev).tells (AreMended shape count) → Stays seen old mid
     → MendStep seen shape (IsMended shape page) mid (Err error) new → MendStep seen shape (AreMended shape all) old (Err error) new

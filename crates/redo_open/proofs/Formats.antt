@@ -6,10 +6,10 @@ use Rattle.model_base.specs.declared.shape.Shape.{Shape}
 use Rattle.model_device.specs.{IsImage, sector, settled}
 use Rattle.model_device.specs.Disk.{Disk}
 use Rattle.model_device.proofs.Images.{settled_images}
-use Rattle.model_log.specs.{checkpoint_text, head_text, header_block, log_block, log_device_length, offset_of}
-use Rattle.model_parts.specs.{IsAtRest, IsFormatted, IsFormattedData, IsFormattedLog, KeepsNoStore, sector_of, zero_block}
+use Rattle.model_log.specs.{checkpoint_text, head_text, header_block, layout_of, log_block, log_device_length, place_in, sector_of}
+use Rattle.model_parts.specs.{IsAtRest, IsFormatted, IsFormattedData, IsFormattedLog, KeepsNoStore, zero_block}
 use Rattle.model_parts.proofs.LogImages.{sector-log_block}
-use Rattle.model_parts.proofs.Places.{HasBlocks, sector-place, place-within, place-from}
+use Rattle.model_log.proofs.Places.{HasBlocks, sector-place, place-within, place-from}
 use Rattle.model_parts.proofs.Formatted.{zeros-refused, formatted-orderly}
 use Rattle.redo_disk.specs.{HasSize, OnTold}
 use Rattle.redo_open.specs.Blank.{LosesHead, IsHeadless, HasNoHead, HasNoBlocks, HasFirstCheckpoint, MayHaveHead, HasHeadNow, HasBlankPages}
@@ -17,10 +17,11 @@ use Rattle.redo_open.specs.Devices.{WhereBothTell}
 use Rattle.redo_open.specs.Mark.{IsSettledLog, MarksLog, HasMarked}
 use Rattle.redo_open.proofs.Blanks.{no_head-headless}
 use Rattle.redo_disk.proofs.Told.{known-as, told-step}
+use Rattle.model_log.specs.declared.layout.TheConstants.{HEADER_BLOCKS, HEADER_BYTES}
 
 -- WHAT IS KNOWN OF THE LOG, step by step.
 
--- a call behind which more is known of a device of this size
+-- a call after which more is known of a device of this size
 pub sized-step : (old new : Option Disk) (size own : ℕ) (P Q : Disk → Type 0) → own ≡ size → IfSome old (λ disk. HasSize size disk × P disk)
     → OnTold old new (λ a b. HasSize own a → P a → HasSize own b × Q b) → IfSome new (λ disk. HasSize size disk × Q disk)
 sized-step old new size own P Q same known told =
@@ -45,7 +46,7 @@ pub blank-known : (shape : Shape) (size : ℕ) (old new : Option Disk) → IfSom
 blank-known shape size old new known told =
     told-step old new (HasSize size) (HasBlankPages shape) (λ a b. HasSize size a → HasBlankPages shape b) (λ a b is step. step is) known told
 
-pub blocks-headless : (shape : Shape) (size : ℕ) (told : Option Disk) → 2048 ≤ size → IfSome told (λ disk. HasSize size disk × HasNoBlocks shape disk) → IfSome told IsHeadless
+pub blocks-headless : (shape : Shape) (size : ℕ) (told : Option Disk) → HEADER_BYTES ≤ size → IfSome told (λ disk. HasSize size disk × HasNoBlocks shape disk) → IfSome told IsHeadless
 blocks-headless shape size told room known =
     known-as told (λ disk. HasSize size disk × HasNoBlocks shape disk) IsHeadless (λ disk is. no_head-headless size disk room is.0 is.1.no_head) known
 
@@ -90,25 +91,25 @@ marked-first shape size old new room known told =
 -- an image whose other sectors are those of a log with its first checkpoint
 headed-log : (shape : Shape) (content image : List ℕ) → IsWithinLimits shape → log_device_length shape ≤ length content → length image ≡ length content
     → ((k : ℕ) → k ≢ 0 → 512 * k < length content → sector k image ≡ sector k content)
-    → header_block 1 content ≡ checkpoint_text 0 8192 shape → ((which : ℕ) → 2 ≤ which → which < 4 → header_block which content ≡ zero_block)
+    → header_block 1 content ≡ checkpoint_text 0 8192 shape → ((which : ℕ) → 2 ≤ which → which < HEADER_BLOCKS → header_block which content ≡ zero_block)
     → ((b : ℕ) → b % 512 ≡ 0 → log_block shape b content ≡ zero_block) → sector 0 image ≡ head_text shape → IsFormattedLog shape image
 headed-log shape content image limits long same_length others first headers blocks head =
-    let room : HasBlocks shape = record { some = omega (arith, limits.many_blocks); few = omega (arith, limits.few_blocks) } in
+    let room : HasBlocks (layout_of shape) = record { some = omega (arith, limits.many_blocks); few = omega (arith, limits.few_blocks) } in
     record {
       long = omega arith;
       head = head;
       checkpoint = others 1 (λ same. absurd (omega (arith, same))) (omega (arith, limits.many_blocks)) ∙ first;
       headers = λ which low high. others which (λ same. absurd (omega (arith, same))) (omega (arith, limits.many_blocks)) ∙ headers which low high;
       blocks = λ b aligned. (
-          let place : 512 * sector_of shape b ≡ offset_of b shape.log_blocks = sector-place shape b aligned in
-          let within : offset_of b shape.log_blocks + 512 ≤ 2048 + 512 * shape.log_blocks = place-within shape b room aligned in
-          let low : 2048 ≤ offset_of b shape.log_blocks = place-from shape b in
-          sym (sector-log_block shape b image aligned) ∙ others (sector_of shape b) (λ same. absurd (omega (arith, same))) (omega arith)
+          let place : 512 * sector_of (layout_of shape) b ≡ place_in (layout_of shape) b = sector-place (layout_of shape) b in
+          let within : place_in (layout_of shape) b + 512 ≤ log_device_length shape = place-within (layout_of shape) b room in
+          let low : HEADER_BYTES ≤ place_in (layout_of shape) b = place-from (layout_of shape) b in
+          sym (sector-log_block shape b image aligned) ∙ others (sector_of (layout_of shape) b) (λ same. absurd (omega (arith, same))) (omega arith)
           ∙ sector-log_block shape b content aligned ∙ blocks b aligned);
     }
 
 pub record IsHeaded (shape : Shape) (disk : Disk) : Type 0 where
-  pub long : 2048 ≤ length disk.base
+  pub long : HEADER_BYTES ≤ length disk.base
   pub images : (image : List ℕ) → IsImage disk image → (sector 0 image ≡ zero_block) ⊎ IsFormattedLog shape image
 
 pub heading-step : (shape : Shape) (old new : Option Disk) → IsWithinLimits shape → IfSome old (λ disk. IsSettledLog shape disk × HasFirstCheckpoint shape disk)
@@ -162,7 +163,7 @@ told-at old new a b R old_is new_is told =
     let same : first.0 ≡ b = cc in
     subst (R a) same first.2
 
-pub keeps-losing : (shape : Shape) (size : ℕ) (log_old data_old log_new data_new : Option Disk) → 2048 ≤ size → IfSome log_old (HasSize size)
+pub keeps-losing : (shape : Shape) (size : ℕ) (log_old data_old log_new data_new : Option Disk) → HEADER_BYTES ≤ size → IfSome log_old (HasSize size)
     → OnTold log_old log_new (λ a b. HasSize size a → LosesHead a b) → data_new ≡ data_old
     → WhereBothTell log_old data_old (λ a b. WhereBothTell log_new data_new (KeepsNoStore shape a b))
 keeps-losing shape size log_old data_old log_new data_new room known told same =

@@ -94,7 +94,7 @@ added-step seen shape pages found page lsn user old new batch after room read st
   cause = step.cause;
 }
 
--- from a number on up to another, behind steps that went well: all that is gathered in the end is written
+-- from a number on up to another, after steps that went well: all that is gathered in the end is written
 pub written-step : {D : Type 0} (seen : D → Seen) (shape : Shape) (pages : List Content) (found : List Found) (count : ℕ) (old mid new : Part D) (batch after : Gathered) (result : Result (Unit {0}) DevError)
     → shape ≡ mid.shape → mid.shape ≡ old.shape → (seen mid.dev).size ≡ (seen old.dev).size → (seen old.dev).faults ≤ (seen mid.dev).faults
     → ((top start : ℕ → Content) → AreTop pages found top start → IsWrittenTo shape top start 0 (seen old.dev).tells → IsGatheredTo shape top start count batch (seen mid.dev).tells)

@@ -75,7 +75,7 @@ new-in_rest first batch p content zero other at =
     let same : first ≡ record { page = p; content = content } = cc in absurd (other (ap (λ (f : Fresh). f.page) same))
 new-in_rest first batch p content (suc i) other at = record { i = i; at = at }
 
--- behind the batch a page is the one that was read, or the batch doesn't have it and it is as it was
+-- after the batch a page is the one that was read, or the batch doesn't have it and it is as it was
 after-which : (batch : List Fresh) (was top : ℕ → Content) (p : ℕ) → AreTopPages top batch
     → (after_batch batch was p ≡ top p) ⊎ ((after_batch batch was p ≡ was p) × ((content : Content) → IsNew batch p content → ⊥))
 after-which [] was top p are = inr (refl, λ content new. (let at = new.at in absurd cc))

@@ -6,7 +6,7 @@ use Rattle.model_base.specs.declared.shape.Shape.{Shape}
 use Rattle.model_device.specs.{IsWithin}
 use Rattle.model_device.specs.Disk.{Disk}
 use Rattle.model_device.specs.declared.write.Write.{Write}
-use Rattle.model_log.specs.{checkpoint_text, log_device_length, offset_of}
+use Rattle.model_log.specs.{checkpoint_text, layout_of, log_device_length, place_in}
 use Rattle.model_log.specs.declared.layout.TheConstants.{RING_SIZE}
 use Rattle.model_log.proofs.Sealed.{length-padded, length-sealed}
 use Rattle.model_base.specs.{padded_to}
@@ -35,7 +35,7 @@ use Rattle.redo_store.specs.Part.{Part}
 pub within-longer : (few many : ℕ) → few ≤ many → (write : Write) → IsWithin few write → IsWithin many write
 within-longer few many more write inside = omega (arith, more, inside)
 
--- a write of zeros ends behind so many
+-- a write of zeros lies within so many bytes
 pub zeros-within : (end at count : ℕ) → at + count ≤ end → IsWithin end (zeros_write at count)
 zeros-within end at count inside =
     let long : length (replicate {A = ℕ} count 0) ≡ count = length-zeros count in omega (arith, long, inside)
@@ -43,7 +43,7 @@ zeros-within end at count inside =
 length-checkpoint : (number lsn : ℕ) (shape : Shape) → length (checkpoint_text number lsn shape) ≡ 512
 unfolding checkpoint_text
 length-checkpoint number lsn shape =
-    let fields : List ℕ = bytes_high_first 8 number ++ bytes_high_first 8 lsn ++ bytes_high_first 8 (offset_of lsn shape.log_blocks) ++ bytes_high_first 8 RING_SIZE in
+    let fields : List ℕ = bytes_high_first 8 number ++ bytes_high_first 8 lsn ++ bytes_high_first 8 (place_in (layout_of shape) lsn) ++ bytes_high_first 8 RING_SIZE in
     length-sealed (padded_to 508 fields) ∙ ap (λ n. n + 4) (length-padded fields (omega arith))
 
 -- a checkpoint is written into the header
@@ -57,7 +57,7 @@ pub puts_of : {D : Type 0} {gives : D → Call → D → Type 0} {old new : D} {
     → MakesCalls gives old new (PutsWhere IsSuch error) → MakesCalls gives old new (ArePuts IsSuch)
 puts_of = weaker_calls (λ calls are. are.puts)
 
--- such calls, and others behind them
+-- such calls, and others after them
 pub puts_behind : {D : Type 0} {gives : D → Call → D → Type 0} {old middle new : D} {IsSuch : Write → Type 0}
     → MakesCalls gives old middle (ArePuts IsSuch) → MakesCalls gives middle new (ArePuts IsSuch) → MakesCalls gives old new (ArePuts IsSuch)
 puts_behind {IsSuch = IsSuch} = joined_calls (puts-append IsSuch)

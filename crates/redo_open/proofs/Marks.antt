@@ -9,13 +9,14 @@ use Rattle.model_device.specs.declared.write.Write.{Write}
 use Rattle.model_device.proofs.Images.{sector-after_write, settled_images}
 use Rattle.model_device.proofs.MayHold.{adds-written, adds-failed, holds-sector}
 use Rattle.model_device.proofs.Overwritten.{length-overwritten, part-overwritten_inside}
-use Rattle.model_log.specs.{checkpoint_text, log_device_length, offset_of, place_of}
-use Rattle.model_parts.specs.{IsMarked, IsMarking, sector_of}
+use Rattle.model_log.specs.{checkpoint_text, layout_of, log_device_length, place_in, place_of, sector_of}
+use Rattle.model_parts.specs.{IsMarked, IsMarking}
 use Rattle.model_parts.proofs.LogImages.{sector-log_block, place-cases}
-use Rattle.model_parts.proofs.Places.{HasBlocks, sector-place, place-within, place-from}
+use Rattle.model_log.proofs.Places.{HasBlocks, sector-place, place-within, place-from}
 use Rattle.redo_open.specs.Mark.{IsSettledLog, MarksLog, HasMarked}
+use Rattle.model_log.specs.declared.layout.TheConstants.{HEADER_BYTES, HEADER_BLOCKS}
 
-pub header-place : (number : ℕ) → (1 ≤ place_of number) × (place_of number < 4)
+pub header-place : (number : ℕ) → (1 ≤ place_of number) × (place_of number < HEADER_BLOCKS)
 header-place number = ⊎_elim (λ e. (omega (arith, e.0), omega (arith, e.0))) (λ o. (omega (arith, o.0), omega (arith, o.0))) (place-cases number)
 
 -- a write of one sector covers that sector and no other
@@ -34,7 +35,7 @@ writes-text k text write one =
 
 -- WHAT A CRASH MAY LEAVE, after the write, Ok or not.
 
-adds-marks : (shape : Shape) (number lsn : ℕ) (write : Write) (old new : Disk) → HasBlocks shape → IsSettledLog shape old
+adds-marks : (shape : Shape) (number lsn : ℕ) (write : Write) (old new : Disk) → HasBlocks (layout_of shape) → IsSettledLog shape old
     → IsOneSector (place_of number) (checkpoint_text number lsn shape) write → Adds write old new → MarksLog shape number lsn old.base new
 adds-marks shape number lsn write old new blocks settled_log one adds image is =
     let place = header-place number in
@@ -51,27 +52,27 @@ adds-marks shape number lsn write old new blocks settled_log one adds image is =
       same_length = is.same_length ∙ same_length;
       headers = λ which below other. ⊎_elim (λ same. same) (λ here. absurd (other (sym here.0))) (either which (omega arith));
       blocks = λ b aligned. (
-          let within : offset_of b shape.log_blocks + 512 ≤ 2048 + 512 * shape.log_blocks = place-within shape b blocks aligned in
-          let low : 2048 ≤ offset_of b shape.log_blocks = place-from shape b in
-          let at : 512 * sector_of shape b ≡ offset_of b shape.log_blocks = sector-place shape b aligned in
+          let within : place_in (layout_of shape) b + 512 ≤ log_device_length shape = place-within (layout_of shape) b blocks in
+          let low : HEADER_BYTES ≤ place_in (layout_of shape) b = place-from (layout_of shape) b in
+          let at : 512 * sector_of (layout_of shape) b ≡ place_in (layout_of shape) b = sector-place (layout_of shape) b in
           ⊎_elim (λ same. sym (sector-log_block shape b image aligned) ∙ same ∙ sector-log_block shape b old.base aligned)
-          (λ here. absurd (omega (arith, here.0))) (either (sector_of shape b) (omega arith)));
+          (λ here. absurd (omega (arith, here.0))) (either (sector_of (layout_of shape) b) (omega arith)));
       marks = ⊎_elim (λ same. inl same) (λ here. inr here.1) (either (place_of number) (omega arith));
     }
 
-pub failed-marks : (shape : Shape) (number lsn : ℕ) (write : Write) (old new : Disk) → HasBlocks shape → IsSettledLog shape old
+pub failed-marks : (shape : Shape) (number lsn : ℕ) (write : Write) (old new : Disk) → HasBlocks (layout_of shape) → IsSettledLog shape old
     → IsOneSector (place_of number) (checkpoint_text number lsn shape) write → FailsWrite write old new → MarksLog shape number lsn old.base new
 failed-marks shape number lsn write old new blocks settled_log one fails =
     adds-marks shape number lsn write old new blocks settled_log one (adds-failed write old new fails)
 
-pub written-marks : (shape : Shape) (number lsn : ℕ) (write : Write) (old : Disk) → HasBlocks shape → IsSettledLog shape old
+pub written-marks : (shape : Shape) (number lsn : ℕ) (write : Write) (old : Disk) → HasBlocks (layout_of shape) → IsSettledLog shape old
     → IsOneSector (place_of number) (checkpoint_text number lsn shape) write → MarksLog shape number lsn old.base (written old write)
 written-marks shape number lsn write old blocks settled_log one =
     adds-marks shape number lsn write old (written old write) blocks settled_log one (adds-written write old)
 
--- WHAT A SYNC BEHIND IT LEAVES.
+-- WHAT A SYNC AFTER IT LEAVES.
 
-pub synced-marked : (shape : Shape) (number lsn : ℕ) (write : Write) (old : Disk) → HasBlocks shape → IsSettledLog shape old
+pub synced-marked : (shape : Shape) (number lsn : ℕ) (write : Write) (old : Disk) → HasBlocks (layout_of shape) → IsSettledLog shape old
     → IsOneSector (place_of number) (checkpoint_text number lsn shape) write → HasMarked shape number lsn old.base (synced (written old write))
 synced-marked shape number lsn write old blocks settled_log one =
     let place = header-place number in
@@ -87,9 +88,9 @@ synced-marked shape number lsn write old blocks settled_log one =
       same_length = length-overwritten write.at write.bytes old.base sectors.within;
       headers = λ which below apart. other which apart;
       blocks = λ b aligned. (
-          let low : 2048 ≤ offset_of b shape.log_blocks = place-from shape b in
-          let at : 512 * sector_of shape b ≡ offset_of b shape.log_blocks = sector-place shape b aligned in
-          sym (sector-log_block shape b after aligned) ∙ other (sector_of shape b) (λ same. absurd (omega arith)) ∙ sector-log_block shape b old.base aligned);
+          let low : HEADER_BYTES ≤ place_in (layout_of shape) b = place-from (layout_of shape) b in
+          let at : 512 * sector_of (layout_of shape) b ≡ place_in (layout_of shape) b = sector-place (layout_of shape) b in
+          sym (sector-log_block shape b after aligned) ∙ other (sector_of (layout_of shape) b) (λ same. absurd (omega arith)) ∙ sector-log_block shape b old.base aligned);
       marks = part-overwritten_inside 512 (512 * place_of number) write.at write.bytes old.base (omega (arith, one.at)) (omega (arith, one.at)) sectors.within
           ∙ writes-text (place_of number) (checkpoint_text number lsn shape) write one;
     } in

@@ -157,7 +157,7 @@ all-written shape opened start told w =
     known-as told (Stored shape (IsUpTo (read_as opened)) w.was [] false) (HoldsPlaces shape opened)
     (λ disk stored. stored-as shape (read_as opened) w.was disk (λ p below. w.done p below) stored) w.stored
 
--- ONE BEHIND THE OTHER.
+-- ONE AFTER THE OTHER.
 
 pub mended-may_write : (shape : Shape) (pages : List Content) (places : Places) (log_bytes data_bytes : List ℕ) (opened : Reading) (old mid : Option Disk) → IsWithinLimits shape
     → IsReadAs shape pages log_bytes data_bytes opened → IfSome old (λ disk. disk ≡ settled data_bytes) → IfSome old (λ disk. AreFoundOn shape places pages disk.base)

@@ -13,7 +13,7 @@ use Rattle.redo_open.proofs.Puts.{IsToPut, served}
 use Rattle.redo_open.specs.Puts.{PutsWhere}
 use Rattle.redo_store.specs.Requests.{batch_requests}
 
--- a place lies behind the slots, among the places
+-- a place lies after the slots, among the places
 place-inside : (slots page pages size count : ℕ) → size ≡ 4096 → page < pages → count ≡ 4096 → (slots + page) * size + count ≤ (slots + pages) * size
 place-inside slots page pages size count is below long =
     subst (λ n. (slots + page) * n + count ≤ (slots + pages) * n) (sym is) (omega (arith, long, below))

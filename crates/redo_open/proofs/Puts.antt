@@ -24,7 +24,7 @@ pub put_one : {D : Type 0} {gives : D → Call → D → Type 0} {old new : D} {
 put_one {IsSuch = IsSuch} {call = call} is given =
     one_call {call = call} (PutsWhere IsSuch (error_of (answer_of call))) (record { puts = (is, tt); ends = EndWith-one call }) given
 
--- calls, and others behind them
+-- calls, and others after them
 pub puts_then : {D : Type 0} {gives : D → Call → D → Type 0} {old middle new : D} {IsSuch : Write → Type 0} {error : Option DevError}
     → MakesCalls gives old middle (PutsWhere IsSuch None) → MakesCalls gives middle new (PutsWhere IsSuch error) → MakesCalls gives old new (PutsWhere IsSuch error)
 puts_then {IsSuch = IsSuch} {error = error} = joined_calls (λ xs ys front back. record {
@@ -69,7 +69,7 @@ pub served : {D : Type 0} {gives : D → Call → D → Type 0} {old new : D} {I
     → AllByRecursion (IsToPut IsSuch) requests → MakesCalls gives old new (Serve requests error) → MakesCalls gives old new (PutsWhere IsSuch error)
 served {IsSuch = IsSuch} {error = error} requests are = weaker_calls (λ calls. serve-puts IsSuch requests error calls are)
 
--- a write, and a sync behind it
+-- a write, and a sync after it
 pub put-puts : (IsSuch : Write → Type 0) (write : Write) (error : Option DevError) (calls : List Call) → IsSuch write → Serve (put_requests write) error calls
     → PutsWhere IsSuch error calls
 put-puts IsSuch write error calls is = serve-puts IsSuch (put_requests write) error calls (is, (tt, tt))

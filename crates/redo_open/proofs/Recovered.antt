@@ -1,5 +1,5 @@
 -- The opening of a store that was recovered, to its exits.
-use Rattle.std.proofs.Common.{◌≡◌, ◌≤◌, ◌<◌, ◌+◌, ◌*◌, ◌%◌, ◌^◌, ◌∙◌, ℕ, List, Option, Some, None, Ok, Err, refl, sym, ap, subst, ⊎_elim, arith}
+use Rattle.std.proofs.Common.{◌≡◌, ◌≤◌, ◌<◌, ◌+◌, ◌%◌, ◌^◌, ◌∙◌, ℕ, List, Option, Some, None, Ok, Err, refl, sym, ap, subst, ⊎_elim, arith}
 use Rattle.std.specs.Prelude.{IfSome}
 use Rattle.std.proofs.lemmas.Bool.{cases_lt}
 use Rattle.model_base.specs.{IsWithinLimits}
@@ -7,7 +7,7 @@ use Rattle.model_base.specs.declared.shape.Shape.{Shape}
 use Rattle.model_device.specs.{settled}
 use Rattle.model_device.specs.Disk.{Disk}
 use Rattle.model_device.proofs.Images.{settled_images}
-use Rattle.model_log.specs.{IsAtDataStart, start_after}
+use Rattle.model_log.specs.{IsAtDataStart, layout_of, round_of, start_after}
 use Rattle.model_parts.specs.{first_marks, IsOpenable, IsReady, KeepsOpened, next_number}
 use Rattle.model_parts.proofs.Keeping.{openable-keeps}
 use Rattle.model_page.specs.declared.content.Content.{Content}
@@ -21,8 +21,8 @@ use Rattle.redo_logdev.specs.Part.{Part as Log}
 use Rattle.redo_open.specs.Clear.{MayStart}
 use Rattle.redo_open.specs.Devices.{DevicesStep, IsFrom, IsOpenFault, IsSameDevice, WhereBothTell}
 use Rattle.redo_open.specs.Opening.{Answer, IsOpenedAs, IsRunOn, IsStarted, OpensRecovered}
-use Rattle.redo_pageactors.specs.{IsRunnable}
-use Rattle.redo_pageactors.specs.declared.opened.Opened.{Opened}
+use Rattle.redo_store.specs.{IsRunnable}
+use Rattle.redo_store.specs.declared.opened.Opened.{Opened}
 use Rattle.redo_recover.specs.{AreNotAhead, IsEndOf, reading_of}
 use Rattle.redo_recover.specs.declared.fault.RecFault.{RecFault}
 use Rattle.redo_recover.specs.declared.fault.RecFault.TheVariants.{NoMemory}
@@ -36,7 +36,7 @@ pub may-start : (shape : Shape) (ckpt : ℕ) (wholes : List Whole) (end : ℕ) �
 may-start shape ckpt wholes end limits aligned started small is =
     let starts : StartsBehind end = starts-behind end is.place in
     let low : 12 ≤ end % 512 = is.place.0 in
-    let most : end ≤ ckpt + 512 * shape.log_blocks + 12 = is.up_to in
+    let most : end ≤ ckpt + round_of (layout_of shape) + 12 = is.up_to in
     record {
       limits = limits;
       aligned = aligned;
@@ -47,7 +47,7 @@ may-start shape ckpt wholes end limits aligned started small is =
       up_to = ⊎_elim (λ next. omega (arith, starts.next next)) (λ not_next. omega (arith, starts.here (omega arith))) (cases_lt 12 (end % 512));
     }
 
--- pages that aren't ahead of the end aren't ahead of the start behind it
+-- pages that aren't ahead of the end aren't ahead of the start after it
 pub not-ahead-of-start : (shape : Shape) (ckpt : ℕ) (wholes : List Whole) (end : ℕ) (pages : List Content) → IsEndOf shape ckpt wholes end
     → AreNotAhead pages end → AreNotAhead pages (start_after end)
 not-ahead-of-start shape ckpt wholes end pages is not_ahead = λ p page at.

@@ -13,7 +13,7 @@ pub risen-since : (first before now : ℕ) → first ≤ before → before ≤ n
 risen-since first before now later rises risen =
     ⊎_elim (λ more. inl (omega arith)) (λ full. ⊎_elim (λ less. inl (omega arith)) (λ not_less. inr not_less) (cases_lt first last_count)) risen
 
--- a call behind calls that went well
+-- a call after calls that went well
 pub cause-since : {T : Type 0} (first before now : ℕ) (result : Result T DevError) → first ≤ before → HasCause before now result → HasCause first now result
 cause-since first before now result later cause = record {
   later = omega (arith, cause.later);

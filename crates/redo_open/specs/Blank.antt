@@ -5,7 +5,7 @@ use Rattle.model_base.specs.declared.shape.Shape.{Shape}
 use Rattle.model_device.specs.{IsImage, sector, settled}
 use Rattle.model_device.specs.Disk.{Disk}
 use Rattle.model_log.specs.{checkpoint_text, head_text, header_block, log_block}
-use Rattle.model_log.specs.declared.layout.TheConstants.{HEADER_BYTES}
+use Rattle.model_log.specs.declared.layout.TheConstants.{HEADER_BYTES, HEADER_BLOCKS}
 use Rattle.model_parts.specs.{IsFormattedData, zero_block}
 
 -- each image is one of before, or its header is zeros
@@ -26,7 +26,7 @@ pub record HasNoHead (disk : Disk) : Type 0 where
 -- and so is all but the block of the first checkpoint
 pub record HasNoBlocks (shape : Shape) (disk : Disk) : Type 0 where
   pub no_head : HasNoHead disk
-  pub headers : (which : ℕ) → 2 ≤ which → which < 4 → header_block which disk.base ≡ zero_block
+  pub headers : (which : ℕ) → 2 ≤ which → which < HEADER_BLOCKS → header_block which disk.base ≡ zero_block
   pub blocks : (b : ℕ) → b % BLOCK_SIZE ≡ 0 → log_block shape b disk.base ≡ zero_block
 
 -- and that block holds the checkpoint

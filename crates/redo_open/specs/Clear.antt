@@ -6,11 +6,11 @@ use Rattle.model_base.specs.declared.shape.Shape.{Shape}
 use Rattle.model_device.specs.{IsImage, sector, settled}
 use Rattle.model_device.specs.Disk.{Disk}
 use Rattle.model_device.specs.MayHold.{MayHold}
-use Rattle.model_log.specs.{block_of, IsAtDataStart, log_block, log_device_length, offset_of}
-use Rattle.model_log.specs.declared.layout.TheConstants.{BLOCK_HEADER}
-use Rattle.model_parts.specs.{HasSameHeaders, IsAtRest, IsCleared, IsClearing, IsKept, IsOutside, round_of, sector_of, zero_block}
+use Rattle.model_log.specs.{block_of, IsAtDataStart, layout_of, log_block, log_device_length, place_in, round_of, sector_of}
+use Rattle.model_log.specs.declared.layout.TheConstants.{BLOCK_HEADER, HEADER_BLOCKS}
+use Rattle.model_parts.specs.{HasSameHeaders, IsAtRest, IsCleared, IsClearing, IsKept, IsOutside, zero_block}
 
--- where a run may start: behind the end of a log that is read from the checkpoint on
+-- where a run may start: after the end of a log that is read from the checkpoint on
 pub record MayStart (shape : Shape) (ckpt start : ℕ) : Type 0 where
   pub limits : IsWithinLimits shape
   pub aligned : ckpt % BLOCK_SIZE ≡ 0
@@ -18,15 +18,15 @@ pub record MayStart (shape : Shape) (ckpt start : ℕ) : Type 0 where
   pub small : ckpt < LSN_LIMIT
   pub place : IsAtDataStart start
   pub from : ckpt + BLOCK_HEADER ≤ start
-  pub up_to : start ≤ ckpt + round_of shape + BLOCK_HEADER
+  pub up_to : start ≤ ckpt + round_of (layout_of shape) + BLOCK_HEADER
 
 -- a row of blocks outside the kept range, which stand side by side on the device
 pub record IsPiece (shape : Shape) (ckpt start at count : ℕ) : Type 0 where
   pub aligned : at % BLOCK_SIZE ≡ 0
   pub from : block_of start ≤ at
   pub whole : count % BLOCK_SIZE ≡ 0
-  pub within : at + count ≤ ckpt + round_of shape
-  pub side_by_side : offset_of at shape.log_blocks + count ≤ log_device_length shape
+  pub within : at + count ≤ ckpt + round_of (layout_of shape)
+  pub side_by_side : place_in (layout_of shape) at + count ≤ log_device_length shape
 
 -- the device is at rest and as long as the shape asks
 pub record IsClearable (shape : Shape) (disk : Disk) : Type 0 where
@@ -47,10 +47,10 @@ pub record HasCleared (shape : Shape) (ckpt start : ℕ) (content : List ℕ) (d
 -- The same, sector by sector, of what a crash may leave.
 pub record MayKeep (shape : Shape) (ckpt start : ℕ) (content : List ℕ) (disk : Disk) : Type 0 where
   pub same_length : length disk.base ≡ length content
-  pub headers : (k : ℕ) → k < 4 → (bytes : List ℕ) → MayHold disk k bytes → bytes ≡ sector k content
-  pub kept : (b : ℕ) → IsKept shape ckpt start b → (bytes : List ℕ) → MayHold disk (sector_of shape b) bytes
+  pub headers : (k : ℕ) → k < HEADER_BLOCKS → (bytes : List ℕ) → MayHold disk k bytes → bytes ≡ sector k content
+  pub kept : (b : ℕ) → IsKept shape ckpt start b → (bytes : List ℕ) → MayHold disk (sector_of (layout_of shape) b) bytes
       → bytes ≡ log_block shape b content
-  pub outside : (b : ℕ) → IsOutside shape ckpt start b → (bytes : List ℕ) → MayHold disk (sector_of shape b) bytes
+  pub outside : (b : ℕ) → IsOutside shape ckpt start b → (bytes : List ℕ) → MayHold disk (sector_of (layout_of shape) b) bytes
       → (bytes ≡ log_block shape b content) ⊎ (bytes ≡ zero_block)
 
 -- and of what reads give, where the blocks below this lsn are cleared

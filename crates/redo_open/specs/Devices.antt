@@ -30,7 +30,7 @@ pub record IsSameDevice (old new : Seen) : Type 0 where
   pub size : new.size ≡ old.size
   pub later : old.faults ≤ new.faults
 
--- opening ends early behind the reading of the store where a device fails or memory runs out, and for nothing else
+-- opening ends early after the reading of the store where a device fails or memory runs out, and for nothing else
 abbrev pub IsOpenFault : RecFault → Type 0
 IsOpenFault LogDev = Unit {0}
 IsOpenFault fault = IsPageFault fault

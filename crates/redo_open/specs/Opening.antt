@@ -16,8 +16,8 @@ use Rattle.redo_disk.specs.declared.error.DevError.{DevError}
 use Rattle.redo_store.specs.Part.{Part}
 use Rattle.redo_open.specs.Devices.{HasSameCheckpoint, IsFrom, IsOpenFault, IsSameDevice, WhereBothTell}
 use Rattle.redo_open.specs.Formatting.{WritesInside}
-use Rattle.redo_pageactors.specs.{IsRunnable}
-use Rattle.redo_pageactors.specs.declared.opened.Opened.{Opened}
+use Rattle.redo_store.specs.{IsRunnable}
+use Rattle.redo_store.specs.declared.opened.Opened.{Opened}
 use Rattle.redo_recover.specs.{data_error, HasCauseIn, HasLengthCause, log_error, OnContents}
 use Rattle.redo_recover.specs.Devices.{IsUnchanged}
 use Rattle.redo_recover.specs.declared.recovered.Recovered.{Recovered}
@@ -37,7 +37,7 @@ abbrev pub data_left : {L D : Type 0} → Answer L D → D
 data_left (Ok store) = store.store.dev
 data_left (Err error) = error.2
 
--- The store is opened as it was read: with its shape and its pages, behind its log's end, and under the next number.
+-- The store is opened as it was read: with its shape and its pages, past its log's end, and under the next number.
 pub record IsOpenedAs {L D : Type 0} (reading : Reading) (store : Opened L D) : Type 0 where
   pub shape : store.shape ≡ reading.shape
   pub start : store.start ≡ start_of reading
@@ -115,7 +115,7 @@ pub record OpensLog (size : ℕ) (error : Option DevError) (calls : List Call) :
   pub ends : MayEndWith error calls
   pub begun : HEADER_BYTES ≤ size → 0 < length calls
 
--- Both devices are read, and behind that no call is a read, and no write reaches beyond the lengths that a store of this
+-- Both devices are read, and after that no call is a read, and no write reaches beyond the lengths that a store of this
 -- shape has.
 pub record ReadsThenWrites {L D : Type 0} (log_gives : L → Call → L → Type 0) (data_gives : D → Call → D → Type 0) (shape : Shape) (log_old log_new : L) (data_old data_new : D) : Type 0 where
   pub log_read : L

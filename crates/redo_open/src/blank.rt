@@ -11,8 +11,8 @@ ghost use Rattle.redo_open.specs.Puts.{PutsWhere};
 
 use crate::zeros::erase;
 use model_base::{BLOCK_SIZE, Shape};
-use model_log::HEADER_BYTES;
 use redo_disk::{DevError, Sectors};
+use redo_lsn::log_device_length;
 
 /// Takes the header away, for good.
 pub(crate) fn clear_head<L: Sectors>(log: &mut L) -> Result<(), DevError>
@@ -29,7 +29,7 @@ pub(crate) fn clear_head<L: Sectors>(log: &mut L) -> Result<(), DevError>
     log.sync()
 }
 
-/// Fills all log blocks with zeros, and the header blocks behind that of the first checkpoint, for good.
+/// Fills all log blocks with zeros, and the header blocks after that of the first checkpoint, for good.
 pub(crate) fn clear_blocks<L: Sectors>(log: &mut L, shape: &Shape) -> Result<(), DevError>
     requires limits { IsWithinLimits shape.now }
     requires long { log_device_length shape.now ≤ (L.seen log.old).size }
@@ -42,8 +42,7 @@ pub(crate) fn clear_blocks<L: Sectors>(log: &mut L, shape: &Shape) -> Result<(),
     ensures cause { HasCause (L.seen log.old).faults (L.seen log.new).faults result }
     ensures calls { MakesCalls L.gives log.old log.new (PutsWhere (IsWithin (log_device_length shape.now)) (error_of result)) }
 {
-    let log_end = HEADER_BYTES + BLOCK_SIZE * u64::from(shape.log_blocks);
-    erase(log, 2 * BLOCK_SIZE, log_end)?;
+    erase(log, 2 * BLOCK_SIZE, log_device_length(shape))?;
     log.sync()
 }
 

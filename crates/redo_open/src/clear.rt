@@ -11,9 +11,8 @@ ghost use Rattle.redo_open.specs.Puts.{PutsWhere};
 use crate::PIECE;
 use crate::zeros::write_zeros;
 use model_base::{BLOCK_SIZE, Shape};
-use model_log::HEADER_BYTES;
 use redo_disk::{DevError, Sectors};
-use redo_lsn::{block_of, offset_of};
+use redo_lsn::{block_of, log_device_length, offset_of, round_of};
 
 /// How many bytes of blocks one write clears from the block at `at` on: up to `end`, and no farther than the blocks stand
 /// side by side on the device.
@@ -30,8 +29,7 @@ fn piece_length(shape: &Shape, at: u64, end: u64) -> u64
     ensures within { at + result ≤ end }
     ensures side_by_side { offset_of at shape.now.log_blocks + result ≤ log_device_length shape.now }
 {
-    let log_end = HEADER_BYTES + BLOCK_SIZE * u64::from(shape.log_blocks);
-    let rest = log_end - offset_of(at, shape.log_blocks);
+    let rest = log_device_length(shape) - offset_of(at, shape.log_blocks);
     rest.min(end - at).min(PIECE as u64)
 }
 
@@ -54,7 +52,7 @@ pub(crate) fn clear<L: Sectors>(
     ensures cause { HasCause (L.seen log.old).faults (L.seen log.new).faults result }
     ensures calls { MakesCalls L.gives log.old log.new (PutsWhere (IsWithin (log_device_length shape.now)) (error_of result)) }
 {
-    let end = ckpt + BLOCK_SIZE * u64::from(shape.log_blocks);
+    let end = ckpt + round_of(shape);
     let mut at = block_of(start);
     while at < end {
         let count = piece_length(shape, at, end);

@@ -1,4 +1,4 @@
-//! Formatting and opening a store. Opening reads the store, takes away what stands on the log behind
+//! Formatting and opening a store. Opening reads the store, takes away what stands on the log past
 //! its end, repairs the places of pages that don't pass, writes each page that the log has changed, and moves the
 //! checkpoint. The layer above may rely on this: wherever opening ends, whatever a crash leaves of the two devices is
 //! read with the same pages.

@@ -9,16 +9,15 @@ ghost use Rattle.redo_open.specs.Devices.{HasSameCheckpoint, IsSameDevice, Where
 ghost use Rattle.redo_open.specs.Formatting.{WritesInside};
 ghost use Rattle.redo_open.specs.Mend.{IsSettledData};
 ghost use Rattle.redo_open.specs.Opening.{log_left, data_left, log_error_in, data_error_in, HasFaultCause, IsOpeningOf, IsOpenedReady, IsStarted, OpensInside, OpensLog, OpensRecovered};
-ghost use Rattle.redo_pageactors.specs.{IsRunnable};
+ghost use Rattle.redo_store.specs.{IsRunnable};
 ghost use Rattle.redo_recover.specs.{AreFoundOn, IsOfDevices, OnContents, reading_of};
 
 use crate::devices::open_devices;
 use redo_disk::Sectors;
 use redo_logdev::LogPart;
 use redo_lsn::start_after;
-use redo_pageactors::Opened;
 use redo_recover::{RecFault, Recovered, data_fault, recover};
-use redo_store::DataPart;
+use redo_store::{DataPart, Opened};
 use std::alloc::Global;
 
 /// What a run takes, once both devices are ready for it. The log part is made last.
@@ -83,10 +82,10 @@ fn open_recovered<L: Sectors, D: Sectors>(
     start_run(alloc, log, store, recovered, start)
 }
 
-/// Opens the store on two devices, so that a run can start on it: reads it, clears away what stands on the log behind its
+/// Opens the store on two devices, so that a run can start on it: reads it, clears away what stands on the log past its
 /// end, repairs the places of pages that don't pass, writes each page as it was read where that isn't in its place then,
-/// and moves the checkpoint. A store that is refused is as it was. Nothing is written beyond the lengths that the store's
-/// shape asks for, and nothing is read once the store is.
+/// and moves the checkpoint. A store that is refused is as it was. Where it opens, or the devices tell what they hold,
+/// nothing is written beyond the lengths that the store's shape asks for, and nothing is read once the store is.
 ///
 /// Wherever it ends, whatever a crash leaves of the two devices is read with the same pages. The devices of a store that
 /// isn't opened are handed back beside the fault.

@@ -4,12 +4,12 @@ use Rattle.std.specs.List.{AllByRecursion}
 use Rattle.std.specs.Prelude.{IfSome}
 use Rattle.model_base.specs.declared.limits.TheConstants.{BLOCK_SIZE}
 use Rattle.model_base.specs.declared.shape.Shape.{Shape}
-use Rattle.model_log.specs.{read_block}
+use Rattle.model_log.specs.{lsn_at, read_block}
 use Rattle.model_log.specs.declared.block.BlockView.{BlockView}
 use Rattle.model_log.specs.declared.layout.TheConstants.{BLOCK_HEADER}
 use Rattle.model_page.specs.declared.content.Content.{Content}
 use Rattle.model_log.specs.declared.group.Whole.{Whole}
-use Rattle.model_store.specs.{groups_start, lsn_at}
+use Rattle.model_store.specs.{groups_start}
 use Rattle.model_store.proofs.Ending.{EndsWithin, AreFirstsIn, first-place, starts-among, ends-behind, ends-among}
 use Rattle.model_store.proofs.Folding.{ends-below, replayed-below}
 use Rattle.model_store.proofs.Places.{push_place}

@@ -13,7 +13,7 @@ use Rattle.redo_recover.specs.Groups.{GivesStorable}
 use Rattle.redo_recover.specs.Runs.{AreGroupsSoFar}
 use Rattle.model_store.proofs.OneScan.{OneGroup, unfinished-not_whole}
 
--- a group's text, and what is left behind it
+-- a group's text, and what is left after it
 pub begins-split : (bytes : List ℕ) (text : List ℕ) (len : ℕ) → take len bytes ≡ text → bytes ≡ text ++ drop len bytes
 begins-split bytes text len e = sym (take-append-drop len bytes) ∙ ap (λ front. front ++ drop len bytes) e
 

@@ -25,7 +25,7 @@ each-append : (P : List Rec → Type 0) (gs hs : List (List Rec)) → AllByRecur
 each-append P [] hs a b = b
 each-append P (g ∷ gs) hs a b = (a.0, each-append P gs hs a.1 b)
 
--- groups behind which others stand
+-- groups after which others stand
 groups-append : (shape : Shape) (bytes middle rest : List ℕ) (start : ℕ) (ws vs : List Whole) → AreGroups shape bytes start ws middle
     → AreGroups shape middle (end_of start (spans_of ws)) vs rest → AreGroups shape bytes start (ws ++ vs) rest
 groups-append shape bytes middle rest start ws vs a b = record {
@@ -60,7 +60,7 @@ front-none shape bytes start run none first last at end = record {
   at = at;
 }
 
--- the groups of a run in front, and what is left behind them
+-- the groups of a run in front, and what is left after them
 pub front-so_far : (shape : Shape) (bytes : List ℕ) (start : ℕ) (run : Run) → IsFrontRun shape bytes start run
     → AreGroupsSoFar shape bytes start run.wholes.items run.end (drop run.to bytes)
 front-so_far shape bytes start run front =

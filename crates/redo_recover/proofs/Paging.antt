@@ -38,7 +38,7 @@ kept-put shape data_bytes count pages new kept a is new_is its = record {
 kept-at : (shape : Shape) (data_bytes : List ℕ) (p : ℕ) (page : Content) → IsKept shape data_bytes p page → (lsn : ℕ) × IsKeptAt shape data_bytes p lsn
 kept-at shape data_bytes p page kept = (page.lsn, record { kept = page; is_kept = kept; same = refl })
 
--- behind kept pages comes one that is lost
+-- after kept pages comes one that is lost
 pub first_lost : (shape : Shape) (data_bytes : List ℕ) (pages : List Content) (count : ℕ) → AreKeptFirst shape data_bytes count pages
     → count < shape.pages → IsLost shape data_bytes count → IsFirstLost shape data_bytes count
 first_lost shape data_bytes pages count a below lost = record {

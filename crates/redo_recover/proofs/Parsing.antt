@@ -20,7 +20,7 @@ parsed-fit ckpt count shape bytes None wholes end (none, at) =
     subst (λ ws. All (λ whole. GroupFits shape whole.group) ws) (sym none) (All-nil (λ whole. GroupFits shape whole.group))
 parsed-fit ckpt count shape bytes (Some start) wholes end parsed = good-fit shape wholes parsed.groups.each
 
--- and each of them ends behind its start
+-- and each of them ends after its start
 pub parsed-behind : (ckpt count : ℕ) (shape : Shape) (bytes : List ℕ) (start : Option ℕ) (wholes : List Whole) (end : ℕ)
     → AreParsed ckpt count shape bytes start wholes end → EndBehindStarts wholes
 parsed-behind ckpt count shape bytes None wholes end (none, at) = subst EndBehindStarts (sym none) tt

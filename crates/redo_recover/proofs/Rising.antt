@@ -1,4 +1,4 @@
--- Groups that end behind their starts, and the lsn that a page gets of them.
+-- Groups that end after their starts, and the lsn that a page gets of them.
 use Rattle.std.proofs.Common.{◌≡◌, ◌≤◌, ◌<◌, ◌+◌, ◌⊎◌, ◌∙◌, ℕ, inl, inr, Bool, true, false, cond, List, [], ◌∷◌, refl, ap, arith}
 use Rattle.std.specs.Prelude.{nat_le}
 use Rattle.std.specs.List.{AllByRecursion}
@@ -17,7 +17,7 @@ use Rattle.redo_recover.specs.Groups.{EndBehindStarts}
 lsn-behind : (start len : ℕ) → 1 ≤ len → start < lsn_of (sn_of start + len)
 lsn-behind start len some = grind (arith, nat_tests)
 
--- a group that has a byte ends behind its start
+-- a group that has a byte ends after its start
 pub each-behind : (shape : Shape) (wholes : List Whole) → AllByRecursion HasItsLength wholes → AllByRecursion (IsStorable shape) (groups_of wholes)
     → EndBehindStarts wholes
 each-behind shape [] lengths each = tt

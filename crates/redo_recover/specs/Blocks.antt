@@ -1,18 +1,19 @@
 -- The blocks of a log that were read from a checkpoint on.
 use Rattle.std.specs.Prelude.{ℕ, ◌≡◌, ◌≢◌, ◌≤◌, ◌<◌, ◌*◌, List, length, slice_get, Some}
 use Rattle.model_base.specs.declared.shape.Shape.{Shape}
+use Rattle.model_log.specs.{layout_of}
 use Rattle.model_log.specs.declared.layout.TheConstants.{BLOCK_HEADER, BLOCK_DATA, BLOCK_DATA_END}
 use Rattle.model_log.specs.declared.block.BlockView.{BlockView}
-use Rattle.model_store.specs.{AreBlocks, joined}
+use Rattle.model_store.specs.{AreBlocks, joined, Source}
 
--- these are the blocks of the log from the checkpoint on, and their data joined
-pub record AreBlocksOf (shape : Shape) (ckpt : ℕ) (views : List BlockView) (bytes content : List ℕ) : Type 0 where
-  pub views_are : AreBlocks shape content ckpt views
-  pub bytes_are : bytes ≡ joined shape content ckpt views
+-- these are the blocks of a source from the checkpoint on, and their data joined
+pub record AreBlocksOf (most ckpt : ℕ) (views : List BlockView) (bytes : List ℕ) (source : Source) : Type 0 where
+  pub views_are : AreBlocks most source ckpt views
+  pub bytes_are : bytes ≡ joined source ckpt views
 
 -- there are no more blocks than the log has, and no more data than they have room for
 pub record AreFew (shape : Shape) (views : List BlockView) (bytes : List ℕ) : Type 0 where
-  pub few : length views ≤ shape.log_blocks
+  pub few : length views ≤ (layout_of shape).blocks
   pub short : length bytes ≤ BLOCK_DATA * length views
 
 -- the first offset, where there is one, is that of a data byte

@@ -1,7 +1,8 @@
 -- What recovery says of the devices that it reads, and of the ways in which it may end.
 use Rattle.std.specs.Prelude.{ℕ, ◌≡◌, ◌≤◌, ◌<◌, List, Option, Some, None, IfSome}
 use Rattle.model_device.specs.Disk.{Disk}
-use Rattle.model_store.specs.{Refuses}
+use Rattle.model_base.specs.declared.shape.Shape.{Shape}
+use Rattle.model_store.specs.{Refuses, Source, taken}
 use Rattle.model_store.specs.declared.refusal.Refusal.{Refusal}
 use Rattle.model_store.specs.declared.refusal.Refusal.TheVariants as refusal
 use Rattle.redo_disk.specs.Seen.{Seen}
@@ -20,6 +21,10 @@ pub record IsUnchanged (old new : Seen) : Type 0 where
 -- what reads of the device give has this property, where it tells
 abbrev pub OnContent : Option Disk → (List ℕ → Type 0) → Type 0
 OnContent told P = IfSome told (λ disk. P disk.reads)
+
+-- what the scan takes of it has this property
+abbrev pub OnSource : Shape → Option Disk → (Source → Type 0) → Type 0
+OnSource shape told P = OnContent told (λ content. P (taken shape content))
 
 -- what reads of the two devices give has this property, where both tell
 abbrev pub OnContents : Option Disk → Option Disk → (List ℕ → List ℕ → Type 0) → Type 0

@@ -1,15 +1,14 @@
 -- What reading groups one after another off some bytes gives.
-use Rattle.std.specs.Prelude.{ℕ, ◌≡◌, ◌≤◌, ◌<◌, ◌+◌, ◌-◌, ◌*◌, List, [], length, take, drop, Option, Some, None, ⊤}
+use Rattle.std.specs.Prelude.{ℕ, ◌≡◌, ◌≤◌, ◌<◌, ◌+◌, ◌-◌, List, [], length, take, drop, Option, Some, None, ⊤}
 use Rattle.std.specs.List.{AllByRecursion}
-use Rattle.model_base.specs.declared.limits.TheConstants.{BLOCK_SIZE}
 use Rattle.model_base.specs.declared.shape.Shape.{Shape}
 use Rattle.model_base.specs.declared.got.Got.{Got}
 use Rattle.model_base.specs.declared.got.Got.TheVariants.{Value, Short, Bad}
-use Rattle.model_log.specs.{end_of, group_text, IsDataLsn, IsFront, sn_of, spans_of}
+use Rattle.model_log.specs.{end_of, group_text, IsDataLsn, IsFront, layout_of, lsn_at, round_of, sn_of, spans_of}
 use Rattle.model_log.specs.declared.rec.Rec.{Rec}
 use Rattle.model_log.specs.declared.group.Whole.{Whole}
 use Rattle.model_log.specs.declared.layout.TheConstants.{BLOCK_HEADER}
-use Rattle.model_store.specs.{AreGroups, HasNoStorable, IsBadRecord, IsStorable, lsn_at}
+use Rattle.model_store.specs.{AreGroups, HasNoStorable, IsBadRecord, IsStorable, Source}
 use Rattle.redo_recover.specs.declared.fault.RecFault.{RecFault}
 use Rattle.redo_recover.specs.declared.fault.RecFault.TheVariants.{BadRecord, LogDev, NoMemory}
 
@@ -27,11 +26,11 @@ pub record EndAt (shape : Shape) (bytes : List ℕ) (start : ℕ) (wholes : List
   pub front : IsFront rest
   pub at : end ≡ end_of start (spans_of wholes)
 
--- each of the groups ends behind the lsn at which it starts
+-- each of the groups ends past the lsn at which it starts
 abbrev pub EndBehindStarts : List Whole → Type 0
 EndBehindStarts wholes = AllByRecursion (λ (whole : Whole). whole.start < whole.end) wholes
 
--- behind groups that fit comes at this lsn neither one more nor less than a whole one
+-- after groups that fit comes at this lsn neither one more nor less than a whole one
 pub record BreakAt (shape : Shape) (bytes : List ℕ) (start lsn : ℕ) : Type 0 where
   pub wholes : List Whole
   pub rest : List ℕ
@@ -40,12 +39,12 @@ pub record BreakAt (shape : Shape) (bytes : List ℕ) (start lsn : ℕ) : Type 0
   pub no_rest : IsFront rest → ⊥
   pub at : lsn ≡ end_of start (spans_of wholes)
 
--- The log ends at a data byte behind the checkpoint, at most at the first one of the block where the log has gone round,
--- and none of the groups ends behind that.
+-- The log ends at a data byte past the checkpoint, at most at the first one of the block where the log has gone round,
+-- and none of the groups ends past that.
 pub record IsEndOf (shape : Shape) (ckpt : ℕ) (wholes : List Whole) (end : ℕ) : Type 0 where
   pub place : IsDataLsn end
   pub from : ckpt + BLOCK_HEADER ≤ end
-  pub up_to : end ≤ ckpt + BLOCK_SIZE * shape.log_blocks + BLOCK_HEADER
+  pub up_to : end ≤ ckpt + round_of (layout_of shape) + BLOCK_HEADER
   pub groups : AllByRecursion (λ (whole : Whole). whole.end ≤ end) wholes
 
 -- why no groups are read off the bytes from the lsn `start` on
@@ -55,7 +54,7 @@ IsBreakFault shape bytes start NoMemory = ⊤
 IsBreakFault shape bytes start _ = ⊥
 
 -- The groups in the joined data of blocks from the checkpoint on, and the log's end: from the lsn on at which groups
--- start; where there is none, no group, and the first data byte behind the blocks.
+-- start; where there is none, no group, and the first data byte after the blocks.
 abbrev pub AreParsed : ℕ → ℕ → Shape → List ℕ → Option ℕ → List Whole → ℕ → Type 0
 AreParsed ckpt count shape bytes None wholes end = (wholes ≡ []) × (end ≡ lsn_at ckpt count + BLOCK_HEADER)
 AreParsed ckpt count shape bytes (Some start) wholes end = EndAt shape (drop (sn_of start - sn_of ckpt) bytes) start wholes end
@@ -65,9 +64,9 @@ abbrev pub IsParseFault : ℕ → Shape → List ℕ → Option ℕ → RecFault
 IsParseFault ckpt shape bytes None fault = ⊥
 IsParseFault ckpt shape bytes (Some start) fault = IsBreakFault shape (drop (sn_of start - sn_of ckpt) bytes) start fault
 
--- why a log isn't scanned
-abbrev pub IsScanFault : Shape → ℕ → List ℕ → RecFault → Type 0
-IsScanFault shape ckpt content (BadRecord lsn) = IsBadRecord shape content ckpt lsn
-IsScanFault shape ckpt content LogDev = ⊤
-IsScanFault shape ckpt content NoMemory = ⊤
-IsScanFault shape ckpt content _ = ⊥
+-- why a source isn't scanned
+abbrev pub IsScanFault : Shape → ℕ → ℕ → RecFault → Source → Type 0
+IsScanFault shape most ckpt (BadRecord lsn) source = IsBadRecord shape most source ckpt lsn
+IsScanFault shape most ckpt LogDev source = ⊤
+IsScanFault shape most ckpt NoMemory source = ⊤
+IsScanFault shape most ckpt _ source = ⊥

@@ -24,7 +24,7 @@ reading_of recovered = record {
 }
 
 -- What is known of it whatever the devices tell: the sizes are within the limits and the devices long enough for them,
--- the checkpoint stands at the lsn of a block, no more blocks are scanned than the log has, it ends within a round behind the
+-- the checkpoint stands at the lsn of a block, no more blocks are scanned than the log has, it ends within a round after the
 -- checkpoint, and there is each of the pages, none of them ahead of that, and where it was found.
 pub record IsOfDevices (log_size data_size : ℕ) (recovered : Recovered) : Type 0 where
   pub limits : IsWithinLimits recovered.shape

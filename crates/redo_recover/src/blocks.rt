@@ -2,20 +2,20 @@
 ghost use Rattle.std.specs.Prelude.{◌≡◌, ◌≤◌, ◌<◌, ◌+◌, ◌*◌, ◌%◌, ◌^◌, length, IfOk, IfSome, None, nat_lt, if◌then◌else◌};
 ghost use Rattle.model_base.specs.{IsWithinLimits};
 ghost use Rattle.model_base.specs.declared.limits.TheConstants.{MAX_LOG_BLOCKS, START_LSN};
-ghost use Rattle.model_log.specs.{is_full, log_device_length, read_block, IsStop, cause_at};
+ghost use Rattle.model_log.specs.{is_full, layout_of, log_device_length, read_block, IsStop, cause_at};
 ghost use Rattle.model_log.specs.declared.layout.TheConstants.{BLOCK_HEADER};
 ghost use Rattle.model_store.specs.{groups_start};
 ghost use Rattle.redo_disk.specs.{error_of};
 ghost use Rattle.redo_recover.specs.Blocks.{AreBlocksOf, AreFew, HasFirst, HaveFirsts};
-ghost use Rattle.redo_recover.specs.Devices.{OnContent};
+ghost use Rattle.redo_recover.specs.Devices.{OnContent, OnSource};
 ghost use Rattle.redo_recover.specs.Reads.{IsOnlyRead};
 
 use crate::piece::Piece;
 use model_base::{BLOCK_SIZE, LSN_LIMIT, Shape};
-use model_log::{BlockView, Cause, HEADER_BYTES};
+use model_log::{BlockView, Cause};
 use redo_block::{block_data, read, why};
 use redo_disk::{DevError, Sectors};
-use redo_lsn::offset_of;
+use redo_lsn::{log_device_length, offset_of, round_of};
 use std::alloc::Global;
 
 /// The blocks of a log from a checkpoint on.
@@ -48,8 +48,7 @@ fn readable_end(shape: &Shape, at: u64, left: u32) -> u64
     ensures some { at < result }
     ensures within { result ≤ log_device_length shape.now }
 {
-    let log_end = HEADER_BYTES + BLOCK_SIZE * u64::from(shape.log_blocks);
-    (at + BLOCK_SIZE * u64::from(left)).min(log_end)
+    (at + BLOCK_SIZE * u64::from(left)).min(log_device_length(shape))
 }
 
 /// Reads the blocks from the checkpoint's on, while they fit, up to and including the first that isn't full; at most as
@@ -65,7 +64,7 @@ pub(crate) fn read_blocks<L: Sectors>(
     requires aligned { ckpt % BLOCK_SIZE ≡ 0 }
     requires started { START_LSN ≤ ckpt }
     requires small { ckpt < LSN_LIMIT }
-    ensures blocks { IfOk result (λ blocks. OnContent (L.seen log.old).tells (AreBlocksOf shape.now ckpt blocks.views.items blocks.joined.items)) }
+    ensures blocks { IfOk result (λ blocks. OnSource shape.now (L.seen log.old).tells (AreBlocksOf (layout_of shape.now).blocks ckpt blocks.views.items blocks.joined.items)) }
     ensures few { IfOk result (λ blocks. AreFew shape.now blocks.views.items blocks.joined.items) }
     ensures firsts { IfOk result (λ blocks. HaveFirsts blocks.views.items) }
     ensures stop { IfOk result (λ blocks. OnContent (L.seen log.old).tells (IsStop shape.now ckpt blocks.views.items blocks.stop)) }
@@ -102,7 +101,7 @@ pub(crate) fn read_blocks<L: Sectors>(
             });
         }
     }
-    let next = ckpt + BLOCK_SIZE * u64::from(shape.log_blocks);
+    let next = ckpt + round_of(shape);
     Ok(Blocks {
         views,
         joined,

@@ -12,7 +12,7 @@ use redo_disk::Sectors;
 use std::alloc::Global;
 use std::thread::Threads;
 
-/// Reads a store off its two devices, with the groups applied in the way that is handed in.
+/// Reads a store off its two devices, with the groups read and applied by the workers that are handed in.
 fn recover_by<L: Sectors, D: Sectors, P: Replay>(
     alloc: Global,
     log: &mut L,

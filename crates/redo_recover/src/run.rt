@@ -54,7 +54,7 @@ impl Run {
     }
 }
 
-/// Adds groups behind others; where there are none, the list itself is taken over.
+/// Adds groups after others; where there are none, the list itself is taken over.
 fn join_lists(front: &mut Vec<Whole>, back: Vec<Whole>) -> Result<(), AllocError>
     ensures { OnOk result (front.new.items ≡ front.old.items ++ back.items) }
 {
@@ -67,7 +67,7 @@ fn join_lists(front: &mut Vec<Whole>, back: Vec<Whole>) -> Result<(), AllocError
 }
 
 /// The groups from this byte of the data on, at this lsn, as far as they fit the store, up to the first one that starts at the
-/// byte `until` or behind it.
+/// byte `until` or past it.
 pub(crate) fn read_run(
     alloc: Global,
     bytes: &[u8],

@@ -2,9 +2,9 @@
 ghost use Rattle.std.specs.Prelude.{ℕ, ◌≡◌, ◌≤◌, ◌<◌, ◌%◌, length, All, IfOk, IfErr};
 ghost use Rattle.model_base.specs.{IsWithinLimits};
 ghost use Rattle.model_base.specs.declared.limits.TheConstants.{BLOCK_SIZE, LSN_LIMIT, START_LSN};
-ghost use Rattle.model_log.specs.{GroupFits, IsStop, log_device_length};
+ghost use Rattle.model_log.specs.{GroupFits, IsStop, layout_of, log_device_length};
 ghost use Rattle.model_store.specs.{IsScan};
-ghost use Rattle.redo_recover.specs.Devices.{HasLengthCause, OnContent};
+ghost use Rattle.redo_recover.specs.Devices.{HasLengthCause, OnContent, OnSource};
 ghost use Rattle.redo_recover.specs.Groups.{EndBehindStarts, IsEndOf, IsScanFault};
 ghost use Rattle.redo_recover.specs.Reads.{IsOnlyRead, MayBeOwn, data_error, log_error_of};
 
@@ -42,14 +42,14 @@ pub(crate) fn scan_log<L: Sectors, P: Replay>(
     requires aligned { ckpt % BLOCK_SIZE ≡ 0 }
     requires started { START_LSN ≤ ckpt }
     requires small { ckpt < LSN_LIMIT }
-    ensures scan { IfOk result (λ scanned. OnContent (L.seen log.old).tells
-        (λ content. IsScan shape.now content ckpt scanned.views.items scanned.groups.items scanned.end)) }
+    ensures scan { IfOk result (λ scanned. OnSource shape.now (L.seen log.old).tells
+        (λ source. IsScan shape.now (layout_of shape.now).blocks source ckpt scanned.views.items scanned.groups.items scanned.end)) }
     ensures stop { IfOk result (λ scanned. OnContent (L.seen log.old).tells (IsStop shape.now ckpt scanned.views.items scanned.stop)) }
-    ensures few { IfOk result (λ scanned. length scanned.views.items ≤ shape.now.log_blocks) }
+    ensures few { IfOk result (λ scanned. length scanned.views.items ≤ (layout_of shape.now).blocks) }
     ensures end { IfOk result (λ scanned. IsEndOf shape.now ckpt scanned.groups.items scanned.end) }
     ensures fit { IfOk result (λ scanned. All (λ whole. GroupFits shape.now whole.group) scanned.groups.items) }
     ensures rise { IfOk result (λ scanned. EndBehindStarts scanned.groups.items) }
-    ensures fault { IfErr result (λ fault. OnContent (L.seen log.old).tells (λ content. IsScanFault shape.now ckpt content fault)) }
+    ensures fault { IfErr result (λ fault. OnSource shape.now (L.seen log.old).tells (IsScanFault shape.now (layout_of shape.now).blocks ckpt fault)) }
     ensures lengths { (log_size data_size : ℕ) → IfErr result (HasLengthCause log_size data_size) }
     ensures reads { IsOnlyRead L.seen L.gives log.old (log_error_of result) log.new }
     ensures apart { IfErr result (λ fault. MayBeOwn (data_error fault)) }

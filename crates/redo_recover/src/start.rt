@@ -15,6 +15,7 @@ use model_base::{BLOCK_SIZE, Shape};
 use model_log::HEADER_BYTES;
 use redo_disk::Sectors;
 use redo_header::{Head, newer, read_ckpt, read_head};
+use redo_lsn::log_device_length;
 
 /// Bytes of the header blocks.
 const HEADER: usize = HEADER_BYTES as usize;
@@ -49,7 +50,7 @@ pub fn check_lengths(shape: &Shape, log_len: u64, data_len: u64) -> Result<(), R
     ensures fit { IfOk result (λ _. (log_device_length shape.now ≤ log_len) × (data_device_length shape.now ≤ data_len)) }
     ensures fault { IfErr result (IsLengthFault shape.now log_len data_len) }
 {
-    let log_asked = HEADER_BYTES + BLOCK_SIZE * u64::from(shape.log_blocks);
+    let log_asked = log_device_length(shape);
     if log_len < log_asked {
         return Err(RecFault::SmallLog(log_asked));
     }

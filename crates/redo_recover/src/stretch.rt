@@ -14,14 +14,14 @@ use redo_lsn::{NoMemory, lsn_and_sn, lsn_of, sn_of};
 use std::alloc::Global;
 use std::thread::Threads;
 
-/// A stretch of the data: the byte with which it begins, and the one behind it.
+/// A stretch of the data: the byte with which it begins, and the first one after it.
 #[derive(Clone, Copy, Debug, PartialEq, Eq)]
 pub(crate) struct Stretch {
     pub(crate) from: usize,
     pub(crate) to: usize,
 }
 
-/// Where in the joined data of the blocks the first group starts that starts in this block or behind it, as they say.
+/// Where in the joined data of the blocks the first group starts that starts in this block or after it, as they say.
 fn group_start(views: &[BlockView], block: usize) -> Option<usize>
     requires { length views.now ≤ MAX_LOG_BLOCKS }
 {

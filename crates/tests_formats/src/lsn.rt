@@ -1,8 +1,8 @@
 // Places worked out by hand, and what is said where memory runs out.
 use crate::table::{number, number32, optional, yes};
 use redo_lsn::{
-    Limits, NoMemory, Shape, block_of, is_data_lsn, lsn_of, number_of, offset_of, sn_of,
-    start_after,
+    Limits, NoMemory, Shape, block_of, is_data_lsn, log_device_length, lsn_of, number_of,
+    offset_of, round_of, sn_of, start_after,
 };
 use std::alloc::AllocError;
 use std::test::Fail;
@@ -59,6 +59,13 @@ fn places(rt: HostRuntime) {
     for row in PLACES.lines() {
         assert!(rt; is_placed(row) == Some(true), "{row}");
     }
+}
+
+#[test]
+fn a_log_device_has_room_for_four_blocks_and_the_log(rt: HostRuntime) {
+    let shape = Shape::default_shape();
+    assert!(rt; round_of(&shape) == 1_048_576);
+    assert!(rt; log_device_length(&shape) == 1_050_624);
 }
 
 #[test]

@@ -84,7 +84,7 @@ bad    F700000000
 bad    FFFFFFFFFF
 ";
 
-// The bytes are short or bad, and what is bad stays so with more behind it.
+// The bytes are short or bad, and what is bad stays so with more after it.
 fn is_no_spelling(alloc: Global, row: &str) -> Option<bool> {
     let (want, digits) = row.split_once(" ")?;
     let mut text = bytes(alloc, &mut digits.split_whitespace())?;

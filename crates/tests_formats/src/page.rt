@@ -34,7 +34,7 @@ fn stretch(words: &mut SplitWhitespace<'_>) -> Option<[u8; 4096]> {
 /// A data device of 8 slots and 8 places, with nothing on it.
 const BLANK: [[u8; 4096]; 16] = [[0; 4096]; 16];
 
-/// Puts the stretch that the next words name, behind its place, on a data device.
+/// Puts the stretch that the next words name, after its place, on a data device.
 fn put_stretch(image: &mut [[u8; 4096]; 16], words: &mut SplitWhitespace<'_>) -> Option<()> {
     let place = number(words)? as usize;
     *image.get_mut(place)? = stretch(words)?;

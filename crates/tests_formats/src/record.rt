@@ -62,7 +62,7 @@ fn has_short_fronts(alloc: Global, text: &[u8]) -> Option<bool> {
     Some(true)
 }
 
-// The group is written as the text, and read off it, also with two more bytes behind it, with which no group goes on.
+// The group is written as the text, and read off it, also with two more bytes after it, with which no group goes on.
 fn has_its_text(alloc: Global, row: &str) -> Option<bool> {
     let (group_text, digits) = row.split_once("=")?;
     let mut text = joined(alloc, digits)?;

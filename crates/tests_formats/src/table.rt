@@ -3,7 +3,7 @@ use redo_lsn::Shape;
 use std::alloc::Global;
 use std::str::SplitWhitespace;
 
-/// A number, behind `0x` in hex.
+/// A number, in hex after `0x`.
 fn number_of(word: &str) -> Option<u64> {
     match word.strip_prefix("0x") {
         Some(digits) => u64::from_str_radix(digits, 16).ok(),
@@ -46,7 +46,7 @@ pub fn shape(words: &mut SplitWhitespace<'_>) -> Option<Shape> {
     })
 }
 
-/// Bytes in hex, and behind a star how many times they stand there; `-` is none.
+/// Bytes in hex, and after a star how many times they stand there; `-` is none.
 fn bytes_of(alloc: Global, word: &str) -> Option<Vec<u8>> {
     if word == "-" {
         return Some(Vec::new(alloc));

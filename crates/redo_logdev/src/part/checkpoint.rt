@@ -11,7 +11,7 @@ use redo_disk::{DevError, Sectors, write_and_sync};
 use redo_header::{fill_ckpt, place_of};
 
 impl<L: Sectors> LogPart<L> {
-    /// Writes the next checkpoint, at this lsn, and makes it stay. Its number goes round behind the greatest.
+    /// Writes the next checkpoint, at this lsn, and makes it stay. Its number goes round after the greatest.
     pub fn checkpoint(&mut self, lsn: u64) -> Result<(), DevError>
         requires live { self.old.failed ≡ None }
         requires next { MayBeNext self.old.marks lsn }

@@ -1,5 +1,5 @@
 -- The blocks are erased, and a sync makes that stay.
-use Rattle.std.proofs.Common.{◌≡◌, ◌+◌, ◌*◌, refl, sym, ap, subst, arith}
+use Rattle.std.proofs.Common.{◌≡◌, refl, sym, subst, arith}
 use Rattle.std.proofs.lemmas.Result.{err_from_is_err_and, on_ok_weaker}
 use Rattle.model_device.specs.{synced}
 use Rattle.model_device.specs.Disk.{Disk}
@@ -17,14 +17,14 @@ use Rattle.redo_open.proofs.blank.clear_blocks.Goals as goal
 pub returns-in_err-erase-clause-headless : goal.returns-in_err-erase-clause-headless
 returns-in_err-erase-clause-headless g c =
     let size = (g.L.Sectors.seen c.args.log.now).size in
-    let end = 2048 + 512 * c.from.result in
+    let end = c.log_device_length.result in
     told-as _ _ (λ old new. HasSize size old → Erases size 1024 end old new) (λ old new. HasSize size old → HasNoHead old → IsHeadless new)
     (λ a b erases sized no_head. erases-headless size 1024 end a b (omega (arith, c.requires.long)) (omega arith) no_head (erases sized)) c.in_err-erase.ensures.err
 
 pub returns-clause-headless : goal.returns-clause-headless
 returns-clause-headless g c =
     let size = (g.L.Sectors.seen c.args.log.now).size in
-    let end = 2048 + 512 * c.from.result in
+    let end = c.log_device_length.result in
     let After : Disk → Disk → Type 0 = λ old new. HasSize size old → HasErased size 1024 end old new in
     let Headless : Disk → Disk → Type 0 = λ old new. HasSize size old → HasNoHead old → IsHeadless new in
     either-way c.sync.result _ _ _
@@ -40,12 +40,12 @@ pub returns-clause-ok : goal.returns-clause-ok
 returns-clause-ok g c =
     let size = (g.L.Sectors.seen c.args.log.now).size in
     let shape = c.args.shape.now in
-    let end = 2048 + 512 * c.from.result in
+    let end = c.log_device_length.result in
     on_ok_weaker c.sync.result
     (OnTold-then _ _ _ (λ old new. HasSize size old → HasErased size 1024 end old new) (λ (old new : Disk). new ≡ synced old)
     (λ old new. HasSize size old → HasNoHead old → HasSize size new × HasNoBlocks shape new)
     (λ a b d erased is sized no_head. subst (λ (disk : Disk). HasSize size disk × HasNoBlocks shape disk) (sym is)
-    (synced-no_blocks shape size end a b c.requires.limits (ap (λ n. 2048 + 512 * n) c.from.ensures) (omega (arith, c.from.ensures, c.requires.long)) no_head (erased sized)))
+    (synced-no_blocks shape size end a b c.requires.limits c.log_device_length.ensures (omega (arith, c.log_device_length.ensures, c.requires.long)) no_head (erased sized)))
     c.in_ok-erase.ensures.ok)
     c.sync.ensures.step.ok
 
@@ -55,7 +55,7 @@ returns-in_err-erase-clause-cause g c =
 
 pub returns-in_err-erase-clause-calls : goal.returns-in_err-erase-clause-calls
 returns-in_err-erase-clause-calls g c =
-    let made = put_weaker (within-longer (2048 + 512 * c.from.result) (log_device_length c.args.shape.now) (omega (arith, c.from.ensures))) c.in_err-erase.ensures.calls in
+    let made = put_weaker (within-longer c.log_device_length.result (log_device_length c.args.shape.now) (omega (arith, c.log_device_length.ensures))) c.in_err-erase.ensures.calls in
     let p = err_from_is_err_and c.from_residual.result c.from_residual.ensures.1 in rw (p.1, p.2) made
 
 pub returns-clause-cause : goal.returns-clause-cause
@@ -63,5 +63,5 @@ returns-clause-cause g c = cause-since _ _ _ c.sync.result c.in_ok-erase.ensures
 
 pub returns-clause-calls : goal.returns-clause-calls
 returns-clause-calls g c =
-    let made = put_weaker (within-longer (2048 + 512 * c.from.result) (log_device_length c.args.shape.now) (omega (arith, c.from.ensures))) c.in_ok-erase.ensures.calls in
+    let made = put_weaker (within-longer c.log_device_length.result (log_device_length c.args.shape.now) (omega (arith, c.log_device_length.ensures))) c.in_ok-erase.ensures.calls in
     puts_then made (put_one tt c.sync.ensures.gives)

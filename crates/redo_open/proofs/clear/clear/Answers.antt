@@ -1,12 +1,12 @@
--- Each piece keeps what the blocks may hold, and a sync behind the last one makes them stay.
-use Rattle.std.proofs.Common.{◌≡◌, ◌≤◌, ◌+◌, ◌*◌, ℕ, Err, refl, sym, ap, subst, ◌∙◌, arith}
+-- Each piece keeps what the blocks may hold, and a sync after the last one makes them stay.
+use Rattle.std.proofs.Common.{◌≡◌, ◌≤◌, ◌+◌, ℕ, Err, refl, sym, ap, subst, ◌∙◌, arith}
 use Rattle.std.specs.Prelude.{replicate}
 use Rattle.std.proofs.lemmas.Result.{err_from_is_err_and, on_ok_weaker}
 use Rattle.model_device.specs.{FailsWrite, synced, written}
 use Rattle.model_device.specs.Disk.{Disk}
 use Rattle.model_device.specs.declared.write.Write.{Write}
-use Rattle.model_log.specs.{block_of, log_device_length}
-use Rattle.model_parts.proofs.Places.{sector-place}
+use Rattle.model_log.specs.{block_of, layout_of, log_device_length, round_of}
+use Rattle.model_log.proofs.Places.{sector-place}
 use Rattle.redo_disk.specs.{HasCause, write_at}
 use Rattle.redo_open.specs.Clear.{IsPiece, IsClearable, IsClearingTo, ClearsBlocks, HasCleared}
 use Rattle.redo_open.proofs.Clears.{zeros_at, cleared-clears, clearing-begins, clearing-goes_on, clearing-fails, clearing-synced, clears-blocks}
@@ -18,7 +18,7 @@ use Rattle.redo_open.proofs.clear.clear.Goals as goal
 
 pub write_zeros-requires-clause-range : goal.write_zeros-requires-clause-range
 write_zeros-requires-clause-range g c = record {
-  from_sector = omega (arith, sector-place c.args.shape.now c.loop-at.at c.loop-at.invariant.aligned, c.offset_of.ensures);
+  from_sector = omega (arith, sector-place (layout_of c.args.shape.now) c.loop-at.at, c.offset_of.ensures);
   whole_sectors = c.piece_length-count.ensures.whole;
   within = omega (arith, c.piece_length-count.ensures.side_by_side, c.offset_of.ensures, c.requires.long, c.loop-at.invariant.size);
 }
@@ -30,7 +30,7 @@ loop-at-init g c =
     record {
       aligned = omega arith;
       from = omega arith;
-      up_to = omega (arith, c.from.ensures, c.requires.start.up_to, c.requires.start.place);
+      up_to = omega (arith, c.round_of.ensures, c.requires.start.up_to, c.requires.start.place);
       size = refl;
       later = omega arith;
       told = told-same _ _ (λ old new. IsClearable c.args.shape.now old → IsClearingTo c.args.shape.now c.args.ckpt c.args.start at old.reads new)
@@ -48,7 +48,7 @@ returns-in_err-write_zeros-clause-keeps g c =
       aligned = c.loop-at.invariant.aligned;
       from = c.loop-at.invariant.from;
       whole = c.piece_length-count.ensures.whole;
-      within = omega (arith, c.piece_length-count.ensures.within, c.from.ensures);
+      within = omega (arith, c.piece_length-count.ensures.within, c.round_of.ensures);
       side_by_side = c.piece_length-count.ensures.side_by_side;
     } in
     let same : write_at c.offset_of.result (replicate count 0) ≡ zeros_at shape at count = ap (λ n. write_at n (replicate count 0)) c.offset_of.ensures in
@@ -75,7 +75,7 @@ loop-at-preserved g c =
       aligned = c.loop-at.invariant.aligned;
       from = c.loop-at.invariant.from;
       whole = c.piece_length-count.ensures.whole;
-      within = omega (arith, c.piece_length-count.ensures.within, c.from.ensures);
+      within = omega (arith, c.piece_length-count.ensures.within, c.round_of.ensures);
       side_by_side = c.piece_length-count.ensures.side_by_side;
     } in
     let same : write_at c.offset_of.result (replicate count 0) ≡ zeros_at shape at count = ap (λ n. write_at n (replicate count 0)) c.offset_of.ensures in
@@ -101,7 +101,7 @@ returns-clause-keeps g c =
     let at : ℕ = c.loop-at.at in
     let After : Disk → Disk → Type 0 = λ old new. IsClearable shape old → IsClearingTo shape c.args.ckpt c.args.start at old.reads new in
     let Keeps : Disk → Disk → Type 0 = λ old new. IsClearable shape old → ClearsBlocks shape c.args.ckpt c.args.start old.reads new in
-    let all : c.args.ckpt + 512 * shape.log_blocks ≤ at = omega (arith, c.loop-at-test.false, c.from.ensures) in
+    let all : c.args.ckpt + round_of (layout_of shape) ≤ at = omega (arith, c.loop-at-test.false, c.round_of.ensures) in
     either-way c.sync.result _ _ _
     (λ ok. OnTold-then _ _ _ After (λ (old new : Disk). new ≡ synced old) Keeps
     (λ a b d so_far is_synced is. subst (λ (disk : Disk). ClearsBlocks shape c.args.ckpt c.args.start a.reads disk) (sym is_synced)
@@ -117,7 +117,7 @@ pub returns-clause-ok : goal.returns-clause-ok
 returns-clause-ok g c =
     let shape = c.args.shape.now in
     let at : ℕ = c.loop-at.at in
-    let all : c.args.ckpt + 512 * shape.log_blocks ≤ at = omega (arith, c.loop-at-test.false, c.from.ensures) in
+    let all : c.args.ckpt + round_of (layout_of shape) ≤ at = omega (arith, c.loop-at-test.false, c.round_of.ensures) in
     on_ok_weaker c.sync.result
     (OnTold-then _ _ _ (λ old new. IsClearable shape old → IsClearingTo shape c.args.ckpt c.args.start at old.reads new)
     (λ (old new : Disk). new ≡ synced old) (λ old new. IsClearable shape old → HasCleared shape c.args.ckpt c.args.start old.reads new)

@@ -1,4 +1,4 @@
--- The steps, one behind the other, on both devices.
+-- The steps, one after the other, on both devices.
 use Rattle.std.proofs.Common.{◌≡◌, ◌+◌, ◌-◌, ◌%◌, ◌∙◌, ℕ, List, Err, refl, ap, arith}
 use Rattle.model_parts.specs.{start_block}
 use Rattle.model_store.specs.{IsOrderly}

@@ -1,4 +1,4 @@
--- The steps, one behind the other, on both devices.
+-- The steps, one after the other, on both devices.
 use Rattle.std.proofs.Common.{Err, refl, arith}
 use Rattle.std.specs.Prelude.{IfSome}
 use Rattle.redo_disk.specs.{HasSize}

@@ -4,8 +4,8 @@ use Rattle.std.proofs.lemmas.Result.{on_ok_weaker, on_err_weaker}
 use Rattle.model_device.specs.{IsPutOrNot, synced, written}
 use Rattle.model_device.specs.Disk.{Disk}
 use Rattle.model_device.specs.declared.write.Write.{Write}
-use Rattle.model_log.specs.{checkpoint_text, place_of}
-use Rattle.model_parts.proofs.Places.{HasBlocks}
+use Rattle.model_log.specs.{checkpoint_text, layout_of, place_of}
+use Rattle.model_log.proofs.Places.{HasBlocks}
 use Rattle.redo_disk.specs.{write_at}
 use Rattle.redo_open.specs.Mark.{IsSettledLog, MarksLog, HasMarked}
 use Rattle.redo_open.proofs.Marks.{header-place, IsOneSector, failed-marks, written-marks, synced-marked, marked-marks}
@@ -29,7 +29,7 @@ returns-clause-keeps g c =
     let text : List ℕ = checkpoint_text number lsn shape in
     let long : length text ≡ 512 = sym (ap length c.fill_ckpt.ensures) ∙ c.fill_ckpt.array_long in
     let one : IsOneSector (place_of number) text write = record { at = omega (arith, c.from.ensures, c.place_of.ensures); bytes = c.fill_ckpt.ensures; long = long } in
-    let blocks : HasBlocks shape = record { some = omega (arith, c.requires.limits.many_blocks); few = omega (arith, c.requires.limits.few_blocks) } in
+    let blocks : HasBlocks (layout_of shape) = record { some = omega (arith, c.requires.limits.many_blocks); few = omega (arith, c.requires.limits.few_blocks) } in
     let Keeps : Disk → Disk → Type 0 = λ old new. IsSettledLog shape old → MarksLog shape number lsn old.base new in
     either-way c.write_and_sync.result _ _ _
     (told-as _ _ (λ (old new : Disk). new ≡ synced (written old write)) Keeps
@@ -49,7 +49,7 @@ returns-clause-ok g c =
     let text : List ℕ = checkpoint_text number lsn shape in
     let long : length text ≡ 512 = sym (ap length c.fill_ckpt.ensures) ∙ c.fill_ckpt.array_long in
     let one : IsOneSector (place_of number) text write = record { at = omega (arith, c.from.ensures, c.place_of.ensures); bytes = c.fill_ckpt.ensures; long = long } in
-    let blocks : HasBlocks shape = record { some = omega (arith, c.requires.limits.many_blocks); few = omega (arith, c.requires.limits.few_blocks) } in
+    let blocks : HasBlocks (layout_of shape) = record { some = omega (arith, c.requires.limits.many_blocks); few = omega (arith, c.requires.limits.few_blocks) } in
     on_ok_weaker c.write_and_sync.result
     (told-as _ _ (λ (old new : Disk). new ≡ synced (written old write)) (λ old new. IsSettledLog shape old → HasMarked shape number lsn old.base new)
     (λ a b is_synced is. subst (HasMarked shape number lsn a.base) (sym is_synced) (synced-marked shape number lsn write a blocks is one)))

@@ -1,4 +1,4 @@
--- The steps, one behind the other.
+-- The steps, one after the other.
 use Rattle.std.proofs.Common.{◌≡◌, ◌∙◌, Err, List, refl, sym, ap, subst, arith}
 use Rattle.std.specs.Prelude.{IfSome}
 use Rattle.model_base.specs.declared.shape.Shape.{Shape}

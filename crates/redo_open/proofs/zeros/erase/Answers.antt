@@ -1,4 +1,4 @@
--- One write behind the other.
+-- One write after the other.
 use Rattle.std.proofs.Common.{◌≡◌, ◌+◌, ◌∙◌, ℕ, Err, refl, sym, subst, arith}
 use Rattle.std.proofs.lemmas.Result.{err_from_is_err_and}
 use Rattle.model_device.specs.{FailsWrite, written}

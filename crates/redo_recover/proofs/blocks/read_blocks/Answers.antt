@@ -4,7 +4,8 @@ use Rattle.std.proofs.lemmas.Result.{err_from_is_err_and}
 use Rattle.model_base.specs.declared.limits.TheConstants.{BLOCK_SIZE}
 use Rattle.model_log.specs.declared.layout.TheConstants.{BLOCK_DATA}
 use Rattle.model_log.specs.declared.cause.Cause.TheVariants.{Partial, Round}
-use Rattle.model_log.specs.{IsStop}
+use Rattle.model_log.specs.{IsStop, layout_of}
+use Rattle.model_store.specs.{taken, taken_from}
 use Rattle.redo_disk.specs.declared.error.DevError.TheVariants.{NoMemory}
 use Rattle.redo_recover.specs.Blocks.{AreBlocksOf}
 use Rattle.redo_recover.specs.Piece.{IsPieceOf}
@@ -21,16 +22,19 @@ returns-in_default-clause-blocks g c =
     let old = g.L.Sectors.seen c.args.log.now in
     let middle = g.L.Sectors.seen c.loop-i.log in
     let shape = c.args.shape.now in
+    let most : ℕ = (layout_of shape).blocks in
+    let block : List ℕ = c.sector-block.result.now in
     let piece = c.in_ok-piece.piece in
     let of = content-before old middle (IsPieceOf piece) c.loop-i.invariant.reads.unchanged
     (c.in_ok-piece.ensures.content (content-after old middle (IsPieceOf c.loop-i.piece) c.loop-i.invariant.reads.unchanged c.loop-i.invariant.piece)) in
     let here = content-weaker old.tells (IsPieceOf piece) (IsTakenAt shape c.args.ckpt c.loop-i.i c.taken.result c.sector-block.result.now)
     (λ image is. taken-at shape c.args.ckpt c.loop-i.i c.from.result piece c.offset_of-at.result c.sector-block.result.now c.taken.result image c.from.ensures
     c.in_ok-piece.ensures.has c.offset_of-at.ensures c.sector-block.ensures c.taken.ensures.view is) of in
-    let so_far : List ℕ → Type 0 = AreBlocksSoFar shape c.args.ckpt c.loop-i.views.items c.loop-i.joined.items c.loop-i.i in
+    let so_far : List ℕ → Type 0 = λ image. AreBlocksSoFar c.args.ckpt c.loop-i.views.items c.loop-i.joined.items c.loop-i.i (taken shape image) in
     content-both old.tells so_far (IsTakenAt shape c.args.ckpt c.loop-i.i c.taken.result c.sector-block.result.now)
-    (AreBlocksOf shape c.args.ckpt c.loop-i.views.items c.loop-i.joined.items)
-    (λ image a t. read-stopped shape c.args.ckpt c.loop-i.views.items c.loop-i.joined.items c.loop-i.i image a (omega arith) (t.view ∙ c.in_default.is))
+    (λ image. AreBlocksOf most c.args.ckpt c.loop-i.views.items c.loop-i.joined.items (taken shape image))
+    (λ image a t. read-stopped most c.args.ckpt c.loop-i.views.items c.loop-i.joined.items c.loop-i.i (taken shape image) block a (omega arith)
+    (t.takes ∙ ap (taken_from block) c.in_default.is))
     c.loop-i.invariant.so_far here
 
 pub returns-then-not-is_full-clause-blocks : goal.returns-then-not-is_full-clause-blocks
@@ -38,17 +42,19 @@ returns-then-not-is_full-clause-blocks g c =
     let old = g.L.Sectors.seen c.args.log.now in
     let middle = g.L.Sectors.seen c.loop-i.log in
     let shape = c.args.shape.now in
+    let most : ℕ = (layout_of shape).blocks in
+    let block : List ℕ = c.sector-block.result.now in
     let piece = c.in_ok-piece.piece in
     let of = content-before old middle (IsPieceOf piece) c.loop-i.invariant.reads.unchanged
     (c.in_ok-piece.ensures.content (content-after old middle (IsPieceOf c.loop-i.piece) c.loop-i.invariant.reads.unchanged c.loop-i.invariant.piece)) in
     let here = content-weaker old.tells (IsPieceOf piece) (IsTakenAt shape c.args.ckpt c.loop-i.i c.taken.result c.sector-block.result.now)
     (λ image is. taken-at shape c.args.ckpt c.loop-i.i c.from.result piece c.offset_of-at.result c.sector-block.result.now c.taken.result image c.from.ensures
     c.in_ok-piece.ensures.has c.offset_of-at.ensures c.sector-block.ensures c.taken.ensures.view is) of in
-    let so_far : List ℕ → Type 0 = AreBlocksSoFar shape c.args.ckpt c.loop-i.views.items c.loop-i.joined.items c.loop-i.i in
+    let so_far : List ℕ → Type 0 = λ image. AreBlocksSoFar c.args.ckpt c.loop-i.views.items c.loop-i.joined.items c.loop-i.i (taken shape image) in
     content-both old.tells so_far (IsTakenAt shape c.args.ckpt c.loop-i.i c.taken.result c.sector-block.result.now)
-    (AreBlocksOf shape c.args.ckpt c.push.new.self.items c.extend_from_slice.new.self.items)
-    (λ image a t. read-last shape c.args.ckpt c.loop-i.views.items c.loop-i.joined.items c.loop-i.i image c.in-Some.view c.sector-block.result.now
-    c.push.new.self.items c.extend_from_slice.new.self.items c.block_data.result.now a (omega arith) (t.view ∙ c.in-Some.is) t.bytes
+    (λ image. AreBlocksOf most c.args.ckpt c.push.new.self.items c.extend_from_slice.new.self.items (taken shape image))
+    (λ image a t. read-last most c.args.ckpt c.loop-i.views.items c.loop-i.joined.items c.loop-i.i (taken shape image) c.in-Some.view block
+    c.push.new.self.items c.extend_from_slice.new.self.items c.block_data.result.now a (omega arith) (t.takes ∙ ap (taken_from block) c.in-Some.is)
     (sym c.if-not-is_full.ensures) c.in_ok-push.ensures.items c.in_ok-extend_from_slice.ensures.items c.block_data.ensures)
     c.loop-i.invariant.so_far here
 
@@ -57,13 +63,14 @@ loop-i-preserved g c =
     let old = g.L.Sectors.seen c.args.log.now in
     let middle = g.L.Sectors.seen c.loop-i.log in
     let shape = c.args.shape.now in
+    let block : List ℕ = c.sector-block.result.now in
     let piece = c.in_ok-piece.piece in
     let of = content-before old middle (IsPieceOf piece) c.loop-i.invariant.reads.unchanged
     (c.in_ok-piece.ensures.content (content-after old middle (IsPieceOf c.loop-i.piece) c.loop-i.invariant.reads.unchanged c.loop-i.invariant.piece)) in
     let here = content-weaker old.tells (IsPieceOf piece) (IsTakenAt shape c.args.ckpt c.loop-i.i c.taken.result c.sector-block.result.now)
     (λ image is. taken-at shape c.args.ckpt c.loop-i.i c.from.result piece c.offset_of-at.result c.sector-block.result.now c.taken.result image c.from.ensures
     c.in_ok-piece.ensures.has c.offset_of-at.ensures c.sector-block.ensures c.taken.ensures.view is) of in
-    let so_far : List ℕ → Type 0 = AreBlocksSoFar shape c.args.ckpt c.loop-i.views.items c.loop-i.joined.items c.loop-i.i in
+    let so_far : List ℕ → Type 0 = λ image. AreBlocksSoFar c.args.ckpt c.loop-i.views.items c.loop-i.joined.items c.loop-i.i (taken shape image) in
     let views : length c.push.new.self.items ≡ length c.loop-i.views.items + 1 = ap length c.in_ok-push.ensures.items ∙ length_push c.loop-i.views.items c.in-Some.view in
     let bytes : length c.extend_from_slice.new.self.items ≡ length c.loop-i.joined.items + length c.block_data.result.now =
     ap length c.in_ok-extend_from_slice.ensures.items ∙ length-append c.loop-i.joined.items c.block_data.result.now in
@@ -75,9 +82,9 @@ loop-i-preserved g c =
       firsts = firsts-push c.loop-i.views.items c.push.new.self.items c.in-Some.view c.loop-i.invariant.firsts c.in-Some.ensures.first c.in_ok-push.ensures.items;
       short = omega (arith, bytes, room, c.loop-i.invariant.short);
       so_far = content-both old.tells so_far (IsTakenAt shape c.args.ckpt c.loop-i.i c.taken.result c.sector-block.result.now)
-          (AreBlocksSoFar shape c.args.ckpt c.push.new.self.items c.extend_from_slice.new.self.items (c.loop-i.i + 1))
-          (λ image a t. so_far-next shape c.args.ckpt c.loop-i.views.items c.loop-i.joined.items c.loop-i.i image c.in-Some.view c.sector-block.result.now
-          c.push.new.self.items c.extend_from_slice.new.self.items c.block_data.result.now a (t.view ∙ c.in-Some.is) t.bytes
+          (λ image. AreBlocksSoFar c.args.ckpt c.push.new.self.items c.extend_from_slice.new.self.items (c.loop-i.i + 1) (taken shape image))
+          (λ image a t. so_far-next c.args.ckpt c.loop-i.views.items c.loop-i.joined.items c.loop-i.i (taken shape image) c.in-Some.view block
+          c.push.new.self.items c.extend_from_slice.new.self.items c.block_data.result.now a (t.takes ∙ ap (taken_from block) c.in-Some.is)
           (sym c.if-not-is_full.ensures) c.in_ok-push.ensures.items c.in_ok-extend_from_slice.ensures.items c.block_data.ensures)
           c.loop-i.invariant.so_far here;
     }
@@ -93,7 +100,7 @@ returns-in_default-clause-stop g c =
     let here = content-weaker old.tells (IsPieceOf piece) (IsTakenAt shape c.args.ckpt c.loop-i.i c.taken.result c.sector-block.result.now)
     (λ image is. taken-at shape c.args.ckpt c.loop-i.i c.from.result piece c.offset_of-at.result c.sector-block.result.now c.taken.result image c.from.ensures
     c.in_ok-piece.ensures.has c.offset_of-at.ensures c.sector-block.ensures c.taken.ensures.view is) of in
-    let so_far : List ℕ → Type 0 = AreBlocksSoFar shape c.args.ckpt c.loop-i.views.items c.loop-i.joined.items c.loop-i.i in
+    let so_far : List ℕ → Type 0 = λ image. AreBlocksSoFar c.args.ckpt c.loop-i.views.items c.loop-i.joined.items c.loop-i.i (taken shape image) in
     let lsn = c.args.ckpt + BLOCK_SIZE * c.from.result in
     content-both old.tells so_far (IsTakenAt shape c.args.ckpt c.loop-i.i c.taken.result c.sector-block.result.now)
     (IsStop shape c.args.ckpt c.loop-i.views.items (lsn, c.untaken.result))
@@ -106,7 +113,7 @@ returns-then-not-is_full-clause-stop g c =
     let old = g.L.Sectors.seen c.args.log.now in
     let shape = c.args.shape.now in
     let lsn = c.args.ckpt + BLOCK_SIZE * c.from.result in
-    content-weaker old.tells (AreBlocksSoFar shape c.args.ckpt c.loop-i.views.items c.loop-i.joined.items c.loop-i.i)
+    content-weaker old.tells (λ image. AreBlocksSoFar c.args.ckpt c.loop-i.views.items c.loop-i.joined.items c.loop-i.i (taken shape image))
     (IsStop shape c.args.ckpt c.push.new.self.items (lsn, Partial))
     (λ image a. stopped-part shape c.args.ckpt c.loop-i.views.items c.loop-i.joined.items c.loop-i.i lsn c.in-Some.view c.push.new.self.items image a
     (ap (λ n. c.args.ckpt + BLOCK_SIZE * n) c.from.ensures) (sym c.if-not-is_full.ensures) c.in_ok-push.ensures.items)
@@ -116,11 +123,11 @@ pub returns-clause-stop : goal.returns-clause-stop
 returns-clause-stop g c =
     let old = g.L.Sectors.seen c.args.log.now in
     let shape = c.args.shape.now in
-    let lsn = c.args.ckpt + BLOCK_SIZE * c.from-2.result in
-    content-weaker old.tells (AreBlocksSoFar shape c.args.ckpt c.loop-i.views.items c.loop-i.joined.items c.loop-i.i)
+    let lsn = c.args.ckpt + c.round_of.result in
+    content-weaker old.tells (λ image. AreBlocksSoFar c.args.ckpt c.loop-i.views.items c.loop-i.joined.items c.loop-i.i (taken shape image))
     (IsStop shape c.args.ckpt c.loop-i.views.items (lsn, Round))
     (λ image a. stopped-round shape c.args.ckpt c.loop-i.views.items c.loop-i.joined.items c.loop-i.i lsn image a (omega arith)
-    (ap (λ n. c.args.ckpt + BLOCK_SIZE * n) c.from-2.ensures))
+    (ap (λ n. c.args.ckpt + n) c.round_of.ensures))
     c.loop-i.invariant.so_far
 
 pub returns-in_default-clause-firsts : goal.returns-in_default-clause-firsts
@@ -136,9 +143,11 @@ returns-clause-firsts g c = c.loop-i.invariant.firsts
 pub returns-clause-blocks : goal.returns-clause-blocks
 returns-clause-blocks g c =
     let old = g.L.Sectors.seen c.args.log.now in
-    content-weaker old.tells (AreBlocksSoFar c.args.shape.now c.args.ckpt c.loop-i.views.items c.loop-i.joined.items c.loop-i.i)
-    (AreBlocksOf c.args.shape.now c.args.ckpt c.loop-i.views.items c.loop-i.joined.items)
-    (λ image a. read-all c.args.shape.now c.args.ckpt c.loop-i.views.items c.loop-i.joined.items c.loop-i.i image a (omega arith)) c.loop-i.invariant.so_far
+    let shape = c.args.shape.now in
+    let most : ℕ = (layout_of shape).blocks in
+    content-weaker old.tells (λ image. AreBlocksSoFar c.args.ckpt c.loop-i.views.items c.loop-i.joined.items c.loop-i.i (taken shape image))
+    (λ image. AreBlocksOf most c.args.ckpt c.loop-i.views.items c.loop-i.joined.items (taken shape image))
+    (λ image a. read-all most c.args.ckpt c.loop-i.views.items c.loop-i.joined.items c.loop-i.i (taken shape image) a (omega arith)) c.loop-i.invariant.so_far
 
 pub returns-in_err-piece-clause-reads : goal.returns-in_err-piece-clause-reads
 returns-in_err-piece-clause-reads g c =

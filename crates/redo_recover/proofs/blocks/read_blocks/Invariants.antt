@@ -2,7 +2,7 @@ use Rattle.std.proofs.Common.{◌≡◌, ◌≤◌, ◌*◌, length}
 use Rattle.model_log.specs.declared.layout.TheConstants.{BLOCK_DATA}
 use Rattle.redo_recover.specs.Blocks.{HaveFirsts}
 use Rattle.std.specs.Prelude.{None}
-use Rattle.redo_recover.specs.Devices.{OnContent}
+use Rattle.redo_recover.specs.Devices.{OnContent, OnSource}
 use Rattle.redo_recover.specs.Piece.{IsPieceOf}
 use Rattle.redo_recover.specs.Reads.{IsOnlyRead}
 use Rattle.redo_recover.proofs.Scanning.{AreBlocksSoFar}
@@ -16,5 +16,5 @@ invariant-loop-i g l = record {
   many : length l.views.items ≡ l.i;
   firsts : HaveFirsts l.views.items;
   short : length l.joined.items ≤ BLOCK_DATA * l.i;
-  so_far : OnContent (g.L.Sectors.seen l.fn.log).tells (AreBlocksSoFar l.shape l.ckpt l.views.items l.joined.items l.i);
+  so_far : OnSource l.shape (g.L.Sectors.seen l.fn.log).tells (AreBlocksSoFar l.ckpt l.views.items l.joined.items l.i);
 }

@@ -1,10 +1,10 @@
 use Rattle.std.proofs.Common.{◌≡◌, ◌*◌, ◌+◌, ◌∙◌, Some, ap, subst, sym, ⊎_elim, arith}
 use Rattle.model_device.specs.Disk.{Disk}
 use Rattle.model_device.specs.{IsPutOrNot, synced, written}
-use Rattle.model_log.specs.{checkpoint_text}
+use Rattle.model_log.specs.{checkpoint_text, layout_of}
 use Rattle.model_parts.specs.{after_asked, after_checkpoint, HasNextNumber, MayBeNext, next_number, other_place}
 use Rattle.model_parts.proofs.Checkpoints.{WritesSector}
-use Rattle.model_parts.proofs.Places.{HasBlocks}
+use Rattle.model_log.proofs.Places.{HasBlocks}
 use Rattle.redo_disk.specs.{write_at}
 use Rattle.redo_logdev.specs.Part.{Part, PartHolds, DiskHolds}
 use Rattle.redo_disk.proofs.Told.{told-step}
@@ -20,7 +20,7 @@ returns-in-Ok-clause-holds g c is_next s wholes known =
     let small : HasNextNumber part.marks = subst (λ (p : Part _). HasNextNumber p.marks) (sym c.self.view_is) is_next in
     let next : MayBeNext part.marks lsn = subst (λ (p : Part _). MayBeNext p.marks lsn) (sym c.self.view_is) c.requires.next in
     let before = subst (λ (p : Part _). PartHolds g.L.Sectors.seen s wholes p) (sym c.self.view_is) known in
-    let blocks : HasBlocks part.shape = record { some = omega (arith, c.self.invariant.many_blocks); few = omega (arith, c.self.invariant.few_blocks) } in
+    let blocks : HasBlocks (layout_of part.shape) = record { some = omega (arith, c.self.invariant.many_blocks); few = omega (arith, c.self.invariant.few_blocks) } in
     let writes : WritesSector (other_place part.marks.number) (checkpoint_text (part.marks.number + 1) lsn part.shape) (write_at at block) =
     checkpoint-write part.shape part.marks lsn c.from-at.result block small (c.from-at.ensures ∙ c.place_of.ensures) c.fill_ckpt.ensures (omega (arith, c.fill_ckpt.auto.out)) in
     told-step _ _ (DiskHolds part.shape s wholes part.marks part.failed)
