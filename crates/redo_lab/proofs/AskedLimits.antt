@@ -18,7 +18,7 @@ use borrow.Author.Tests.{leb-true}
 use Rattle.model_script.specs.declared.asked.Drive.{Drive}
 use Rattle.redo_lab.specs.declared.crash_command.Crashing.{Crashing}
 use Rattle.redo_lab.specs.Asked.{IsWithin, command_of}
-use Rattle.redo_lab.specs.Playing.{command_with}
+use Rattle.redo_lab.specs.Runs.{command_with}
 
 -- the number is between these
 abbrev IsBetween : ℕ → ℕ → ℕ → Type 0

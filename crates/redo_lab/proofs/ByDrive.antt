@@ -14,10 +14,10 @@ use Rattle.redo_machine.specs.{RunsByTurns}
 use Rattle.redo_machine.specs.declared.drive.Turns.{Turns}
 use Rattle.redo_memdisk.specs.{CallsThrough, seen_through}
 use Rattle.redo_memdisk.specs.declared.fused.Fused.{Fused}
-use Rattle.redo_pageactors.specs.declared.opened.Opened.{Opened}
+use Rattle.redo_store.specs.declared.opened.Opened.{Opened}
 use Rattle.redo_threads.specs.InThreads.{RunsInThreads}
 use Rattle.redo_lab.specs.Asked.{drive_of, runs_in_threads, turns_of}
-use Rattle.redo_lab.specs.Handed.{DrivenBy, TellsOf}
+use Rattle.redo_lab.specs.Handed.{IsDriven, TellsOf}
 
 -- the command runs its script in threads if its drive does
 pub in-threads : (command : Command) (drive : Drive) → drive_of command ≡ Some drive → runs_in_threads command ≡ drive.threads
@@ -26,8 +26,7 @@ in-threads command drive is = ap (λ (asked : Option Drive). elim asked [ None �
 module _ {L D : Type 0} (log_seen : L → Seen) (log_gives : L → Call → L → Type 0) (data_seen : D → Seen) (data_gives : D → Call → D → Type 0) where
   -- what the drive tells that is in threads or isn't
   abbrev TellsIn : Bool → Drive → Opened (Fused L) (Fused D) → List ScriptLine → Driven (Fused L) (Fused D) → Type 0
-  TellsIn threads asked opened script driven =
-      TellsOf threads (seen_through log_seen) (CallsThrough log_seen log_gives) (seen_through data_seen) (CallsThrough data_seen data_gives) asked opened script driven
+  TellsIn threads asked opened script driven = TellsOf threads log_seen log_gives data_seen data_gives asked opened script driven
 
   -- by turns
   pub tells-turns : (asked : Drive) (turns : Turns) (opened : Opened (Fused L) (Fused D)) (script : List ScriptLine) (driven : Driven (Fused L) (Fused D))
@@ -52,5 +51,5 @@ module _ {L D : Type 0} (log_seen : L → Seen) (log_gives : L → Call → L �
   none-spent true asked store script driven turns user told ended = let same : Done ≡ Spent turns user = sym told.done ∙ ended in absurd (cc)
 
   pub spends-turns : (asked : Drive) (opened : values.Opened) (script : List ScriptLine) (run : Ran) (turns user : ℕ) (log_met store_met : Option Disk)
-      → DrivenBy log_seen log_gives data_seen data_gives asked opened script run (Spent turns user) log_met store_met → asked.threads ≡ false
+      → IsDriven log_seen log_gives data_seen data_gives asked opened script run (Spent turns user) log_met store_met → asked.threads ≡ false
   spends-turns asked opened script run turns user log_met store_met so = none-spent asked.threads asked so.store script so.driven turns user so.told so.ends

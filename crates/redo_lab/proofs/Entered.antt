@@ -1,5 +1,5 @@
 -- The devices behind the fuses are those that were handed in.
-use Rattle.std.proofs.Common.{◌≡◌, Bool, List, Result, Ok, Err, refl, ap, ◌∙◌, ⊎_elim, IfOk, IfErr, sym, subst}
+use Rattle.std.proofs.Common.{◌≡◌, List, Result, Ok, Err, refl, ap, ◌∙◌, ⊎_elim}
 use Rattle.model_script.specs.declared.script.ScriptLine.{ScriptLine}
 use Rattle.redo_disk.specs.{Call, MakesCalls}
 use Rattle.redo_disk.specs.Seen.{Seen}
@@ -7,15 +7,14 @@ use Rattle.redo_memdisk.specs.{CallsThrough, entry_of}
 use Rattle.redo_memdisk.specs.declared.fused.Fused.{Fused}
 use Rattle.redo_memdisk.proofs.Behind.{keeps-behind}
 use Rattle.redo_open.specs.{FormatCalls}
-use Rattle.redo_pageactors.specs.declared.opened.Opened.{Opened}
+use Rattle.redo_store.specs.declared.opened.Opened.{Opened}
 use Rattle.redo_recover.specs.declared.fault.RecFault.{RecFault}
 use Rattle.redo_recover.specs.declared.fault.RecFault.TheVariants.{LogDev, DataDev, NoMemory}
 use Rattle.redo_drive.specs.{Owes}
 use Rattle.redo_drive.specs.declared.drive.Driven.{Driven}
-use Rattle.redo_lab.specs.declared.playing.Course.{Course}
 use Rattle.redo_lab.specs.declared.playing.Ran.{Ran}
 use Rattle.redo_lab.specs.Handed.{AreOf}
-use Rattle.redo_lab.specs.Playing.{AreEntered, AreLeftOpened}
+use Rattle.redo_lab.specs.Runs.{AreEntered}
 
 pub calls-entry : {D : Type 0} {seen : D → Seen} {gives : D → Call → D → Type 0} {old new : Fused D} {Are : List Call → Type 0}
     → MakesCalls (CallsThrough seen gives) old new Are → entry_of new ≡ entry_of old
@@ -51,24 +50,12 @@ format-entries log_seen log_gives data_seen data_gives log_old log_new data_old 
 format-entries log_seen log_gives data_seen data_gives log_old log_new data_old data_new (Err f) same = both-same same.0 same.1
 
 -- the lines of a script
-pub unplayed-entries : {L D : Type 0} {opened : Opened (Fused L) (Fused D)} {log_only : Bool} {script : List ScriptLine} {c : Course} {log_now : Fused L} {data_now : Fused D}
-    → AreLeftOpened opened log_only script c log_now data_now → AreOf (entry_of opened.log.dev) (entry_of opened.store.dev) log_now data_now
-unplayed-entries left = both-same left.log_same left.data_same
-
 pub owed-entries : {L D : Type 0} {see_log : Fused L → Seen} {see_data : Fused D → Seen} {log_seen : L → Seen} {log_gives : L → Call → L → Type 0}
     {data_seen : D → Seen} {data_gives : D → Call → D → Type 0}
     {opened : Opened (Fused L) (Fused D)} {script : List ScriptLine} {driven : Driven (Fused L) (Fused D)}
     → Owes see_log (CallsThrough log_seen log_gives) see_data (CallsThrough data_seen data_gives) opened script driven
     → AreOf (entry_of opened.log.dev) (entry_of opened.store.dev) driven.closed.log.dev driven.closed.store.dev
 owed-entries owes = record { log_device = calls-entry (owes.comes_to.log_calls.live refl); data_device = calls-entry (owes.comes_to.data_calls.live refl) }
-
--- a script that was judged
-pub judged-entries : {L D : Type 0} {log : L} {store : D} (opened : Opened (Fused L) (Fused D)) (log_only : Bool) (script : List ScriptLine) (Fits : Type 0)
-    (r : Result (Opened (Fused L) (Fused D)) (Ran L D)) → AreOf log store opened.log.dev opened.store.dev
-    → IfOk r (λ given. (given ≡ opened) × Fits) → IfErr r (λ ran. AreLeftOpened opened log_only script ran.course ran.log ran.store) → AreEntered log store r
-judged-entries {L} {D} {log = log} {store = store} opened log_only script Fits (Ok given) first fits unfit =
-    subst (λ (found : Opened (Fused L) (Fused D)). AreOf log store found.log.dev found.store.dev) (sym fits.0) first
-judged-entries opened log_only script Fits (Err ran) first fits unfit = entries-then first (unplayed-entries unfit)
 
 -- and devices that were handed in before
 pub entered-then : {L D : Type 0} {log : L} {store : D} (log_old : Fused L) (data_old : Fused D) (r : Result (Opened (Fused L) (Fused D)) (Ran L D))

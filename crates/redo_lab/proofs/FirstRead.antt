@@ -8,7 +8,7 @@ use Rattle.model_device.specs.Disk.{Disk}
 use Rattle.model_store.specs.{IsUnused}
 use Rattle.redo_disk.specs.{Answer, Call, error_of, MakesCall, MakesCalls, part, Reads, ReadsEndWith}
 use Rattle.redo_disk.specs.declared.error.DevError.{DevError}
-use Rattle.redo_lab.specs.Stages.{IsFirstRead}
+use Rattle.redo_lab.specs.Devices.{IsFirstRead}
 
 one-read : (at : ℕ) (before after : List ℕ) (answer : Answer) → ReadsEndWith (error_of answer) (Reads at before answer after ∷ [])
 one-read at before after (Ok done) = record { reads = (tt, tt); ends = record { stop = (tt, tt); first = refl } }

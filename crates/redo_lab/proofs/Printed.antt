@@ -1,4 +1,4 @@
--- A text, and behind it another, put into a sink.
+-- A text, and after it another, put into a sink.
 use Rattle.std.proofs.Common.{◌≡◌, ℕ, ◌+◌, ◌≤◌, ◌<◌, ◌++◌, List, length, Option, Some, None, refl, sym, ap, ◌∙◌, arith, inl, inr, append_assoc, ⊎_elim}
 use Rattle.std.specs.Prelude.{take}
 use Rattle.std.proofs.Math.Seq.{take-append-add}
@@ -16,7 +16,7 @@ taken-twice (Some taken) first second = ap Some (append_assoc taken first second
 at-last : (a b c : ℕ) → a ≤ b → b ≤ c → last_count ≤ b → HasRisen a c
 at-last a b c later rest last = ⊎_elim (λ (more : a < b). inl (omega arith)) (λ (same : b ≤ a). inr (omega arith)) (cases_lt a b)
 
--- a count that rose behind another one that didn't fall has risen
+-- a count that rose after another one that didn't fall has risen
 pub risen-later : (a b c : ℕ) → a ≤ b → b ≤ c → HasRisen b c → HasRisen a c
 risen-later a b c later rest risen = ⊎_elim (λ (more : b < c). inl (omega arith)) (λ (last : last_count ≤ b). at-last a b c later rest last) risen
 

@@ -1,15 +1,8 @@
 -- What is so of devices that tell what they mean.
 use Rattle.std.proofs.Common.{ℕ, ◌≡◌, List, Option, Some, None, IfSome, subst}
 use Rattle.model_device.specs.Disk.{Disk}
-use Rattle.model_store.specs.{IsReading, Refuses}
-use Rattle.model_store.specs.Reading.{Reading}
-use Rattle.model_store.specs.declared.refusal.Refusal.{Refusal}
 use Rattle.redo_open.specs.{WhereBothTell}
 use Rattle.redo_recover.specs.{OnContents}
-
--- a store isn't both read and refused
-abbrev pub OneAnswer : Type 0
-OneAnswer = (log data_bytes : List ℕ) (reading : Reading) (refusal : Refusal) → IsReading log data_bytes reading → Refuses log data_bytes refusal → ⊥
 
 -- what is read of told devices, by cases
 pub on-contents : (log data_told : Option Disk) (P : List ℕ → List ℕ → Type 0) → OnContents log data_told P

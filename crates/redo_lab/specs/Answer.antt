@@ -81,6 +81,10 @@ pub record IsCrashedAs (limit : Option ℕ) (pick : ℕ) (fuse : Fuse) : Type 0 
   pub pick_is : fuse.pick ≡ Some pick
   pub unchanged_since : fuse.late_changes ≡ 0
 
+-- both devices were crashed as the words ask, and nothing was written since
+abbrev pub AreCrashedAs : (stop_log stop_data : Option ℕ) (pick : ℕ) → Call → Type 0
+AreCrashedAs stop_log stop_data pick call = IsCrashedAs stop_log pick call.log.fuse × IsCrashedAs stop_data pick call.store.fuse
+
 -- `crash`: an account of the call, of the drive's run, which the crash met as the run left it; and the theorem of that account.
 pub record IsCrashText (call : Call) (drive : Drive) (stop_log stop_data : Option ℕ) (pick workers : ℕ) (text : List ℕ) : Type 0 where
   pub account : Account
@@ -90,8 +94,7 @@ pub record IsCrashText (call : Call) (drive : Drive) (stop_log stop_data : Optio
   pub text_is : text ≡ account.printed
   pub report : text ≡ report_text (start_of account.run) (entries_of account.run) account.left (marks_of account.run)
       (Some (account.reading.end, account.reading.pages))
-  pub log_crashed : IsCrashedAs stop_log pick call.log.fuse
-  pub data_crashed : IsCrashedAs stop_data pick call.store.fuse
+  pub crashed : AreCrashedAs stop_log stop_data pick call
   pub is_read : WhereToldNow call (λ log store. IsReading log.reads store.reads account.reading)
   pub safe : call.log.entry.tells ≢ None → call.store.entry.tells ≢ None
       → (crash : values.Crash)

@@ -9,7 +9,7 @@ use Rattle.model_store.specs.{IsFair, Opens}
 use Rattle.model_theorem.specs.{IsFresh, Opened, Ran}
 use Rattle.redo_drive.specs.declared.drive.RunEnd.{RunEnd}
 use Rattle.redo_disk.specs.Seen.{Seen}
-use Rattle.redo_io.specs.{SinkSeen, SourceSeen}
+use Rattle.redo_io.specs.{SourceSeen}
 use Rattle.redo_memdisk.specs.{armed_from, fuse_of, inner_of}
 use Rattle.redo_memdisk.specs.declared.fuse.Fuse.{Fuse}
 use Rattle.redo_memdisk.specs.declared.fused.Fused.{Fused}
@@ -36,13 +36,6 @@ pub record Call : Type 1 where
   pub log : Guarded
   pub store : Guarded
   pub drives : Drive → Opened → List ScriptLine → Ran → RunEnd → Option Disk → Option Disk → Type 0
-
--- a whole call: the same, with the sink at entry and now, and the status
-pub record LabCall : Type 1 where
-  pub call : Call
-  pub sink : SinkSeen
-  pub sink_now : SinkSeen
-  pub status : ℕ
 
 -- where both devices told what they mean when they were handed in, this holds of the two
 abbrev pub WhereToldAtEntry : Call → (Disk → Disk → Type 0) → Type 0

@@ -20,23 +20,22 @@ use Rattle.model_store.specs.declared.refusal.Refusal.TheVariants.{SmallLog}
 use Rattle.model_theorem.specs.{Opened, Ran, room_of, FitsOpened, IsFresh, IsRun}
 use Rattle.redo_drive.specs.declared.drive.RunEnd.TheVariants.{Spent}
 use Rattle.redo_memdisk.specs.declared.fuse.Stage.TheVariants.{Before}
-use Rattle.redo_lab.specs.Answer.{IsCrashedAs, shape_of}
+use Rattle.redo_lab.specs.Answer.{AreCrashedAs, shape_of}
 use Rattle.redo_lab.specs.Asked.{IsBadLine, IsLongScript, IsScriptFor, IsScriptRead, drive_of, reads_script, runs_in_threads, runs_script}
-use Rattle.redo_lab.specs.Call.{AreKept, AreUnfailedFor, Call, Each, Guarded, IsInRun, IsUnfailed, IsUnwritten, WhereToldAtEntry, WhereToldNow, IsLeftFair, LabCall, WhereOpened}
+use Rattle.redo_lab.specs.Call.{AreKept, AreUnfailedFor, Call, Each, Guarded, IsInRun, IsUnfailed, IsUnwritten, WhereToldAtEntry, WhereToldNow, IsLeftFair, WhereOpened}
 use Rattle.redo_lab.specs.Store.{AreReadAsPrefix, AreRefused, IsOpenedAs, IsTooShort}
 use Rattle.redo_lab.specs.Told.{AreLeftRead, IsOpenedFirst, IsRunOf}
 use Rattle.model_base.specs.declared.limits.TheConstants.{MAX_SCRIPT}
 use Rattle.model_base.specs.declared.shape.Shape.{Shape}
 use Rattle.model_device.specs.Disk.{Disk}
 use Rattle.model_page.specs.{data_device_length}
-use Rattle.model_report.specs.{status_of}
 use Rattle.model_store.specs.Reading.{Reading}
 
 -- where the command reads a script, all that the source had left was read, and is one
 abbrev pub IsPastSource : Call → Command → Type 0
 IsPastSource call command = reads_script command ≡ true → (script : List ScriptLine) × IsScriptRead call.source call.source_now script
 
--- A call of the device failed, and so its count rose; in a crash one before its fuse was armed, or behind the crash, since a
+-- A call of the device failed, and so its count rose; in a crash one before its fuse was armed, or after the crash, since a
 -- failure between ends the run and not the call.
 abbrev pub IsDeviceFault : Command → Guarded → Type 0
 IsDeviceFault (Crash drive stop_log stop_data pick workers) device =
@@ -55,10 +54,6 @@ IsUnprepared call = Each (λ device. device.fuse.stage ≡ Before) call × (AreK
 abbrev pub IsUnbegun : Call → Command → Type 0
 IsUnbegun call (Run drive) = IsUnprepared call ⊎ (IsOpenedFirst call call.log.now.tells None × AreLeftRead call [] None)
 IsUnbegun call command = ⊤
-
--- both devices were crashed as the words ask, and nothing was written since
-abbrev pub AreCrashedAs : (stop_log stop_data : Option ℕ) (pick : ℕ) → Call → Type 0
-AreCrashedAs stop_log stop_data pick call = IsCrashedAs stop_log pick call.log.fuse × IsCrashedAs stop_data pick call.store.fuse
 
 -- both fuses are armed; but in `crash` both devices may be crashed
 abbrev pub AreInRunOrCrashed : Call → Command → Type 0
@@ -199,10 +194,3 @@ abbrev pub MayKeepFrom : Command → Fault → Type 0
 MayKeepFrom command Memory = ⊤
 MayKeepFrom command (Turns turns user) = (runs_script command ≡ true) × (runs_in_threads command ≡ false)
 MayKeepFrom command _ = ⊥
-
--- A command that can be done is done, where nothing failed, or one of these kept it from that.
-abbrev pub IsDone : LabCall → Command → Type 0
-IsDone lab command =
-    IsPossible lab.call command → (HasRisen lab.call.source.faults lab.call.source_now.faults → ⊥)
-    → (HasRisen lab.sink.faults lab.sink_now.faults → ⊥) → AreUnfailedFor command lab.call
-    → (lab.status ≡ 0) ⊎ ((fault : Fault) × MayKeepFrom command fault × (lab.status ≡ status_of fault))

@@ -1,19 +1,20 @@
 -- THE CONTRACT OF THE TOP CALL: what each ending means.
-use Rattle.std.specs.Prelude.{ℕ, ◌≡◌, ◌≢◌, ◌<◌, ◌+◌, ◌⊎◌, true, false, List, [], ◌++◌, Some, None}
+use Rattle.std.specs.Prelude.{ℕ, ◌≡◌, ◌≢◌, ◌<◌, ◌+◌, ◌⊎◌, true, false, List, [], ◌++◌, Some, None, ⊤}
 use Rattle.model_base.specs.{HasRisen}
 use Rattle.model_base.specs.declared.limits.TheConstants.{MAX_SCRIPT}
 use Rattle.model_script.specs.declared.asked.Command.{Command}
 use Rattle.model_script.specs.declared.asked.Command.TheVariants.{Run}
-use Rattle.model_script.specs.declared.asked.Drive.{Drive}
 use Rattle.model_report.specs.{fault_line, status_of}
 use Rattle.model_report.specs.declared.fault.Fault.{Fault}
 use Rattle.model_report.specs.declared.fault.Fault.TheVariants.{Memory, Sink, LogDevice, DataDevice, Words}
 use Rattle.redo_io.specs.{SinkSeen, TakesAtMost, TakesPart, with_taken}
 use Rattle.redo_io.specs.declared.read.TheConstants.{PIECE}
+use Rattle.redo_lab.specs.declared.outcome.Outcome.{Outcome}
+use Rattle.redo_lab.specs.declared.outcome.Outcome.TheVariants as outcome
 use Rattle.redo_lab.specs.Answer.{IsAnswer}
 use Rattle.redo_lab.specs.Asked.{command_of, leaves_devices, reads_script, runs_script}
-use Rattle.redo_lab.specs.Call.{AreUnfailedFor, Call, Each, IsUnfailedAside, IsUnwritten, LabCall}
-use Rattle.redo_lab.specs.Cause.{IsCauseOf, IsDone}
+use Rattle.redo_lab.specs.Call.{AreUnfailedFor, Call, Each, IsUnfailedAside, IsUnwritten}
+use Rattle.redo_lab.specs.Cause.{IsCauseOf, IsPossible, MayKeepFrom}
 use Rattle.redo_lab.specs.Told.{IsReportText, IsRunText, LeavesStore}
 
 -- the status of a call that did what it was asked
@@ -32,7 +33,7 @@ IsTextPrinted text status sink sink_now =
     ((status ≡ success) × (sink_now.taken ≡ with_taken sink.taken text))
     ⊎ ((status ≡ status_of Sink) × HasRisen sink.faults sink_now.faults × TakesPart sink.taken text sink_now.taken)
 
--- the fault's line was to be printed behind this text, and the status is the fault's whether or not the sink took it all
+-- the fault's line was to be printed after this text, and the status is the fault's whether or not the sink took it all
 abbrev pub IsFaultPrinted : List ℕ → Fault → ℕ → SinkSeen → SinkSeen → Type 0
 IsFaultPrinted text fault status sink sink_now = (status ≡ status_of fault) × IsPutOut (text ++ fault_line fault) sink sink_now
 
@@ -43,50 +44,58 @@ EndsRun call DataDevice =
     HasRisen call.store.entry.faults call.store.now.faults × (0 < call.store.fuse.mid) × (call.log.fuse.mid ≡ 0)
 EndsRun call _ = ⊥
 
--- the command was done
-pub record HasText (lab : LabCall) (command : Command) : Type 0 where
-  pub text : List ℕ
-  pub unfailed : AreUnfailedFor command lab.call
-  pub answer : IsAnswer lab.call command text
-  pub printed : IsTextPrinted text lab.status lab.sink lab.sink_now
+-- a device ended the run, which is reported before the fault's line
+abbrev pub IsReported : Call → Command → List ℕ → Fault → Type 0
+IsReported call (Run drive) text fault = IsRunText call (Run drive) drive IsReportText text × EndsRun call fault × Each IsUnfailedAside call
+IsReported call command text fault = ⊥
 
--- a device ended the run: the report, and then the fault's line
-pub record HasReport (lab : LabCall) (command : Command) : Type 0 where
-  pub drive : Drive
-  pub is_run : command ≡ Run drive
-  pub text : List ℕ
-  pub fault : Fault
-  pub report : IsRunText lab.call command drive IsReportText text
-  pub ended_by : EndsRun lab.call fault
-  pub unfailed_aside : Each IsUnfailedAside lab.call
-  pub printed : IsFaultPrinted text fault lab.status lab.sink lab.sink_now
+-- WHAT THE COMMAND COMES TO: its text, where no device failed that keeps the command from it; or a report of the run that a device ended; or a fault alone, with its cause
+abbrev pub IsOutcome : Call → Command → Outcome → Type 0
+IsOutcome call command (outcome.Text text) = AreUnfailedFor command call × IsAnswer call command text
+IsOutcome call command (outcome.Report text fault) = IsReported call command text fault
+IsOutcome call command (outcome.Fault fault) = IsCauseOf call command fault
 
--- a fault's line alone
-pub record HasFault (lab : LabCall) (command : Command) : Type 0 where
-  pub fault : Fault
-  pub cause : IsCauseOf lab.call command fault
-  pub printed : IsFaultPrinted [] fault lab.status lab.sink lab.sink_now
+-- what is printed of it, and the status
+abbrev pub IsOutcomePrinted : Outcome → ℕ → SinkSeen → SinkSeen → Type 0
+IsOutcomePrinted (outcome.Text text) status sink sink_now = IsTextPrinted text status sink sink_now
+IsOutcomePrinted (outcome.Report text fault) status sink sink_now = IsFaultPrinted text fault status sink sink_now
+IsOutcomePrinted (outcome.Fault fault) status sink sink_now = IsFaultPrinted [] fault status sink sink_now
 
--- how the words' command ends
-pub record EndsCommand (lab : LabCall) (command : Command) : Type 0 where
-  pub asked : command_of lab.call.words ≡ Some command
-  pub way : HasText lab command ⊎ (HasReport lab command ⊎ HasFault lab command)
-  pub unread : reads_script command ≡ false → lab.call.source_now ≡ lab.call.source
-  pub unwritten : leaves_devices command ≡ true → Each IsUnwritten lab.call
-  pub complete : IsDone lab command
+-- the command was done, or this may keep it from that
+abbrev pub IsDoneOrKeptFrom : Command → Outcome → Type 0
+IsDoneOrKeptFrom command (outcome.Text text) = ⊤
+IsDoneOrKeptFrom command (outcome.Report text fault) = ⊥
+IsDoneOrKeptFrom command (outcome.Fault fault) = MayKeepFrom command fault
+
+-- WHAT THE OUTCOME SAYS of its call. Whatever it is, what is left of the store is accepted where the command runs a script, and a
+-- device that told goes on telling. A command that can be done is done where nothing failed, or want of
+-- memory or spent turns kept it from that.
+pub record EndsWith (call : Call) (command : Command) (outcome : Outcome) : Type 0 where
+  pub means : IsOutcome call command outcome
+  pub unread : reads_script command ≡ false → call.source_now ≡ call.source
+  pub unwritten : leaves_devices command ≡ true → Each IsUnwritten call
+  pub left : runs_script command ≡ true → LeavesStore call
+  pub tells : Each (λ device. device.entry.tells ≢ None → device.now.tells ≢ None) call
+  pub complete : IsPossible call command → (HasRisen call.source.faults call.source_now.faults → ⊥) → AreUnfailedFor command call
+      → IsDoneOrKeptFrom command outcome
+
+-- the words ask for this command, which comes to an outcome that is printed
+pub record EndsCommand (call : Call) (sink sink_now : SinkSeen) (status : ℕ) (command : Command) : Type 0 where
+  pub asked : command_of call.words ≡ Some command
+  pub outcome : Outcome
+  pub ends : EndsWith call command outcome
+  pub printed : IsOutcomePrinted outcome status sink sink_now
 
 -- the words are no command, or there was no memory to read them, and nothing was done
-pub record HasNoCommand (lab : LabCall) : Type 0 where
+pub record HasNoCommand (call : Call) (sink sink_now : SinkSeen) (status : ℕ) : Type 0 where
   pub fault : Fault
-  pub fault_is : ((command_of lab.call.words ≡ None) × (fault ≡ Words)) ⊎ (fault ≡ Memory)
-  pub printed : IsFaultPrinted [] fault lab.status lab.sink lab.sink_now
-  pub unread : lab.call.source_now ≡ lab.call.source
-  pub unwritten : Each IsUnwritten lab.call
+  pub fault_is : ((command_of call.words ≡ None) × (fault ≡ Words)) ⊎ (fault ≡ Memory)
+  pub printed : IsFaultPrinted [] fault status sink sink_now
+  pub unread : call.source_now ≡ call.source
+  pub unwritten : Each IsUnwritten call
+  pub left : (command : Command) → command_of call.words ≡ Some command → runs_script command ≡ true → LeavesStore call
 
-pub record IsCallOf (lab : LabCall) : Type 0 where
-  pub way : HasNoCommand lab ⊎ ((command : Command) × EndsCommand lab command)
-  -- WHATEVER THE STATUS of a command that runs a script, what is left of the store is accepted
-  pub left : (command : Command) → command_of lab.call.words ≡ Some command → runs_script command ≡ true → LeavesStore lab.call
-  pub reads_little : TakesAtMost (MAX_SCRIPT + PIECE) lab.call.source.left lab.call.source_now.left
-  -- a device that told goes on telling
-  pub tells : Each (λ device. device.entry.tells ≢ None → device.now.tells ≢ None) lab.call
+-- the call had this sink, which is this now, and ended with this status
+pub record IsCallOf (call : Call) (sink sink_now : SinkSeen) (status : ℕ) : Type 0 where
+  pub way : HasNoCommand call sink sink_now status ⊎ ((command : Command) × EndsCommand call sink sink_now status command)
+  pub reads_little : TakesAtMost (MAX_SCRIPT + PIECE) call.source.left call.source_now.left

@@ -2,11 +2,10 @@
 use Rattle.std.specs.Prelude.{ℕ, ◌≡◌, List, Bool, true, false, Option}
 use Rattle.redo_disk.specs as device
 use Rattle.redo_disk.specs.Seen.{Seen}
-use Rattle.redo_io.specs.{SinkSeen, SourceSeen}
-use Rattle.redo_lab.specs.declared.ended.Ended.{Ended}
+use Rattle.redo_io.specs.{SourceSeen}
 use Rattle.redo_memdisk.specs.{entry_of, CallsThrough, seen_through}
 use Rattle.redo_memdisk.specs.declared.fused.Fused.{Fused}
-use Rattle.redo_lab.specs.Call.{Call, LabCall, guarded}
+use Rattle.redo_lab.specs.Call.{Call, guarded}
 use Rattle.model_script.specs.declared.asked.Drive.{Drive}
 use Rattle.model_device.specs.Disk.{Disk}
 use Rattle.model_log.specs.{start_after}
@@ -16,8 +15,8 @@ use Rattle.model_theorem.specs.Values as values
 use Rattle.redo_machine.specs.{RunsByTurns}
 use Rattle.redo_drive.specs.declared.drive.Driven.{Driven}
 use Rattle.redo_drive.specs.declared.drive.RunEnd.{RunEnd}
-use Rattle.redo_pageactors.specs.{IsRunnable}
-use Rattle.redo_pageactors.specs.declared.opened.Opened.{Opened}
+use Rattle.redo_store.specs.{IsRunnable}
+use Rattle.redo_store.specs.declared.opened.Opened.{Opened}
 use Rattle.redo_threads.specs.InThreads.{RunsInThreads}
 use Rattle.redo_lab.specs.Asked.{turns_of}
 
@@ -28,38 +27,26 @@ pub record IsOpenedAt {L D : Type 0} (opened : values.Opened) (store : Opened L 
   pub start : store.start ≡ start_after opened.end
   pub runnable : IsRunnable store
 
--- A drive that tells this led from the opened store to this end; the run is what it left, and both devices meant this then.
-pub record IsDriven {L D : Type 0} (log_seen : L → Seen) (data_seen : D → Seen) (tells : Opened L D → List ScriptLine → Driven L D → Type 0)
-    (opened : values.Opened) (script : List ScriptLine) (run : Ran) (end : RunEnd) (log_met store_met : Option Disk) : Type 0 where
-  pub store : Opened L D
-  pub is_opened : IsOpenedAt opened store
-  pub driven : Driven L D
-  pub told : tells store script driven
-  pub ends : driven.ended ≡ end
-  pub run_is : run ≡ record { start = store.start; entries = driven.closed.history; marks = driven.closed.marks }
-  pub log_is : log_met ≡ (log_seen driven.closed.log.dev).tells
-  pub store_is : store_met ≡ (data_seen driven.closed.store.dev).tells
-
--- what the drive tells: by turns, those of the seed, at most as many as are allowed; or in threads, by which no turns are counted
+-- what the drive tells, on devices behind their fuses: by turns, those of the seed, at most as many as are allowed; or in threads, by
+-- which no turns are counted
 abbrev pub TellsOf : {L D : Type 0} → (threads : Bool) → (L → Seen) → (L → device.Call → L → Type 0) → (D → Seen) → (D → device.Call → D → Type 0)
-    → Drive → Opened L D → List ScriptLine → Driven L D → Type 0
+    → Drive → Opened (Fused L) (Fused D) → List ScriptLine → Driven (Fused L) (Fused D) → Type 0
 TellsOf false log_seen log_gives data_seen data_gives drive store script driven =
-    RunsByTurns log_seen log_gives data_seen data_gives store script (turns_of drive) driven
+    RunsByTurns (seen_through log_seen) (CallsThrough log_seen log_gives) (seen_through data_seen) (CallsThrough data_seen data_gives)
+    store script (turns_of drive) driven
 TellsOf true log_seen log_gives data_seen data_gives drive store script driven = RunsInThreads store script drive.log_only driven
 
--- the same on devices behind their fuses
-abbrev pub TellsBehind : {L D : Type 0} → (L → Seen) → (L → device.Call → L → Type 0) → (D → Seen) → (D → device.Call → D → Type 0)
-    → Drive → Opened (Fused L) (Fused D) → List ScriptLine → Driven (Fused L) (Fused D) → Type 0
-TellsBehind log_seen log_gives data_seen data_gives drive store script driven =
-    TellsOf drive.threads (seen_through log_seen) (CallsThrough log_seen log_gives) (seen_through data_seen) (CallsThrough data_seen data_gives)
-    drive store script driven
-
--- the run is the one to which the drive leads
-abbrev pub DrivenBy : {L D : Type 0} → (L → Seen) → (L → device.Call → L → Type 0) → (D → Seen) → (D → device.Call → D → Type 0)
-    → Drive → values.Opened → List ScriptLine → Ran → RunEnd → Option Disk → Option Disk → Type 0
-DrivenBy log_seen log_gives data_seen data_gives drive opened script run end log_met store_met =
-    IsDriven (seen_through log_seen) (seen_through data_seen) (TellsBehind log_seen log_gives data_seen data_gives drive)
-    opened script run end log_met store_met
+-- The drive led from the opened store to this end; the run is what it left, and both devices meant this then.
+pub record IsDriven {L D : Type 0} (log_seen : L → Seen) (log_gives : L → device.Call → L → Type 0) (data_seen : D → Seen) (data_gives : D → device.Call → D → Type 0)
+    (drive : Drive) (opened : values.Opened) (script : List ScriptLine) (run : Ran) (end : RunEnd) (log_met store_met : Option Disk) : Type 0 where
+  pub store : Opened (Fused L) (Fused D)
+  pub is_opened : IsOpenedAt opened store
+  pub driven : Driven (Fused L) (Fused D)
+  pub told : TellsOf drive.threads log_seen log_gives data_seen data_gives drive store script driven
+  pub ends : driven.ended ≡ end
+  pub run_is : run ≡ record { start = store.start; entries = driven.closed.history; marks = driven.closed.marks }
+  pub log_is : log_met ≡ (log_seen driven.closed.log.dev.inner).tells
+  pub store_is : store_met ≡ (data_seen driven.closed.store.dev.inner).tells
 
 -- the devices behind the two fuses are those that were handed in, with these fuses all along
 pub record AreOf {L D : Type 0} (log : L) (store : D) (log_now : Fused L) (data_now : Fused D) : Type 0 where
@@ -75,15 +62,5 @@ call_on log_seen log_gives data_seen data_gives words source source_now log stor
   source_now = source_now;
   log = guarded log_seen log log_now;
   store = guarded data_seen store data_now;
-  drives = DrivenBy log_seen log_gives data_seen data_gives;
-}
-
--- and this sink, and ended so
-abbrev pub lab_call_of : {L D : Type 0} → (L → Seen) → (L → device.Call → L → Type 0) → (D → Seen) → (D → device.Call → D → Type 0) → (words : List (List ℕ))
-    → (source source_now : SourceSeen) → (sink sink_now : SinkSeen) → (log : L) → (store : D) → Ended L D → LabCall
-lab_call_of log_seen log_gives data_seen data_gives words source source_now sink sink_now log store ended = record {
-  call = call_on log_seen log_gives data_seen data_gives words source source_now log store ended.log ended.store;
-  sink = sink;
-  sink_now = sink_now;
-  status = ended.status;
+  drives = IsDriven log_seen log_gives data_seen data_gives;
 }

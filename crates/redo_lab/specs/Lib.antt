@@ -2,12 +2,10 @@ pub mod Answer
 pub mod Asked
 pub mod Call
 pub mod Cause
-pub mod Course
+pub mod Devices
 pub mod Ending
 pub mod Handed
-pub mod Outcome
-pub mod Playing
-pub mod Reread
-pub mod Stages
+pub mod Laws
+pub mod Runs
 pub mod Store
 pub mod Told

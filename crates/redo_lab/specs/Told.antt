@@ -66,7 +66,7 @@ IsSummaryText call script run left text =
     (reading : Reading) × WhereToldNow call (λ log store. IsReading log.reads store.reads reading)
     × (text ≡ summary_text (length run.entries) run.marks.flushed run.marks.ckpt reading.pages)
 
--- the store was in order at entry, or the log device was unused and formatting answered Ok, since the fuses were armed behind it
+-- the store was in order at entry, or the log device was unused and formatting answered Ok, since the fuses were armed after it
 abbrev pub IsStored : Call → Opened → Disk → Disk → Type 0
 IsStored call opened log store =
     OpensOrderly log.reads store.reads opened.shape opened.pages opened.end

@@ -3,7 +3,7 @@ ghost use Rattle.std.specs.Prelude.{◌≡◌, ◌⊎◌, Some, None, true, fals
 ghost use Rattle.std.specs.String.{string_bytes};
 ghost use Rattle.model_report.specs.declared.fault.Fault.TheVariants.{Memory, Words};
 ghost use Rattle.redo_lab.specs.Asked.{command_of, runs_in_threads, turns_of};
-ghost use Rattle.redo_lab.specs.Playing.{command_for};
+ghost use Rattle.redo_lab.specs.Runs.{command_with};
 
 use crate::crash_command::Crashing;
 use crate::playing::Stops;
@@ -33,7 +33,7 @@ pub(crate) struct Scripted {
 
 /// The script that a command runs off the source in threads, if it runs one so.
 pub(crate) fn threaded(command: &Command) -> Option<Scripted>
-    ensures some { IfSome result (λ asked. (command.now ≡ command_for asked) × (asked.drive.threads ≡ true)) }
+    ensures some { IfSome result (λ asked. (command.now ≡ command_with asked.drive asked.crash) × (asked.drive.threads ≡ true)) }
     ensures none { result ≡ None → runs_in_threads command.now ≡ false }
 {
     match command {

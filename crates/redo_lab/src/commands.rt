@@ -6,19 +6,19 @@ ghost use Rattle.model_script.specs.declared.words.TheConstants.{MAX_WORKERS};
 ghost use Rattle.redo_io.specs.{SourceSeen, TakesAtMost};
 ghost use Rattle.redo_io.specs.declared.read.TheConstants.{PIECE};
 ghost use Rattle.redo_lab.specs.Asked.{IsScriptRead, IsWithin, runs_in_threads};
-ghost use Rattle.redo_lab.specs.Handed.{AreOf};
-ghost use Rattle.redo_lab.specs.Outcome.{EndsWith, call_of};
-ghost use Rattle.redo_lab.specs.Playing.{IsRanBy, command_for, command_with, stops_of};
+ghost use Rattle.redo_lab.specs.Handed.{AreOf, call_on};
+ghost use Rattle.redo_lab.specs.Ending.{EndsWith};
+ghost use Rattle.redo_lab.specs.Runs.{IsRanBy, command_with, stops_of};
 
 use crate::asked::{Scripted, turns_of};
 use crate::crash_command::{Crashing, crash_command};
 use crate::gen_command::gen_command;
+use crate::laws::laws;
 use crate::outcome::{Done, unasked};
 use crate::playing::{Ran, Stops, by_turns, in_threads};
 use crate::run_command::run_command;
 use crate::script::read_script;
 use crate::simple::{format_devices, print_pages, print_store};
-use model_parts::openable_reads;
 use model_script::{Command, Script, read_lines_are_ranged};
 use redo_disk::Sectors;
 use redo_io::Source;
@@ -50,8 +50,9 @@ fn after_run<R: Threads + Sync, L: Sectors, D: Sectors>(
 ) -> Done<L, D>
     requires workers { IfSome crash (λ crash. (1 ≤ crash.workers) × (crash.workers ≤ MAX_WORKERS)) }
     ensures ends { (asked : Asked) (words : List (List ℕ)) (source source_now : SourceSeen) (log : L) (store : D)
-        → IsRanBy L.seen L.gives D.seen D.gives asked (stops_of crash) script.now log store ran → IsScriptRead source source_now script.now
-        → EndsWith (call_of L.seen L.gives D.seen D.gives words source source_now log store result) (command_with asked crash) result.outcome }
+        → IsRanBy (call_on L.seen L.gives D.seen D.gives words source source_now log store) (command_with asked crash) asked (stops_of crash) script.now ran
+        → IsScriptRead source source_now script.now
+        → EndsWith (call_on L.seen L.gives D.seen D.gives words source source_now log store result.log result.store) (command_with asked crash) result.outcome }
     ensures entered { (log : L) (store : D) → AreOf log store ran.log ran.store → AreOf log store result.log result.store }
 {
     match crash {
@@ -69,14 +70,14 @@ fn source_by_turns<R: Threads + Sync, S: Source, L: Sectors, D: Sectors>(
     log: L,
     store: D,
 ) -> Done<L, D>
-    requires within { IsWithin (command_for asked) }
+    requires within { IsWithin (command_with asked.drive asked.crash) }
     requires by_turns { asked.drive.threads ≡ false }
     ensures ends { (words : List (List ℕ))
-        → EndsWith (call_of L.seen L.gives D.seen D.gives words (S.seen src.old) (S.seen src.new) log store result) (command_for asked) result.outcome }
+        → EndsWith (call_on L.seen L.gives D.seen D.gives words (S.seen src.old) (S.seen src.new) log store result.log result.store) (command_with asked.drive asked.crash) result.outcome }
     ensures entered { AreOf log store result.log result.store }
     ensures taken { TakesAtMost (MAX_SCRIPT + PIECE) (S.seen src.old).left (S.seen src.new).left }
 {
-    openable_reads();
+    laws();
     read_lines_are_ranged();
     match read_script(alloc, src) {
         Ok(script) => {
@@ -97,14 +98,14 @@ pub(crate) fn source_in_threads<
     D: Sectors + Send,
     G: Gate,
 >(rt: &R, alloc: Global, src: &mut S, gate: &G, asked: Scripted, log: L, store: D) -> Done<L, D>
-    requires within { IsWithin (command_for asked) }
+    requires within { IsWithin (command_with asked.drive asked.crash) }
     requires in_threads { asked.drive.threads ≡ true }
     ensures ends { (words : List (List ℕ))
-        → EndsWith (call_of L.seen L.gives D.seen D.gives words (S.seen src.old) (S.seen src.new) log store result) (command_for asked) result.outcome }
+        → EndsWith (call_on L.seen L.gives D.seen D.gives words (S.seen src.old) (S.seen src.new) log store result.log result.store) (command_with asked.drive asked.crash) result.outcome }
     ensures entered { AreOf log store result.log result.store }
     ensures taken { TakesAtMost (MAX_SCRIPT + PIECE) (S.seen src.old).left (S.seen src.new).left }
 {
-    openable_reads();
+    laws();
     read_lines_are_ranged();
     match read_script(alloc, src) {
         Ok(script) => {
@@ -129,7 +130,7 @@ pub(crate) fn done<R: Threads + Sync, S: Source, L: Sectors, D: Sectors>(
     requires within { IsWithin command }
     requires by_turns { runs_in_threads command ≡ false }
     ensures ends { (words : List (List ℕ))
-        → EndsWith (call_of L.seen L.gives D.seen D.gives words (S.seen src.old) (S.seen src.new) log store result) command result.outcome }
+        → EndsWith (call_on L.seen L.gives D.seen D.gives words (S.seen src.old) (S.seen src.new) log store result.log result.store) command result.outcome }
     ensures entered { AreOf log store result.log result.store }
     ensures taken { TakesAtMost (MAX_SCRIPT + PIECE) (S.seen src.old).left (S.seen src.new).left }
 {

@@ -4,23 +4,20 @@ ghost use Rattle.model_base.specs.declared.limits.TheConstants.{MAX_PAGES};
 ghost use Rattle.model_script.specs.declared.asked.Drive.{Drive as Asked};
 ghost use Rattle.model_script.specs.declared.words.TheConstants.{MAX_WORKERS};
 ghost use Rattle.redo_io.specs.{SourceSeen};
+ghost use Rattle.redo_drive.specs.declared.drive.RunEnd.TheVariants as ended;
 ghost use Rattle.redo_memdisk.specs.{entry_of};
-ghost use Rattle.redo_lab.specs.Handed.{AreOf};
-ghost use Rattle.redo_lab.specs.Outcome.{EndsWith, call_of};
-ghost use Rattle.redo_lab.specs.Playing.{IsRanBy, command_with};
-ghost use Rattle.redo_lab.specs.Reread.{IsReportOf, ReadsBack, run_of};
-ghost use Rattle.redo_lab.specs.Stages.{shown};
 ghost use Rattle.redo_lab.specs.Asked.{IsScriptRead};
+ghost use Rattle.redo_lab.specs.Handed.{AreOf, call_on};
+ghost use Rattle.redo_lab.specs.Ending.{EndsWith};
+ghost use Rattle.redo_lab.specs.Runs.{IsLeftBy, IsRanBy, IsReportOf, LosesByFailure, command_with, run_of};
 
 use crate::faults::fault_of;
+use crate::laws::laws;
 use crate::outcome::{Done, Outcome};
 use crate::playing::{Course, Played, Ran, Stops};
 use crate::reading::contents;
 use crate::reporting::report_of;
-use model_parts::{formatted_is_openable, openable_reads};
-use model_script::{Script, unfit_is_misfit};
-use model_store::{one_answer, one_reading};
-use model_theorem::{closed_run_is_safe, crash_of_safe_run, held_run_is_opened, held_run_reads};
+use model_script::Script;
 use redo_disk::Sectors;
 use redo_io::Text;
 use redo_lsn::NoMemory;
@@ -38,7 +35,7 @@ pub(crate) struct Crashing {
     pub(crate) workers: u32,
 }
 
-/// The report of a run and of what was read behind the crash.
+/// The report of a run and of what was read after the crash.
 fn report_crash(
     alloc: Global,
     script: &Script,
@@ -68,10 +65,15 @@ fn crash_and_read<R: Threads + Sync, L: Sectors, D: Sectors>(
     store: &mut Fused<D>,
 ) -> Outcome
     requires { (1 ≤ crash.workers) × (crash.workers ≤ MAX_WORKERS) }
-    ensures reads { ReadsBack crash.pick script.now (run_of played.entry) result
-        (shown L.seen log.old) (shown D.seen store.old) (shown L.seen log.new) (shown D.seen store.new) }
+    ensures ends { (asked : Asked) (words : List (List ℕ)) (source source_now : SourceSeen) (log_entry : L) (data_entry : D)
+        → IsScriptRead source source_now script.now
+        → IsLeftBy (call_on L.seen L.gives D.seen D.gives words source source_now log_entry data_entry log.old store.old) (command_with asked (Some crash)) asked crash.stops
+        script.now (run_of played.entry) ended.Done
+        → LosesByFailure (call_on L.seen L.gives D.seen D.gives words source source_now log_entry data_entry log.old store.old) script.now (run_of played.entry)
+        → EndsWith (call_on L.seen L.gives D.seen D.gives words source source_now log_entry data_entry log.new store.new) (command_with asked (Some crash)) result }
     ensures entered { AreOf (entry_of log.old) (entry_of store.old) log.new store.new }
 {
+    laws();
     log.crash(crash.pick);
     store.crash(crash.pick);
     match recover_with(rt, alloc, log, store, crash.workers) {
@@ -91,19 +93,11 @@ pub(crate) fn crash_command<R: Threads + Sync, L: Sectors, D: Sectors>(
 ) -> Done<L, D>
     requires { (1 ≤ crash.workers) × (crash.workers ≤ MAX_WORKERS) }
     ensures ends { (asked : Asked) (words : List (List ℕ)) (source source_now : SourceSeen) (log : L) (store : D)
-        → IsRanBy L.seen L.gives D.seen D.gives asked crash.stops script.now log store ran → IsScriptRead source source_now script.now
-        → EndsWith (call_of L.seen L.gives D.seen D.gives words source source_now log store result) (command_with asked (Some crash)) result.outcome }
+        → IsRanBy (call_on L.seen L.gives D.seen D.gives words source source_now log store) (command_with asked (Some crash)) asked crash.stops script.now ran
+        → IsScriptRead source source_now script.now
+        → EndsWith (call_on L.seen L.gives D.seen D.gives words source source_now log store result.log result.store) (command_with asked (Some crash)) result.outcome }
     ensures entered { (log : L) (store : D) → AreOf log store ran.log ran.store → AreOf log store result.log result.store }
 {
-    one_answer();
-    one_reading();
-    openable_reads();
-    formatted_is_openable();
-    held_run_reads();
-    held_run_is_opened();
-    closed_run_is_safe();
-    crash_of_safe_run();
-    unfit_is_misfit();
     let Ran {
         course,
         mut log,

@@ -1,6 +1,6 @@
 // The faults of a call, by those of the layers below.
 ghost use Rattle.std.specs.Prelude.{◌≡◌};
-ghost use Rattle.redo_lab.specs.Playing.{fault_of};
+ghost use Rattle.redo_lab.specs.Runs.{fault_of};
 
 use model_report::Fault;
 use model_store::Refusal;

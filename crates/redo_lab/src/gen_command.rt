@@ -1,29 +1,27 @@
 // The command `gen`.
-ghost use Rattle.std.specs.Prelude.{ℕ, ◌≡◌, ◌≤◌, List, IfOk, length, true, false};
+ghost use Rattle.std.specs.Prelude.{ℕ, ◌≡◌, ◌≤◌, List, None, IfOk, length, true, false};
 ghost use Rattle.std.specs.List.{AllByRecursion};
 ghost use Rattle.model_base.specs.declared.limits.TheConstants.{MAX_PAGES};
 ghost use Rattle.model_script.specs.declared.asked.Command.TheVariants.{Gen};
 ghost use Rattle.model_script.specs.{generated_lines, IsScriptLine};
 ghost use Rattle.model_script.specs.declared.misfit.TheConstants.{MAX_USERS};
+ghost use Rattle.model_script.specs.declared.script.ScriptLine.{ScriptLine};
 ghost use Rattle.redo_io.specs.{SourceSeen};
 ghost use Rattle.redo_memdisk.specs.{entry_of};
 ghost use Rattle.redo_recover.specs.{reading_of};
 ghost use Rattle.redo_lab.specs.Asked.{drive_of_seed, turns_of};
-ghost use Rattle.redo_lab.specs.Course.{ran_of};
-ghost use Rattle.redo_lab.specs.Handed.{AreOf};
-ghost use Rattle.redo_lab.specs.Outcome.{EndsWith, call_of};
-ghost use Rattle.redo_lab.specs.Reread.{ReadsAfter, summary_of};
-ghost use Rattle.redo_lab.specs.Stages.{shown};
+ghost use Rattle.redo_lab.specs.declared.playing.Course.TheVariants as course;
+ghost use Rattle.redo_lab.specs.Handed.{AreOf, call_on};
+ghost use Rattle.redo_lab.specs.Ending.{EndsWith};
+ghost use Rattle.redo_lab.specs.Runs.{ComesTo, IsRunning, ran_of, stops_of, summary_of};
 
 use crate::faults::fault_of;
+use crate::laws::laws;
 use crate::outcome::{Done, Outcome, unasked};
 use crate::playing::{Course, Played, Ran, Stops, by_turns};
 use crate::reading::contents;
-use model_parts::{formatted_is_openable, openable_reads};
 use model_report::Fault;
-use model_script::{Script, unfit_is_misfit};
-use model_store::{base_is_fair, one_answer, one_reading};
-use model_theorem::{closed_run_is_safe, held_run_is_opened, held_run_reads};
+use model_script::Script;
 use redo_disk::Sectors;
 use redo_io::Text;
 use redo_lsn::NoMemory;
@@ -46,7 +44,7 @@ fn print_script<L: Sectors, D: Sectors>(
     requires some_users { 1 ≤ users }
     requires few_users { users ≤ MAX_USERS }
     ensures ends { (words : List (List ℕ)) (source : SourceSeen) (max : ℕ)
-        → EndsWith (call_of L.seen L.gives D.seen D.gives words source source log store result) (Gen seed users groups false max) result.outcome }
+        → EndsWith (call_on L.seen L.gives D.seen D.gives words source source log store result.log result.store) (Gen seed users groups false max) result.outcome }
     ensures entered { AreOf log store result.log result.store }
 {
     Done {
@@ -56,7 +54,7 @@ fn print_script<L: Sectors, D: Sectors>(
     }
 }
 
-/// The summary of a run, and of what was read behind it.
+/// The summary of a run, and of what was read after it.
 fn summarize(alloc: Global, played: &Played, recovered: &Recovered) -> Result<Text, NoMemory>
     requires { length recovered.now.pages ≤ MAX_PAGES }
     ensures { IfOk result (λ text. text ≡ summary_of (ran_of played.now) (reading_of recovered.now)) }
@@ -71,17 +69,21 @@ fn summarize(alloc: Global, played: &Played, recovered: &Recovered) -> Result<Te
     )
 }
 
-/// Reads the store behind a run, and sums both up.
+/// Reads the store after a run, and sums both up.
 fn read_after<L: Sectors, D: Sectors>(
     alloc: Global,
     played: &Played,
     log: &mut Fused<L>,
     store: &mut Fused<D>,
 ) -> Outcome
-    ensures reads { ReadsAfter (ran_of played.now) result (shown L.seen log.old) (shown D.seen store.old)
-        (shown L.seen log.new) (shown D.seen store.new) }
+    ensures ends { (words : List (List ℕ)) (source : SourceSeen) (log_entry : L) (data_entry : D) (seed users groups max : ℕ) (script : List ScriptLine)
+        → IsRunning source source (Gen seed users groups true max) (drive_of_seed seed max) script
+        → ComesTo (call_on L.seen L.gives D.seen D.gives words source source log_entry data_entry log.old store.old) (Gen seed users groups true max) (drive_of_seed seed max)
+        (stops_of None) script (course.Played played.now None)
+        → EndsWith (call_on L.seen L.gives D.seen D.gives words source source log_entry data_entry log.new store.new) (Gen seed users groups true max) result }
     ensures entered { AreOf (entry_of log.old) (entry_of store.old) log.new store.new }
 {
+    laws();
     match recover(alloc, log, store) {
         Ok(recovered) => Outcome::of_text(summarize(alloc, played, &recovered)),
         Err(fault) => Outcome::Fault(fault_of(fault)),
@@ -110,18 +112,10 @@ fn run_script<L: Sectors, D: Sectors>(
     requires { AllByRecursion IsScriptLine script.now }
     ensures ends { (words : List (List ℕ)) (source : SourceSeen) (seed users groups max : ℕ) → script.now ≡ generated_lines seed users groups
         → turns.now ≡ turns_of (drive_of_seed seed max)
-        → EndsWith (call_of L.seen L.gives D.seen D.gives words source source log store result) (Gen seed users groups true max) result.outcome }
+        → EndsWith (call_on L.seen L.gives D.seen D.gives words source source log store result.log result.store) (Gen seed users groups true max) result.outcome }
     ensures entered { AreOf log store result.log result.store }
 {
-    one_answer();
-    one_reading();
-    openable_reads();
-    formatted_is_openable();
-    held_run_reads();
-    held_run_is_opened();
-    closed_run_is_safe();
-    base_is_fair();
-    unfit_is_misfit();
+    laws();
     let stops = Stops {
         log: None,
         store: None,
@@ -158,10 +152,10 @@ fn run_seed<L: Sectors, D: Sectors>(
     requires some_users { 1 ≤ users }
     requires few_users { users ≤ MAX_USERS }
     ensures ends { (words : List (List ℕ)) (source : SourceSeen)
-        → EndsWith (call_of L.seen L.gives D.seen D.gives words source source log store result) (Gen seed users groups true max) result.outcome }
+        → EndsWith (call_on L.seen L.gives D.seen D.gives words source source log store result.log result.store) (Gen seed users groups true max) result.outcome }
     ensures entered { AreOf log store result.log result.store }
 {
-    openable_reads();
+    laws();
     generated_lines_are_ranged();
     match generate_lines(alloc, seed, users, groups) {
         Ok(script) => run_script(alloc, &script, &turns_of_seed(seed, max), log, store),
@@ -183,7 +177,7 @@ pub(crate) fn gen_command<L: Sectors, D: Sectors>(
     requires some_users { 1 ≤ users }
     requires few_users { users ≤ MAX_USERS }
     ensures ends { (words : List (List ℕ)) (source : SourceSeen)
-        → EndsWith (call_of L.seen L.gives D.seen D.gives words source source log store result) (Gen seed users groups run max) result.outcome }
+        → EndsWith (call_on L.seen L.gives D.seen D.gives words source source log store result.log result.store) (Gen seed users groups run max) result.outcome }
     ensures entered { AreOf log store result.log result.store }
 {
     if run {

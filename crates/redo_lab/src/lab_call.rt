@@ -3,13 +3,13 @@ ghost use Rattle.std.specs.Prelude.{ℕ, ◌≡◌, Some, false, List, map};
 ghost use Rattle.std.specs.String.{string_bytes};
 ghost use Rattle.redo_lab.specs.Asked.{IsWithin, command_of, runs_in_threads};
 ghost use Rattle.redo_lab.specs.Ending.{IsCallOf};
-ghost use Rattle.redo_lab.specs.Handed.{AreOf, lab_call_of};
+ghost use Rattle.redo_lab.specs.Handed.{AreOf, call_on};
 
 use crate::asked::{read_command, threaded};
 use crate::commands::{done, source_in_threads};
 use crate::ended::{Ended, end};
+use crate::laws::laws;
 use crate::outcome::unasked;
-use model_parts::openable_reads;
 use model_script::Command;
 use redo_disk::Sectors;
 use redo_io::{Sink, Source};
@@ -32,7 +32,8 @@ pub fn lab_turns<R: Threads + Sync, S: Source, O: Sink, L: Sectors, D: Sectors>(
     requires within { IsWithin command }
     requires by_turns { runs_in_threads command ≡ false }
     ensures call { (words : List (List ℕ)) → command_of words ≡ Some command
-        → IsCallOf (lab_call_of L.seen L.gives D.seen D.gives words (S.seen src.old) (S.seen src.new) (O.seen out.old) (O.seen out.new) log store result) }
+        → IsCallOf (call_on L.seen L.gives D.seen D.gives words (S.seen src.old) (S.seen src.new) log store result.log result.store)
+        (O.seen out.old) (O.seen out.new) result.status }
     ensures entered { AreOf log store result.log result.store }
 {
     end(out, done(rt, alloc, command, src, log, store))
@@ -57,11 +58,11 @@ pub fn lab<
     store: D,
     gate: &G,
 ) -> Ended<L, D>
-    ensures call { IsCallOf (lab_call_of L.seen L.gives D.seen D.gives (map (λ word. string_bytes word) words.now) (S.seen src.old) (S.seen src.new)
-        (O.seen out.old) (O.seen out.new) log store result) }
+    ensures call { IsCallOf (call_on L.seen L.gives D.seen D.gives (map (λ word. string_bytes word) words.now) (S.seen src.old) (S.seen src.new)
+        log store result.log result.store) (O.seen out.old) (O.seen out.new) result.status }
     ensures entered { AreOf log store result.log result.store }
 {
-    openable_reads();
+    laws();
     let command = match read_command(alloc, words) {
         Ok(command) => command,
         Err(fault) => return end(out, unasked(fault, log, store)),

@@ -9,6 +9,7 @@ mod ended;
 mod faults;
 mod gen_command;
 mod lab_call;
+mod laws;
 mod outcome;
 mod playing;
 mod prepare;

@@ -1,6 +1,8 @@
 // What a command leaves to be printed.
 ghost use Rattle.std.specs.Prelude.{◌≡◌};
-ghost use Rattle.redo_lab.specs.Outcome.{IsUnasked};
+ghost use Rattle.redo_memdisk.specs.{fresh, fuse_of, inner_of};
+ghost use Rattle.redo_lab.specs.declared.outcome.Outcome.TheVariants as ended;
+ghost use Rattle.redo_lab.specs.Handed.{AreOf};
 
 use model_report::Fault;
 use redo_io::Text;
@@ -27,7 +29,7 @@ pub struct Done<L, D> {
 }
 
 impl Outcome {
-    ghost use Rattle.redo_lab.specs.Outcome.{outcome_of};
+    ghost use Rattle.redo_lab.specs.Runs.{outcome_of};
 
     /// A command whose text is this, unless memory ran out over it.
     pub(crate) fn of_text(text: Result<Text, NoMemory>) -> Self
@@ -42,7 +44,12 @@ impl Outcome {
 
 /// What is left of a command that is ended by this fault before a device is called.
 pub(crate) fn unasked<L, D>(fault: Fault, log: L, store: D) -> Done<L, D>
-    ensures { IsUnasked fault log store result }
+    ensures outcome_is { result.outcome ≡ ended.Fault fault }
+    ensures log_inner { inner_of result.log ≡ log }
+    ensures log_fuse { fuse_of result.log ≡ fresh }
+    ensures data_inner { inner_of result.store ≡ store }
+    ensures data_fuse { fuse_of result.store ≡ fresh }
+    ensures entered { AreOf log store result.log result.store }
 {
     Done {
         outcome: Outcome::Fault(fault),

@@ -1,39 +1,37 @@
 // The run of a script on two devices: they are prepared and opened, the script is judged, and its lines are run.
-ghost use Rattle.std.specs.Prelude.{◌≡◌, ◌≤◌, ◌<◌, ◌^◌, true, false, IfErr, IfOk};
+ghost use Rattle.std.specs.Prelude.{◌≡◌, ◌≤◌, ◌<◌, ◌^◌, ℕ, List, true, false, IfOk};
 ghost use Rattle.std.specs.List.{AllByRecursion};
 ghost use Rattle.model_base.specs.{IsWithinLimits};
-ghost use Rattle.model_script.specs.declared.asked.Drive.{Drive as Asked};
 ghost use Rattle.model_log.specs.declared.layout.TheConstants.{BLOCK_HEADER};
-ghost use Rattle.model_report.specs.declared.fault.Fault.TheVariants.{Memory};
-ghost use Rattle.model_script.specs.{IsScriptLine, ScriptFits};
-ghost use Rattle.redo_disk.specs.Seen.{Seen};
-ghost use Rattle.redo_memdisk.specs.{entry_of};
+ghost use Rattle.model_script.specs.{IsScriptLine};
+ghost use Rattle.model_script.specs.declared.asked.Command.{Command};
+ghost use Rattle.model_script.specs.declared.asked.Drive.{Drive as Asked};
 ghost use Rattle.redo_drive.specs.{room_from};
 ghost use Rattle.redo_drive.specs.Beginning.{MayBegin};
-ghost use Rattle.redo_pageactors.specs.{IsRunnable};
-ghost use Rattle.redo_lab.specs.Asked.{turns_of};
+ghost use Rattle.redo_io.specs.{SourceSeen};
+ghost use Rattle.redo_memdisk.specs.{entry_of};
 ghost use Rattle.redo_lab.specs.declared.playing.Course.TheVariants as ended;
-ghost use Rattle.redo_lab.specs.Handed.{AreOf};
-ghost use Rattle.redo_lab.specs.Stages.{Shown, shown};
 ghost use Rattle.redo_lab.specs.declared.playing.Stops.{Stops};
-ghost use Rattle.redo_lab.specs.Playing.{AreArmed, AreEntered, AreLeftOpened, AreReady, IsRanBy, course_done, course_of, ended_by, fault_of_unfit, played_of, unopened};
+ghost use Rattle.redo_lab.specs.Asked.{turns_of};
+ghost use Rattle.redo_lab.specs.Devices.{AreArmed, AreAsArmed};
+ghost use Rattle.redo_lab.specs.Handed.{AreOf, call_on};
+ghost use Rattle.redo_lab.specs.Runs.{AreEntered, AreReady, IsRanBy, IsRunning, course_done, course_of, ended_by, played_of, unopened};
 
 use crate::faults::fault_of;
+use crate::laws::laws;
 use crate::prepare::prepare;
 use model_base::{BLOCK_SIZE, Shape};
 use model_log::BLOCK_HEADER;
-use model_parts::formatted_is_openable;
 use model_report::{Fault, History, Marks};
 use model_script::{Script, fitting_script};
-use model_store::{one_answer, one_reading};
 use redo_disk::{DevError, Sectors};
 use redo_drive::{Driven, RunEnd};
 use redo_machine::{Turns, run_by_turns};
 use redo_memdisk::Fused;
 use redo_open::open_store;
-use redo_pageactors::Opened;
 use redo_recover::RecFault;
 use redo_script::{Unfit, judge};
+use redo_store::Opened;
 use redo_threads::{Gate, drive_in_threads};
 use std::alloc::Global;
 use std::sync::Wait;
@@ -66,7 +64,7 @@ pub enum Course {
     Played(Played, Option<Fault>),
 }
 
-/// A run, with both devices behind it.
+/// A run, and both devices after it.
 #[derive(Drop)]
 pub struct Ran<L, D> {
     pub course: Course,
@@ -88,17 +86,7 @@ fn room_from(log_only: bool, shape: &Shape, start: u64) -> Option<u64>
     }
 }
 
-/// Why a script isn't run on a store.
-fn fault_of_unfit(unfit: Unfit) -> Fault
-    ensures { result ≡ fault_of_unfit unfit }
-{
-    match unfit {
-        Unfit::Misfit(misfit) => Fault::Fit(misfit),
-        Unfit::NoMemory => Fault::Memory,
-    }
-}
-
-/// Why a run that all users ended comes to no text, or with a fault behind it, by what a call of each device answered that
+/// Why a run that all users ended comes to no text, or with a fault after it, by what a call of each device answered that
 /// failed: a log fault goes before a data fault, and both before want of memory.
 fn ended_by(log: Option<DevError>, store: Option<DevError>) -> Option<Fault>
     ensures { result ≡ ended_by log store }
@@ -146,42 +134,16 @@ fn close<L: Sectors, D: Sectors>(start: u64, driven: Driven<Fused<L>, Fused<D>>)
     }
 }
 
-/// A run over which memory ran out, with both devices as they were.
-fn without_memory<L: Sectors, D: Sectors>(log: Fused<L>, store: Fused<D>) -> Ran<L, D>
-    ensures course { result.course ≡ ended.Ended Memory }
+/// A run that ended so before its first line, with both devices as they were.
+fn unplayed<L: Sectors, D: Sectors>(fault: Fault, log: Fused<L>, store: Fused<D>) -> Ran<L, D>
+    ensures course { result.course ≡ ended.Ended fault }
     ensures log { result.log ≡ log }
     ensures store { result.store ≡ store }
 {
     Ran {
-        course: Course::Ended(Fault::Memory),
+        course: Course::Ended(fault),
         log,
         store,
-    }
-}
-
-/// Judges a script by the store that was opened: it is to fit.
-fn fitted<L: Sectors, D: Sectors>(
-    alloc: Global,
-    script: &Script,
-    log_only: bool,
-    opened: Opened<Fused<L>, Fused<D>>,
-) -> Result<Opened<Fused<L>, Fused<D>>, Ran<L, D>>
-    requires runnable { IsRunnable opened }
-    requires lines { AllByRecursion IsScriptLine script.now }
-    ensures begins { IfOk result (λ given. MayBegin given script.now log_only) }
-    ensures fits { IfOk result (λ given. (given ≡ opened) × ScriptFits opened.shape opened.start (room_from log_only opened.shape opened.start) script.now) }
-    ensures unfit { IfErr result (λ ran. AreLeftOpened opened log_only script.now ran.course ran.log ran.store) }
-{
-    fitting_script();
-    let start = opened.start;
-    let room_end = room_from(log_only, &opened.shape, start);
-    match judge(alloc, &opened.shape, start, room_end, script) {
-        Ok(()) => Ok(opened),
-        Err(unfit) => Err(Ran {
-            course: Course::Ended(fault_of_unfit(unfit)),
-            log: opened.log.into_dev(),
-            store: opened.store.into_dev(),
-        }),
     }
 }
 
@@ -205,22 +167,39 @@ fn open_fitted<L: Sectors, D: Sectors>(
 ) -> Result<Opened<Fused<L>, Fused<D>>, Ran<L, D>>
     requires { AllByRecursion IsScriptLine script.now }
     ensures begins { IfOk result (λ opened. MayBegin opened script.now log_only) }
-    ensures ready { (asked : Asked) (log_entry data_entry : Seen) (stops : Stops) (log_found data_found : Shown)
-        → log_only ≡ asked.log_only
-        → AreArmed log_entry data_entry stops log_found data_found (shown L.seen log) (shown D.seen store)
-        → AreReady L.seen L.gives D.seen D.gives asked log_entry data_entry stops script.now result }
+    ensures ready { (words : List (List ℕ)) (source source_now : SourceSeen) (log_entry : L) (data_entry : D) (command : Command) (asked : Asked) (stops : Stops)
+        → IsRunning source source_now command asked script.now → log_only ≡ asked.log_only
+        → AreArmed (call_on L.seen L.gives D.seen D.gives words source source_now log_entry data_entry log store) stops
+        → AreAsArmed (call_on L.seen L.gives D.seen D.gives words source source_now log_entry data_entry log store)
+        → AreReady L.seen D.seen (call_on L.seen L.gives D.seen D.gives words source source_now log_entry data_entry) command asked stops script.now result }
     ensures entered { AreEntered (entry_of log) (entry_of store) result }
 {
-    one_reading();
-    one_answer();
-    formatted_is_openable();
-    match open_store(alloc, log, store) {
-        Ok(opened) => fitted(alloc, script, log_only, opened),
-        Err((fault, log, store)) => Err(Ran {
-            course: unopened(fault),
-            log,
-            store,
-        }),
+    laws();
+    fitting_script();
+    let opened = match open_store(alloc, log, store) {
+        Ok(opened) => opened,
+        Err((fault, log, store)) => {
+            return Err(Ran {
+                course: unopened(fault),
+                log,
+                store,
+            });
+        }
+    };
+    let start = opened.start;
+    let room_end = room_from(log_only, &opened.shape, start);
+    match judge(alloc, &opened.shape, start, room_end, script) {
+        Ok(()) => Ok(opened),
+        Err(Unfit::Misfit(misfit)) => Err(unplayed(
+            Fault::Fit(misfit),
+            opened.log.into_dev(),
+            opened.store.into_dev(),
+        )),
+        Err(Unfit::NoMemory) => Err(unplayed(
+            Fault::Memory,
+            opened.log.into_dev(),
+            opened.store.into_dev(),
+        )),
     }
 }
 
@@ -235,8 +214,9 @@ fn ready<L: Sectors, D: Sectors>(
 ) -> Result<Opened<Fused<L>, Fused<D>>, Ran<L, D>>
     requires { AllByRecursion IsScriptLine script.now }
     ensures begins { IfOk result (λ opened. MayBegin opened script.now log_only) }
-    ensures ready { (asked : Asked) → log_only ≡ asked.log_only
-        → AreReady L.seen L.gives D.seen D.gives asked (L.seen log) (D.seen store) stops script.now result }
+    ensures ready { (words : List (List ℕ)) (source source_now : SourceSeen) (command : Command) (asked : Asked)
+        → IsRunning source source_now command asked script.now → log_only ≡ asked.log_only
+        → AreReady L.seen D.seen (call_on L.seen L.gives D.seen D.gives words source source_now log store) command asked stops script.now result }
     ensures entered { AreEntered log store result }
 {
     let mut log = Fused::plain(log);
@@ -266,13 +246,12 @@ pub(crate) fn by_turns<L: Sectors, D: Sectors>(
     store: D,
 ) -> Ran<L, D>
     requires { AllByRecursion IsScriptLine script.now }
-    ensures comes_to { (asked : Asked) → turns.now ≡ turns_of asked → asked.threads ≡ false
-        → IsRanBy L.seen L.gives D.seen D.gives asked stops script.now log store result }
+    ensures comes_to { (words : List (List ℕ)) (source source_now : SourceSeen) (command : Command) (asked : Asked)
+        → IsRunning source source_now command asked script.now → turns.now ≡ turns_of asked → asked.threads ≡ false
+        → IsRanBy (call_on L.seen L.gives D.seen D.gives words source source_now log store) command asked stops script.now result }
     ensures entered { AreOf log store result.log result.store }
 {
-    one_reading();
-    one_answer();
-    formatted_is_openable();
+    laws();
     let opened = match ready(alloc, script, turns.log_only, stops, log, store) {
         Ok(opened) => opened,
         Err(ran) => return ran,
@@ -280,7 +259,7 @@ pub(crate) fn by_turns<L: Sectors, D: Sectors>(
     let start = opened.start;
     match run_by_turns(alloc, opened, script, turns) {
         Ok(driven) => close(start, driven),
-        Err((_, log, store)) => without_memory(log, store),
+        Err((_, log, store)) => unplayed(Fault::Memory, log, store),
     }
 }
 
@@ -296,13 +275,12 @@ pub(crate) fn in_threads<R: Threads + Wait + Sync, L: Sectors + Send, D: Sectors
     store: D,
 ) -> Ran<L, D>
     requires lines { AllByRecursion IsScriptLine script.now }
-    ensures comes_to { (asked : Asked) → log_only ≡ asked.log_only → asked.threads ≡ true
-        → IsRanBy L.seen L.gives D.seen D.gives asked stops script.now log store result }
+    ensures comes_to { (words : List (List ℕ)) (source source_now : SourceSeen) (command : Command) (asked : Asked)
+        → IsRunning source source_now command asked script.now → log_only ≡ asked.log_only → asked.threads ≡ true
+        → IsRanBy (call_on L.seen L.gives D.seen D.gives words source source_now log store) command asked stops script.now result }
     ensures entered { AreOf log store result.log result.store }
 {
-    one_reading();
-    one_answer();
-    formatted_is_openable();
+    laws();
     let opened = match ready(alloc, script, log_only, stops, log, store) {
         Ok(opened) => opened,
         Err(ran) => return ran,
@@ -310,6 +288,6 @@ pub(crate) fn in_threads<R: Threads + Wait + Sync, L: Sectors + Send, D: Sectors
     let start = opened.start;
     match drive_in_threads(rt, alloc, opened, script, log_only, gate) {
         Ok(driven) => close(start, driven),
-        Err((_, log, store)) => without_memory(log, store),
+        Err((_, log, store)) => unplayed(Fault::Memory, log, store),
     }
 }

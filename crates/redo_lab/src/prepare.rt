@@ -1,14 +1,17 @@
 // The devices before a run: formatted, where the log device is unused.
-ghost use Rattle.std.specs.Prelude.{◌≡◌, ◌≤◌, ◌↔◌, IsTrue, IfOk, IfSome, replicate};
+ghost use Rattle.std.specs.Prelude.{◌≡◌, ◌≤◌, ◌↔◌, ℕ, List, IsTrue, IfOk, IfSome, replicate};
 ghost use Rattle.model_base.specs.declared.limits.TheConstants.{BLOCK_SIZE};
 ghost use Rattle.model_log.specs.declared.layout.TheConstants.{HEADER_BYTES};
 ghost use Rattle.model_store.specs.{IsUnused};
 ghost use Rattle.redo_disk.specs.{MakesCalls, error_of};
-ghost use Rattle.redo_lab.specs.Handed.{AreOf};
-ghost use Rattle.redo_lab.specs.Stages.{IsFirstRead, Prepares, shown};
+ghost use Rattle.redo_io.specs.{SourceSeen};
+ghost use Rattle.redo_lab.specs.Devices.{IsFirstRead};
+ghost use Rattle.redo_lab.specs.Handed.{AreOf, call_on};
+ghost use Rattle.redo_lab.specs.Runs.{Prepares};
 ghost use Rattle.redo_memdisk.specs.{entry_of, fresh, fuse_of, inner_of};
 ghost use Rattle.redo_recover.specs.{log_fault_of};
 
+use crate::laws::laws;
 use crate::shapes::default_shape;
 use model_log::HEADER_BYTES;
 use redo_disk::{DevError, Sectors};
@@ -53,10 +56,11 @@ pub(crate) fn prepare<L: Sectors, D: Sectors>(
 ) -> Result<(), RecFault>
     requires log_fresh { fuse_of log.old ≡ fresh }
     requires data_fresh { fuse_of store.old ≡ fresh }
-    ensures prepares { Prepares (L.seen (inner_of log.old)) (D.seen (inner_of store.old)) result
-        (shown L.seen log.new) (shown D.seen store.new) }
+    ensures prepares { (words : List (List ℕ)) (source source_now : SourceSeen)
+        → Prepares (call_on L.seen L.gives D.seen D.gives words source source_now (inner_of log.old) (inner_of store.old) log.new store.new) result }
     ensures entered { AreOf (entry_of log.old) (entry_of store.old) log.new store.new }
 {
+    laws();
     if log.len() < HEADER_BYTES {
         return Err(RecFault::SmallLog(HEADER_BYTES));
     }

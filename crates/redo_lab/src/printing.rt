@@ -1,7 +1,6 @@
 // Printing what a call leaves to be printed.
 ghost use Rattle.std.specs.Prelude.{◌≡◌, ◌≤◌, []};
-ghost use Rattle.redo_lab.specs.Ending.{IsFaultPrinted, IsTextPrinted};
-ghost use Rattle.redo_lab.specs.Outcome.{IsOutcomePrinted};
+ghost use Rattle.redo_lab.specs.Ending.{IsFaultPrinted, IsOutcomePrinted, IsTextPrinted};
 
 use crate::outcome::Outcome;
 use model_report::Fault;
@@ -21,7 +20,7 @@ pub fn print_fault<O: Sink>(out: &mut O, fault: Fault) -> u8
     }
 }
 
-/// Prints a report, and behind it the line of the fault that ended the run.
+/// Prints a report, and after it the line of the fault that ended the run.
 fn print_report<O: Sink>(out: &mut O, text: &[u8], fault: Fault) -> u8
     ensures { IsFaultPrinted text.now fault result (O.seen out.old) (O.seen out.new) }
 {

@@ -1,6 +1,6 @@
 // The report of a run.
 ghost use Rattle.std.specs.Prelude.{IfOk};
-ghost use Rattle.redo_lab.specs.Reread.{IsReportOf, run_of};
+ghost use Rattle.redo_lab.specs.Runs.{IsReportOf, run_of};
 ghost use Rattle.redo_report.specs.{read_of};
 
 use crate::playing::Played;
@@ -12,7 +12,7 @@ use redo_lsn::NoMemory;
 use redo_report::{left_of, report};
 use std::alloc::Global;
 
-/// The report of a run of a script, or of none where opening was stopped; behind a crash with what was read.
+/// The report of a run of a script, or of none where opening was stopped; after a crash with what was read.
 pub(crate) fn report_of(
     alloc: Global,
     script: &Script,

@@ -3,25 +3,21 @@ ghost use Rattle.std.specs.Prelude.{ℕ, List, None};
 ghost use Rattle.model_script.specs.declared.asked.Command.TheVariants.{Run};
 ghost use Rattle.model_script.specs.declared.asked.Drive.{Drive as Asked};
 ghost use Rattle.redo_io.specs.{SourceSeen};
-ghost use Rattle.redo_lab.specs.Course.{ran_of};
-ghost use Rattle.redo_lab.specs.Handed.{AreOf};
-ghost use Rattle.redo_lab.specs.Outcome.{EndsWith, call_of};
-ghost use Rattle.redo_lab.specs.Playing.{IsRanBy, stops_of};
-ghost use Rattle.redo_lab.specs.Reread.{IsRunPrinted};
 ghost use Rattle.redo_lab.specs.Asked.{IsScriptRead};
+ghost use Rattle.redo_lab.specs.Handed.{AreOf, call_on};
+ghost use Rattle.redo_lab.specs.Ending.{EndsWith};
+ghost use Rattle.redo_lab.specs.Runs.{IsRanBy, IsRunPrinted, ran_of, stops_of};
 
+use crate::laws::laws;
 use crate::outcome::{Done, Outcome};
 use crate::playing::{Course, Played, Ran};
 use crate::reporting::report_of;
-use model_parts::{formatted_is_openable, openable_reads};
 use model_report::Fault;
-use model_script::{Script, unfit_is_misfit};
-use model_store::{one_answer, one_reading};
-use model_theorem::{closed_run_is_safe, held_run_is_opened, held_run_reads};
+use model_script::Script;
 use redo_disk::Sectors;
 use std::alloc::Global;
 
-/// What there is to print of lines that were run: the report, and behind it the fault of the device that ended the run.
+/// What there is to print of lines that were run: the report, and after it the fault of the device that ended the run.
 fn print_run(alloc: Global, script: &Script, played: &Played, fault: Option<Fault>) -> Outcome
     ensures { IsRunPrinted script.now (ran_of played.now) fault result }
 {
@@ -39,18 +35,12 @@ pub(crate) fn run_command<L: Sectors, D: Sectors>(
     ran: Ran<L, D>,
 ) -> Done<L, D>
     ensures ends { (asked : Asked) (words : List (List ℕ)) (source source_now : SourceSeen) (log : L) (store : D)
-        → IsRanBy L.seen L.gives D.seen D.gives asked (stops_of None) script.now log store ran → IsScriptRead source source_now script.now
-        → EndsWith (call_of L.seen L.gives D.seen D.gives words source source_now log store result) (Run asked) result.outcome }
+        → IsRanBy (call_on L.seen L.gives D.seen D.gives words source source_now log store) (Run asked) asked (stops_of None) script.now ran
+        → IsScriptRead source source_now script.now
+        → EndsWith (call_on L.seen L.gives D.seen D.gives words source source_now log store result.log result.store) (Run asked) result.outcome }
     ensures entered { (log : L) (store : D) → AreOf log store ran.log ran.store → AreOf log store result.log result.store }
 {
-    one_answer();
-    one_reading();
-    openable_reads();
-    formatted_is_openable();
-    held_run_reads();
-    held_run_is_opened();
-    closed_run_is_safe();
-    unfit_is_misfit();
+    laws();
     let Ran { course, log, store } = ran;
     let outcome = match course {
         Course::Ended(fault) | Course::Stopped(fault) => Outcome::Fault(fault),

@@ -5,15 +5,14 @@ ghost use Rattle.model_script.specs.declared.asked.Command.TheVariants.{Format, 
 ghost use Rattle.model_script.specs.declared.words.TheConstants.{MAX_WORKERS};
 ghost use Rattle.redo_io.specs.{SourceSeen};
 ghost use Rattle.redo_lab.specs.Answer.{shape_of};
-ghost use Rattle.redo_lab.specs.Handed.{AreOf};
-ghost use Rattle.redo_lab.specs.Outcome.{EndsWith, call_of};
+ghost use Rattle.redo_lab.specs.Handed.{AreOf, call_on};
+ghost use Rattle.redo_lab.specs.Ending.{EndsWith};
 
 use crate::faults::fault_of;
+use crate::laws::laws;
 use crate::outcome::{Done, Outcome};
 use crate::reading::{listing_of, reading_text};
 use crate::shapes::shape_of;
-use model_parts::formatted_is_openable;
-use model_store::one_answer;
 use redo_disk::Sectors;
 use redo_memdisk::Fused;
 use redo_open::format;
@@ -33,10 +32,10 @@ pub(crate) fn format_devices<L: Sectors, D: Sectors>(
 ) -> Done<L, D>
     requires { IsWithinLimits (shape_of pages space log_blocks) }
     ensures ends { (words : List (List ℕ)) (source : SourceSeen)
-        → EndsWith (call_of L.seen L.gives D.seen D.gives words source source log store result) (Format pages space log_blocks) result.outcome }
+        → EndsWith (call_on L.seen L.gives D.seen D.gives words source source log store result.log result.store) (Format pages space log_blocks) result.outcome }
     ensures entered { AreOf log store result.log result.store }
 {
-    formatted_is_openable();
+    laws();
     let mut log = Fused::plain(log);
     let mut store = Fused::plain(store);
     let outcome = match format(&mut log, &mut store, &shape_of(pages, space, log_blocks)) {
@@ -60,10 +59,10 @@ pub(crate) fn print_pages<R: Threads + Sync, L: Sectors, D: Sectors>(
 ) -> Done<L, D>
     requires { (1 ≤ workers) × (workers ≤ MAX_WORKERS) }
     ensures ends { (words : List (List ℕ)) (source : SourceSeen)
-        → EndsWith (call_of L.seen L.gives D.seen D.gives words source source log store result) (Recover workers) result.outcome }
+        → EndsWith (call_on L.seen L.gives D.seen D.gives words source source log store result.log result.store) (Recover workers) result.outcome }
     ensures entered { AreOf log store result.log result.store }
 {
-    one_answer();
+    laws();
     let mut log = Fused::plain(log);
     let mut store = Fused::plain(store);
     let outcome = match recover_with(rt, alloc, &mut log, &mut store, workers) {
@@ -85,10 +84,10 @@ pub(crate) fn print_store<L: Sectors, D: Sectors>(
     store: D,
 ) -> Done<L, D>
     ensures ends { (words : List (List ℕ)) (source : SourceSeen)
-        → EndsWith (call_of L.seen L.gives D.seen D.gives words source source log store result) (Dump why) result.outcome }
+        → EndsWith (call_on L.seen L.gives D.seen D.gives words source source log store result.log result.store) (Dump why) result.outcome }
     ensures entered { AreOf log store result.log result.store }
 {
-    one_answer();
+    laws();
     let mut log = Fused::plain(log);
     let mut store = Fused::plain(store);
     let outcome = match recover(alloc, &mut log, &mut store) {

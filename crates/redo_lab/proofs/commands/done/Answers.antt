@@ -1,4 +1,4 @@
-use Rattle.redo_lab.proofs.Called.{all-left}
+use Rattle.redo_lab.proofs.Alone.{all-left}
 use Rattle.redo_lab.proofs.commands.done.Goals as goal
 
 pub returns-in-Format-clause-ends : goal.returns-in-Format-clause-ends

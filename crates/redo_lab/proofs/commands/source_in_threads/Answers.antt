@@ -1,6 +1,7 @@
 use Rattle.std.proofs.Common.{ap, refl}
+use Rattle.redo_lab.proofs.Alone.{scripted-unscripted}
 use Rattle.redo_lab.proofs.AskedLimits.{within-workers}
-use Rattle.redo_lab.proofs.Unscripted.{scripted-unscripted}
+use Rattle.redo_lab.proofs.Ends.{runs-scripted}
 use Rattle.redo_lab.proofs.commands.source_in_threads.Goals as goal
 
 pub in_threads-ran-requires-clause-lines : goal.in_threads-ran-requires-clause-lines
@@ -12,17 +13,17 @@ after_run-requires-clause-workers g c = λ κs live. within-workers c.args.asked
 
 pub returns-in-Ok-clause-ends : goal.returns-in-Ok-clause-ends
 returns-in-Ok-clause-ends g c = λ words. c.after_run.ensures.ends c.args.asked.drive words _ _ c.args.log c.args.store
-    (rw c.stops_of-stops.ensures at c.in_threads-ran.ensures.comes_to c.args.asked.drive refl c.requires.in_threads) c.in-Ok.ensures.script
+    (rw c.stops_of-stops.ensures at c.in_threads-ran.ensures.comes_to words _ _ _ c.args.asked.drive
+    (runs-scripted c.args.asked.drive c.args.asked.crash c.in-Ok.ensures.script) refl c.requires.in_threads) c.in-Ok.ensures.script
 
 pub returns-in-Err-clause-ends : goal.returns-in-Err-clause-ends
 returns-in-Err-clause-ends g c = λ words.
     let unasked = c.unasked.ensures in
-    rw unasked.outcome_is (scripted-unscripted _ c.args.asked.drive c.args.asked.crash c.in-Err.fault
-    (record {
-      log_device = record { seen = ap g.L.Sectors.seen unasked.log_inner; fuse = unasked.log_fuse };
-      data_device = record { seen = ap g.D.Sectors.seen unasked.data_inner; fuse = unasked.data_fuse };
-    })
-    c.in-Err.ensures.fault c.openable_reads.ensures)
+    rw unasked.outcome_is (scripted-unscripted _ c.args.asked.drive c.args.asked.crash c.in-Err.fault (
+      record { seen = ap g.L.Sectors.seen unasked.log_inner; fuse = unasked.log_fuse },
+      record { seen = ap g.D.Sectors.seen unasked.data_inner; fuse = unasked.data_fuse },
+    )
+    c.in-Err.ensures.fault c.laws.ensures)
 
 pub returns-in-Ok-clause-entered : goal.returns-in-Ok-clause-entered
 returns-in-Ok-clause-entered g c = c.after_run.ensures.entered c.args.log c.args.store c.in_threads-ran.ensures.entered

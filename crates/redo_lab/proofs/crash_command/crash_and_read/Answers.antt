@@ -1,25 +1,30 @@
 use Rattle.std.proofs.Common.{◌∙◌}
 use Rattle.redo_recover.specs.{reading_of}
-use Rattle.redo_lab.proofs.Crashing.{back-fails, back-read, crashed-since, log-crashed}
+use Rattle.redo_lab.proofs.CrashEnds.{crash-reads}
 use Rattle.redo_lab.proofs.Entered.{both-entries}
-use Rattle.redo_lab.specs.Reread.{run_of}
+use Rattle.redo_lab.proofs.Rereading.{crashed-since, failure-ends, log-reads, reading-ends, was_of}
+use Rattle.redo_lab.specs.Runs.{run_of}
 use Rattle.redo_lab.proofs.crash_command.crash_and_read.Goals as goal
 
-pub returns-in-Ok-clause-reads : goal.returns-in-Ok-clause-reads
-returns-in-Ok-clause-reads g c =
+pub returns-in-Ok-clause-ends : goal.returns-in-Ok-clause-ends
+returns-in-Ok-clause-ends g c = λ asked words source source_now log_entry data_entry read left loses.
     let now = c.in-Ok.ensures in
-    rw c.of_text.ensures (back-read c.args.crash.pick c.args.script.now (run_of c.args.played) (reading_of c.in-Ok.recovered) _ _ _ _
-    (g.L.Sectors.seen c.crash.new.self.inner) (g.D.Sectors.seen c.crash-2.new.self.inner) _
-    (record { log_device = log-crashed c.crash.ensures.gives now.log.calls; data_device = crashed-since c.crash-2.ensures.gives now.data_device.calls })
-    now.log.unchanged.tells now.data_device.unchanged.tells now.recovered.read c.report_crash.ensures)
+    rw c.of_text.ensures (reading-ends
+    (crash-reads _ asked c.args.crash.stops c.args.crash.pick c.args.crash.workers c.args.script.now (run_of c.args.played)
+    (was_of g.L.Sectors.seen c.args.log.now) (was_of g.D.Sectors.seen c.args.store.now) c.laws.ensures read left loses)
+    _ _ now.log.unchanged.tells now.data_device.unchanged.tells (reading_of c.in-Ok.recovered) _
+    (crashed-since left.armed.log_device c.crash.ensures.gives (log-reads now.log.calls), crashed-since left.armed.data_device c.crash-2.ensures.gives now.data_device.calls)
+    now.recovered.read c.report_crash.ensures)
 
-pub returns-in-Err-clause-reads : goal.returns-in-Err-clause-reads
-returns-in-Err-clause-reads g c =
+pub returns-in-Err-clause-ends : goal.returns-in-Err-clause-ends
+returns-in-Err-clause-ends g c = λ asked words source source_now log_entry data_entry read left loses.
     let now = c.in-Err.ensures in
-    rw c.fault_of.ensures (back-fails c.args.crash.pick c.args.script.now (run_of c.args.played) _ _ _ _
-    (g.L.Sectors.seen c.crash.new.self.inner) (g.D.Sectors.seen c.crash-2.new.self.inner) c.in-Err.fault
-    (record { log_device = log-crashed c.crash.ensures.gives now.log.calls; data_device = crashed-since c.crash-2.ensures.gives now.data_device.calls })
-    now.log.unchanged.tells now.data_device.unchanged.tells now.caused.cause)
+    rw c.fault_of.ensures (failure-ends
+    (crash-reads _ asked c.args.crash.stops c.args.crash.pick c.args.crash.workers c.args.script.now (run_of c.args.played)
+    (was_of g.L.Sectors.seen c.args.log.now) (was_of g.D.Sectors.seen c.args.store.now) c.laws.ensures read left loses)
+    _ _ now.log.unchanged.tells now.data_device.unchanged.tells c.in-Err.fault
+    (crashed-since left.armed.log_device c.crash.ensures.gives (log-reads now.log.calls), crashed-since left.armed.data_device c.crash-2.ensures.gives now.data_device.calls)
+    now.caused.cause)
 
 pub returns-in-Ok-clause-entered : goal.returns-in-Ok-clause-entered
 returns-in-Ok-clause-entered g c =

@@ -1,35 +1,19 @@
-use Rattle.model_script.specs.declared.asked.Command.TheVariants.{Crash}
-use Rattle.redo_lab.proofs.ByDrive.{spends-turns}
-use Rattle.redo_lab.proofs.CrashDone.{crash-played, crash-stopped}
-use Rattle.redo_lab.proofs.CrashTheorem.{CrashLaws}
+use Rattle.redo_lab.proofs.CrashEnds.{lost-stopped}
 use Rattle.redo_lab.proofs.Entered.{entries-then}
-use Rattle.redo_lab.proofs.Running.{RunLaws, ended-early, running-crash}
+use Rattle.redo_lab.specs.Handed.{call_on}
 use Rattle.redo_lab.proofs.crash_command.crash_command.Goals as goal
 use Rattle.redo_lab.proofs.crash_command.crash_command.Goals.{in-Ended, in-Played, in-Stopped}
 
 pub returns-clause-ends : goal.returns-clause-ends
 returns-clause-ends g c = λ asked words source source_now log store ran read.
-    let laws : RunLaws = record {
-      one = c.one_answer.ensures.read;
-      same = c.one_reading.ensures;
-      openable = c.openable_reads.ensures;
-      formatted = c.formatted_is_openable.ensures;
-      closed = record { safe = c.closed_run_is_safe.ensures; reads = c.held_run_reads.ensures.read; opened = c.held_run_is_opened.ensures.opened };
-      unfit = c.unfit_is_misfit.ensures;
-    } in
-    let crash_laws : CrashLaws = record { run = laws; crash = c.crash_of_safe_run.ensures } in
     elim c.match-course.branch [
-      | in-Ended w ↦ rw (w.outcome-is, w.log-is, w.store-is)
-          (ended-early _ (Crash asked c.args.crash.stops.log c.args.crash.stops.store c.args.crash.pick c.args.crash.workers) asked c.args.crash.stops c.args.script.now
-          (running-crash _ asked c.args.crash.stops.log c.args.crash.stops.store c.args.crash.pick c.args.crash.workers c.args.script.now read) laws
-          (spends-turns g.L.Sectors.seen g.L.Sectors.gives g.D.Sectors.seen g.D.Sectors.gives asked) w.in-Ended.fault
-          (rw w.in-Ended.is at ran))
+      | in-Ended w ↦ rw (w.outcome-is, w.log-is, w.store-is) (rw w.in-Ended.is at ran)
       | in-Stopped w ↦ rw (w.outcome-is, w.log-is, w.store-is)
-          (crash-stopped _ c.args.crash.stops asked c.args.crash.pick c.args.crash.workers c.args.script.now w.in-Stopped.field-0 _ _ _ read crash_laws
-          (rw w.in-Stopped.is at ran) w.crash_and_read-outcome.ensures.reads)
+          (let stopped = rw w.in-Stopped.is at ran in
+          w.crash_and_read-outcome.ensures.ends asked words source source_now log store read stopped.0 (lost-stopped (call_on g.L.Sectors.seen g.L.Sectors.gives g.D.Sectors.seen g.D.Sectors.gives words source source_now log store c.args.ran.log c.args.ran.store) c.args.script.now w.in-Stopped.field-0 stopped.1))
       | in-Played w ↦ rw (w.outcome-is, w.log-is, w.store-is)
-          (crash-played _ c.args.crash.stops asked c.args.crash.pick c.args.crash.workers c.args.script.now w.in-Played.played w.in-Played.field-1 _ _ _ read crash_laws
-          (rw w.in-Played.is at ran) w.crash_and_read-outcome-in-Played.ensures.reads)
+          (let played = rw w.in-Played.is at ran in
+          w.crash_and_read-outcome-in-Played.ensures.ends asked words source source_now log store read played.0 played.1)
     ]
 
 pub returns-clause-entered : goal.returns-clause-entered

@@ -1,24 +1,28 @@
+use Rattle.std.proofs.Common.{arith}
 use Rattle.redo_recover.specs.{reading_of}
 use Rattle.redo_lab.proofs.Entered.{both-entries}
-use Rattle.redo_lab.proofs.ReadBehind.{behind-fails, behind-read, log-read, read-since}
-use Rattle.redo_lab.specs.Course.{ran_of}
+use Rattle.redo_lab.proofs.Rereading.{failure-ends, log-reads, read-since, reading-ends, was_of}
+use Rattle.redo_lab.proofs.RunEnds.{gen-reads}
+use Rattle.redo_lab.specs.Runs.{ran_of}
 use Rattle.redo_lab.proofs.gen_command.read_after.Goals as goal
 
-pub returns-in-Ok-clause-reads : goal.returns-in-Ok-clause-reads
-returns-in-Ok-clause-reads g c =
+pub returns-in-Ok-clause-ends : goal.returns-in-Ok-clause-ends
+returns-in-Ok-clause-ends g c = λ words source log_entry data_entry seed users groups max script running was.
     let now = c.in-Ok.ensures in
-    rw c.of_text.ensures (behind-read (ran_of c.args.played.now) (reading_of c.in-Ok.recovered) _ _ _ _
-    (g.L.Sectors.seen c.args.log.now.inner) (g.D.Sectors.seen c.args.store.now.inner) _
-    (record { log_device = log-read now.log.calls; data_device = read-since now.data_device.calls })
-    now.log.unchanged.tells now.data_device.unchanged.tells now.recovered.read c.summarize.ensures)
+    rw c.of_text.ensures (reading-ends
+    (gen-reads _ seed users groups max script (ran_of c.args.played.now) (was_of g.L.Sectors.seen c.args.log.now) (was_of g.D.Sectors.seen c.args.store.now) c.laws.ensures running was.0 was.1 was.2)
+    _ _ now.log.unchanged.tells now.data_device.unchanged.tells (reading_of c.in-Ok.recovered) _
+    (read-since was.0.armed.log_device (omega (arith, was.2.0)) (log-reads now.log.calls), read-since was.0.armed.data_device (omega (arith, was.2.0)) now.data_device.calls)
+    now.recovered.read c.summarize.ensures)
 
-pub returns-in-Err-clause-reads : goal.returns-in-Err-clause-reads
-returns-in-Err-clause-reads g c =
+pub returns-in-Err-clause-ends : goal.returns-in-Err-clause-ends
+returns-in-Err-clause-ends g c = λ words source log_entry data_entry seed users groups max script running was.
     let now = c.in-Err.ensures in
-    rw c.fault_of.ensures (behind-fails (ran_of c.args.played.now) _ _ _ _
-    (g.L.Sectors.seen c.args.log.now.inner) (g.D.Sectors.seen c.args.store.now.inner) c.in-Err.fault
-    (record { log_device = log-read now.log.calls; data_device = read-since now.data_device.calls })
-    now.log.unchanged.tells now.data_device.unchanged.tells now.caused.cause)
+    rw c.fault_of.ensures (failure-ends
+    (gen-reads _ seed users groups max script (ran_of c.args.played.now) (was_of g.L.Sectors.seen c.args.log.now) (was_of g.D.Sectors.seen c.args.store.now) c.laws.ensures running was.0 was.1 was.2)
+    _ _ now.log.unchanged.tells now.data_device.unchanged.tells c.in-Err.fault
+    (read-since was.0.armed.log_device (omega (arith, was.2.0)) (log-reads now.log.calls), read-since was.0.armed.data_device (omega (arith, was.2.0)) now.data_device.calls)
+    now.caused.cause)
 
 pub returns-in-Ok-clause-entered : goal.returns-in-Ok-clause-entered
 returns-in-Ok-clause-entered g c = both-entries c.in-Ok.ensures.log.calls c.in-Ok.ensures.data_device.calls

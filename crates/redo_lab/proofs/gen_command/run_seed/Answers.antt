@@ -1,7 +1,5 @@
 use Rattle.std.proofs.Common.{ap, refl}
-use Rattle.redo_lab.proofs.PlainEnds.{gen-unscripted}
-use Rattle.redo_lab.proofs.Unscripted.{AreLeftAlone}
-use Rattle.redo_lab.specs.Outcome.{call_of}
+use Rattle.redo_lab.proofs.Alone.{gen-unscripted}
 use Rattle.redo_lab.proofs.gen_command.run_seed.Goals as goal
 
 pub returns-in-Ok-clause-ends : goal.returns-in-Ok-clause-ends
@@ -10,12 +8,11 @@ returns-in-Ok-clause-ends g c = λ words source. c.run_script.ensures.ends words
 pub returns-in-Err-clause-ends : goal.returns-in-Err-clause-ends
 returns-in-Err-clause-ends g c = λ words source.
     let unasked = c.unasked.ensures in
-    let alone : AreLeftAlone (call_of g.L.Sectors.seen g.L.Sectors.gives g.D.Sectors.seen g.D.Sectors.gives words source source c.args.log c.args.store c.unasked.result) = record {
-      log_device = record { seen = ap g.L.Sectors.seen unasked.log_inner; fuse = unasked.log_fuse };
-      data_device = record { seen = ap g.D.Sectors.seen unasked.data_inner; fuse = unasked.data_fuse };
-    } in
-    rw unasked.outcome_is
-    (gen-unscripted _ c.args.seed c.args.users c.args.groups c.args.max alone refl c.openable_reads.ensures)
+    rw unasked.outcome_is (gen-unscripted _ c.args.seed c.args.users c.args.groups c.args.max (
+      record { seen = ap g.L.Sectors.seen unasked.log_inner; fuse = unasked.log_fuse },
+      record { seen = ap g.D.Sectors.seen unasked.data_inner; fuse = unasked.data_fuse },
+    )
+    refl c.laws.ensures)
 
 pub returns-in-Ok-clause-entered : goal.returns-in-Ok-clause-entered
 returns-in-Ok-clause-entered g c = c.run_script.ensures.entered

@@ -1,7 +1,7 @@
-use Rattle.std.proofs.Common.{subst}
+use Rattle.std.proofs.Common.{ap, inr, refl, subst}
 use Rattle.redo_lab.proofs.AskedLimits.{command-of-within}
 use Rattle.redo_lab.specs.Asked.{IsWithin}
-use Rattle.redo_lab.proofs.Called.{Printed, command-called, nothing-called}
+use Rattle.redo_lab.proofs.Alone.{all-left, nothing-ends}
 use Rattle.redo_lab.proofs.lab_call.lab.Goals as goal
 
 pub source_in_threads-done-requires-clause-within : goal.source_in_threads-done-requires-clause-within
@@ -15,21 +15,28 @@ lab_turns-requires-clause-within g c = λ κs live. command-of-within _ c.in-Ok.
 
 pub returns-in-Err-clause-call : goal.returns-in-Err-clause-call
 returns-in-Err-clause-call g c =
-    let printed : Printed = record { sink = g.O.Sink.seen c.args.out.now; sink_now = g.O.Sink.seen c.end.new.out; status = c.end.result.status } in
-    rw (c.end.ensures.log, c.end.ensures.store)
-    (nothing-called g.L.Sectors.seen g.L.Sectors.gives g.D.Sectors.seen g.D.Sectors.gives _ (g.S.Source.seen c.args.src.now)
-    c.args.log c.args.store c.unasked.result printed c.in-Err.fault
-    c.in-Err.ensures.fault c.unasked.ensures c.openable_reads.ensures c.end.ensures.printed)
+    let unasked = c.unasked.ensures in
+    rw (c.end.ensures.log, c.end.ensures.store) (nothing-ends _ _ _ _ c.in-Err.fault c.in-Err.ensures.fault refl (
+      record { seen = ap g.L.Sectors.seen unasked.log_inner; fuse = unasked.log_fuse },
+      record { seen = ap g.D.Sectors.seen unasked.data_inner; fuse = unasked.data_fuse },
+    )
+    c.laws.ensures (rw unasked.outcome_is at c.end.ensures.printed) (all-left (g.S.Source.seen c.args.src.now).left))
 
 pub returns-in-Some-clause-call : goal.returns-in-Some-clause-call
 returns-in-Some-clause-call g c =
-    let printed : Printed = record { sink = g.O.Sink.seen c.args.out.now; sink_now = g.O.Sink.seen c.end-in-Some.new.out; status = c.end-in-Some.result.status } in
     let is = c.in-Some.ensures.some in
-    rw (c.end-in-Some.ensures.log, c.end-in-Some.ensures.store)
-    (command-called g.L.Sectors.seen g.L.Sectors.gives g.D.Sectors.seen g.D.Sectors.gives _ (g.S.Source.seen c.args.src.now) (g.S.Source.seen c.source_in_threads-done.new.src)
-    c.args.log c.args.store c.source_in_threads-done.result printed c.in-Ok.command c.in-Ok.ensures.asked
-    (rw is.0 (c.source_in_threads-done.ensures.ends _))
-    c.source_in_threads-done.ensures.taken c.end-in-Some.ensures.printed)
+    rw (c.end-in-Some.ensures.log, c.end-in-Some.ensures.store) (record {
+      way = inr (
+        c.in-Ok.command,
+        record {
+          asked = c.in-Ok.ensures.asked;
+          outcome = c.source_in_threads-done.result.outcome;
+          ends = rw is.0 (c.source_in_threads-done.ensures.ends _);
+          printed = c.end-in-Some.ensures.printed;
+        },
+      );
+      reads_little = c.source_in_threads-done.ensures.taken;
+    })
 
 pub returns-in-None-clause-call : goal.returns-in-None-clause-call
 returns-in-None-clause-call g c = c.lab_turns.ensures.call _ c.in-Ok.ensures.asked

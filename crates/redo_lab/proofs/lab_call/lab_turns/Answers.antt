@@ -1,14 +1,11 @@
-use Rattle.redo_lab.proofs.Called.{Printed, command-called}
+use Rattle.std.proofs.Common.{inr}
 use Rattle.redo_lab.proofs.lab_call.lab_turns.Goals as goal
 
 pub returns-clause-call : goal.returns-clause-call
-returns-clause-call g c = λ words asked.
-    let printed : Printed = record { sink = g.O.Sink.seen c.args.out.now; sink_now = g.O.Sink.seen c.end.new.out; status = c.end.result.status } in
-    rw (c.end.ensures.log, c.end.ensures.store)
-    (command-called g.L.Sectors.seen g.L.Sectors.gives g.D.Sectors.seen g.D.Sectors.gives words (g.S.Source.seen c.args.src.now) (g.S.Source.seen c.done.new.src)
-    c.args.log c.args.store c.done.result printed c.args.command asked
-    (c.done.ensures.ends words)
-    c.done.ensures.taken c.end.ensures.printed)
+returns-clause-call g c = λ words asked. rw (c.end.ensures.log, c.end.ensures.store) (record {
+  way = inr (c.args.command, record { asked = asked; outcome = c.done.result.outcome; ends = c.done.ensures.ends words; printed = c.end.ensures.printed });
+  reads_little = c.done.ensures.taken;
+})
 
 pub returns-clause-entered : goal.returns-clause-entered
 returns-clause-entered g c = rw (c.end.ensures.log, c.end.ensures.store) c.done.ensures.entered

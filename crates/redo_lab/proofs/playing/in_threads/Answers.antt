@@ -1,33 +1,36 @@
-use Rattle.redo_lab.proofs.ByDrive.{tells-threads}
+use Rattle.redo_lab.proofs.ByDrive.{spends-turns, tells-threads}
+use Rattle.redo_lab.proofs.Driving.{driven-comes}
 use Rattle.redo_lab.proofs.Entered.{both-same, entries-then, owed-entries}
-use Rattle.redo_lab.proofs.OpenedRun.{driven-comes, unmade-comes}
-use Rattle.redo_lab.proofs.UnderWay.{ReadingLaws}
+use Rattle.redo_lab.proofs.Opening.{unplayed-memory}
 use Rattle.redo_lab.proofs.playing.in_threads.Goals as goal
 
 pub returns-in-Err-clause-comes_to : goal.returns-in-Err-clause-comes_to
-returns-in-Err-clause-comes_to g c = λ asked same is. c.in-Err.ensures.ready asked same
+returns-in-Err-clause-comes_to g c = λ words source source_now command asked running same is.
+    c.in-Err.ensures.ready words source source_now command asked running same
 
 pub returns-in-Err-clause-entered : goal.returns-in-Err-clause-entered
 returns-in-Err-clause-entered g c = c.in-Err.ensures.entered
 
 pub returns-in-Ok-drive_in_threads-clause-comes_to : goal.returns-in-Ok-drive_in_threads-clause-comes_to
-returns-in-Ok-drive_in_threads-clause-comes_to g c = λ asked same is.
-    let laws : ReadingLaws = record { one_reading = c.one_reading.ensures; one_answer = c.one_answer.ensures.read; formatted = c.formatted_is_openable.ensures } in
+returns-in-Ok-drive_in_threads-clause-comes_to g c = λ words source source_now command asked running same is.
     rw (c.close.ensures.course, c.close.ensures.log, c.close.ensures.store)
-    (driven-comes laws asked c.in-Ok-drive_in_threads.driven (c.in-Ok.ensures.ready asked same)
-    (tells-threads g.L.Sectors.seen g.L.Sectors.gives g.D.Sectors.seen g.D.Sectors.gives asked c.args.log_only c.in-Ok.opened c.args.script.now c.in-Ok-drive_in_threads.driven same is c.in-Ok-drive_in_threads.ensures.says)
-    c.in-Ok-drive_in_threads.ensures.owed)
+    (driven-comes g.L.Sectors.seen g.L.Sectors.gives g.D.Sectors.seen g.D.Sectors.gives words source source_now c.args.log c.args.store command asked c.args.stops c.args.script.now
+    c.in-Ok.opened c.in-Ok-drive_in_threads.driven running c.laws.ensures
+    (c.in-Ok.ensures.ready words source source_now command asked running same)
+    (tells-threads g.L.Sectors.seen g.L.Sectors.gives g.D.Sectors.seen g.D.Sectors.gives asked c.args.log_only c.in-Ok.opened c.args.script.now c.in-Ok-drive_in_threads.driven same is
+    c.in-Ok-drive_in_threads.ensures.says)
+    c.in-Ok-drive_in_threads.ensures.owed (spends-turns g.L.Sectors.seen g.L.Sectors.gives g.D.Sectors.seen g.D.Sectors.gives asked))
 
 pub returns-in-Err-drive_in_threads-clause-comes_to : goal.returns-in-Err-drive_in_threads-clause-comes_to
-returns-in-Err-drive_in_threads-clause-comes_to g c = λ asked same is.
-    let laws : ReadingLaws = record { one_reading = c.one_reading.ensures; one_answer = c.one_answer.ensures.read; formatted = c.formatted_is_openable.ensures } in
-    rw (c.without_memory.ensures.course, c.without_memory.ensures.log, c.without_memory.ensures.store)
-    (unmade-comes laws asked _ _ (c.in-Ok.ensures.ready asked same) c.in-Err-drive_in_threads.ensures.err.0 c.in-Err-drive_in_threads.ensures.err.1)
+returns-in-Err-drive_in_threads-clause-comes_to g c = λ words source source_now command asked running same is.
+    let ready = c.in-Ok.ensures.ready words source source_now command asked running same in
+    rw (c.unplayed.ensures.course, c.unplayed.ensures.log, c.unplayed.ensures.store, c.in-Err-drive_in_threads.ensures.err.0, c.in-Err-drive_in_threads.ensures.err.1)
+    (unplayed-memory _ command asked c.args.stops c.args.script.now running c.laws.ensures ready.armed ready.reads)
 
 pub returns-in-Ok-drive_in_threads-clause-entered : goal.returns-in-Ok-drive_in_threads-clause-entered
 returns-in-Ok-drive_in_threads-clause-entered g c = rw (c.close.ensures.log, c.close.ensures.store)
     (entries-then c.in-Ok.ensures.entered (owed-entries c.in-Ok-drive_in_threads.ensures.owed))
 
 pub returns-in-Err-drive_in_threads-clause-entered : goal.returns-in-Err-drive_in_threads-clause-entered
-returns-in-Err-drive_in_threads-clause-entered g c = rw (c.without_memory.ensures.log, c.without_memory.ensures.store)
+returns-in-Err-drive_in_threads-clause-entered g c = rw (c.unplayed.ensures.log, c.unplayed.ensures.store)
     (entries-then c.in-Ok.ensures.entered (both-same c.in-Err-drive_in_threads.ensures.err.0 c.in-Err-drive_in_threads.ensures.err.1))

@@ -1,28 +1,49 @@
 -- Both devices are prepared, and their fuses are armed.
-use Rattle.std.proofs.Common.{ap, ◌∙◌}
-use Rattle.redo_disk.specs.Seen.{Seen}
-use Rattle.redo_lab.proofs.Behind.{entered}
+use Rattle.std.proofs.Common.{ap, sym, ◌∙◌, ◌≡◌, [], None}
+use Rattle.std.specs.Option.{option_and_then}
+use Rattle.redo_io.specs.{SourceSeen}
+use Rattle.redo_memdisk.specs.{armed_from}
+use Rattle.redo_memdisk.specs.declared.fuse.Fuse.{Fuse}
 use Rattle.redo_lab.proofs.Entered.{entered-then}
-use Rattle.redo_lab.proofs.Stages.{armed-now}
-use Rattle.redo_lab.specs.Stages.{ArePrepared, Shown, shown}
+use Rattle.redo_lab.proofs.Fuses.{armed-now}
+use Rattle.redo_lab.proofs.Rereading.{prepared-later}
 use Rattle.redo_lab.proofs.playing.ready.Goals as goal
 
+-- whatever the source is
+abbrev no_source : SourceSeen
+no_source = record { left = None; faults = 0 }
+
+pub arm-requires : goal.arm-requires
+arm-requires g c = (c.in-Ok.ensures.prepares [] no_source no_source).0.0.stage
+
+pub arm-requires-2 : goal.arm-requires-2
+arm-requires-2 g c = (c.in-Ok.ensures.prepares [] no_source no_source).0.1.stage
+
+pub returns-in-Err-clause-ready : goal.returns-in-Err-clause-ready
+returns-in-Err-clause-ready g c = λ words source source_now command asked running same.
+    rw c.fault_of.ensures ((rw (c.plain-log.ensures.inner, c.plain-store.ensures.inner) at c.in-Err.ensures.prepares words source source_now) command asked c.args.script.now running)
+
 pub returns-clause-ready : goal.returns-clause-ready
-returns-clause-ready g c = λ asked same.
-    let log_found : Shown = shown g.L.Sectors.seen c.prepare.new.log in
-    let data_found : Shown = shown g.D.Sectors.seen c.prepare.new.store in
-    let prepared : ArePrepared (g.L.Sectors.seen c.args.log) (g.D.Sectors.seen c.args.store) log_found data_found =
-    entered g.L.Sectors.seen g.D.Sectors.seen c.args.log c.plain-log.result.inner c.args.store c.plain-store.result.inner c.plain-log.ensures.inner c.plain-store.ensures.inner
-    (λ (log : Seen) (store : Seen). ArePrepared log store log_found data_found) c.in-Ok.ensures.prepares in
-    c.open_fitted.ensures.ready asked (g.L.Sectors.seen c.args.log) (g.D.Sectors.seen c.args.store) c.args.stops log_found data_found same (record {
-      prepared = prepared;
-      log_device = armed-now g.L.Sectors.seen (g.L.Sectors.seen c.args.log) c.args.stops.log c.prepare.new.log c.arm.new.self prepared.log_device
-          c.arm.ensures.inner c.arm.ensures.fuse c.arm.ensures.armed;
-      data_device = armed-now g.D.Sectors.seen (g.D.Sectors.seen c.args.store) c.args.stops.store c.prepare.new.store c.arm-2.new.self prepared.data_device
-          c.arm-2.ensures.inner c.arm-2.ensures.fuse c.arm-2.ensures.armed;
-      log_same = ap g.L.Sectors.seen c.arm.ensures.inner;
-      data_same = ap g.D.Sectors.seen c.arm-2.ensures.inner;
-    })
+returns-clause-ready g c = λ words source source_now command asked running same.
+    let prepared = rw (c.plain-log.ensures.inner, c.plain-store.ensures.inner) at c.in-Ok.ensures.prepares words source source_now in
+    let log_told : armed_from g.L.Sectors.seen c.arm.new.self ≡ (g.L.Sectors.seen c.prepare.new.log.inner).tells =
+    ap (option_and_then (λ device. (g.L.Sectors.seen device).tells)) c.arm.ensures.armed in
+    let data_told : armed_from g.D.Sectors.seen c.arm-2.new.self ≡ (g.D.Sectors.seen c.prepare.new.store.inner).tells =
+    ap (option_and_then (λ device. (g.D.Sectors.seen device).tells)) c.arm-2.ensures.armed in
+    c.open_fitted.ensures.ready words source source_now c.args.log c.args.store command asked c.args.stops running same
+    (record {
+      prepared = prepared-later _
+          (record { now = g.L.Sectors.seen c.prepare.new.log.inner; fuse = c.prepare.new.log.fuse; armed_from = (g.L.Sectors.seen c.prepare.new.log.inner).tells })
+          (record { now = g.D.Sectors.seen c.prepare.new.store.inner; fuse = c.prepare.new.store.fuse; armed_from = (g.D.Sectors.seen c.prepare.new.store.inner).tells })
+          (record { told = log_told; early_calls = ap (λ (fuse : Fuse). fuse.early_calls) c.arm.ensures.fuse })
+          (record { told = data_told; early_calls = ap (λ (fuse : Fuse). fuse.early_calls) c.arm-2.ensures.fuse })
+          prepared.1;
+      log_device = armed-now g.L.Sectors.seen c.args.log c.prepare.new.log c.arm.new.self c.args.stops.log prepared.0.0 c.arm.ensures.inner c.arm.ensures.fuse log_told;
+      data_device = armed-now g.D.Sectors.seen c.args.store c.prepare.new.store c.arm-2.new.self c.args.stops.store prepared.0.1 c.arm-2.ensures.inner c.arm-2.ensures.fuse data_told;
+    }) (
+      (ap (λ (fuse : Fuse). fuse.mid) c.arm.ensures.fuse ∙ prepared.0.0.mid, log_told ∙ ap (λ d. (g.L.Sectors.seen d).tells) (sym c.arm.ensures.inner)),
+      (ap (λ (fuse : Fuse). fuse.mid) c.arm-2.ensures.fuse ∙ prepared.0.1.mid, data_told ∙ ap (λ d. (g.D.Sectors.seen d).tells) (sym c.arm-2.ensures.inner)),
+    )
 
 pub returns-in-Err-clause-entered : goal.returns-in-Err-clause-entered
 returns-in-Err-clause-entered g c = record {

@@ -1,45 +1,50 @@
 -- Both devices are prepared for a run.
 use Rattle.std.proofs.Common.{◌≤◌, Err, refl, ◌∙◌, arith}
-use Rattle.model_base.specs.{default_shape}
 use Rattle.model_log.specs.declared.layout.TheConstants.{HEADER_BYTES}
-use Rattle.redo_memdisk.specs.{seen_through}
+use Rattle.redo_lab.proofs.Alone.{alone-behind}
 use Rattle.redo_lab.proofs.Entered.{calls-entry, format-entries}
-use Rattle.redo_lab.proofs.Formatting.{format-fault}
-use Rattle.redo_lab.proofs.Preparing.{prepared-formatted, prepared-in-use, read-first, unprepared-formatted, unprepared-read, unprepared-small}
+use Rattle.redo_lab.proofs.Formats.{format-fails, formats-both}
+use Rattle.redo_lab.proofs.Prepared.{kept-no-store, prepared-formatted, prepared-in-use, read-first, unprepared-formatted, unprepared-read, unprepared-small}
+use Rattle.redo_lab.specs.Call.{guarded}
+use Rattle.redo_lab.specs.Handed.{call_on}
 use Rattle.redo_lab.proofs.prepare.prepare.Goals as goal
 
 pub returns-in-Ok-clause-prepares : goal.returns-in-Ok-clause-prepares
-returns-in-Ok-clause-prepares g c =
+returns-in-Ok-clause-prepares g c = λ words source source_now.
     let header : HEADER_BYTES ≤ (g.L.Sectors.seen c.args.log.now.inner).size = omega (arith, c.len.ensures.size, c.if-len-lt-HEADER_BYTES.false) in
-    prepared-formatted c.in-Ok.field-0 header (read-first {data_seen = g.D.Sectors.seen} c.requires.log_fresh c.requires.data_fresh c.in-Ok-true.ensures.calls)
-    (rw c.in-Ok-true.field-0-test at c.in-Ok-true.ensures.unused) c.in-Ok.ensures.calls (rw c.default_shape.ensures at c.in-Ok.ensures.lengths) (rw c.default_shape.ensures at c.in-Ok.ensures.formatted)
+    let first = read-first g.D.Sectors.seen c.args.store.now c.requires.log_fresh c.requires.data_fresh c.in-Ok-true.ensures.calls in
+    prepared-formatted _ (guarded g.L.Sectors.seen c.args.log.now.inner c.is_unused.new.log) (guarded g.D.Sectors.seen c.args.store.now.inner c.args.store.now) c.in-Ok.field-0 header
+    first.unarmed refl refl (rw c.in-Ok-true.field-0-test at c.in-Ok-true.ensures.unused)
+    (formats-both g.L.Sectors.seen g.L.Sectors.gives g.D.Sectors.seen g.D.Sectors.gives c.args.log.now.inner c.args.store.now.inner first.unarmed c.in-Ok.field-0 c.in-Ok.ensures.calls)
+    (rw c.default_shape.ensures at c.in-Ok.ensures.lengths) (rw c.default_shape.ensures at c.in-Ok.ensures.formatted)
 
 pub returns-in-Err-format-clause-prepares : goal.returns-in-Err-format-clause-prepares
-returns-in-Err-format-clause-prepares g c =
+returns-in-Err-format-clause-prepares g c = λ words source source_now command asked script running.
     let header : HEADER_BYTES ≤ (g.L.Sectors.seen c.args.log.now.inner).size = omega (arith, c.len.ensures.size, c.if-len-lt-HEADER_BYTES.false) in
-    unprepared-formatted g.L.Sectors.gives g.D.Sectors.gives c.format.new.log c.format.new.data_device c.in-Err-format.fault header
-    (read-first {data_seen = g.D.Sectors.seen} c.requires.log_fresh c.requires.data_fresh c.in-Ok-true.ensures.calls)
-    (rw c.in-Ok-true.field-0-test at c.in-Ok-true.ensures.unused) c.len.ensures.told c.in-Err-format.ensures.calls
-    (format-fault default_shape (seen_through g.L.Sectors.seen c.is_unused.new.log) (seen_through g.D.Sectors.seen c.args.store.now)
-    (seen_through g.L.Sectors.seen c.format.new.log) (seen_through g.D.Sectors.seen c.format.new.data_device) c.in-Err-format.fault
-    (rw c.default_shape.ensures at c.in-Err-format.ensures.cause))
-    (rw c.default_shape.ensures at c.in-Err-format.ensures.keeps)
+    let first = read-first g.D.Sectors.seen c.args.store.now c.requires.log_fresh c.requires.data_fresh c.in-Ok-true.ensures.calls in
+    format-fails g.L.Sectors.seen g.L.Sectors.gives g.D.Sectors.seen g.D.Sectors.gives c.args.log.now.inner c.args.store.now.inner first.unarmed
+    (unprepared-formatted _ command asked script running c.laws.ensures header (λ same. rw (same.0, same.1) first) (rw c.in-Ok-true.field-0-test at c.in-Ok-true.ensures.unused)
+    (kept-no-store (call_on g.L.Sectors.seen g.L.Sectors.gives g.D.Sectors.seen g.D.Sectors.gives words source source_now c.args.log.now.inner c.args.store.now.inner c.format.new.log c.format.new.data_device)
+    _ _ first.log_kept first.data_kept (rw c.default_shape.ensures at c.in-Err-format.ensures.keeps)))
+    c.in-Err-format.fault c.in-Err-format.ensures.calls (rw c.default_shape.ensures at c.in-Err-format.ensures.cause)
 
 pub returns-in-Ok-false-clause-prepares : goal.returns-in-Ok-false-clause-prepares
-returns-in-Ok-false-clause-prepares g c =
+returns-in-Ok-false-clause-prepares g c = λ words source source_now.
     let header : HEADER_BYTES ≤ (g.L.Sectors.seen c.args.log.now.inner).size = omega (arith, c.len.ensures.size, c.if-len-lt-HEADER_BYTES.false) in
-    prepared-in-use g.L.Sectors.seen g.D.Sectors.seen _ _ c.is_unused.new.log c.args.store.now header
-    (read-first c.requires.log_fresh c.requires.data_fresh c.in-Ok-false.ensures.calls) (rw c.in-Ok-false.field-0-test at c.in-Ok-false.ensures.unused)
+    prepared-in-use _ header (read-first g.D.Sectors.seen c.args.store.now c.requires.log_fresh c.requires.data_fresh c.in-Ok-false.ensures.calls)
+    (rw c.in-Ok-false.field-0-test at c.in-Ok-false.ensures.unused)
 
 pub returns-in-Err-clause-prepares : goal.returns-in-Err-clause-prepares
-returns-in-Err-clause-prepares g c =
-    rw c.first_fault.ensures
-    (unprepared-read g.L.Sectors.seen g.D.Sectors.seen _ _ c.is_unused.new.log c.args.store.now c.in-Err.error
-    (read-first c.requires.log_fresh c.requires.data_fresh c.in-Err.ensures.calls))
+returns-in-Err-clause-prepares g c = λ words source source_now command asked script running.
+    rw c.first_fault.ensures (unprepared-read _ command asked script running c.laws.ensures c.in-Err.error
+    (read-first g.D.Sectors.seen c.args.store.now c.requires.log_fresh c.requires.data_fresh c.in-Err.ensures.calls))
 
 pub returns-then-len-lt-HEADER_BYTES-clause-prepares : goal.returns-then-len-lt-HEADER_BYTES-clause-prepares
-returns-then-len-lt-HEADER_BYTES-clause-prepares g c =
-    unprepared-small g.L.Sectors.seen g.D.Sectors.seen c.args.log.now c.args.store.now c.requires.log_fresh c.requires.data_fresh
+returns-then-len-lt-HEADER_BYTES-clause-prepares g c = λ words source source_now command asked script running.
+    unprepared-small _ command asked script running c.laws.ensures (
+      alone-behind g.L.Sectors.seen c.args.log.now.inner c.args.log.now c.args.log.now refl c.requires.log_fresh refl,
+      alone-behind g.D.Sectors.seen c.args.store.now.inner c.args.store.now c.args.store.now refl c.requires.data_fresh refl,
+    )
     (omega (arith, c.len.ensures.size, c.if-len-lt-HEADER_BYTES.true)) c.len.ensures.told
 
 pub returns-then-len-lt-HEADER_BYTES-clause-entered : goal.returns-then-len-lt-HEADER_BYTES-clause-entered

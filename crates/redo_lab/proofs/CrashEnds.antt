@@ -1,0 +1,270 @@
+-- What a crash comes to: a report, with the crash theorem, or why there is none.
+use Rattle.std.proofs.Common.{ℕ, ◌≡◌, ◌+◌, List, Option, Some, None, IfSome, refl, sym, subst, ◌∙◌, inr, arith}
+use Rattle.std.proofs.lemmas.Bool.{false≢true}
+use Rattle.model_device.proofs.Images.{settled_images}
+use Rattle.model_device.specs.{Crashes, IsImage}
+use Rattle.model_device.specs.Disk.{Disk}
+use Rattle.model_report.specs.{IsLeft}
+use Rattle.model_report.specs.declared.fault.Fault.{Fault}
+use Rattle.model_report.specs.declared.fault.Fault.TheVariants as fault
+use Rattle.model_script.specs.declared.asked.Command.{Command}
+use Rattle.model_script.specs.declared.asked.Command.TheVariants.{Crash}
+use Rattle.model_script.specs.declared.asked.Drive.{Drive}
+use Rattle.model_script.specs.declared.script.ScriptLine.{ScriptLine}
+use Rattle.model_store.specs.{HasOldCopies, IsReading, Opens}
+use Rattle.model_store.specs.Reading.{Reading}
+use Rattle.model_store.specs.declared.refusal.Refusal.{Refusal}
+use Rattle.model_theorem.specs.{Account, CrashSafe, entries_of, FitsOpened, LosesOnlyByFailure, Opened, Ran, ReadsPrefix}
+use Rattle.model_theorem.specs.Premises.{Premises}
+use Rattle.model_theorem.specs.Values as values
+use Rattle.redo_drive.specs.declared.drive.RunEnd.TheVariants.{Done}
+use Rattle.redo_lab.specs.declared.outcome.Outcome.{Outcome}
+use Rattle.redo_lab.specs.declared.outcome.Outcome.TheVariants as outcome
+use Rattle.redo_lab.specs.declared.playing.Stops.{Stops}
+use Rattle.redo_lab.proofs.CrashTold.{HasTold, armed-first, crashes-told, device_of, has-told, is-crashed, is-device, left-image, stopped-as, whole-script}
+use Rattle.redo_lab.proofs.Ends.{ends-with, legal-on, opens-stored}
+use Rattle.redo_lab.proofs.Found.{one-opened, told-still}
+use Rattle.redo_lab.proofs.Rereading.{IsCrashedSince, ReadsTo, Was, before, prepared-later}
+use Rattle.redo_lab.specs.Answer.{AreCrashedAs, IsCrashText}
+use Rattle.redo_lab.specs.Asked.{IsScriptRead}
+use Rattle.redo_lab.specs.Call.{Call, Each, IsLeftFair, IsUnfailedAside, WhereOpened, WhereToldNow}
+use Rattle.redo_lab.specs.Cause.{AreOfRun, CanPlay, LeavesRun}
+use Rattle.redo_lab.specs.Laws.{Laws}
+use Rattle.redo_lab.specs.Runs.{HasFailed, IsLeftBy, IsReportOf, LosesByFailure}
+use Rattle.redo_lab.specs.Store.{AreReadAsPrefix, AreRefused}
+use Rattle.redo_lab.specs.Told.{IsOpenedFirst, IsRunOf, LeavesStore}
+use Rattle.redo_lab.specs.Ending.{EndsWith, IsDoneOrKeptFrom, IsOutcome}
+
+-- of an opening that a device stopped something is lost only by that
+pub lost-stopped : (call : Call) (script : List ScriptLine) (f : Fault) → HasFailed call f → LosesByFailure call script None
+lost-stopped call script fault.LogDevice some left left_is = record { lost = λ i entry at lost. omega arith; left = λ more. omega arith; stopped = λ none. omega arith }
+lost-stopped call script fault.DataDevice some left left_is =
+    let more = some.0 in record { lost = λ i entry at lost. omega arith; left = λ more. omega arith; stopped = λ none. omega arith }
+lost-stopped call script f some left left_is = absurd some
+
+module _ (call : Call) (drive : Drive) (stops : Stops) (pick workers : ℕ) (script : List ScriptLine) (run : Option Ran) (log_was data_was : Was) (laws : Laws)
+    (read : IsScriptRead call.source call.source_now script)
+    (left_by : IsLeftBy (before call log_was data_was) (Crash drive stops.log stops.store pick workers) drive stops script run Done)
+    (loses : LosesByFailure (before call log_was data_was) script run) where
+  abbrev asked : Command
+  asked = Crash drive stops.log stops.store pick workers
+
+  abbrev Since : ℕ → ℕ → Type 0
+  Since log_failed data_failed = IsCrashedSince stops.log pick log_failed log_was call.log × IsCrashedSince stops.store pick data_failed data_was call.store
+
+  log-met : (log : Disk) → call.log.entry.tells ≡ Some log → (disk : Disk) × (log_was.now.tells ≡ Some disk)
+  log-met log log_is = told-still call.log.entry.tells log_was.now.tells log left_by.armed.log_device.same.tells log_is
+
+  data-met : (data_disk : Disk) → call.store.entry.tells ≡ Some data_disk → (disk : Disk) × (data_was.now.tells ≡ Some disk)
+  data-met data_disk data_is = told-still call.store.entry.tells data_was.now.tells data_disk left_by.armed.data_device.same.tells data_is
+
+  module _ {log_failed data_failed : ℕ} (since : Since log_failed data_failed) where
+    -- OPENING CAME TO ITS END just where a run took place.
+    crash-first : IsOpenedFirst call call.log.now.crashed_from run
+    crash-first opened log data_disk log_is data_is log_fresh data_fresh opens armed_from disk armed_is met_is =
+        left_by.opened_first opened log data_disk log_is data_is log_fresh data_fresh opens armed_from disk (sym since.0.arming.told ∙ armed_is) (sym since.0.from ∙ met_is)
+
+    -- WHAT IT LEFT is read as a prefix of the run, where the data device's image is fair.
+    left-reads : (opened : Opened) → WhereOpened call opened (IsLeftFair call opened → WhereToldNow call (λ log store. ReadsPrefix script opened run log.reads store.reads))
+    left-reads opened log data_disk log_is data_is log_fresh data_fresh opens fair log_now data_now log_now_is data_now_is =
+        let log_at = log-met log log_is in
+        let data_at = data-met data_disk data_is in
+        let crashes = crashes-told log_was.now.tells call.log.now.tells log_at.0 log_now since.0.left log_at.1 log_now_is in
+        left_by.reads opened log data_disk log_is data_is log_fresh data_fresh opens log_at.0 data_at.0 log_at.1 data_at.1 log_now.reads data_now.reads
+        (left-image log_at.0 log_now crashes) (fair pick data_at.0 data_now since.1.pick_is (since.1.from ∙ data_at.1) data_now_is)
+
+    -- EACH IMAGE of it is read so: of each device there is one.
+    images-read : (opened : Opened) → WhereOpened call opened (IsLeftFair call opened → WhereToldNow call (AreReadAsPrefix script opened run))
+    images-read opened log data_disk log_is data_is log_fresh data_fresh opens fair log_now data_now log_now_is data_now_is log_bytes data_bytes image is_fair =
+        let log_at = log-met log log_is in
+        let data_at = data-met data_disk data_is in
+        let log_same : log_bytes ≡ log_now.reads =
+        one-image log_at.0 log_now (crashes-told log_was.now.tells call.log.now.tells log_at.0 log_now since.0.left log_at.1 log_now_is) log_bytes image in
+        let data_same : data_bytes ≡ data_now.reads =
+        one-image data_at.0 data_now (crashes-told data_was.now.tells call.store.now.tells data_at.0 data_now since.1.left data_at.1 data_now_is) data_bytes is_fair.possible in
+        subst (λ (bytes : List ℕ). ReadsPrefix script opened run log_bytes bytes) (sym data_same)
+        (subst (λ (bytes : List ℕ). ReadsPrefix script opened run bytes data_now.reads) (sym log_same)
+        (left-reads opened log data_disk log_is data_is log_fresh data_fresh opens fair log_now data_now log_now_is data_now_is))
+      where
+        one-image : (met left : Disk) → Crashes met left → (bytes : List ℕ) → IsImage left bytes → bytes ≡ left.reads
+        one-image met left crashes = subst (λ (d : Disk). (bytes : List ℕ) → IsImage d bytes → bytes ≡ d.reads) (sym crashes.left) (settled_images crashes.image).1
+
+    -- and is accepted
+    crash-leaves : LeavesStore call
+    crash-leaves opened log data_disk log_is data_is log_fresh data_fresh stored fair log_now data_now log_now_is data_now_is log_bytes data_bytes image is_fair =
+        let read = images-read opened log data_disk log_is data_is log_fresh data_fresh (opens-stored call opened log data_disk stored) fair
+        log_now data_now log_now_is data_now_is log_bytes data_bytes image is_fair in
+        (read.reading, read.is_read, read.old_copies)
+
+    crashed-as : AreCrashedAs stops.log stops.store pick call
+    crashed-as = (
+      record { limit_is = since.0.armed.limit_is; pick_is = since.0.pick_is; unchanged_since = since.0.armed.late_changes },
+      record { limit_is = since.1.armed.limit_is; pick_is = since.1.pick_is; unchanged_since = since.1.armed.late_changes },
+    )
+
+    left-crashed : LeavesRun call asked
+    left-crashed runs =
+        let is : AreOfRun call asked = record {
+          script = script;
+          run = run;
+          is_script = read;
+          in_run = inr crashed-as;
+          reads = λ store log data_disk log_is data_is log_fresh data_fresh opens fair log_now data_now log_now_is data_now_is. (
+            legal-on (before call log_was data_was) asked drive left_by.opened script run Done _ _ laws left_by.ran store log data_disk log_is data_is log_fresh data_fresh opens,
+            images-read store log data_disk log_is data_is log_fresh data_fresh opens fair log_now data_now log_now_is data_now_is,
+          );
+        } in
+        inr is
+
+    -- an outcome of the crash
+    ends-crash : (o : Outcome) → IsOutcome call asked o → (CanPlay call drive.log_only script → Each IsUnfailedAside call → IsDoneOrKeptFrom asked o) → EndsWith call asked o
+    ends-crash o means complete = ends-with call asked drive script (record { asked = refl; is_script = read; unread = λ plain. absurd (false≢true (sym plain)) }) laws o
+        (since.0.armed.same.tells, since.1.armed.same.tells) crash-leaves means complete
+
+    -- the run as the crash met it
+    as-met : {log_met store_met : Option Disk} → log_met ≡ log_was.now.tells → store_met ≡ data_was.now.tells
+        → IfSome run (λ run. IsRunOf call asked drive left_by.opened script run Done log_met store_met)
+    as-met log_is store_is = met-on run _ _ log_is store_is left_by.ran
+      where
+        met-on : (run : Option Ran) (log_met store_met : Option Disk) → log_met ≡ log_was.now.tells → store_met ≡ data_was.now.tells
+            → IfSome run (λ run. IsRunOf (before call log_was data_was) asked drive left_by.opened script run Done log_was.now.tells data_was.now.tells)
+            → IfSome run (λ run. IsRunOf call asked drive left_by.opened script run Done log_met store_met)
+        met-on None log_met store_met log_is store_is took = tt
+        met-on (Some run) log_met store_met log_is store_is took = record {
+          is_script = read;
+          opens = took.opens;
+          fits = took.fits;
+          in_lsn_order = took.in_lsn_order;
+          driven = subst (λ (met : Option Disk). call.drives drive left_by.opened script run Done log_met met) (sym store_is)
+              (subst (λ (met : Option Disk). call.drives drive left_by.opened script run Done met data_was.now.tells) (sym log_is) took.driven);
+        }
+
+    lost-by : (left : List (ℕ × ℕ)) → IsLeft script (entries_of run) left → LosesOnlyByFailure (call.log.fuse.mid + call.store.fuse.mid) run left
+    lost-by left left_is =
+        let counted : log_was.fuse.mid + data_was.fuse.mid ≡ call.log.fuse.mid + call.store.fuse.mid = omega (arith, since.0.mid, since.1.mid) in
+        subst (λ (n : ℕ). LosesOnlyByFailure n run left) counted (loses left left_is)
+
+  unfailed-aside : Since 0 0 → Each IsUnfailedAside call
+  unfailed-aside since = ((since.0.armed.early, since.0.armed.late), (since.1.armed.early, since.1.armed.late))
+
+  -- THE CRASH THEOREM, of the report and what was read.
+  module _ (since : Since 0 0) (text : List ℕ) (reading : Reading) (is_read : WhereToldNow call (λ log store. IsReading log.reads store.reads reading))
+      (report : IsReportOf script run (Some (reading.end, reading.pages)) text) where
+    abbrev account : Account
+    account = record { text = read.text; script = script; run = run; left = report.left; reading = reading; printed = text }
+
+    abbrev crash_with : HasTold log_was call.log → HasTold data_was call.store → values.Crash
+    crash_with log_told data_told = record {
+      options = record { log_only = drive.log_only; stop_log = stops.log; stop_data = stops.store; pick = pick };
+      source = call.source.left;
+      source_left = call.source_now.left;
+      taken = None;
+      taken_now = None;
+      log_device = device_of call.log log_told;
+      data_device = device_of call.store data_told;
+    }
+
+    crash-safe : (log_told : HasTold log_was call.log) (data_told : HasTold data_was call.store) (opened : Opened) → Premises (crash_with log_told data_told) opened
+        → CrashSafe (crash_with log_told data_told) opened account
+    crash-safe log_told data_told opened premises =
+        let log = log_told.at_entry in
+        let data_disk = data_told.at_entry in
+        let reads = left_by.reads opened log data_disk log_told.entry_is data_told.entry_is premises.log_fresh premises.data_fresh premises.opens
+        log_told.crashed_from data_told.crashed_from log_told.crashed_is data_told.crashed_is in
+        let now = is_read log_told.left data_told.left log_told.left_is data_told.left_is in
+        let log_crashed = is-crashed log_was call.log since.0 log_told in
+        let kept = reads log_told.left.reads data_told.left.reads log_crashed.kept premises.fair in
+        let prepared = prepared-later call log_was data_was since.0.arming since.1.arming left_by.armed.prepared in
+        laws.crash_is_safe (crash_with log_told data_told) opened account
+        (record {
+          every_script = record {
+            whole = whole-script call script read;
+            fits = fits-on run log data_disk log_told.entry_is data_told.entry_is premises.opens left_by.ran;
+          };
+          any_stops = record {
+            log_device = stopped-as log_was call.log since.0 log_told;
+            data_device = stopped-as data_was call.store since.1 data_told;
+            armed_first = armed-first call log_was data_was laws prepared (omega (arith, left_by.counted, since.0.passed, since.0.mid)) log_told data_told;
+          };
+          prints = record { taken = tt; report = report.text_is; left_is = report.left_is };
+          read_from_devices = record {
+            log_device = log_crashed;
+            data_device = is-crashed data_was call.store since.1 data_told;
+            is_read = now;
+            old_copies = subst (HasOldCopies data_told.left.reads)
+                (laws.one_reading log_told.left.reads data_told.left.reads kept.reading reading kept.is_read now) kept.old_copies;
+          };
+          fair = premises.fair;
+        })
+        (left_by.opened_first opened log data_disk log_told.entry_is data_told.entry_is premises.log_fresh premises.data_fresh premises.opens
+        log_told.armed_from log_told.crashed_from (sym since.0.arming.told ∙ log_told.armed_is) log_told.crashed_is)
+        (record {
+          in_lsn_order = legal-on (before call log_was data_was) asked drive left_by.opened script run Done _ _ laws left_by.ran opened
+              log data_disk log_told.entry_is data_told.entry_is premises.log_fresh premises.data_fresh premises.opens;
+          left_is = report.left_is;
+          every_image = reads;
+          lost_only_by_failure = lost-by since report.left report.left_is;
+        })
+      where
+        fits-on : (run : Option Ran) (log data_disk : Disk) → call.log.entry.tells ≡ Some log → call.store.entry.tells ≡ Some data_disk
+            → Opens log.reads data_disk.reads opened.shape opened.pages opened.end
+            → IfSome run (λ run. IsRunOf (before call log_was data_was) asked drive left_by.opened script run Done log_was.now.tells data_was.now.tells)
+            → IfSome run (λ run. FitsOpened drive.log_only opened script)
+        fits-on None log data_disk log_is data_is opens took = tt
+        fits-on (Some run) log data_disk log_is data_is opens took =
+            subst (λ (o : Opened). FitsOpened drive.log_only o script) (one-opened laws log data_disk left_by.opened opened (took.opens log data_disk log_is data_is) opens) took.fits
+
+    crash-text : IsCrashText call drive stops.log stops.store pick workers text
+    crash-text = record {
+      account = account;
+      opened = left_by.opened;
+      told = record {
+        is_script = read;
+        ran = as-met since since.0.from since.1.from;
+        left_is = report.left_is;
+        loses = lost-by since report.left report.left_is;
+        opened_first = crash-first since;
+      };
+      text_is = refl;
+      report = report.text_is;
+      crashed = crashed-as since;
+      is_read = is_read;
+      safe = λ log_tells data_tells.
+          (let log_told = has-told log_was call.log since.0 left_by.armed.log_device.same.tells log_tells in
+          let data_told = has-told data_was call.store since.1 left_by.armed.data_device.same.tells data_tells in (
+            crash_with log_told data_told,
+            record {
+              options_are = refl;
+              source = refl;
+              source_left = refl;
+              log_device = is-device log_was call.log since.0 log_told;
+              data_device = is-device data_was call.store since.1 data_told;
+              untold = refl;
+            },
+            crash-safe log_told data_told,
+          ));
+    }
+
+  -- A STORE THAT CAN BE RUN ON is not refused after the crash.
+  possible-read-back : {log_failed data_failed : ℕ} (cause : Refusal) → Since log_failed data_failed → WhereToldNow call (AreRefused cause) → CanPlay call drive.log_only script → ⊥
+  possible-read-back cause since refused can =
+      let log_left = told-still call.log.entry.tells call.log.now.tells can.log since.0.armed.same.tells can.log_tells in
+      let data_left = told-still call.store.entry.tells call.store.now.tells can.store since.1.armed.same.tells can.store_tells in
+      let kept = left-reads since can.opened can.log can.store can.log_tells can.store_tells can.log_fresh can.store_fresh can.opens can.fair
+      log_left.0 data_left.0 log_left.1 data_left.1 in
+      laws.one_answer log_left.0.reads data_left.0.reads kept.reading cause kept.is_read (refused log_left.0 data_left.0 log_left.1 data_left.1)
+
+  -- WHAT THE CRASH COMES TO, by what is read after it.
+  pub crash-reads : ReadsTo Since call.log.now.tells call.store.now.tells (λ reading. IsReportOf script run (Some (reading.end, reading.pages))) (EndsWith call asked)
+  crash-reads = record {
+    read = λ reading text since is_read report. ends-crash since (outcome.Text text) (unfailed-aside since, crash-text since text reading is_read report) (λ can unfailed. tt);
+    refused = λ cause since refused. ends-crash since (outcome.Fault (fault.Store cause))
+        ((λ reads. (script, read)), unfailed-aside since, inr (crashed-as since, refused)) (λ can unfailed. absurd (possible-read-back cause since refused can));
+    memory = λ since. ends-crash since (outcome.Fault fault.Memory) (left-crashed since) (λ can unfailed. tt);
+    log_fails = λ since. ends-crash since (outcome.Fault fault.LogDevice)
+        ((λ reads. (script, read)), (since.0.armed.risen (omega arith), omega (arith, since.0.armed.late)), tt, left-crashed since)
+        (λ can unfailed. absurd (omega (arith, since.0.armed.late, unfailed.0.1)));
+    data_fails = λ since. ends-crash since (outcome.Fault fault.DataDevice)
+        ((λ reads. (script, read)), (since.1.armed.risen (omega arith), omega (arith, since.1.armed.late)), tt, left-crashed since)
+        (λ can unfailed. absurd (omega (arith, since.1.armed.late, unfailed.1.1)));
+  }

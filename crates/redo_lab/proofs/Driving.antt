@@ -1,0 +1,225 @@
+-- The run of a script on a store that stands opened, by a drive, and what it leaves.
+use Rattle.std.proofs.Common.{ℕ, ◌≡◌, ◌+◌, List, Option, Some, None, refl, sym, ap, subst, ◌∙◌, ⊎_elim, arith}
+use Rattle.std.specs.List.{AllByRecursion}
+use Rattle.model_base.specs.declared.shape.Shape.{Shape}
+use Rattle.model_device.specs.{synced}
+use Rattle.model_device.specs.Disk.{Disk}
+use Rattle.model_parts.specs.{IsReady}
+use Rattle.model_script.specs.{LineFits}
+use Rattle.model_script.specs.declared.asked.Command.{Command}
+use Rattle.model_script.specs.declared.asked.Drive.{Drive}
+use Rattle.model_script.specs.declared.script.ScriptLine.{ScriptLine}
+use Rattle.model_store.specs.{IsReading}
+use Rattle.model_store.specs.Reading.{Reading}
+use Rattle.model_theorem.specs.{IsClosed, IsHeld, IsOpenedBefore, IsRun, IsStart, LosesOnlyByFailure, Opened, opened_as, Ran}
+use Rattle.redo_disk.specs.{Call as DeviceCall, failures, MakesCalls, MayEndWith}
+use Rattle.redo_disk.specs.Seen.{Seen}
+use Rattle.redo_disk.specs.declared.error.DevError.{DevError}
+use Rattle.redo_disk.specs.declared.error.DevError.TheVariants as device
+use Rattle.redo_disk.proofs.Made.{may_end}
+use Rattle.redo_drive.specs.{HasMemory, Owes}
+use Rattle.redo_drive.specs.Beginning.{IsOpenedAs as IsStartedAs}
+use Rattle.redo_drive.specs.Drive.{failed_in}
+use Rattle.redo_drive.specs.declared.drive.Driven.{Driven}
+use Rattle.redo_drive.specs.declared.drive.RunEnd.{RunEnd}
+use Rattle.redo_drive.specs.declared.drive.RunEnd.TheVariants.{Done, Spent}
+use Rattle.redo_io.specs.{SourceSeen}
+use Rattle.redo_memdisk.proofs.Behind.{counts-calls}
+use Rattle.redo_memdisk.specs.{CallsThrough, seen_through}
+use Rattle.redo_memdisk.specs.declared.fused.Fused.{Fused}
+use Rattle.redo_open.specs.{WhereBothTell}
+use Rattle.redo_store.specs.declared.opened.Opened as store
+use Rattle.redo_lab.specs.declared.playing.Played.{Played}
+use Rattle.redo_lab.specs.declared.playing.Stops.{Stops}
+use Rattle.redo_lab.proofs.Ends.{SpendsTurns, left-memory, left-spent}
+use Rattle.redo_lab.proofs.Found.{WasFound, found-armed, held-older, told-still}
+use Rattle.redo_lab.proofs.Fuses.{armed-calls}
+use Rattle.redo_lab.proofs.Opened.{armed-after}
+use Rattle.redo_lab.proofs.Rereading.{armed-as}
+use Rattle.redo_lab.proofs.SomeLeft.{some-left}
+use Rattle.redo_lab.proofs.Told.{both-told}
+use Rattle.redo_lab.specs.Call.{Call, WhereOpened, WhereToldNow}
+use Rattle.redo_lab.specs.Handed.{TellsOf, call_on}
+use Rattle.redo_lab.specs.Laws.{Laws}
+use Rattle.redo_lab.specs.Runs.{ComesTo, IsLeftBy, IsRunning, LosesByFailure, StandsReady, course_done, course_of, ended_by, played_of, ran_of}
+use Rattle.redo_lab.specs.Store.{AreReadAsPrefix}
+use Rattle.redo_lab.specs.Told.{AreLeftRead, IsOpenedFirst}
+
+module _ {L D : Type 0} (log_seen : L → Seen) (log_gives : L → DeviceCall → L → Type 0) (data_seen : D → Seen) (data_gives : D → DeviceCall → D → Type 0)
+    (words : List (List ℕ)) (source source_now : SourceSeen) (log : L) (data_device : D) (command : Command) (drive : Drive) (stops : Stops) (script : List ScriptLine)
+    (given : store.Opened (Fused L) (Fused D)) (driven : Driven (Fused L) (Fused D)) (running : IsRunning source source_now command drive script) (laws : Laws)
+    (ready : StandsReady log_seen data_seen (call_on log_seen log_gives data_seen data_gives words source source_now log data_device given.log.dev given.store.dev) drive stops script given)
+    (told : TellsOf drive.threads log_seen log_gives data_seen data_gives drive given script driven)
+    (owes : Owes (seen_through log_seen) (CallsThrough log_seen log_gives) (seen_through data_seen) (CallsThrough data_seen data_gives) given script driven)
+    (spends : SpendsTurns (call_on log_seen log_gives data_seen data_gives words source source_now log data_device driven.closed.log.dev driven.closed.store.dev) drive) where
+  abbrev opening : Call
+  opening = call_on log_seen log_gives data_seen data_gives words source source_now log data_device given.log.dev given.store.dev
+
+  abbrev call : Call
+  call = call_on log_seen log_gives data_seen data_gives words source source_now log data_device driven.closed.log.dev driven.closed.store.dev
+
+  abbrev played : Played
+  played = played_of given.start driven.closed
+
+  abbrev run : Ran
+  run = ran_of played
+
+  abbrev log-made : MakesCalls (CallsThrough log_seen log_gives) given.log.dev driven.closed.log.dev (MayEndWith driven.closed.log.failed)
+  log-made = may_end (owes.comes_to.log_calls.live refl)
+
+  abbrev data-made : MakesCalls (CallsThrough data_seen data_gives) given.store.dev driven.closed.store.dev (MayEndWith driven.closed.store.failed)
+  data-made = may_end (owes.comes_to.data_calls.live refl)
+
+  log-none : given.log.dev.fuse.mid ≡ 0
+  log-none = omega (arith, ready.unfailed)
+
+  data-none : given.store.dev.fuse.mid ≡ 0
+  data-none = omega (arith, ready.unfailed)
+
+  log-mid : driven.closed.log.dev.fuse.mid ≡ failures driven.closed.log.failed
+  log-mid = (armed-calls ready.armed.log_device log-none log-made).1
+
+  data-mid : driven.closed.store.dev.fuse.mid ≡ failures driven.closed.store.failed
+  data-mid = (armed-calls ready.armed.data_device data-none data-made).1
+
+  -- WHAT IS OWED of both devices after the run, on a store that was found when the fuses were armed
+  run-found : (P : Reading → Disk → Disk → Type 0)
+      → ((reading : Reading) → IsStartedAs reading given → WhereBothTell (log_seen given.log.dev.inner).tells (data_seen given.store.dev.inner).tells (λ log_disk data_disk.
+      IsStart reading script log_disk data_disk
+      → WhereBothTell (log_seen driven.closed.log.dev.inner).tells (data_seen driven.closed.store.dev.inner).tells (P reading)))
+      → (opened : Opened) → WhereOpened call opened ((found : WasFound opening opened) × WhereToldNow call (P found.reading))
+  run-found P owed opened log_entry data_entry log_is data_is log_fresh data_fresh opens =
+      let found = found-armed opening laws ready.armed opened log_entry data_entry log_is data_is log_fresh data_fresh opens in
+      let is = ready.ready found.reading found.log found.data_disk found.log_is found.data_is found.openable in
+      let log_there = told-still opening.log.entry.tells opening.log.now.tells log_entry ready.armed.log_device.same.tells log_is in
+      let data_there = told-still opening.store.entry.tells opening.store.now.tells data_entry ready.armed.data_device.same.tells data_is in
+      let start : IsStart found.reading script log_there.0 data_there.0 = record {
+        log_bytes = found.log.reads;
+        data_bytes = found.data_disk.reads;
+        orderly = found.openable.orderly;
+        ready = both-told _ _ (IsReady found.reading) is.ready log_there.0 data_there.0 log_there.1 data_there.1;
+        fits = subst (λ (shape : Shape). AllByRecursion (LineFits shape) script) (sym ready.is_opened.shape ∙ is.opened.shape) ready.fits.lines;
+      } in
+      let after = both-told opening.log.now.tells opening.store.now.tells
+      (λ log_disk data_disk. IsStart found.reading script log_disk data_disk
+      → WhereBothTell (log_seen driven.closed.log.dev.inner).tells (data_seen driven.closed.store.dev.inner).tells (P found.reading))
+      (owed found.reading (record { shape = is.opened.shape; pages = is.opened.pages; start = is.opened.start; number = is.number }))
+      log_there.0 data_there.0 log_there.1 data_there.1 start in
+      (found, both-told call.log.now.tells call.store.now.tells (P found.reading) after)
+
+  abbrev Holds : Reading → Disk → Disk → Type 0
+  Holds reading log_disk data_disk = IsHeld (record {
+    script = script;
+    opened = opened_as reading;
+    number = reading.number + 1;
+    run = run;
+    log_disk = log_disk;
+    data_disk = data_disk;
+  })
+
+  -- EVERY IMAGE of both devices is read as a prefix of the run.
+  run-reads : AreLeftRead call script (Some run)
+  run-reads opened log_entry data_entry log_is data_is log_fresh data_fresh opens log_now data_now log_now_is data_now_is =
+      let held = run-found Holds owes.holds opened log_entry data_entry log_is data_is log_fresh data_fresh opens in
+      subst (λ (o : Opened). AreReadAsPrefix script o (Some run) log_now data_now) (sym held.0.same)
+      (λ log_bytes data_bytes. laws.held_reads _ log_bytes data_bytes (held.1 log_now data_now log_now_is data_now_is))
+
+  -- OPENING CAME TO ITS END before it.
+  run-first : IsOpenedFirst call call.log.now.tells (Some run)
+  run-first opened log_entry data_entry log_is data_is log_fresh data_fresh opens armed_from disk armed_is now_is =
+      let held = run-found Holds owes.holds opened log_entry data_entry log_is data_is log_fresh data_fresh opens in
+      let found = held.0 in
+      let data_now = told-still opening.store.entry.tells call.store.now.tells data_entry
+      (armed-after words source source_now log data_device ready.armed log-none data-none log-made data-made).data_device.same.tells data_is in
+      let armed = (armed-as log ready.armed.log_device.stage_is log-made).told in
+      let same_log : found.log ≡ armed_from = (let found_is = found.log_is in cc) in
+      subst (λ (armed_from : Disk). IsOpenedBefore opened.shape armed_from disk (Some run)) same_log
+      (subst (λ (one : Opened). IsOpenedBefore one.shape found.log disk (Some run)) (sym found.same)
+      (laws.held_opened _ found.log (held.1 disk data_now.0 now_is data_now.1) (held-older found.reading found.log found.data_disk found.openable)))
+
+  -- WHAT IT LEAVES
+  left-so : (end : RunEnd) → driven.ended ≡ end → IsLeftBy call command drive stops script (Some run) end
+  left-so end ends =
+      let is = ready.is_opened in
+      let same : record { shape = given.shape; pages = given.pages; end = ready.opened.end } ≡ ready.opened =
+      λ i. record { shape = is.shape i; pages = is.pages i; end = ready.opened.end } in
+      record {
+        armed = armed-after words source source_now log data_device ready.armed log-none data-none log-made data-made;
+        counted = (let some = (counts-calls log_seen log_gives given.log.dev driven.closed.log.dev log-made.calls log-made.made).passed (omega (arith, ready.counted, log-none)) in omega arith);
+        opened = ready.opened;
+        ran = record {
+          is_script = running.is_script;
+          opens = ready.opens;
+          fits = ready.fits;
+          in_lsn_order = subst (λ (o : Opened). IsRun script o run) same (owes.comes_to.is_run ready.opened.end is.start);
+          driven = record {
+            store = given;
+            is_opened = is;
+            driven = driven;
+            told = told;
+            ends = ends;
+            run_is = refl;
+            log_is = refl;
+            store_is = refl;
+          };
+        };
+        opened_first = run-first;
+        reads = run-reads;
+      }
+
+  -- ALL USERS ENDED: something is lost only where a device failed.
+  loses-so : driven.ended ≡ Done → HasMemory driven.closed → LosesByFailure call script (Some run)
+  loses-so done memory left left_is =
+      let counted : failed_in driven.closed ≡ call.log.fuse.mid + call.store.fuse.mid = omega (arith, log-mid, data-mid) in
+      subst (λ (n : ℕ). LosesOnlyByFailure n (Some run) left) counted (owes.comes_to.loses left done memory left_is)
+
+  -- and where no call answered an error, what reads give is read
+  read-now : driven.ended ≡ Done → HasMemory driven.closed → driven.closed.log.failed ≡ None → driven.closed.store.failed ≡ None
+      → (opened : Opened) → WhereOpened call opened (WhereToldNow call (λ log_disk data_disk. (reading : Reading) × IsReading log_disk.reads data_disk.reads reading))
+  read-now done memory log_none data_none opened log_entry data_entry log_is data_is log_fresh data_fresh opens log_now data_now log_now_is data_now_is =
+      let left = some-left script driven.closed.history in
+      let Closes : Reading → Disk → Disk → Type 0 = λ reading log_disk data_disk. IsClosed (failed_in driven.closed) (record {
+        script = script;
+        opened = opened_as reading;
+        number = reading.number + 1;
+        run = run;
+        left = left.0;
+        log_disk = synced log_disk;
+        data_disk = synced data_disk;
+      }) in
+      let closed = run-found Closes (λ reading started. owes.owed_synced log_none data_none reading left.0 done memory started left.1)
+      opened log_entry data_entry log_is data_is log_fresh data_fresh opens in
+      let read = laws.held_reads _ log_now.reads data_now.reads (closed.1 log_now data_now log_now_is data_now_is).holds
+      (laws.base_fair opened.shape (synced log_now)).possible (laws.base_fair closed.0.reading.shape (synced data_now)) in
+      (read.reading, read.is_read)
+
+  -- by what a call of each device answered that failed
+  done-by : (log_error data_error : Option DevError) → driven.closed.log.failed ≡ log_error → driven.closed.store.failed ≡ data_error → driven.ended ≡ Done
+      → ComesTo call command drive stops script (course_done played (ended_by log_error data_error))
+  done-by None None log_is data_is done =
+      let memory : HasMemory driven.closed = λ lacks. ⊎_elim (λ log. let e = sym log_is ∙ log in absurd (cc)) (λ store. let e = sym data_is ∙ store in absurd (cc)) lacks in (
+        left-so Done done,
+        loses-so done memory,
+        (omega (arith, log-mid, data-mid, ap failures log_is, ap failures data_is), read-now done memory log_is data_is),
+      )
+  done-by (Some device.Failed) data_error log_is data_is done =
+      let some = ap failures log_is in (left-so Done done, loses-so done (λ lacks. omega (arith, some)), omega (arith, log-mid, some))
+  done-by None (Some device.Failed) log_is data_is done =
+      let none = ap failures log_is in
+      let some = ap failures data_is in
+      (left-so Done done, loses-so done (λ lacks. omega (arith, some)), (omega (arith, data-mid, some), omega (arith, log-mid, none)))
+  done-by (Some device.NoMemory) (Some device.Failed) log_is data_is done =
+      let none = ap failures log_is in
+      let some = ap failures data_is in
+      (left-so Done done, loses-so done (λ lacks. omega (arith, some)), (omega (arith, data-mid, some), omega (arith, log-mid, none)))
+  done-by (Some device.NoMemory) None log_is data_is done = left-memory call command drive script running laws (left-so Done done)
+  done-by (Some device.NoMemory) (Some device.NoMemory) log_is data_is done = left-memory call command drive script running laws (left-so Done done)
+  done-by None (Some device.NoMemory) log_is data_is done = left-memory call command drive script running laws (left-so Done done)
+
+  ended-so : (how : RunEnd) → driven.ended ≡ how → ComesTo call command drive stops script (course_of how played (ended_by driven.closed.log.failed driven.closed.store.failed))
+  ended-so Done how = done-by driven.closed.log.failed driven.closed.store.failed refl refl how
+  ended-so (Spent turns user) how = left-spent call command drive script running laws turns user spends (left-so (Spent turns user) how)
+
+  -- WHAT THE RUN COMES TO.
+  pub driven-comes : ComesTo call command drive stops script (course_of driven.ended played (ended_by driven.closed.log.failed driven.closed.store.failed))
+  driven-comes = ended-so driven.ended refl

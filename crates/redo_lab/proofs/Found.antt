@@ -1,0 +1,206 @@
+-- The store that two devices open: as they were handed in, and as the arming of their fuses found them.
+use Rattle.std.proofs.Common.{ℕ, ◌≡◌, ◌≢◌, ◌+◌, List, Option, Some, None, refl, sym, ap, ◌∙◌, inl, ⊎_elim, arith}
+use Rattle.model_base.specs.{default_shape, IsWithinLimits}
+use Rattle.model_base.specs.declared.shape.Shape.{Shape}
+use Rattle.model_device.specs.{IsImage}
+use Rattle.model_device.specs.Disk.{Disk}
+use Rattle.model_log.specs.{newest_checkpoint}
+use Rattle.model_page.specs.declared.content.Content.{Content}
+use Rattle.model_parts.proofs.Formatted.{zeros-refused}
+use Rattle.model_parts.specs.{formatted_store, IsAtRest, IsOpenable, KeepsOpened}
+use Rattle.model_script.specs.declared.script.ScriptLine.{ScriptLine}
+use Rattle.model_store.specs.{IsFair, IsReading, IsUnused, Opens, OpensOrderly}
+use Rattle.model_store.specs.Reading.{Reading}
+use Rattle.model_store.specs.declared.refusal.Refusal.TheVariants.{NotFormatted}
+use Rattle.model_theorem.specs.{AreUnopened, HeldOlder, IsFresh, IsOpenedBefore, Opened, opened_as, ReadsPrefix}
+use Rattle.redo_open.specs.{HasSameCheckpoint}
+use Rattle.redo_lab.specs.declared.playing.Stops.{Stops}
+use Rattle.redo_lab.specs.Call.{Call, WhereOpened}
+use Rattle.redo_lab.specs.Devices.{AreArmed, ArePrepared}
+use Rattle.redo_lab.specs.Laws.{Laws}
+use Rattle.redo_lab.specs.Store.{IsOpenedAs}
+
+pub default-within : IsWithinLimits default_shape
+default-within = record {
+  page_size = refl;
+  some_pages = omega arith;
+  few_pages = omega arith;
+  space = omega arith;
+  many_blocks = omega arith;
+  few_blocks = omega arith;
+  slots = refl;
+}
+
+-- a device that told goes on telling
+pub told-still : (old new : Option Disk) (disk : Disk) → (old ≢ None → new ≢ None) → old ≡ Some disk → (now : Disk) × (new ≡ Some now)
+told-still old None disk goes is = absurd (goes (λ none. cc) refl)
+told-still old (Some now) disk goes is = (now, refl)
+
+-- what two equal devices tell is the same
+pub same-told : (old new : Option Disk) (before now : Disk) → new ≡ old → old ≡ Some before → new ≡ Some now → before ≡ now
+same-told old new before now same before_is now_is = cc
+
+-- a log device that is unused isn't read
+pub unused-unread : Laws → (log data_bytes : List ℕ) (reading : Reading) → IsUnused log → IsReading log data_bytes reading → ⊥
+unused-unread laws log data_bytes reading unused is_read =
+    laws.one_answer log data_bytes reading NotFormatted is_read (zeros-refused log data_bytes is_read.scan.devices.head.long unused)
+
+at-rest : (disk : Disk) (faults : ℕ) → IsFresh disk faults → IsAtRest disk
+at-rest disk faults fresh = record { one_image = fresh.one_image; reads = fresh.valid.reads }
+
+pub openable-fresh : (log data_disk : Disk) (log_faults data_faults : ℕ) (opened : Opened) → IsFresh log log_faults → IsFresh data_disk data_faults
+    → (opens : OpensOrderly log.reads data_disk.reads opened.shape opened.pages opened.end) → IsOpenable opens.reading log data_disk
+openable-fresh log data_disk log_faults data_faults opened log_fresh data_fresh opens = record {
+  log_rests = at-rest log log_faults log_fresh;
+  data_rests = at-rest data_disk data_faults data_fresh;
+  orderly = opens.orderly;
+}
+
+-- stores that are opened with the same values are one
+same-opened : (a b : Opened) → a.shape ≡ b.shape → a.pages ≡ b.pages → a.end ≡ b.end → a ≡ b
+same-opened a b shape pages end =
+    ap (λ (s : Shape). record a { shape = s }) shape
+    ∙ ap (λ (p : List Content). record a { shape = b.shape; pages = p }) pages
+    ∙ ap (λ (n : ℕ). record b { end = n }) end
+
+-- WHAT IS OPENED is determined.
+pub one-opened : Laws → (log data_disk : Disk) (a b : Opened) → IsOpenedAs a log data_disk → Opens log.reads data_disk.reads b.shape b.pages b.end → a ≡ b
+one-opened laws log data_disk a b opens_a opens_b = ⊎_elim
+    (λ unused_a. ⊎_elim
+    (λ unused_b. same-opened a b (unused_a.shape_is ∙ sym unused_b.shape_is) (unused_a.pages_are ∙ sym unused_b.pages_are) (unused_a.end_is ∙ sym unused_b.end_is))
+    (λ orderly. absurd (unused-unread laws log.reads data_disk.reads orderly.reading unused_a.unused orderly.orderly.reads))
+    opens_b)
+    (λ read_a. ⊎_elim
+    (λ unused_b. absurd (read_a.0 unused_b.unused))
+    (λ orderly.
+    let is = laws.one_reading log.reads data_disk.reads read_a.1.reading orderly.reading read_a.1.is_read orderly.orderly.reads in
+    same-opened a b
+    (read_a.1.shape ∙ ap (λ (r : Reading). r.shape) is ∙ sym orderly.shape_is)
+    (read_a.1.pages ∙ ap (λ (r : Reading). r.pages) is ∙ sym orderly.pages_are)
+    (read_a.1.end ∙ ap (λ (r : Reading). r.end) is ∙ sym orderly.end_is))
+    opens_b)
+    opens_a
+
+-- BEFORE OPENING both devices were as they were handed in, or as formatting leaves them.
+pub unopened-as : (call : Call) (log data_disk log_armed data_armed : Disk) → Laws → ArePrepared call → call.log.entry.tells ≡ Some log → call.store.entry.tells ≡ Some data_disk
+    → call.log.armed_from ≡ Some log_armed → call.store.armed_from ≡ Some data_armed → AreUnopened log data_disk log_armed data_armed
+unopened-as call log data_disk log_armed data_armed laws prepared log_is data_is log_armed_is data_armed_is = record {
+  unused = λ unused. ⊎_elim
+      (λ formatted.
+      let openable = laws.formatted default_shape log_armed data_armed default-within (formatted.formatted log_armed data_armed log_armed_is data_armed_is) in
+      record { log_rests = openable.log_rests.one_image; data_rests = openable.data_rests.one_image; orderly = openable.orderly })
+      (λ in_use. absurd (in_use.used log data_disk log_is data_is unused))
+      prepared.which;
+  log_in_use = λ used. ⊎_elim
+      (λ formatted. absurd (used (formatted.unused log data_disk log_is data_is)))
+      (λ in_use. sym (same-told _ _ log log_armed in_use.kept.0 log_is log_armed_is))
+      prepared.which;
+  data_in_use = λ used. ⊎_elim
+      (λ formatted. absurd (used (formatted.unused log data_disk log_is data_is)))
+      (λ in_use. sym (same-told _ _ data_disk data_armed in_use.kept.1 data_is data_armed_is))
+      prepared.which;
+}
+
+-- THE STORE WAS FOUND so when the fuses were armed.
+pub record WasFound (call : Call) (opened : Opened) : Type 0 where
+  pub reading : Reading
+  pub same : opened ≡ opened_as reading
+  pub log : Disk
+  pub data_disk : Disk
+  pub log_is : call.log.armed_from ≡ Some log
+  pub data_is : call.store.armed_from ≡ Some data_disk
+  pub openable : IsOpenable reading log data_disk
+
+pub was-found : (call : Call) → Laws → ArePrepared call
+    → (call.log.entry.tells ≢ None → call.log.armed_from ≢ None) → (call.store.entry.tells ≢ None → call.store.armed_from ≢ None)
+    → (opened : Opened) → WhereOpened call opened (WasFound call opened)
+was-found call laws prepared log_tells data_tells opened log data_disk log_is data_is log_fresh data_fresh opens =
+    let log_told = told-still call.log.entry.tells call.log.armed_from log log_tells log_is in
+    let data_told = told-still call.store.entry.tells call.store.armed_from data_disk data_tells data_is in
+    ⊎_elim
+    (λ unused. ⊎_elim
+    (λ formatted. record {
+      reading = formatted_store default_shape;
+      same = same-opened opened (opened_as (formatted_store default_shape)) unused.shape_is unused.pages_are unused.end_is;
+      log = log_told.0;
+      data_disk = data_told.0;
+      log_is = log_told.1;
+      data_is = data_told.1;
+      openable = laws.formatted default_shape log_told.0 data_told.0 default-within (formatted.formatted log_told.0 data_told.0 log_told.1 data_told.1);
+    })
+    (λ in_use. absurd (in_use.used log data_disk log_is data_is unused.unused))
+    prepared.which)
+    (λ orderly. ⊎_elim
+    (λ formatted. absurd (unused-unread laws log.reads data_disk.reads orderly.reading (formatted.unused log data_disk log_is data_is) orderly.orderly.reads))
+    (λ in_use. record {
+      reading = orderly.reading;
+      same = same-opened opened (opened_as orderly.reading) orderly.shape_is orderly.pages_are orderly.end_is;
+      log = log;
+      data_disk = data_disk;
+      log_is = in_use.kept.0 ∙ log_is;
+      data_is = in_use.kept.1 ∙ data_is;
+      openable = openable-fresh log data_disk call.log.entry.faults call.store.entry.faults opened log_fresh data_fresh orderly;
+    })
+    prepared.which)
+    opens
+
+pub found-armed : (call : Call) {stops : Stops} → Laws → AreArmed call stops → (opened : Opened) → WhereOpened call opened (WasFound call opened)
+found-armed call laws armed opened = was-found call laws armed.prepared armed.log_device.told armed.data_device.told opened
+
+-- THE CHECKPOINT THAT WAS FOUND: what stood there at the last good sync is an image.
+found-checkpoint : (reading : Reading) (log data_disk : Disk) → IsOpenable reading log data_disk → HasSameCheckpoint reading log
+found-checkpoint reading log data_disk openable =
+    ap (newest_checkpoint reading.shape) (openable.log_rests.one_image log.base (record { same_length = refl; each = λ k below. inl refl }))
+    ∙ openable.orderly.reads.scan.checkpoint
+
+-- is older than the one that opening makes
+pub held-older : (reading : Reading) (log data_disk : Disk) → IsOpenable reading log data_disk → HeldOlder reading.shape (reading.number + 1) log
+held-older reading log data_disk openable = record {
+  found = reading.number;
+  ckpt = reading.ckpt;
+  newest = found-checkpoint reading log data_disk openable;
+  older = omega arith;
+}
+
+-- OPENING WAS STOPPED where it is still the newest.
+pub stopped-before : (reading : Reading) (log data_disk left : Disk) → IsOpenable reading log data_disk → HasSameCheckpoint reading left
+    → IsOpenedBefore reading.shape log left None
+stopped-before reading log data_disk left openable unmoved = record {
+  number = reading.number;
+  ckpt = reading.ckpt;
+  found = found-checkpoint reading log data_disk openable;
+  unmoved = unmoved;
+}
+
+-- the opened pages are those of no group
+pub prefix-opened : (script : List ScriptLine) (reading : Reading) (log_disk data_disk : Disk) → KeepsOpened reading log_disk data_disk
+    → (log_bytes data_bytes : List ℕ) → IsImage log_disk log_bytes → IsFair reading.shape data_disk data_bytes
+    → ReadsPrefix script (opened_as reading) None log_bytes data_bytes
+prefix-opened script reading log_disk data_disk keeps log_bytes data_bytes image fair =
+    let read = keeps log_bytes data_bytes image fair in
+    record {
+      reading = read.reading;
+      is_read = read.is_read;
+      old_copies = read.old_copies;
+      prefix = record {
+        shape = read.shape;
+        first_groups_whole = read.pages;
+        reaching_flushed = λ i entry at flushed. absurd (cc);
+        marks = tt;
+      };
+    }
+
+-- of whatever script
+pub prefix-none : (script other : List ScriptLine) (opened : Opened) (log_bytes data_bytes : List ℕ) → ReadsPrefix script opened None log_bytes data_bytes
+    → ReadsPrefix other opened None log_bytes data_bytes
+prefix-none script other opened log_bytes data_bytes read = record {
+  reading = read.reading;
+  is_read = read.is_read;
+  old_copies = read.old_copies;
+  prefix = record {
+    shape = read.prefix.shape;
+    first_groups_whole = read.prefix.first_groups_whole;
+    reaching_flushed = read.prefix.reaching_flushed;
+    marks = tt;
+  };
+}

@@ -1,0 +1,217 @@
+-- Two devices from the arming of their fuses on, while a store is opened on them.
+use Rattle.std.proofs.Common.{ℕ, ◌≡◌, ◌+◌, ◌⊎◌, cond, List, Option, Some, None, IfSome, sym, ap, subst, ◌∙◌, inl, inr, ⊎_elim}
+use Rattle.std.proofs.lemmas.Bool.{eq-eqb}
+use Rattle.model_base.specs.{default_shape}
+use Rattle.model_base.specs.declared.limits.TheConstants.{BLOCK_SIZE}
+use Rattle.model_device.specs.Disk.{Disk}
+use Rattle.model_log.specs.{block_of, IsAtDataStart, start_after}
+use Rattle.model_log.specs.declared.layout.TheConstants.{BLOCK_HEADER}
+use Rattle.model_parts.specs.{formatted_store, IsOpenable, KeepsOpened}
+use Rattle.model_report.specs.declared.fault.Fault.TheVariants as fault
+use Rattle.model_script.specs.{first_misfit}
+use Rattle.model_script.specs.declared.asked.Command.{Command}
+use Rattle.model_script.specs.declared.asked.Drive.{Drive}
+use Rattle.model_script.specs.declared.misfit.Misfit.{Misfit}
+use Rattle.model_script.specs.declared.script.ScriptLine.{ScriptLine}
+use Rattle.model_store.specs.{IsReading, IsUnused, Refuses}
+use Rattle.model_store.specs.Reading.{Reading}
+use Rattle.model_store.specs.declared.refusal.Refusal.{Refusal}
+use Rattle.model_theorem.specs.{FitsOpened, IsOpenedBefore, Opened, opened_as, room_of}
+use Rattle.redo_open.specs.{HasSameCheckpoint, IsOpeningOf, WhereBothTell}
+use Rattle.redo_store.specs.{IsRunnable}
+use Rattle.redo_store.specs.declared.opened.Opened as store
+use Rattle.redo_recover.specs.{OnContents}
+use Rattle.redo_lab.specs.declared.outcome.Outcome.TheVariants as outcome
+use Rattle.redo_lab.specs.declared.playing.Stops.{Stops}
+use Rattle.redo_lab.proofs.Ends.{ends-refused, ends-with, in-run, leaves-read, left-read, tells-armed, unfailed-armed}
+use Rattle.redo_lab.proofs.Found.{default-within, found-armed, one-opened, prefix-opened, stopped-before, told-still}
+use Rattle.redo_lab.proofs.Told.{both-told, on-contents}
+use Rattle.redo_lab.specs.Call.{AreKept, Call, WhereToldAtEntry}
+use Rattle.redo_lab.specs.Cause.{CanPlay}
+use Rattle.redo_lab.specs.Devices.{AreArmed}
+use Rattle.redo_lab.specs.Laws.{Laws}
+use Rattle.redo_lab.specs.Runs.{IsRunning}
+use Rattle.redo_lab.specs.Store.{AreReadAsPrefix, AreRefused, IsOpenedAs}
+use Rattle.redo_lab.specs.Told.{AreLeftRead, IsOpenedFirst}
+use Rattle.redo_lab.specs.Ending.{EndsWith}
+
+-- the opened store, as the theorem has it: its log ends there
+abbrev pub opened_at : {L D : Type 0} → store.Opened L D → ℕ → Opened
+opened_at given end = record { shape = given.shape; pages = given.pages; end = end }
+
+-- what was read of these bytes is that
+pub record IsReadOff {L D : Type 0} (given : store.Opened L D) (end : ℕ) (log_bytes data_bytes : List ℕ) : Type 0 where
+  pub reading : Reading
+  pub is_read : IsReading log_bytes data_bytes reading
+  pub same : opened_at given end ≡ opened_as reading
+
+-- an end after which the run starts, which is the one that was read, where both devices tell
+pub record HasEnd {L D : Type 0} (log data_told : Option Disk) (given : store.Opened L D) : Type 0 where
+  pub end : ℕ
+  pub start : given.start ≡ start_after end
+  pub read : OnContents log data_told (IsReadOff given end)
+
+at-start : (start : ℕ) → IsAtDataStart start → start ≡ start_after start
+at-start start place = sym (ap (λ b. cond b start (block_of start + BLOCK_SIZE + BLOCK_HEADER)) (eq-eqb _ _ place))
+
+pub has-end : {L D : Type 0} (log data_told : Option Disk) (given : store.Opened L D) → IsRunnable given
+    → OnContents log data_told (λ log_bytes data_bytes. IsOpeningOf log_bytes data_bytes given) → HasEnd log data_told given
+has-end None data_told given runnable read = record { end = given.start; start = at-start given.start runnable.place; read = tt }
+has-end (Some log) None given runnable read = record { end = given.start; start = at-start given.start runnable.place; read = tt }
+has-end (Some log) (Some data_told) given runnable read = record {
+  end = read.reading.end;
+  start = read.opened.start;
+  read = record {
+    reading = read.reading;
+    is_read = read.is_read;
+    same = λ i. record { shape = read.opened.shape i; pages = read.opened.pages i; end = read.reading.end };
+  };
+}
+
+-- THE DEVICES AFTER THE CALLS OF OPENING, which met that they told this.
+module _ (call : Call) (stops : Stops) (armed : AreArmed call stops) (laws : Laws) (log_met data_met : Option Disk)
+    (log_as : call.log.armed_from ≡ log_met) (data_as : call.store.armed_from ≡ data_met) where
+  -- a store that could be opened when the fuses were armed is read as it was found
+  pub opened-reads : ((reading : Reading) → WhereBothTell log_met data_met (λ log data_disk. IsOpenable reading log data_disk
+      → WhereBothTell call.log.now.tells call.store.now.tells (KeepsOpened reading))) → (script : List ScriptLine) → AreLeftRead call script None
+  opened-reads keeps script opened log data_disk log_is data_is log_fresh data_fresh opens log_now data_now log_now_is data_now_is =
+      let found = found-armed call laws armed opened log data_disk log_is data_is log_fresh data_fresh opens in
+      let Keeps : Disk → Disk → Type 0 = λ log data_disk. IsOpenable found.reading log data_disk
+      → WhereBothTell call.log.now.tells call.store.now.tells (KeepsOpened found.reading) in
+      let kept = both-told log_met data_met Keeps (keeps found.reading) found.log found.data_disk (sym log_as ∙ found.log_is) (sym data_as ∙ found.data_is) found.openable in
+      subst (λ (o : Opened). AreReadAsPrefix script o None log_now data_now) (sym found.same)
+      (prefix-opened script found.reading log_now data_now (both-told call.log.now.tells call.store.now.tells (KeepsOpened found.reading) kept log_now data_now log_now_is data_now_is))
+
+  -- OPENING WAS STOPPED where the log device has the checkpoint that was found.
+  pub stopped-first : ((reading : Reading) → WhereBothTell log_met data_met (λ log data_disk. IsOpenable reading log data_disk
+      → IfSome call.log.now.tells (HasSameCheckpoint reading))) → IsOpenedFirst call call.log.now.tells None
+  stopped-first unmoved opened log data_disk log_is data_is log_fresh data_fresh opens armed_from disk armed_is now_is =
+      let found = found-armed call laws armed opened log data_disk log_is data_is log_fresh data_fresh opens in
+      let Keeps : Disk → Disk → Type 0 = λ log data_disk. IsOpenable found.reading log data_disk → IfSome call.log.now.tells (HasSameCheckpoint found.reading) in
+      let kept = both-told log_met data_met Keeps (unmoved found.reading) found.log found.data_disk (sym log_as ∙ found.log_is) (sym data_as ∙ found.data_is) found.openable in
+      let now : HasSameCheckpoint found.reading disk = subst (λ (told : Option Disk). IfSome told (HasSameCheckpoint found.reading)) now_is kept in
+      let same_log : found.log ≡ armed_from = (let found_is = found.log_is in cc) in
+      subst (λ (armed_from : Disk). IsOpenedBefore opened.shape armed_from disk None) same_log
+      (subst (λ (one : Opened). IsOpenedBefore one.shape found.log disk None) (sym found.same)
+      (stopped-before found.reading found.log found.data_disk disk found.openable now))
+
+  -- what both devices told when their fuses were armed: the new store, where the log device was unused
+  pub formatted-read : (log data_disk : Disk) → call.log.entry.tells ≡ Some log → call.store.entry.tells ≡ Some data_disk → IsUnused log.reads → (P : List ℕ → List ℕ → Type 0)
+      → OnContents log_met data_met P → (log_bytes : List ℕ) × (data_bytes : List ℕ) × IsReading log_bytes data_bytes (formatted_store default_shape) × P log_bytes data_bytes
+  formatted-read log data_disk log_is data_is unused P met =
+      let log_told = told-still call.log.entry.tells call.log.armed_from log armed.log_device.told log_is in
+      let data_told = told-still call.store.entry.tells call.store.armed_from data_disk armed.data_device.told data_is in
+      let there = on-contents log_met data_met P met log_told.0 data_told.0 (sym log_as ∙ log_told.1) (sym data_as ∙ data_told.1) in
+      ⊎_elim
+      (λ were. (
+        log_told.0.reads,
+        data_told.0.reads,
+        (laws.formatted default_shape log_told.0 data_told.0 default-within (were.formatted log_told.0 data_told.0 log_told.1 data_told.1)).orderly.reads,
+        there,
+      ))
+      (λ were. absurd (were.used log data_disk log_is data_is unused))
+      armed.prepared.which
+
+  -- or what they told when they were handed in
+  pub used-read : (log data_disk : Disk) → call.log.entry.tells ≡ Some log → call.store.entry.tells ≡ Some data_disk → (IsUnused log.reads → ⊥) → (P : List ℕ → List ℕ → Type 0)
+      → OnContents log_met data_met P → P log.reads data_disk.reads
+  used-read log data_disk log_is data_is used P met = ⊎_elim
+      (λ were. absurd (used (were.unused log data_disk log_is data_is)))
+      (λ were. on-contents log_met data_met P met log data_disk (sym log_as ∙ were.kept.0 ∙ log_is) (sym data_as ∙ were.kept.1 ∙ data_is))
+      armed.prepared.which
+
+  used-or-not : (log data_disk : Disk) → call.log.entry.tells ≡ Some log → call.store.entry.tells ≡ Some data_disk → IsUnused log.reads ⊎ (IsUnused log.reads → ⊥)
+  used-or-not log data_disk log_is data_is = ⊎_elim (λ were. inl (were.unused log data_disk log_is data_is)) (λ were. inr (were.used log data_disk log_is data_is)) armed.prepared.which
+
+  -- WHAT WAS OPENED, as the two devices were handed in
+  pub opens-as : {L D : Type 0} (given : store.Opened L D) (ends : HasEnd log_met data_met given) → WhereToldAtEntry call (IsOpenedAs (opened_at given ends.end))
+  opens-as given ends log data_disk log_is data_is = ⊎_elim
+      (λ unused.
+      let read = formatted-read log data_disk log_is data_is unused (IsReadOff given ends.end) ends.read in
+      let same = read.3.same ∙ ap opened_as (laws.one_reading read.0 read.1 read.3.reading (formatted_store default_shape) read.3.is_read read.2) in
+      inl (record {
+        unused = unused;
+        shape_is = ap (λ (opened : Opened). opened.shape) same;
+        pages_are = ap (λ (opened : Opened). opened.pages) same;
+        end_is = ap (λ (opened : Opened). opened.end) same;
+      }))
+      (λ used.
+      let read = used-read log data_disk log_is data_is used (IsReadOff given ends.end) ends.read in
+      inr (
+        used,
+        record {
+          reading = read.reading;
+          is_read = read.is_read;
+          shape = ap (λ (opened : Opened). opened.shape) read.same;
+          pages = ap (λ (opened : Opened). opened.pages) read.same;
+          end = ap (λ (opened : Opened). opened.end) read.same;
+        },
+      ))
+      (used-or-not log data_disk log_is data_is)
+
+  -- A STORE THAT IS REFUSED was in use.
+  pub refused-at : (cause : Refusal) → OnContents log_met data_met (λ log_bytes data_bytes. Refuses log_bytes data_bytes cause)
+      → WhereToldAtEntry call (λ log data_disk. (IsUnused log.reads → ⊥) × AreRefused cause log data_disk)
+  refused-at cause refused log data_disk log_is data_is = ⊎_elim
+      (λ unused.
+      let read = formatted-read log data_disk log_is data_is unused (λ log_bytes data_bytes. Refuses log_bytes data_bytes cause) refused in
+      absurd (laws.one_answer read.0 read.1 (formatted_store default_shape) cause read.2 read.3))
+      (λ used. (used, used-read log data_disk log_is data_is used (λ log_bytes data_bytes. Refuses log_bytes data_bytes cause) refused))
+      (used-or-not log data_disk log_is data_is)
+
+  -- and both devices mean what they meant
+  pub refused-kept : (cause : Refusal) → OnContents log_met data_met (λ log_bytes data_bytes. Refuses log_bytes data_bytes cause)
+      → OnContents log_met data_met (λ log_bytes data_bytes. Refuses log_bytes data_bytes cause
+      → (call.log.now.tells ≡ call.log.armed_from) × (call.store.now.tells ≡ call.store.armed_from)) → AreKept call
+  refused-kept cause refused keeps log data_disk log_is data_is =
+      let at = refused-at cause refused log data_disk log_is data_is in
+      let kept = used-read log data_disk log_is data_is at.0 (λ log_bytes data_bytes. Refuses log_bytes data_bytes cause
+      → (call.log.now.tells ≡ call.log.armed_from) × (call.store.now.tells ≡ call.store.armed_from)) keeps at.1 in
+      ⊎_elim (λ were. absurd (at.0 (were.unused log data_disk log_is data_is))) (λ were. (kept.0 ∙ were.kept.0, kept.1 ∙ were.kept.1)) armed.prepared.which
+
+-- WHAT A COMMAND COMES TO whose lines weren't run, where no call failed since the fuses were armed, and the store is read as it was found
+module _ (call : Call) (command : Command) (drive : Drive) (stops : Stops) (script : List ScriptLine)
+    (running : IsRunning call.source call.source_now command drive script) (laws : Laws) (armed : AreArmed call stops) (reads : AreLeftRead call script None) where
+  pub unplayed-memory : EndsWith call command (outcome.Fault fault.Memory)
+  unplayed-memory = ends-with call command drive script running laws (outcome.Fault fault.Memory) (tells-armed armed) (leaves-read call script None reads)
+      (λ runs. inr (left-read call command drive script running laws None (in-run armed) (λ store log data_disk log_is data_is log_fresh data_fresh opens. tt) reads))
+      (λ can unfailed. tt)
+
+  pub unplayed-misfit : (opened : Opened) (misfit : Misfit) → call.log.fuse.mid ≡ 0 → call.store.fuse.mid ≡ 0 → WhereToldAtEntry call (IsOpenedAs opened)
+      → first_misfit opened.shape (start_after opened.end) (room_of drive.log_only opened) script ≡ Some misfit → EndsWith call command (outcome.Fault (fault.Fit misfit))
+  unplayed-misfit opened misfit log_none data_none opens first = ends-with call command drive script running laws (outcome.Fault (fault.Fit misfit)) (tells-armed armed)
+      (leaves-read call script None reads)
+      (inr (
+        unfailed-armed armed log_none data_none,
+        record {
+          drive = drive;
+          asked = running.asked;
+          script = script;
+          opened = opened;
+          is_script = running.is_script;
+          opens = opens;
+          first = first;
+          in_run = in-run armed;
+          reads = reads;
+        },
+      ))
+      (λ can unfailed. absurd (misfits can))
+    where
+      misfits : CanPlay call drive.log_only script → ⊥
+      misfits can =
+          let same : opened ≡ can.opened = one-opened laws can.log can.store opened can.opened (opens can.log can.store can.log_tells can.store_tells) can.opens in
+          let fits : FitsOpened drive.log_only opened script = subst (λ (o : Opened). FitsOpened drive.log_only o script) (sym same) can.fits in
+          let none = sym first ∙ laws.no_misfit opened.shape (start_after opened.end) (room_of drive.log_only opened) script fits in
+          cc
+
+  pub unplayed-refused : (cause : Refusal) → call.log.fuse.mid ≡ 0 → call.store.fuse.mid ≡ 0
+      → WhereToldAtEntry call (λ log data_disk. (IsUnused log.reads → ⊥) × AreRefused cause log data_disk) → AreKept call
+      → EndsWith call command (outcome.Fault (fault.Store cause))
+  unplayed-refused cause log_none data_none refused kept = ends-refused call command drive script running laws cause (tells-armed armed) (leaves-read call script None reads)
+      (unfailed-armed armed log_none data_none)
+      (inr (armed.prepared.header, λ log data_disk log_is data_is. inr (refused log data_disk log_is data_is)), kept)
+      (λ can.
+      let at = refused can.log can.store can.log_tells can.store_tells in ⊎_elim
+      (λ unused. at.0 unused.unused)
+      (λ orderly. laws.one_answer can.log.reads can.store.reads orderly.reading cause orderly.orderly.reads at.1)
+      can.opens)

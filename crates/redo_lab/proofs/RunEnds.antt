@@ -1,0 +1,168 @@
+-- What `run` and `gen --run` come to whose run a device stopped in opening, or whose lines were run.
+use Rattle.std.proofs.Common.{ℕ, ◌≡◌, ◌<◌, ◌+◌, true, false, List, [], Option, Some, None, sym, subst, ◌∙◌, inr, ⊎_elim, arith}
+use Rattle.model_base.specs.{HasRisen}
+use Rattle.model_device.specs.Disk.{Disk}
+use Rattle.model_report.specs.{IsLeft}
+use Rattle.model_report.specs.declared.fault.Fault.{Fault}
+use Rattle.model_report.specs.declared.fault.Fault.TheVariants as fault
+use Rattle.model_script.specs.declared.asked.Command.{Command}
+use Rattle.model_script.specs.declared.asked.Command.TheVariants.{Gen, Run}
+use Rattle.model_script.specs.declared.asked.Drive.{Drive}
+use Rattle.model_script.specs.declared.script.ScriptLine.{ScriptLine}
+use Rattle.model_store.specs.declared.refusal.Refusal.{Refusal}
+use Rattle.model_theorem.specs.{LosesOnlyByFailure, Ran}
+use Rattle.redo_memdisk.specs.declared.fuse.Stage.{Stage}
+use Rattle.redo_drive.specs.declared.drive.RunEnd.TheVariants.{Done}
+use Rattle.redo_lab.specs.declared.outcome.Outcome.{Outcome}
+use Rattle.redo_lab.specs.declared.outcome.Outcome.TheVariants as outcome
+use Rattle.redo_lab.specs.declared.playing.Course.TheVariants.{Played, Stopped}
+use Rattle.redo_lab.specs.declared.playing.Played as declared
+use Rattle.redo_lab.proofs.Ends.{IsUncrashing, aside-armed, ends-failed, ends-left, in-run, left-memory, no_stops, runs-script, runs-scripted, uncrashing-gen, unfailed-armed}
+use Rattle.redo_lab.proofs.Found.{prefix-none, told-still}
+use Rattle.redo_lab.proofs.Rereading.{IsReadSince, ReadsTo, Was, before, prepared-later}
+use Rattle.redo_lab.proofs.SomeLeft.{some-left}
+use Rattle.redo_lab.specs.Asked.{IsScriptFor, IsScriptRead, drive_of_seed}
+use Rattle.redo_lab.specs.Call.{Call, Guarded, WhereToldNow}
+use Rattle.redo_lab.specs.Cause.{CanPlay}
+use Rattle.redo_lab.specs.Devices.{IsArmed}
+use Rattle.redo_lab.specs.Laws.{Laws}
+use Rattle.redo_lab.specs.Runs.{ComesTo, IsLeftBy, IsPlayedTo, IsReportOf, IsRunPrinted, IsRunning, LosesByFailure, ran_of, summary_of}
+use Rattle.redo_lab.specs.Store.{AreRefused}
+use Rattle.redo_lab.specs.Told.{IsReportText, IsRunText, IsSummaryText}
+use Rattle.redo_lab.specs.Ending.{EndsWith}
+
+-- OPENING WAS STOPPED.
+pub ends-stopped : (call : Call) (command : Command) (drive : Drive) (script : List ScriptLine) → IsRunning call.source call.source_now command drive script → Laws
+    → IsUncrashing call command → (f : Fault) → ComesTo call command drive no_stops script (Stopped f) → EndsWith call command (outcome.Fault f)
+ends-stopped call command drive script running laws uncrashing f is = ends-failed call command drive script running laws uncrashing f is.0
+    (uncrashing.unbegun (
+      is.0.opened_first,
+      λ opened log data_disk log_is data_is log_fresh data_fresh opens log_now data_now log_now_is data_now_is log_bytes data_bytes image fair.
+          prefix-none script [] opened log_bytes data_bytes
+          (is.0.reads opened log data_disk log_is data_is log_fresh data_fresh opens log_now data_now log_now_is data_now_is log_bytes data_bytes image fair),
+    ))
+    is.1
+
+-- A TEXT OF A RUN
+run-text : (call : Call) (command : Command) (drive : Drive) (script : List ScriptLine) (run : Ran) (left : List (ℕ × ℕ))
+    (IsTextOf : List ScriptLine → Ran → List (ℕ × ℕ) → List ℕ → Type 0) (text : List ℕ) → IsScriptFor command call.source call.source_now script
+    → IsLeftBy call command drive no_stops script (Some run) Done → LosesByFailure call script (Some run) → IsLeft script run.entries left
+    → IsTextOf script run left text → IsRunText call command drive IsTextOf text
+run-text call command drive script run left IsTextOf text is_script is loses left_is text_is = record {
+  opened = is.opened;
+  script = script;
+  run = run;
+  left = left;
+  account = record { is_script = is_script; ran = is.ran; left_is = left_is; loses = loses left left_is; opened_first = is.opened_first };
+  in_run = in-run is.armed;
+  reads = is.reads;
+  text_is = text_is;
+}
+
+-- a device that isn't stopped fails by itself
+risen-unstopped : {device : Guarded} {stage : Stage} {late : ℕ} → IsArmed None stage late device → 0 < device.fuse.mid → HasRisen device.entry.faults device.now.faults
+risen-unstopped was some = ⊎_elim (λ risen. risen) (λ passed. absurd passed) (was.cause some)
+
+module _ (call : Call) (drive : Drive) (script : List ScriptLine) (played : declared.Played) (read : IsScriptRead call.source call.source_now script) (laws : Laws) where
+  run-told : (f : Option Fault) (text : List ℕ) → ComesTo call (Run drive) drive no_stops script (Played played f) → IsReportOf script (Some (ran_of played)) None text
+      → IsRunText call (Run drive) drive IsReportText text
+  run-told f text was report = run-text call (Run drive) drive script (ran_of played) report.left IsReportText text read was.0 was.1 report.left_is report.text_is
+
+  run-reported : (f : Fault) (text : List ℕ) → ComesTo call (Run drive) drive no_stops script (Played played (Some f)) → IsReportOf script (Some (ran_of played)) None text
+      → EndsWith call (Run drive) (outcome.Report text f)
+  run-reported fault.LogDevice text was report = ends-left call (Run drive) drive script (runs-scripted drive None read) laws was.0 (outcome.Report text fault.LogDevice)
+      (run-told (Some fault.LogDevice) text was report, (risen-unstopped was.0.armed.log_device was.2, was.2), aside-armed was.0.armed)
+      (λ can unfailed. absurd (omega (arith, unfailed.0.1, was.2)))
+  run-reported fault.DataDevice text was report = ends-left call (Run drive) drive script (runs-scripted drive None read) laws was.0 (outcome.Report text fault.DataDevice)
+      (run-told (Some fault.DataDevice) text was report, (risen-unstopped was.0.armed.data_device was.2.0, was.2.0, was.2.1), aside-armed was.0.armed)
+      (λ can unfailed. absurd (omega (arith, unfailed.1.1, was.2.0)))
+  run-reported f text was report = absurd was.2
+
+  -- THE LINES WERE RUN.
+  pub run-played : (f : Option Fault) (o : Outcome) → ComesTo call (Run drive) drive no_stops script (Played played f) → IsRunPrinted script (ran_of played) f o
+      → EndsWith call (Run drive) o
+  run-played f (outcome.Text text) was printed =
+      let done = subst (λ (f : Option Fault). ComesTo call (Run drive) drive no_stops script (Played played f)) printed.0 was in
+      ends-left call (Run drive) drive script (runs-scripted drive None read) laws was.0 (outcome.Text text)
+      (unfailed-armed was.0.armed (omega (arith, done.2.0)) (omega (arith, done.2.0)), run-told None text done printed.1) (λ can unfailed. tt)
+  run-played f (outcome.Report text cut) was printed =
+      run-reported cut text (subst (λ (f : Option Fault). ComesTo call (Run drive) drive no_stops script (Played played f)) printed.0 was) printed.1
+  run-played f (outcome.Fault fault) was printed = subst (λ (fault : Fault). EndsWith call (Run drive) (outcome.Fault fault)) (sym printed)
+      (left-memory call (Run drive) drive script (runs-scripted drive None read) laws was.0)
+
+module _ (call : Call) (seed users groups max : ℕ) (script : List ScriptLine) (run : Ran) (log_was data_was : Was) (laws : Laws)
+    (running : IsRunning call.source call.source_now (Gen seed users groups true max) (drive_of_seed seed max) script)
+    (left_by : IsLeftBy (before call log_was data_was) (Gen seed users groups true max) (drive_of_seed seed max) no_stops script (Some run) Done)
+    (loses : LosesByFailure (before call log_was data_was) script (Some run)) (played : IsPlayedTo (before call log_was data_was) None) where
+  abbrev asked : Command
+  asked = Gen seed users groups true max
+
+  abbrev drive : Drive
+  drive = drive_of_seed seed max
+
+  abbrev Since : ℕ → ℕ → Type 0
+  Since log_failed data_failed = IsReadSince log_failed log_was call.log × IsReadSince data_failed data_was call.store
+
+  -- READS LEAVE the run as it was.
+  read-left : {log_failed data_failed : ℕ} → Since log_failed data_failed → IsLeftBy call asked drive no_stops script (Some run) Done
+  read-left since =
+      let driven = left_by.ran.driven in
+      record {
+        armed = record {
+          prepared = prepared-later call log_was data_was since.0.arming since.1.arming left_by.armed.prepared;
+          log_device = since.0.armed;
+          data_device = since.1.armed;
+        };
+        counted = (let some = since.0.passed (omega (arith, left_by.counted, played.0)) in omega arith);
+        opened = left_by.opened;
+        ran = record {
+          is_script = running.is_script;
+          opens = left_by.ran.opens;
+          fits = left_by.ran.fits;
+          in_lsn_order = left_by.ran.in_lsn_order;
+          driven = subst (λ (met : Option Disk). call.drives drive left_by.opened script run Done call.log.now.tells met) (sym since.1.tells)
+              (subst (λ (met : Option Disk). call.drives drive left_by.opened script run Done met data_was.now.tells) (sym since.0.tells) driven);
+        };
+        opened_first = λ opened log data_disk log_is data_is log_fresh data_fresh opens armed_from disk armed_is now_is.
+            left_by.opened_first opened log data_disk log_is data_is log_fresh data_fresh opens armed_from disk
+            (sym since.0.arming.told ∙ armed_is) (sym since.0.tells ∙ now_is);
+        reads = λ opened log data_disk log_is data_is log_fresh data_fresh opens log_now data_now log_now_is data_now_is.
+            left_by.reads opened log data_disk log_is data_is log_fresh data_fresh opens log_now data_now (sym since.0.tells ∙ log_now_is) (sym since.1.tells ∙ data_now_is);
+      }
+
+  loses-still : Since 0 0 → LosesByFailure call script (Some run)
+  loses-still since left left_is =
+      let counted : log_was.fuse.mid + data_was.fuse.mid ≡ call.log.fuse.mid + call.store.fuse.mid = omega (arith, played.0, since.0.mid, since.1.mid) in
+      subst (λ (n : ℕ). LosesOnlyByFailure n (Some run) left) counted (loses left left_is)
+
+  -- A STORE THAT CAN BE RUN ON is not refused after the run.
+  possible-read-after : (cause : Refusal) → Since 0 0 → WhereToldNow call (AreRefused cause) → CanPlay call false script → ⊥
+  possible-read-after cause since refused can =
+      let log_left = told-still call.log.entry.tells call.log.now.tells can.log since.0.armed.same.tells can.log_tells in
+      let data_left = told-still call.store.entry.tells call.store.now.tells can.store since.1.armed.same.tells can.store_tells in
+      let read = played.1 can.opened can.log can.store can.log_tells can.store_tells can.log_fresh can.store_fresh can.opens
+      log_left.0 data_left.0 (sym since.0.tells ∙ log_left.1) (sym since.1.tells ∙ data_left.1) in
+      laws.one_answer log_left.0.reads data_left.0.reads read.0 cause read.1 (refused log_left.0 data_left.0 log_left.1 data_left.1)
+
+  -- WHAT IT COMES TO, by what is read after it.
+  pub gen-reads : ReadsTo Since call.log.now.tells call.store.now.tells (λ reading text. text ≡ summary_of run reading) (EndsWith call asked)
+  gen-reads =
+      let left = some-left script run.entries in
+      record {
+        read = λ reading text since is_read text_is. ends-left call asked drive script running laws (read-left since) (outcome.Text text) (
+          unfailed-armed (read-left since).armed since.0.mid since.1.mid,
+          run-text call asked drive script run left.0 (IsSummaryText call) text running.is_script (read-left since) (loses-still since) left.1 (reading, is_read, text_is),
+        )
+            (λ can unfailed. tt);
+        refused = λ cause since refused. ends-left call asked drive script running laws (read-left since) (outcome.Fault (fault.Store cause)) (
+          (runs-script call asked drive script running).past,
+          unfailed-armed (read-left since).armed since.0.mid since.1.mid,
+          inr (in-run (read-left since).armed, refused),
+        )
+            (λ can unfailed. absurd (possible-read-after cause since refused can));
+        memory = λ since. left-memory call asked drive script running laws (read-left since);
+        log_fails = λ since. ends-failed call asked drive script running laws (uncrashing-gen call seed users groups max) fault.LogDevice
+            (read-left since) tt (omega (arith, since.0.mid));
+        data_fails = λ since. ends-failed call asked drive script running laws (uncrashing-gen call seed users groups max) fault.DataDevice
+            (read-left since) tt (omega (arith, since.1.mid), since.0.mid);
+      }

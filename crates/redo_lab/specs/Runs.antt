@@ -1,0 +1,197 @@
+-- A command that runs a script: how far its run came, and what that leaves of the two devices.
+use Rattle.std.specs.Prelude.{ℕ, ◌≡◌, ◌<◌, ◌+◌, false, List, Option, Some, None, IfSome, Result, Ok, Err, length}
+use Rattle.std.specs.Borrow.{Bor}
+use Rattle.model_device.specs.Disk.{Disk}
+use Rattle.model_page.specs.declared.content.Content.{Content}
+use Rattle.model_parts.specs.{IsOpenable}
+use Rattle.model_report.specs.{IsLeft, report_text, summary_text}
+use Rattle.model_report.specs.declared.fault.Fault.{Fault}
+use Rattle.model_report.specs.declared.fault.Fault.TheVariants as fault
+use Rattle.model_report.specs.declared.fault.Fault.TheVariants.{Memory}
+use Rattle.model_script.specs.declared.asked.Command.{Command}
+use Rattle.model_script.specs.declared.asked.Command.TheVariants.{Crash, Run}
+use Rattle.model_script.specs.declared.asked.Drive.{Drive}
+use Rattle.model_script.specs.declared.script.ScriptLine.{ScriptLine}
+use Rattle.model_store.specs.{IsReading}
+use Rattle.model_store.specs.Reading.{Reading}
+use Rattle.model_theorem.specs.{entries_of, FitsOpened, LosesOnlyByFailure, marks_of, Opened, Ran, start_of}
+use Rattle.redo_disk.specs.Seen.{Seen}
+use Rattle.redo_disk.specs.declared.error.DevError.{DevError}
+use Rattle.redo_disk.specs.declared.error.DevError.TheVariants as device
+use Rattle.redo_drive.specs.declared.drive.RunEnd.{RunEnd}
+use Rattle.redo_drive.specs.declared.drive.RunEnd.TheVariants as ended
+use Rattle.redo_io.specs.{SourceSeen}
+use Rattle.redo_memdisk.specs.{seen_through}
+use Rattle.redo_memdisk.specs.declared.fused.Fused.{Fused}
+use Rattle.redo_open.specs.{IsOpenedReady}
+use Rattle.redo_drive.specs.declared.closed.Closed.{Closed}
+use Rattle.redo_store.specs.declared.opened.Opened as store
+use Rattle.redo_recover.specs.declared.fault.RecFault.{RecFault}
+use Rattle.redo_recover.specs.declared.fault.RecFault.TheVariants.{LogDev, DataDev}
+use Rattle.redo_recover.specs.{refusal_of}
+use Rattle.redo_lab.specs.declared.crash_command.Crashing.{Crashing}
+use Rattle.redo_lab.specs.declared.outcome.Outcome.{Outcome}
+use Rattle.redo_lab.specs.declared.outcome.Outcome.TheVariants as outcome
+use Rattle.redo_lab.specs.declared.playing.Course.{Course}
+use Rattle.redo_lab.specs.declared.playing.Course.TheVariants as course
+use Rattle.redo_lab.specs.declared.playing.Played.{Played}
+use Rattle.redo_lab.specs.declared.playing.Ran as declared
+use Rattle.redo_lab.specs.declared.playing.Stops.{Stops}
+use Rattle.redo_lab.specs.Asked.{IsScriptFor, drive_of, reads_script}
+use Rattle.redo_lab.specs.Call.{Call, Each, WhereOpened, WhereToldAtEntry, WhereToldNow, mids}
+use Rattle.redo_lab.specs.Devices.{AreArmed, ArePrepared, IsUnarmed, to_be_armed}
+use Rattle.redo_lab.specs.Handed.{AreOf, IsOpenedAt}
+use Rattle.redo_lab.specs.Ending.{EndsWith}
+use Rattle.redo_lab.specs.Store.{IsOpenedAs}
+use Rattle.redo_lab.specs.Told.{AreLeftRead, IsOpenedFirst, IsRunOf}
+
+-- the fault of a call whose store isn't formatted, read or opened
+abbrev pub fault_of : RecFault → Fault
+fault_of LogDev = fault.LogDevice
+fault_of DataDev = fault.DataDevice
+fault_of other = elim (refusal_of other) [ None ↦ fault.Memory | Some refusal ↦ fault.Store refusal ]
+
+-- a command whose text is this, unless memory ran out over it
+abbrev pub outcome_of : {E : Type 0} → Result (List ℕ) E → Outcome
+outcome_of (Ok text) = outcome.Text text
+outcome_of (Err error) = outcome.Fault Memory
+
+-- where the devices are to stop: nowhere, unless they are crashed
+abbrev pub stops_of : Option Crashing → Stops
+stops_of None = record { log = None; store = None }
+stops_of (Some crash) = crash.stops
+
+-- the command that runs a script off the source so, and crashes both devices then, if it is to
+abbrev pub command_with : Drive → Option Crashing → Command
+command_with asked None = Run asked
+command_with asked (Some crash) = Crash asked crash.stops.log crash.stops.store crash.pick crash.workers
+
+-- THE COMMAND RUNS THIS SCRIPT, by this drive, off a source that is left alone if the script isn't there.
+pub record IsRunning (source source_now : SourceSeen) (command : Command) (drive : Drive) (script : List ScriptLine) : Type 0 where
+  pub asked : drive_of command ≡ Some drive
+  pub is_script : IsScriptFor command source source_now script
+  pub unread : reads_script command ≡ false → source_now ≡ source
+
+-- what preparing the devices comes to: they are ready to be armed, or a command that runs a script ends by this
+abbrev pub Prepares : Call → Result (Unit {0}) RecFault → Type 0
+Prepares call (Ok done) = Each (IsUnarmed 0) call × ArePrepared (to_be_armed call)
+Prepares call (Err fault) = (command : Command) (drive : Drive) (script : List ScriptLine) → IsRunning call.source call.source_now command drive script
+    → EndsWith call command (outcome.Fault (fault_of fault))
+
+-- WHAT IS LEFT of a run that ended so, or of an opening that a device stopped: its first call was counted, the run is told rightly of
+-- the store on which it began, and each image of the devices is read as a prefix of it.
+pub record IsLeftBy (call : Call) (command : Command) (drive : Drive) (stops : Stops) (script : List ScriptLine) (run : Option Ran) (end : RunEnd) : Type 0 where
+  pub armed : AreArmed call stops
+  pub counted : 0 < call.log.fuse.passed + call.log.fuse.mid
+  pub opened : Opened
+  pub ran : IfSome run (λ run. IsRunOf call command drive opened script run end call.log.now.tells call.store.now.tells)
+  pub opened_first : IsOpenedFirst call call.log.now.tells run
+  pub reads : AreLeftRead call script run
+
+-- something is lost of it only where a device failed
+abbrev pub LosesByFailure : Call → List ScriptLine → Option Ran → Type 0
+LosesByFailure call script run = (left : List (ℕ × ℕ)) → IsLeft script (entries_of run) left → LosesOnlyByFailure (mids call) run left
+
+-- this device failed since its fuse was armed: the log device where both did
+abbrev pub HasFailed : Call → Fault → Type 0
+HasFailed call fault.LogDevice = 0 < call.log.fuse.mid
+HasFailed call fault.DataDevice = (0 < call.store.fuse.mid) × (call.log.fuse.mid ≡ 0)
+HasFailed call _ = ⊥
+
+-- no device failed, and what reads of the two give is read; or this one did
+abbrev pub IsPlayedTo : Call → Option Fault → Type 0
+IsPlayedTo call None = (mids call ≡ 0) × ((store : Opened) → WhereOpened call store (WhereToldNow call (λ log_disk data_disk.
+    (reading : Reading) × IsReading log_disk.reads data_disk.reads reading)))
+IsPlayedTo call (Some fault) = HasFailed call fault
+
+-- the run, as the theorem has it
+abbrev pub ran_of : Played → Ran
+ran_of played = record { start = played.start; entries = played.history; marks = played.marks }
+
+-- WHAT A RUN COMES TO: the command ends with this fault; or a device stopped opening; or the lines were run.
+abbrev pub ComesTo : Call → Command → Drive → Stops → List ScriptLine → Course → Type 0
+ComesTo call command drive stops script (course.Ended fault) = EndsWith call command (outcome.Fault fault)
+ComesTo call command drive stops script (course.Stopped fault) =
+    IsLeftBy call command drive stops script None ended.Done × HasFailed call fault
+ComesTo call command drive stops script (course.Played played fault) =
+    IsLeftBy call command drive stops script (Some (ran_of played)) ended.Done
+    × LosesByFailure call script (Some (ran_of played)) × IsPlayedTo call fault
+
+-- the same of the devices that are given back, with which the call is this
+abbrev pub IsRanBy : {L D : Type 0} → (Fused L → Fused D → Call) → Command → Drive → Stops → List ScriptLine → declared.Ran L D → Type 0
+IsRanBy call command drive stops script ran = ComesTo (call ran.log ran.store) command drive stops script ran.course
+
+-- THE STORE STANDS OPENED on both devices after their fuses were armed, the script fits it, and no call failed.
+pub record StandsReady {L D : Type 0} (log_seen : L → Seen) (data_seen : D → Seen) (call : Call) (drive : Drive) (stops : Stops) (script : List ScriptLine)
+    (given : store.Opened (Fused L) (Fused D)) : Type 0 where
+  pub armed : AreArmed call stops
+  pub counted : 0 < call.log.fuse.passed + call.log.fuse.mid
+  pub unfailed : mids call ≡ 0
+  pub opened : Opened
+  pub is_opened : IsOpenedAt opened given
+  pub opens : WhereToldAtEntry call (IsOpenedAs opened)
+  pub fits : FitsOpened drive.log_only opened script
+  pub reads : AreLeftRead call script None
+  pub ready : (reading : Reading) (log store : Disk) → call.log.armed_from ≡ Some log → call.store.armed_from ≡ Some store
+      → IsOpenable reading log store → IsOpenedReady (seen_through log_seen) (seen_through data_seen) reading given
+
+-- the store stands ready for the drive that is asked for, or this came of it
+abbrev pub AreReady : {L D : Type 0} → (L → Seen) → (D → Seen) → (Fused L → Fused D → Call) → Command → Drive → Stops → List ScriptLine
+    → Result (store.Opened (Fused L) (Fused D)) (declared.Ran L D) → Type 0
+AreReady log_seen data_seen call command drive stops script (Ok given) =
+    StandsReady log_seen data_seen (call given.log.dev given.store.dev) drive stops script given
+AreReady log_seen data_seen call command drive stops script (Err ran) = IsRanBy call command drive stops script ran
+
+-- its devices are those that were handed in
+abbrev pub AreEntered : {L D : Type 0} → L → D → Result (store.Opened (Fused L) (Fused D)) (declared.Ran L D) → Type 0
+AreEntered log data_device (Ok opened) = AreOf log data_device opened.log.dev opened.store.dev
+AreEntered log data_device (Err ran) = AreOf log data_device ran.log ran.store
+
+-- what a run comes to whose store wasn't opened
+abbrev pub unopened : RecFault → Course
+unopened LogDev = course.Stopped fault.LogDevice
+unopened DataDev = course.Stopped fault.DataDevice
+unopened other = course.Ended (fault_of other)
+
+-- the lines that were run, as the drive hands them back
+abbrev pub played_of : {L D : Type 0} → ℕ → Closed L D → Played
+played_of start closed = record { start = start; history = closed.history; marks = closed.marks }
+
+-- why a run that all users ended comes to no text, or with a fault after it, by what a call of each device answered that
+-- failed: a log fault goes before a data fault, and both before want of memory
+abbrev pub ended_by : (log_error data_error : Option DevError) → Option Fault
+ended_by (Some device.Failed) data_error = Some fault.LogDevice
+ended_by log_error (Some device.Failed) = Some fault.DataDevice
+ended_by None None = None
+ended_by log_error data_error = Some fault.Memory
+
+-- what a run comes to that all users ended
+abbrev pub course_done : Played → Option Fault → Course
+course_done played (Some fault.Memory) = course.Ended fault.Memory
+course_done played ended = course.Played played ended
+
+-- what a run comes to that ended so
+abbrev pub course_of : RunEnd → Played → Option Fault → Course
+course_of (ended.Spent turns user) played cause = course.Ended (fault.Turns turns user)
+course_of ended.Done played cause = course_done played cause
+
+-- the run of the lines that were played, if any were
+abbrev pub run_of : Option (Bor Played) → Option Ran
+run_of None = None
+run_of (Some played) = Some (ran_of played.now)
+
+-- how many groups the run reserved, its flushed mark and its checkpoint, and the checksum of the pages that are read after it
+abbrev pub summary_of : Ran → Reading → List ℕ
+summary_of run reading = summary_text (length run.entries) run.marks.flushed run.marks.ckpt reading.pages
+
+-- The text is the report of this run of the script, with what is left of it, and of what was read.
+pub record IsReportOf (script : List ScriptLine) (run : Option Ran) (read : Option (ℕ × List Content)) (text : List ℕ) : Type 0 where
+  pub left : List (ℕ × ℕ)
+  pub left_is : IsLeft script (entries_of run) left
+  pub text_is : text ≡ report_text (start_of run) (entries_of run) left (marks_of run) read
+
+-- what is to be printed of a run that was ended by this, if by anything: its report, if there was memory for it
+abbrev pub IsRunPrinted : List ScriptLine → Ran → Option Fault → Outcome → Type 0
+IsRunPrinted script run cut (outcome.Text text) = (cut ≡ None) × IsReportOf script (Some run) None text
+IsRunPrinted script run cut (outcome.Report text fault) = (cut ≡ Some fault) × IsReportOf script (Some run) None text
+IsRunPrinted script run cut (outcome.Fault fault) = fault ≡ Memory
